@@ -1,0 +1,186 @@
+//! What is measured, with its input.
+
+use anyhow::{Context, Result};
+use book_lists::{
+    Caller, Circle, Entry, Here, Outcome, Pairs, Principal, Who, decide, expand, explain,
+};
+use book_rights::{Leaf, LeafSet};
+use std::alloc::{AllocError, Global};
+
+/// Work that is measured.
+pub trait Work {
+    /// Does the work once, and says whether its answer is right. The turn may change the input, and not the cost.
+    fn once(&self, alloc: Global, turn: u32) -> Result<bool, AllocError>;
+}
+
+fn principal(alloc: Global, home: &str, number: usize) -> Result<Principal> {
+    let path = format!(in alloc; "/{home}/{number:04}")?;
+    Principal::parse(alloc, path.as_str())?.context("a path of no principal")
+}
+
+fn group(alloc: Global, number: usize) -> Result<Principal> {
+    principal(alloc, "groups", number)
+}
+
+/// The one who asks, in every workload.
+fn person(alloc: Global) -> Result<Principal> {
+    principal(alloc, "people", 0)
+}
+
+/// The pair at this place of a chain: the person is a member of the first group, and each group of the next.
+fn add_link(alloc: Global, pairs: &mut Pairs, place: usize) -> Result<()> {
+    let member = match place {
+        0 => person(alloc)?,
+        _ => group(alloc, place - 1)?,
+    };
+    pairs.add(group(alloc, place)?, member)?;
+    Ok(())
+}
+
+/// The expansion of a caller, who belongs to the group.
+#[derive(Drop)]
+pub struct Expansion {
+    pairs: Pairs,
+    caller: Caller,
+    group: Principal,
+}
+
+impl Expansion {
+    fn of(alloc: Global, pairs: Pairs, size: usize) -> Result<Expansion> {
+        Ok(Expansion {
+            pairs,
+            caller: Caller::Known(person(alloc)?),
+            group: group(alloc, size.saturating_sub(1))?,
+        })
+    }
+
+    /// A chain of so many pairs, the outermost first.
+    pub fn of_outward_chain(alloc: Global, size: usize) -> Result<Expansion> {
+        let mut pairs = Pairs::new(alloc);
+        for place in (0..size).rev() {
+            add_link(alloc, &mut pairs, place)?;
+        }
+        Expansion::of(alloc, pairs, size)
+    }
+
+    /// The same chain, the innermost pair first.
+    pub fn of_inward_chain(alloc: Global, size: usize) -> Result<Expansion> {
+        let mut pairs = Pairs::new(alloc);
+        for place in 0..size {
+            add_link(alloc, &mut pairs, place)?;
+        }
+        Expansion::of(alloc, pairs, size)
+    }
+
+    /// So many groups, each with the caller as its member.
+    pub fn of_many_groups(alloc: Global, size: usize) -> Result<Expansion> {
+        let mut pairs = Pairs::new(alloc);
+        for number in 0..size {
+            pairs.add(group(alloc, number)?, person(alloc)?)?;
+        }
+        Expansion::of(alloc, pairs, size)
+    }
+}
+
+impl Work for Expansion {
+    fn once(&self, alloc: Global, _turn: u32) -> Result<bool, AllocError> {
+        let circle = expand(alloc, &self.pairs, &self.caller)?;
+        Ok(circle.has(&self.group))
+    }
+}
+
+/// The decision of seven leaves, which the last entry grants and no other applies to.
+#[derive(Drop)]
+pub struct Decision {
+    entries: Vec<Entry>,
+    circle: Circle,
+    here: Here,
+}
+
+fn entry(who: Principal, deny: bool) -> Entry {
+    Entry {
+        who: Who::Href(who),
+        invert: false,
+        deny,
+        set: LeafSet::all(),
+    }
+}
+
+impl Decision {
+    /// So many entries, for a caller within so many nested groups.
+    pub fn of_entries(alloc: Global, size: usize, groups: usize) -> Result<Decision> {
+        let expansion = Expansion::of_inward_chain(alloc, groups)?;
+        let mut entries = Vec::new(alloc);
+        for number in 1..size {
+            entries.push(entry(group(alloc, groups.saturating_add(number))?, true))?;
+        }
+        entries.push(entry(expansion.group, false))?;
+        Ok(Decision {
+            entries,
+            circle: expand(alloc, &expansion.pairs, &expansion.caller)?,
+            here: Here {
+                owner: None,
+                principal: None,
+            },
+        })
+    }
+}
+
+impl Work for Decision {
+    fn once(&self, _alloc: Global, turn: u32) -> Result<bool, AllocError> {
+        let spared = Leaf::ALL[(turn % 8) as usize];
+        let need = LeafSet::all().minus(LeafSet::empty().with(spared));
+        Ok(decide(&self.entries, &self.circle, &self.here, need) == Outcome::Allowed)
+    }
+}
+
+/// The explanation of a text.
+#[derive(Drop)]
+pub struct Explanation {
+    text: String,
+    answer: &'static str,
+}
+
+const QUESTION: &str = "caller /people/0000\nneed read\ngrant /people/0000 read\n";
+
+impl Explanation {
+    /// So many member lines, a chain from the caller, the outermost first; the last group is denied.
+    pub fn of_chain(alloc: Global, size: usize) -> Result<Explanation> {
+        let mut text = String::new(alloc);
+        let last = size.saturating_sub(1);
+        for place in (1..size).rev() {
+            let inner = place - 1;
+            write!(text, "member /groups/{place:04} /groups/{inner:04}\n")?;
+        }
+        write!(
+            text,
+            "member /groups/0000 /people/0000\ndeny /groups/{last:04} read\n{QUESTION}"
+        )?;
+        Ok(Explanation {
+            text,
+            answer: "denied read by 1\ngranted: -\n",
+        })
+    }
+
+    /// So many member lines, none of a group of the caller.
+    pub fn of_others(alloc: Global, size: usize) -> Result<Explanation> {
+        let mut text = String::new(alloc);
+        for number in 0..size {
+            write!(text, "member /groups/{number:04} /people/other\n")?;
+        }
+        text.push_str(QUESTION)?;
+        Ok(Explanation {
+            text,
+            answer: "allowed\ngranted: read\n",
+        })
+    }
+}
+
+impl Work for Explanation {
+    fn once(&self, alloc: Global, _turn: u32) -> Result<bool, AllocError> {
+        match explain(alloc, self.text.as_str()) {
+            Ok(answer) => Ok(answer.as_str() == self.answer),
+            Err(_) => Ok(false),
+        }
+    }
+}

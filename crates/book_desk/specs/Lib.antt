@@ -1,0 +1,3 @@
+pub mod WordsFaults
+pub mod Failures
+pub mod Runs

@@ -1,0 +1,145 @@
+//! The words of the command line.
+
+ghost use Rattle.std.specs.Prelude.{◌≡◌};
+ghost use Rattle.book_desk.specs.WordsFaults.{words_status};
+
+use crate::failures::{BROKEN, USAGE};
+use clap::error::ErrorKind;
+use std::alloc::{AllocError, Global};
+use std::fmt;
+
+const ABOUT: &str =
+    "Decides who may do what with the resources of an office, by WebDAV access lists (RFC 3744)";
+
+const EXPLAIN: &str = "Reads a question from standard input and prints its decision";
+
+const QUESTION: &str = "\
+Input, a line for each (words are separated by one space; empty lines and lines that begin with # are skipped):
+  member GROUP MEMBER      a direct membership; at most 1,000
+  caller PERSON            who asks; or caller - for nobody; once
+  need NAME ..             the privileges that are needed; once
+  owner PRINCIPAL          who owns the resource; at most once
+  here PRINCIPAL           the resource is that principal; at most once
+  grant [not] WHO NAME ..  an entry of the access list, in order; at most 64
+  deny [not] WHO NAME ..   the same
+A PERSON is /people/NAME, a GROUP is /groups/NAME, and a PRINCIPAL or MEMBER is either. WHO is a PRINCIPAL or one of
+all, authenticated, unauthenticated, owner, self. The privileges are read, write-content, write-properties, bind,
+unbind, read-acl, write-acl, read-current-user-privilege-set, write (the second to the fifth) and all.
+
+Output:
+  allowed | denied NAME by N | denied NAME, none granted
+  granted: NAME ..         all that the list grants to the caller, or -
+N is the number of the entry that denies, from 1.
+
+Status: 0 answered, 1 refused input (standard error says 'line N: FAULT'), 2 usage, 3 memory, or a failed read or write.
+";
+
+/// What the program is to do.
+#[derive(Debug, Drop, PartialEq, Eq)]
+pub enum Command {
+    /// Decide the question on standard input.
+    Explain,
+    /// Print this help, which the words ask for.
+    Help(String),
+}
+
+/// Why the words name nothing to do. It prints as what is told on standard error.
+#[derive(Debug, Drop)]
+pub enum WordsFault {
+    /// The words are no command: what is wrong with them, and the usage.
+    Usage(String),
+    /// Memory was refused.
+    Memory,
+}
+
+impl WordsFault {
+    /// The status of the program: 2 where the words are no command, 3 where memory was refused.
+    pub fn status(&self) -> u8
+        ensures { result ≡ words_status self.now }
+    {
+        match self {
+            WordsFault::Usage(_) => USAGE,
+            WordsFault::Memory => BROKEN,
+        }
+    }
+}
+
+impl From<AllocError> for WordsFault {
+    ghost use Rattle.std.specs.Prelude.{◌≡◌};
+    ghost use Rattle.book_desk.specs.declared.commands.WordsFault.TheVariants.{Memory};
+
+    ghost from_gives = { λ _ e. e ≡ Memory };
+
+    fn from(_error: AllocError) -> WordsFault {
+        WordsFault::Memory
+    }
+}
+
+impl fmt::Display for WordsFault {
+    ghost use Rattle.std.specs.Prelude.{Some};
+    ghost use Rattle.book_desk.specs.WordsFaults.{words_text};
+
+    ghost output = { λ fault. Some (words_text fault) };
+
+    fn fmt<W: fmt::Write>(&self, f: &mut fmt::Formatter<W>) -> fmt::Result {
+        match self {
+            WordsFault::Usage(text) => f.write_str(text.as_str()),
+            WordsFault::Memory => f.write_str("words: memory\n"),
+        }
+    }
+}
+
+/// The commands and their help.
+fn program<'a>(alloc: Global) -> Result<clap::Command<'a>, AllocError> {
+    let explain = clap::Command::new(alloc, "explain")
+        .about(EXPLAIN)
+        .after_help(QUESTION);
+    clap::Command::new(alloc, "book_desk")
+        .about(ABOUT)
+        .bin_name("book_desk")?
+        .no_binary_name(true)
+        .subcommand_required(true)
+        .subcommand(explain)
+}
+
+/// What clap says in place of a command: help that was asked for, or what is wrong.
+fn answer_of(alloc: Global, error: &clap::Error) -> Result<Command, WordsFault> {
+    match error.kind() {
+        ErrorKind::OutOfMemory => Err(WordsFault::Memory),
+        ErrorKind::DisplayHelp => Ok(Command::Help(format!(in alloc; "{error}")?)),
+        _ => Err(WordsFault::Usage(format!(in alloc; "{error}")?)),
+    }
+}
+
+/// What is wrong with the words, and the usage.
+fn usage_text(alloc: Global, wrong: &str) -> Result<String, AllocError> {
+    let mut program = program(alloc)?;
+    let error = program.error(ErrorKind::Format, wrong)?;
+    format!(in alloc; "{error}")
+}
+
+fn usage(alloc: Global, wrong: &str) -> WordsFault {
+    match usage_text(alloc, wrong) {
+        Ok(text) => WordsFault::Usage(text),
+        Err(_) => WordsFault::Memory,
+    }
+}
+
+/// Words that are not UTF-8 are no command.
+pub fn words_not_text(alloc: Global) -> WordsFault {
+    usage(alloc, "invalid UTF-8 was detected in one or more arguments")
+}
+
+/// Reads the words after the program's name. Help that they ask for is a command of its own.
+///
+/// It answers `Usage` where they name no command, and `Memory` where memory was refused.
+pub fn command_of(alloc: Global, words: &[String]) -> Result<Command, WordsFault> {
+    let matches = match program(alloc)?.try_get_matches_from(words) {
+        Ok(matches) => matches,
+        Err(error) => return answer_of(alloc, &error),
+    };
+    match matches.subcommand_name() {
+        Some("explain") => Ok(Command::Explain),
+        _ => Err(usage(alloc, "a subcommand is required but one was not provided")),
+    }
+}

@@ -1,0 +1,17 @@
+pub mod PathSets
+pub mod Passed
+pub mod OneLeaf
+pub mod OpenLeaves
+pub mod Pairing
+pub mod GroupLists
+pub mod Searches
+pub mod PathEnds
+pub mod Shorts
+pub mod Places
+pub mod LineFaults
+pub mod Taken
+pub mod Readings
+pub mod OneMeaning
+pub mod OneReading
+pub mod OneAnswer
+pub mod OneExplanation

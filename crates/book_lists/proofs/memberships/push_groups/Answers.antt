@@ -1,0 +1,10 @@
+use Rattle.std.proofs.Common.{◌≡◌, [], sym, ap, append-nil, unwrap_or}
+use Rattle.std.specs.FinSet as set
+use Rattle.book_lists.specs.GroupEntries.{groups_at}
+use Rattle.book_lists.specs.Principals.{path_cmp}
+use Rattle.book_lists.proofs.memberships.push_groups.Goals as goal
+
+pub returns-in-None : goal.returns-in-None
+returns-in-None c =
+    let none : groups_at c.args.groups.now.entries c.args.member.now ≡ set.empty = ap (λ o. unwrap_or o set.empty) (sym c.in-None.ensures.value) in
+    ([], rw none (record { each = λ q. sym (set.contains-empty path_cmp q); once = sym (set.len-empty path_cmp) }), sym (append-nil _))

@@ -1,0 +1,7 @@
+use Rattle.std.proofs.Common.{sym, ap, ◌∙◌}
+use Rattle.std.specs.FinSet as set
+use Rattle.std.proofs.lemmas.Cmp.{nat_list_cmp_total}
+use Rattle.book_lists.proofs.principal_sets.PrincipalSet.has.Goals as goal
+
+pub returns : goal.returns
+returns c = c.contains.ensures ∙ sym (set.contains-from_list nat_list_cmp_total c.self.inside.tree.keys c.args.principal.now) ∙ ap (λ s. set.contains s c.args.principal.now) c.self.view_is

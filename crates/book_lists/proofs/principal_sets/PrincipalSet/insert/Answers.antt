@@ -1,0 +1,14 @@
+use Rattle.std.proofs.Common.{sym, ap, ◌∙◌, not}
+use Rattle.std.specs.FinSet as set
+use Rattle.std.proofs.lemmas.Cmp.{nat_list_cmp_total}
+use Rattle.book_lists.proofs.PathSets.{updated_is_insert}
+use Rattle.book_lists.proofs.principal_sets.PrincipalSet.insert.Goals as goal
+
+pub returns-clause-added : goal.returns-clause-added
+returns-clause-added c =
+    c.in_ok-insert.ensures.added ∙ ap not (sym (set.contains-from_list nat_list_cmp_total c.self.inside.tree.keys c.args.principal) ∙ ap (λ s. set.contains s c.args.principal) c.self.view_is)
+
+pub returns-clause-ok : goal.returns-clause-ok
+returns-clause-ok c =
+    updated_is_insert c.self.inside.tree.keys c.insert.new.self.keys c.args.principal c.in_ok-insert.ensures.updates.0
+    ∙ ap (λ s. set.insert s c.args.principal) c.self.view_is

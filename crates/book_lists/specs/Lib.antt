@@ -1,0 +1,14 @@
+pub mod Principals
+pub mod Circles
+pub mod PrincipalSets
+pub mod Entries
+pub mod Decisions
+pub mod Memberships
+pub mod GroupEntries
+pub mod Callers
+pub mod ShortNames
+pub mod Answers
+pub mod Lines
+pub mod Questions
+pub mod Explanations
+pub mod FaultTexts

@@ -1,0 +1,40 @@
+-- Membership of groups (RFC 3744, section 2): direct pairs, and chains of them.
+use Rattle.std.specs.Prelude.{◌≡◌, ℕ, ◌⊎◌, true, List, [], ◌∷◌, refl}
+use Rattle.std.specs.Coded.{Coded, code_by, coded×, coded_list, coded_ℕ}
+use Rattle.std.specs.FinSet as set
+use Rattle.std.specs.Ordering.{nat_cmp, ordering_then}
+use Rattle.std.specs.declared.cmp.Ordering.{Ordering}
+use Rattle.std.specs.Cmp.Lexicographic.{slice_cmp}
+use Rattle.book_lists.specs.declared.memberships.Membership.{Membership}
+
+-- pairs are ordered by the group, and then by the member
+abbrev pub membership_cmp : Membership → Membership → Ordering
+membership_cmp a b = ordering_then (slice_cmp nat_cmp a.group b.group) (slice_cmp nat_cmp a.member b.member)
+
+-- a membership is stored as the pair of its principals
+abbrev pub coded_membership : Coded Membership
+coded_membership = code_by (List ℕ × List ℕ) (coded× (coded_list coded_ℕ) (coded_list coded_ℕ)) (λ e. (e.group, e.member)) (λ p. record { group = p.0; member = p.1 }) (λ _. refl)
+
+-- a finite set of direct memberships
+abbrev pub Memberships : Type 0
+Memberships = set.FinSet membership_cmp
+
+abbrev pub set_of : List Membership → Memberships
+set_of pairs = set.from_list pairs
+
+-- the member is a direct member of the group
+abbrev pub IsDirect : Memberships → List ℕ → List ℕ → Type 0
+IsDirect pairs group member = set.contains pairs (record { group = group; member = member }) ≡ true
+
+-- from a group to a direct member, and so on through the list, down to p, which is its last
+abbrev pub Descends : Memberships → List ℕ → List (List ℕ) → List ℕ → Type 0
+Descends pairs group [] p = group ≡ p
+Descends pairs group (member ∷ members) p = IsDirect pairs group member × Descends pairs member members p
+
+-- a finite chain of one or more direct memberships leads from the group to p
+abbrev pub Chain : Memberships → List ℕ → List ℕ → Type 0
+Chain pairs p group = (member : List ℕ) × (members : List (List ℕ)) × Descends pairs group (member ∷ members) p
+
+-- a principal belongs to itself, and to each group from which a chain leads to it
+abbrev pub Belongs : Memberships → List ℕ → List ℕ → Type 0
+Belongs pairs p group = (p ≡ group) ⊎ Chain pairs p group

@@ -1,0 +1,30 @@
+-- The texts of `explain`.
+use Rattle.std.specs.Prelude.{Bool, ◌&&◌, List, [], ◌∷◌, if◌then◌else◌, Option, Some, None, nat_eq}
+use Rattle.std.specs.List.{filter_map}
+use Rattle.book_rights.specs.declared.privileges.Leaf.{Leaf}
+use Rattle.book_rights.specs.declared.privileges.Leaf.TheVariants.{Read, WriteContent, WriteProperties, Bind, Unbind, ReadAcl, WriteAcl, ReadCurrentUserPrivilegeSet}
+use Rattle.book_rights.specs.declared.privileges.Privilege.{Privilege}
+use Rattle.book_rights.specs.declared.privileges.Privilege.TheVariants.{One, Write, All}
+use Rattle.book_rights.specs.Privileges.{is_write}
+use Rattle.book_rights.specs.Leaves.{place_of}
+
+-- every leaf of write is in the set; every leaf is
+abbrev pub has_write : (Leaf → Bool) → Bool
+has_write set = set WriteContent && (set WriteProperties && (set Bind && set Unbind))
+
+abbrev pub has_all : (Leaf → Bool) → Bool
+has_all set = set Read && (has_write set && (set ReadAcl && (set WriteAcl && set ReadCurrentUserPrivilegeSet)))
+
+-- What stands for a leaf in a list of short names: `write` for the first of its leaves where all are held, and nothing
+-- for the others; else the leaf itself, if it is in the set.
+abbrev pub short_name : (Leaf → Bool) → Leaf → Option Privilege
+short_name set leaf =
+    if set leaf then (if has_write set && is_write leaf then (if nat_eq (place_of leaf) 1 then Some Write else None) else Some (One leaf)) else None
+
+-- the leaves in order
+abbrev pub all_leaves : List Leaf
+all_leaves = Read ∷ WriteContent ∷ WriteProperties ∷ Bind ∷ Unbind ∷ ReadAcl ∷ WriteAcl ∷ ReadCurrentUserPrivilegeSet ∷ []
+
+-- the short names of a set, in order
+abbrev pub short_list : (Leaf → Bool) → List Privilege
+short_list set = if has_all set then All ∷ [] else filter_map (short_name set) all_leaves

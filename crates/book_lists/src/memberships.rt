@@ -1,0 +1,169 @@
+//! Direct memberships of groups, and the principals to which a principal belongs by chains of them.
+
+ghost use Rattle.std.specs.Prelude.{◌≡◌, ◌↔◌, ◌++◌, ℕ, List, true, IfOk, OnOk, OnErr, map};
+ghost use Rattle.std.specs.FinSet as set;
+ghost use Rattle.std.specs.Prelude.{◌==◌};
+ghost use Rattle.std.specs.BTreeMap.{IsOrdered};
+ghost use Rattle.book_lists.specs.GroupEntries.{pairs_in, groups_at};
+ghost use Rattle.book_lists.specs.Memberships.{Belongs};
+ghost use Rattle.book_lists.specs.PrincipalSets.{ListsAll};
+ghost use Rattle.book_lists.specs.Principals.{path_cmp};
+
+use crate::principal_sets::PrincipalSet;
+use crate::principals::Principal;
+use std::alloc::{AllocError, Global};
+use std::collections::BTreeMap;
+use std::marker::Model;
+
+/// One direct membership: a group, and a member of it.
+#[derive(Debug, Drop, PartialEq, Eq)]
+pub struct Membership {
+    /// The group.
+    pub group: Principal,
+    /// The person or group that is a direct member of it.
+    pub member: Principal,
+}
+
+/// Direct memberships (RFC 3744, section 2), seen as a set of pairs of a group and a member.
+///
+/// They are kept by member, so that what a principal belongs to is found without a scan of all pairs.
+#[derive(Debug, Drop)]
+pub struct Pairs {
+    alloc: Global,
+    groups: BTreeMap<Principal, PrincipalSet>,
+    len: usize,
+}
+
+impl Model for Pairs {
+    ghost use Rattle.std.specs.Prelude.{◌≡◌};
+    ghost use Rattle.std.specs.FinSet as set;
+    ghost use Rattle.std.specs.BTreeMap.{IsOrdered};
+    ghost use Rattle.book_lists.specs.Principals.{path_cmp};
+    ghost use Rattle.book_lists.specs.GroupEntries.{pairs_in};
+    ghost use Rattle.book_lists.specs.Memberships.{membership_cmp, coded_membership};
+
+    ghost Value = { set.FinSet membership_cmp };
+
+    ghost coded = { set.code coded_membership };
+
+    ghost view = { λ p. pairs_in p.groups.entries };
+
+    ghost invariant = { λ p. IsOrdered path_cmp p.groups × (p.len ≡ set.len (pairs_in p.groups.entries)) };
+}
+
+impl Pairs {
+    /// No pairs. Nothing is allocated until a pair is added.
+    pub fn new(alloc: Global) -> Pairs
+        ensures { result ≡ set.empty }
+    {
+        Pairs {
+            alloc,
+            groups: BTreeMap::new(alloc),
+            len: 0,
+        }
+    }
+
+    /// Whether the member is a direct member of the group. Takes no memory.
+    pub fn has(&self, group: &Principal, member: &Principal) -> bool
+        ensures { result ≡ set.contains self.now (record { group = group.now; member = member.now }) }
+    {
+        match self.groups.get(member) {
+            Some(groups) => groups.has(group),
+            None => false,
+        }
+    }
+
+    /// How many pairs there are. Takes no memory.
+    pub fn len(&self) -> usize
+        ensures { result ≡ set.len self.now }
+    {
+        self.len
+    }
+
+    /// Whether there is no pair. Takes no memory.
+    pub fn is_empty(&self) -> bool
+        ensures { result ≡ (set.len self.now == 0) }
+    {
+        self.len == 0
+    }
+
+    /// Adds a pair, if it is not there. Without memory for it the pairs stay as they were.
+    pub fn add(&mut self, group: Principal, member: Principal) -> Result<(), AllocError>
+        ensures ok { OnOk result (self.new ≡ set.insert self.old (record { group = group; member = member })) }
+        ensures err { OnErr result (self.new ≡ self.old) }
+    {
+        if self.has(&group, &member) {
+            return Ok(());
+        }
+        let more = self.len.checked_add(1).ok_or(AllocError)?;
+        add_group(self.alloc, &mut self.groups, group, member)?;
+        self.len = more;
+        Ok(())
+    }
+
+    /// The principal, and each group to which a chain of these memberships leads from it.
+    pub(crate) fn closure_of(&self, principal: &Principal) -> Result<PrincipalSet, AllocError>
+        ensures { IfOk result (λ found. (q : List ℕ) → (set.contains found q ≡ true) ↔ Belongs self.now principal.now q) }
+    {
+        search(self.alloc, &self.groups, principal)
+    }
+}
+
+/// Adds a group to those of a member. Without memory for it the groups stay as they were.
+fn add_group(
+    alloc: Global,
+    groups: &mut BTreeMap<Principal, PrincipalSet>,
+    group: Principal,
+    member: Principal,
+) -> Result<(), AllocError>
+    requires { IsOrdered path_cmp groups.old }
+    ensures ordered { IsOrdered path_cmp groups.new }
+    ensures ok { OnOk result (pairs_in groups.new.entries ≡ set.insert (pairs_in groups.old.entries) (record { group = group; member = member })) }
+    ensures err { OnErr result (pairs_in groups.new.entries ≡ pairs_in groups.old.entries) }
+{
+    if let Some(direct) = groups.get_mut(&member) {
+        direct.insert(group)?;
+        return Ok(());
+    }
+    let mut direct = PrincipalSet::new(alloc);
+    direct.insert(group)?;
+    groups.insert(member, direct)?;
+    Ok(())
+}
+
+/// Adds the groups that the principal is a direct member of to the work of a search.
+fn push_groups<'a>(
+    groups: &'a BTreeMap<Principal, PrincipalSet>,
+    member: &Principal,
+    work: &mut Vec<&'a Principal>,
+) -> Result<(), AllocError>
+    ensures { OnOk result ((added : List (List ℕ)) × ListsAll (groups_at groups.entry.now.entries member.now) added
+        × (map (λ w. w.now) work.new.items ≡ map (λ w. w.now) work.old.items ++ added)) }
+{
+    match groups.get(member) {
+        Some(direct) => direct.append_to(work),
+        None => Ok(()),
+    }
+}
+
+/// Searches upwards from a principal. The work is what was reached and not yet looked at; each pair adds to it once.
+fn search(
+    alloc: Global,
+    groups: &BTreeMap<Principal, PrincipalSet>,
+    principal: &Principal,
+) -> Result<PrincipalSet, AllocError>
+    requires { IsOrdered path_cmp groups.now }
+    ensures { IfOk result (λ found. (q : List ℕ) → (set.contains found q ≡ true) ↔ Belongs (pairs_in groups.now.entries) principal.now q) }
+{
+    let mut found = PrincipalSet::new(alloc);
+    let mut work = Vec::new(alloc);
+    work.push(principal)?;
+    while let Some(member) = work.pop() {
+        if found.has(member) {
+            continue;
+        }
+        found.insert(member.clone()?)?;
+        push_groups(groups, member, &mut work)?;
+    }
+    Ok(found)
+}

@@ -1,0 +1,134 @@
+-- Sets of leaves. A set is a function from leaves to truth values.
+use Rattle.std.specs.Prelude.{◌≡◌, ℕ, Bool, true, false, ◌≤◌, ◌&&◌, ◌||◌, not, nat_eq, Option, None, Some, refl}
+use Rattle.std.specs.Bool.{Decides}
+use Rattle.std.specs.Cmp.{booleans_Decides}
+use Rattle.std.proofs.Common.{subst}
+use Rattle.std.proofs.lemmas.Bool.{false≢true}
+use mathlib.Core.Bool.{beq}
+use Rattle.std.specs.Coded.{Coded, code_by, coded×, coded_bool}
+use Rattle.book_rights.specs.declared.privileges.Leaf.{Leaf}
+use Rattle.book_rights.specs.declared.privileges.Leaf.TheVariants.{Read, WriteContent, WriteProperties, Bind, Unbind, ReadAcl, WriteAcl, ReadCurrentUserPrivilegeSet}
+
+-- one of eight values, by the leaf
+abbrev pub at_leaf : Bool → Bool → Bool → Bool → Bool → Bool → Bool → Bool → Leaf → Bool
+at_leaf a b c d e f g h Read = a
+at_leaf a b c d e f g h WriteContent = b
+at_leaf a b c d e f g h WriteProperties = c
+at_leaf a b c d e f g h Bind = d
+at_leaf a b c d e f g h Unbind = e
+at_leaf a b c d e f g h ReadAcl = f
+at_leaf a b c d e f g h WriteAcl = g
+at_leaf a b c d e f g h ReadCurrentUserPrivilegeSet = h
+
+-- a fact of every leaf
+pub each_leaf : (P : Leaf → Type 0) → P Read → P WriteContent → P WriteProperties → P Bind → P Unbind → P ReadAcl → P WriteAcl → P ReadCurrentUserPrivilegeSet → (leaf : Leaf) → P leaf
+each_leaf P a b c d e f g h Read = a
+each_leaf P a b c d e f g h WriteContent = b
+each_leaf P a b c d e f g h WriteProperties = c
+each_leaf P a b c d e f g h Bind = d
+each_leaf P a b c d e f g h Unbind = e
+each_leaf P a b c d e f g h ReadAcl = f
+each_leaf P a b c d e f g h WriteAcl = g
+each_leaf P a b c d e f g h ReadCurrentUserPrivilegeSet = h
+
+-- two sets with the same leaves are equal
+pub same_set : (f g : Leaf → Bool) → ((leaf : Leaf) → f leaf ≡ g leaf) → f ≡ g
+same_set f g same = λ i leaf. same leaf i
+
+-- two sets are equal where they agree at each of the eight
+pub same_by_leaf : (f g : Leaf → Bool) → f Read ≡ g Read → f WriteContent ≡ g WriteContent → f WriteProperties ≡ g WriteProperties → f Bind ≡ g Bind → f Unbind ≡ g Unbind → f ReadAcl ≡ g ReadAcl → f WriteAcl ≡ g WriteAcl → f ReadCurrentUserPrivilegeSet ≡ g ReadCurrentUserPrivilegeSet → f ≡ g
+same_by_leaf f g a b c d e h i k = same_set f g (each_leaf (λ leaf. f leaf ≡ g leaf) a b c d e h i k)
+
+abbrev pub Eight : Type 0
+Eight = Bool × (Bool × (Bool × (Bool × (Bool × (Bool × (Bool × Bool))))))
+
+abbrev pub eight_of : (Leaf → Bool) → Eight
+eight_of f = (f Read, (f WriteContent, (f WriteProperties, (f Bind, (f Unbind, (f ReadAcl, (f WriteAcl, f ReadCurrentUserPrivilegeSet)))))))
+
+abbrev pub set_of : Eight → Leaf → Bool
+set_of t = at_leaf t.0 t.1.0 t.1.1.0 t.1.1.1.0 t.1.1.1.1.0 t.1.1.1.1.1.0 t.1.1.1.1.1.1.0 t.1.1.1.1.1.1.1
+
+pub set_of-eight_of : (f : Leaf → Bool) → set_of (eight_of f) ≡ f
+set_of-eight_of f = same_by_leaf _ _ refl refl refl refl refl refl refl refl
+
+-- whether two sets have the same leaves
+abbrev pub same_leaves : (Leaf → Bool) → (Leaf → Bool) → Bool
+same_leaves f g =
+    beq (f Read) (g Read) && beq (f WriteContent) (g WriteContent) && beq (f WriteProperties) (g WriteProperties) && beq (f Bind) (g Bind)
+    && beq (f Unbind) (g Unbind) && beq (f ReadAcl) (g ReadAcl) && beq (f WriteAcl) (g WriteAcl)
+    && beq (f ReadCurrentUserPrivilegeSet) (g ReadCurrentUserPrivilegeSet)
+
+both : (a b : Bool) → (a && b) ≡ true → (a ≡ true) × (b ≡ true)
+both true b h = (refl, h)
+both false b h = absurd (false≢true h)
+
+same : (a b : Bool) → beq a b ≡ true → a ≡ b
+same a b h = (booleans_Decides a b).0 h
+
+itself : (a : Bool) → beq a a ≡ true
+itself true = refl
+itself false = refl
+
+-- sets are equal exactly where they have the same leaves
+pub same_leaves-decides : (f g : Leaf → Bool) → Decides (same_leaves f g) (f ≡ g)
+same_leaves-decides f g = (
+  λ h.
+      let s = both _ _ h in
+      let r = both _ _ s.0 in
+      let q = both _ _ r.0 in
+      let p = both _ _ q.0 in
+      let o = both _ _ p.0 in
+      let n = both _ _ o.0 in
+      let m = both _ _ n.0 in
+      same_by_leaf f g (same _ _ m.0) (same _ _ m.1) (same _ _ n.1) (same _ _ o.1) (same _ _ p.1) (same _ _ q.1) (same _ _ r.1) (same _ _ s.1),
+  λ e. let P : (Leaf → Bool) → Type 0 = λ x. same_leaves f x ≡ true in subst P e (reflexive f),
+)
+  where
+    reflexive : (f : Leaf → Bool) → same_leaves f f ≡ true
+    reflexive f =
+        let P : Leaf → Type 0 = λ leaf. beq (f leaf) (f leaf) ≡ true in
+        let each : (leaf : Leaf) → P leaf = λ leaf. itself (f leaf) in
+        simp (each Read, each WriteContent, each WriteProperties, each Bind, each Unbind, each ReadAcl, each WriteAcl, each ReadCurrentUserPrivilegeSet)
+
+-- a set of leaves is stored as its eight truth values
+abbrev pub coded_set : Coded (Leaf → Bool)
+coded_set = code_by Eight (coded× coded_bool (coded× coded_bool (coded× coded_bool (coded× coded_bool (coded× coded_bool (coded× coded_bool (coded× coded_bool coded_bool))))))) eight_of set_of set_of-eight_of
+
+-- how many leaves there are
+abbrev pub leaf_count : ℕ
+leaf_count = 8
+
+-- the place of a leaf in the order of the leaves, from 0
+abbrev pub place_of : Leaf → ℕ
+place_of Read = 0
+place_of WriteContent = 1
+place_of WriteProperties = 2
+place_of Bind = 3
+place_of Unbind = 4
+place_of ReadAcl = 5
+place_of WriteAcl = 6
+place_of ReadCurrentUserPrivilegeSet = 7
+
+abbrev pub no_leaf : Leaf → Bool
+no_leaf leaf = false
+
+abbrev pub every_leaf : Leaf → Bool
+every_leaf leaf = true
+
+abbrev pub union : (Leaf → Bool) → (Leaf → Bool) → Leaf → Bool
+union f g leaf = f leaf || g leaf
+
+abbrev pub difference : (Leaf → Bool) → (Leaf → Bool) → Leaf → Bool
+difference f g leaf = f leaf && not (g leaf)
+
+abbrev pub with_leaf : (Leaf → Bool) → Leaf → Leaf → Bool
+with_leaf f added leaf = f leaf || nat_eq (place_of leaf) (place_of added)
+
+-- some leaf is in both sets
+abbrev pub Meets : (Leaf → Bool) → (Leaf → Bool) → Type 0
+Meets f g = (leaf : Leaf) × (f leaf ≡ true) × (g leaf ≡ true)
+
+-- the first leaf of the set in the order of the leaves, and none of an empty set
+abbrev pub IsLeast : (Leaf → Bool) → Option Leaf → Type 0
+IsLeast f None = (leaf : Leaf) → f leaf ≡ false
+IsLeast f (Some least) = (f least ≡ true) × ((leaf : Leaf) → f leaf ≡ true → place_of least ≤ place_of leaf)
