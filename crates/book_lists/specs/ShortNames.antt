@@ -19,7 +19,7 @@ has_all set = set Read && (has_write set && (set ReadAcl && (set WriteAcl && set
 -- for the others; else the leaf itself, if it is in the set.
 abbrev pub short_name : (Leaf → Bool) → Leaf → Option Privilege
 short_name set leaf =
-    if set leaf then (if has_write set && is_write leaf then (if nat_eq (place_of leaf) 1 then Some Write else None) else Some (One leaf)) else None
+    if set leaf then (if has_write set && is_write leaf then (if nat_eq (place_of leaf) (place_of WriteContent) then Some Write else None) else Some (One leaf)) else None
 
 -- the leaves in order
 abbrev pub all_leaves : List Leaf

@@ -77,10 +77,13 @@ fn answer_text(alloc: Global, outcome: Outcome, granted: LeafSet) -> Result<Stri
     Ok(text)
 }
 
+/// The text that answers the question, or that its caller or its need is missing.
 fn answer(alloc: Global, question: &Question) -> Result<String, ExplainFaultKind>
-    ensures answered { IfOk result (λ text. (caller : Caller) × (need : Leaf → Bool) × (question.now.caller ≡ Some caller) × (question.now.need ≡ Some need)
+    ensures answered { IfOk result (λ text. (caller : Caller) × (need : Leaf → Bool)
+        × (question.now.caller ≡ Some caller) × (question.now.need ≡ Some need)
         × IsAnswer question.now.pairs caller need question.now.here question.now.entries.items (string_bytes text)) }
-    ensures missing { IfErr result (OrMemory (λ kind. (kind ≡ Missing) × ((question.now.caller ≡ None) ⊎ (question.now.need ≡ None)))) }
+    ensures missing { IfErr result (OrMemory (λ kind. (kind ≡ Missing)
+        × ((question.now.caller ≡ None) ⊎ (question.now.need ≡ None)))) }
 {
     let Some(caller) = &question.caller else {
         return Err(ExplainFaultKind::Missing);

@@ -74,7 +74,9 @@ impl<T: Drop> From<AllocFailed<T>> for ExplainFaultKind {
 /// `line N: NAME`.
 #[derive(Clone, Copy, Debug, PartialEq, Eq, Drop)]
 pub struct ExplainFault {
+    /// What is wrong.
     pub kind: ExplainFaultKind,
+    /// The line, from 1, or 0.
     pub line: usize,
 }
 
@@ -93,8 +95,10 @@ impl fmt::Display for ExplainFault {
 
 impl Error for ExplainFault {}
 
+/// The fault of this kind at this line; want of memory is of the whole text.
 pub(crate) fn fault_at(kind: ExplainFaultKind, line: usize) -> ExplainFault
-    ensures { (result.kind ≡ kind) × ((kind ≡ Memory) × (result.line ≡ 0) ⊎ (kind ≢ Memory) × (result.line ≡ line)) }
+    ensures { (result.kind ≡ kind)
+        × ((kind ≡ Memory) × (result.line ≡ 0) ⊎ (kind ≢ Memory) × (result.line ≡ line)) }
 {
     match kind {
         ExplainFaultKind::Memory => ExplainFault { kind, line: 0 },

@@ -3,6 +3,9 @@
 //! It stands on `book_rights`. The crate above uses that `expand` gives exactly the principals to which a caller belongs,
 //! that `decide` answers by the first applicable entry for each needed leaf and names it in a denial, and that `granted`
 //! gives exactly the leaves that a grant decides. `explain` puts them together over a text.
+//!
+//! Read `principals`, `memberships`, `circles`, `entries` and `decisions` first; then, for `explain`, `faults`, `lines`,
+//! `questions`, `short_names` and `explanations`, and `laws`.
 #![tactic(auto)]
 
 mod circles;

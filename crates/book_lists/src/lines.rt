@@ -39,13 +39,16 @@ pub(crate) fn pieces<'a>(
     text.split(separator).collect(alloc)
 }
 
+/// The principal that the word names.
 fn principal(alloc: Global, word: &str) -> Result<Principal, ExplainFaultKind>
     ensures named { IfOk result (λ path. Names word.now path) }
-    ensures bad { IfErr result (OrMemory (λ kind. (kind ≡ BadName) × ((path : List ℕ) → Names word.now path → ⊥))) }
+    ensures bad { IfErr result (OrMemory (λ kind. (kind ≡ BadName)
+        × ((path : List ℕ) → Names word.now path → ⊥))) }
 {
     Principal::parse(alloc, word)?.ok_or(ExplainFaultKind::BadName)
 }
 
+/// The principal form that the word names.
 fn who(alloc: Global, word: &str) -> Result<Who, ExplainFaultKind>
     ensures named { IfOk result (λ who. IsWho word.now who) }
     ensures bad { IfErr result (OrMemory (λ kind. (kind ≡ BadName) × ((who : Who) → IsWho word.now who → ⊥))) }

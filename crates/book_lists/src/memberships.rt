@@ -1,12 +1,10 @@
 //! Direct memberships of groups, and the principals to which a principal belongs by chains of them.
 
-ghost use Rattle.std.specs.Prelude.{◌≡◌, ◌↔◌, ◌++◌, ℕ, List, true, IfOk, OnOk, OnErr, map};
+ghost use Rattle.std.specs.Prelude.{◌≡◌, ◌==◌, ◌++◌, ℕ, List, IfOk, OnOk, OnErr, map};
 ghost use Rattle.std.specs.FinSet as set;
-ghost use Rattle.std.specs.Prelude.{◌==◌};
 ghost use Rattle.std.specs.BTreeMap.{IsOrdered};
 ghost use Rattle.book_lists.specs.GroupEntries.{pairs_in, groups_at};
-ghost use Rattle.book_lists.specs.Memberships.{Belongs};
-ghost use Rattle.book_lists.specs.PrincipalSets.{ListsAll};
+ghost use Rattle.book_lists.specs.PrincipalSets.{ListsAll, IsClosure};
 ghost use Rattle.book_lists.specs.Principals.{path_cmp};
 
 use crate::principal_sets::PrincipalSet;
@@ -103,7 +101,7 @@ impl Pairs {
 
     /// The principal, and each group to which a chain of these memberships leads from it.
     pub(crate) fn closure_of(&self, principal: &Principal) -> Result<PrincipalSet, AllocError>
-        ensures { IfOk result (λ found. (q : List ℕ) → (set.contains found q ≡ true) ↔ Belongs self.now principal.now q) }
+        ensures { IfOk result (IsClosure self.now principal.now) }
     {
         search(self.alloc, &self.groups, principal)
     }
@@ -118,7 +116,8 @@ fn add_group(
 ) -> Result<(), AllocError>
     requires { IsOrdered path_cmp groups.old }
     ensures ordered { IsOrdered path_cmp groups.new }
-    ensures ok { OnOk result (pairs_in groups.new.entries ≡ set.insert (pairs_in groups.old.entries) (record { group = group; member = member })) }
+    ensures ok { OnOk result (pairs_in groups.new.entries
+        ≡ set.insert (pairs_in groups.old.entries) (record { group = group; member = member })) }
     ensures err { OnErr result (pairs_in groups.new.entries ≡ pairs_in groups.old.entries) }
 {
     if let Some(direct) = groups.get_mut(&member) {
@@ -153,7 +152,7 @@ fn search(
     principal: &Principal,
 ) -> Result<PrincipalSet, AllocError>
     requires { IsOrdered path_cmp groups.now }
-    ensures { IfOk result (λ found. (q : List ℕ) → (set.contains found q ≡ true) ↔ Belongs (pairs_in groups.now.entries) principal.now q) }
+    ensures { IfOk result (IsClosure (pairs_in groups.now.entries) principal.now) }
 {
     let mut found = PrincipalSet::new(alloc);
     let mut work = Vec::new(alloc);

@@ -136,7 +136,8 @@ impl Principal {
     /// at the end is dropped. An error is want of memory.
     pub fn parse(alloc: Global, text: &str) -> Result<Option<Principal>, AllocError>
         ensures found { IfOk result (λ found. IfSome found (λ path. IsPrincipal path × Spells text.now path)) }
-        ensures none { IfOk result (λ found. IfNone found ((path : List ℕ) → IsPrincipal path → Spells text.now path → ⊥)) }
+        ensures none { IfOk result (λ found. IfNone found ((path : List ℕ)
+            → IsPrincipal path → Spells text.now path → ⊥)) }
     {
         let path = without_slash(text);
         if !is_principal(path) {

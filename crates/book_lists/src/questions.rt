@@ -48,8 +48,10 @@ impl Question {
 
     /// Adds what one more line says.
     fn take(&mut self, line: Line) -> Result<(), ExplainFaultKind>
-        ensures taken { OnOk result ((said : List SaidLine) → IsQuestion said self.old → Fits said line × IsQuestion (said ++ line ∷ []) self.new) }
-        ensures faulty { IfErr result (OrMemory (λ kind. (said : List SaidLine) → IsQuestion said self.old → Excess said line kind)) }
+        ensures taken { OnOk result ((said : List SaidLine) → IsQuestion said self.old
+            → Fits said line × IsQuestion (said ++ line ∷ []) self.new) }
+        ensures faulty { IfErr result (OrMemory (λ kind. (said : List SaidLine) → IsQuestion said self.old
+            → Excess said line kind)) }
     {
         match line {
             Line::Blank => {}
@@ -98,8 +100,10 @@ impl Question {
 impl Question {
     /// Reads one more line, and adds what it says.
     fn take_text(&mut self, alloc: Global, text: &str) -> Result<(), ExplainFaultKind>
-        ensures taken { OnOk result ((said : List SaidLine) → IsQuestion said self.old → (line : SaidLine) × Says text.now line × Fits said line × IsQuestion (said ++ line ∷ []) self.new) }
-        ensures faulty { IfErr result (OrMemory (λ kind. (said : List SaidLine) → IsQuestion said self.old → LineFault said text.now kind)) }
+        ensures taken { OnOk result ((said : List SaidLine) → IsQuestion said self.old
+            → (line : SaidLine) × Says text.now line × Fits said line × IsQuestion (said ++ line ∷ []) self.new) }
+        ensures faulty { IfErr result (OrMemory (λ kind. (said : List SaidLine) → IsQuestion said self.old
+            → LineFault said text.now kind)) }
     {
         let line = line_of(alloc, text)?;
         self.take(line)
@@ -107,8 +111,10 @@ impl Question {
 }
 
 pub(crate) fn read_question(alloc: Global, text: &str) -> Result<Question, ExplainFault>
-    ensures read { IfOk result (λ question. (said : List SaidLine) × Read [] (lines_of text.now) said × IsQuestion said question) }
-    ensures faulty { IfErr result (λ fault. ((fault.kind ≡ Memory) × (fault.line ≡ 0)) ⊎ FirstFault (lines_of text.now) fault.kind fault.line) }
+    ensures read { IfOk result (λ question. (said : List SaidLine)
+        × Read [] (lines_of text.now) said × IsQuestion said question) }
+    ensures faulty { IfErr result (λ fault. ((fault.kind ≡ Memory) × (fault.line ≡ 0))
+        ⊎ FirstFault (lines_of text.now) fault.kind fault.line) }
 {
     let lines = match pieces(alloc, text, '\n') {
         Ok(lines) => lines,

@@ -1,6 +1,6 @@
 use crate::{
-    Caller, Entry, Here, Outcome, Pairs, Principal, Who, applies, decide, expand, granted,
-    short_privileges,
+    Caller, Entry, ExplainFault, ExplainFaultKind, Here, Outcome, Pairs, Principal, Who, applies,
+    decide, expand, explain, granted, short_privileges,
 };
 use book_rights::{Leaf, LeafSet, Privilege};
 use std::alloc::Global;
@@ -179,5 +179,27 @@ fn short_names_stand_for_whole_aggregates(rt: HostRuntime) -> Result<(), Fail> {
         let short = short_privileges(rt.alloc(), set)?;
         assert_eq!(rt; short.as_slice(), names, "{set:?}");
     }
+    Ok(())
+}
+
+#[test]
+fn a_question_is_explained(rt: HostRuntime) -> Result<(), Fail> {
+    let alloc = rt.alloc();
+    let asked =
+        "member /groups/a /people/ann\ncaller /people/ann\nneed bind\ngrant /groups/a write\n";
+    let answer = explain(alloc, asked).ok().ok_or("an answer")?;
+    assert_eq!(rt; answer.as_str(), "allowed\ngranted: write\n");
+    let fault = explain(alloc, "caller -\nneed lock\n").err();
+    let unknown = ExplainFault {
+        kind: ExplainFaultKind::UnknownPrivilege,
+        line: 2,
+    };
+    assert_eq!(rt; fault, Some(unknown));
+    let memory = ExplainFault {
+        kind: ExplainFaultKind::Memory,
+        line: 0,
+    };
+    let told = format!(in alloc; "{memory}")?;
+    assert_eq!(rt; told.as_str(), "line 0: memory");
     Ok(())
 }
