@@ -1,7 +1,7 @@
 # Shared contact books.
 #
 #   make build   proves the program and links it: build/book_desk
-#   make demo    builds it, and runs it on each text of examples/
+#   make demo    builds it, and runs it on texts and cards of examples/
 #   make test    the gate: every proof from nothing, the edits that must fail, the tests, the programs
 #   make bench   proves and runs the benchmarks, which print figures
 #   make clean   removes what the others made

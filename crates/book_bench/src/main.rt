@@ -1,19 +1,20 @@
-//! Benchmarks of the access decisions: `book_bench all`, or one of `expand`, `decide`, `explain`. It prints figures, which
-//! no test compares, and nothing without a word. The time is the processor's, of one turn, as the mean of the turns
-//! that take a tenth of a second together; beside it stands the time at half the size, and the ratio of both.
+//! Benchmarks of the access decisions and of cards: `book_bench all`, or one of `expand`, `decide`, `explain`, `cards`.
+//! It prints figures, which no test compares, and nothing without a word. The time is the processor's, of one turn, as
+//! the mean of the turns that take a tenth of a second together; beside it stands the time at half the size, or of a card
+//! of twice the size, and the ratio of both.
 #![tactic(auto)]
 
 mod measures;
 mod workloads;
 
 use anyhow::Result;
-use measures::{Bench, print_figure};
+use measures::{Bench, print_figure, print_rate};
 use std::env;
 use std::io::Write;
 use std::process::ExitCode;
-use workloads::{Decision, Expansion, Explanation};
+use workloads::{CardReading, Decision, Expansion, Explanation, Unfolding};
 
-const WORDS: &str = "book_bench: the words are expand, decide, explain and all\n";
+const WORDS: &str = "book_bench: the words are expand, decide, explain, cards and all\n";
 
 const USAGE: u8 = 2;
 
@@ -71,16 +72,36 @@ fn explain_figures(rt: &impl Bench) -> Result<()> {
     )
 }
 
+fn card_figures(rt: &impl Bench) -> Result<()> {
+    let alloc = rt.alloc();
+    print_rate(
+        rt,
+        "read_card",
+        300,
+        &CardReading::of_300_bytes(alloc)?,
+        &CardReading::of_600_bytes(alloc)?,
+    )?;
+    print_rate(
+        rt,
+        "unfold a card",
+        300,
+        &Unfolding(CardReading::of_300_bytes(alloc)?),
+        &Unfolding(CardReading::of_600_bytes(alloc)?),
+    )
+}
+
 /// Prints the figures that the word names; false where it names none.
 fn figures_of(rt: &impl Bench, word: &str) -> Result<bool> {
     match word {
         "expand" => expand_figures(rt)?,
         "decide" => decide_figures(rt)?,
         "explain" => explain_figures(rt)?,
+        "cards" => card_figures(rt)?,
         "all" => {
             expand_figures(rt)?;
             decide_figures(rt)?;
             explain_figures(rt)?;
+            card_figures(rt)?;
         }
         _ => return Ok(false),
     }

@@ -1,6 +1,7 @@
 //! What is measured, with its input.
 
 use anyhow::{Context, Result};
+use book_cards::{read_card, unfold};
 use book_lists::{
     Caller, Circle, Entry, Here, Outcome, Pairs, Principal, Who, decide, expand, explain,
 };
@@ -182,5 +183,68 @@ impl Work for Explanation {
             Ok(answer) => Ok(answer.as_str() == self.answer),
             Err(_) => Ok(false),
         }
+    }
+}
+
+/// The front of a card of 300 bytes.
+const FRONT: &str = "\
+     BEGIN:VCARD\r\n\
+     VERSION:4.0\r\n\
+     UID:urn:uuid:5f1c0d9e-8b1a-4a55-9d0e-3a6f2b1c7e41\r\n\
+     FN:Nadia Rahman\r\n\
+     N:Rahman;Nadia;;;\r\n\
+     ADR;TYPE=work:;;Linden street 7;Berlin;;10969;Germany\r\n\
+     TEL;TYPE=work:+49 30 5550 123\r\n\
+     EMAIL:nadia.rahman@linden.example\r\n\
+     NOTE:Prefers letters to meetings. Omar o\r\n pens them.\r\n\
+     ";
+
+/// 300 bytes of further lines.
+const HOME: &str = "\
+     ADR;TYPE=home:;;Mill lane 12;Potsdam;;14467;Germany\r\n\
+     TEL;TYPE=home:+49 331 5550 77\r\n\
+     TEL;TYPE=cell:+49 170 5550 123\r\n\
+     EMAIL:nadia@rahman.example\r\n\
+     ORG:Linden Office;Sales\r\n\
+     TITLE:Account manager\r\n\
+     BDAY:19840312\r\n\
+     NOTE:Away on Fridays. In summer she is at the house by a lake\\, and re\r\n ads mail at night.\r\n\
+     ";
+
+const END: &str = "END:VCARD\r\n";
+
+/// The reading of a card.
+#[derive(Drop)]
+pub struct CardReading {
+    text: String,
+}
+
+impl CardReading {
+    /// A card of a person at work, of 300 bytes.
+    pub fn of_300_bytes(alloc: Global) -> Result<CardReading> {
+        let text = format!(in alloc; "{FRONT}{END}")?;
+        Ok(CardReading { text })
+    }
+
+    /// A card of a person at work and at home, of 600 bytes.
+    pub fn of_600_bytes(alloc: Global) -> Result<CardReading> {
+        let text = format!(in alloc; "{FRONT}{HOME}{END}")?;
+        Ok(CardReading { text })
+    }
+}
+
+impl Work for CardReading {
+    fn once(&self, alloc: Global, _turn: u32) -> Result<bool, AllocError> {
+        Ok(read_card(alloc, self.text.as_str()).is_ok())
+    }
+}
+
+/// The unfolding of a card's text alone.
+#[derive(Drop)]
+pub struct Unfolding(pub CardReading);
+
+impl Work for Unfolding {
+    fn once(&self, alloc: Global, _turn: u32) -> Result<bool, AllocError> {
+        Ok(unfold(alloc, self.0.text.as_str())?.ends_with(END))
     }
 }

@@ -1,26 +1,37 @@
--- An answer that was written to its end is what `explain` writes, and a fault is the input's.
-use Rattle.std.proofs.Common.{◌≡◌, ℕ, List, OnOk, IfSome, None, Some, Ok, Err, Option}
+-- What was written to its end is what the command writes, and what was refused has the failure that is told.
+use Rattle.std.proofs.Common.{◌≡◌, ℕ, List, OnOk, IfErr, IfSome, None, Some, Ok, Err, Option}
 use Rattle.std.specs.Io.KnownBytes.{Appends}
-use Rattle.std.specs.Str.{IsUtf8}
 use Rattle.std.specs.declared.result.Result.{Result}
-use Rattle.book_lists.specs.Explanations.{AnswersText, IsFault}
-use Rattle.book_desk.specs.Runs.{Does, Refuses}
-use Rattle.book_lists.specs.declared.faults.ExplainFault.{ExplainFault}
-use Rattle.book_desk.specs.declared.failures.Failure.TheVariants as failures
-use Rattle.book_desk.specs.declared.commands.Command.TheVariants.{Explain}
+use Rattle.book_desk.specs.Runs.{Does, Refuses, Writes}
+use Rattle.book_desk.specs.declared.commands.Command.{Command}
+use Rattle.book_desk.specs.declared.commands.Command.TheVariants.{Explain, Card, Help}
+use Rattle.book_desk.specs.declared.failures.Failure.{Failure}
+use Rattle.book_desk.specs.declared.failures.Failure.TheVariants.{Output}
 
-answered : (input : Option (List ℕ)) (text answer : List ℕ) (old new : Option (List ℕ)) →
-    IfSome input (λ bytes. text ≡ bytes) → IsUtf8 text → AnswersText text answer → Appends old new answer → Does Explain input old new
-answered None text answer old new told utf8 answers appends = tt
-answered (Some bytes) text answer old new told utf8 answers appends = (answer, (rw (← told) utf8, rw (← told) answers), appends)
+-- the text was the input
+does : (command : Command) (input : Option (List ℕ)) (text written : List ℕ) (old new : Option (List ℕ)) →
+    IfSome input (λ bytes. text ≡ bytes) → Writes command text written → Appends old new written → Does command input old new
+does command None text written old new told writes appends = tt
+does command (Some bytes) text written old new told writes appends = (written, rw (← told) writes, appends)
 
-pub answered_ok : {E : Type 0} (result : Result Unit E) (input : Option (List ℕ)) (text answer : List ℕ) (old new : Option (List ℕ)) →
-    IfSome input (λ bytes. text ≡ bytes) → IsUtf8 text → AnswersText text answer → OnOk result (Appends old new answer) → OnOk result (Does Explain input old new)
-answered_ok (Ok done) input text answer old new told utf8 answers appends = answered input text answer old new told utf8 answers appends
-answered_ok (Err failure) input text answer old new told utf8 answers appends = tt
+pub does_ok : {E : Type 0} (command : Command) (result : Result Unit E) (input : Option (List ℕ)) (text written : List ℕ) (old new : Option (List ℕ)) →
+    IfSome input (λ bytes. text ≡ bytes) → Writes command text written → OnOk result (Appends old new written) → OnOk result (Does command input old new)
+does_ok command (Ok done) input text written old new told writes appends = does command input text written old new told writes appends
+does_ok command (Err failure) input text written old new told writes appends = tt
 
--- the fault of a text that was read is the input's
-pub refused : (input : Option (List ℕ)) (text : List ℕ) (fault : ExplainFault) →
-    IfSome input (λ bytes. text ≡ bytes) → IsUtf8 text → IsFault text fault.kind fault.line → IfSome input (λ bytes. Refuses Explain bytes (failures.Explain fault))
-refused None text fault told utf8 faulty = tt
-refused (Some bytes) text fault told utf8 faulty = (rw (← told) utf8, rw (← told) faulty)
+pub refuses : (command : Command) (failure : Failure) (input : Option (List ℕ)) (text : List ℕ) →
+    IfSome input (λ bytes. text ≡ bytes) → Refuses command text failure → IfSome input (λ bytes. Refuses command bytes failure)
+refuses command failure None text told refused = tt
+refuses command failure (Some bytes) text told refused = rw (← told) refused
+
+-- an output that fails is a failure of each command
+fails : (command : Command) (input : List ℕ) → Refuses command input Output
+fails Explain input = tt
+fails Card input = tt
+fails (Help text) input = tt
+
+pub fails_to_print : (command : Command) (result : Result Unit Failure) (input : Option (List ℕ)) →
+    IfErr result (λ failure. failure ≡ Output) → IfErr result (λ failure. IfSome input (λ bytes. Refuses command bytes failure))
+fails_to_print command (Ok done) input failed = tt
+fails_to_print command (Err failure) None failed = tt
+fails_to_print command (Err failure) (Some bytes) failed = rw failed (fails command bytes)

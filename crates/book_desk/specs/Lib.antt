@@ -1,3 +1,4 @@
 pub mod WordsFaults
 pub mod Failures
+pub mod CardSummaries
 pub mod Runs

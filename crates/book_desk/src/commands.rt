@@ -9,7 +9,7 @@ use std::alloc::{AllocError, Global};
 use std::fmt;
 
 const ABOUT: &str =
-    "Decides who may do what with the resources of an office, by WebDAV access lists (RFC 3744)";
+    "Shared contact books of an office: WebDAV access lists (RFC 3744) and vCards (RFC 6350)";
 
 const EXPLAIN: &str = "Reads a question from standard input and prints its decision";
 
@@ -34,11 +34,49 @@ N is the number of the entry that denies, from 1.
 Status: 0 answered, 1 refused input (standard error says 'line N: FAULT'), 2 usage, 3 memory, or a failed read or write.
 ";
 
+const CARD: &str = "Reads a card from standard input and prints what it says, or why it is refused";
+
+const CARD_TEXT: &str = "\
+Input: one vCard of version 4.0 in UTF-8, of at most 65,536 bytes. Its lines end with CRLF or LF:
+  BEGIN:VCARD
+  VERSION:4.0
+  [GROUP.]NAME[;PARAMETER=VALUE,..]:VALUE   a content line; any number of them
+  END:VCARD
+A line end that one space or tab follows is a fold: both are removed first, and lines are counted after that.
+FN stands at least once, KIND and UID at most once, and MEMBER, which is a URI, only where KIND is group.
+
+Output, each value as written:
+  valid
+  kind: KIND      individual where the card names none
+  uid: UID        - where the card has none
+  fn: FN          the first
+  member: MEMBER  a line for each, in order
+
+A fault is told on standard error as 'line N: FAULT', with N from 1, or 0 for the whole text. In this order it is
+  too-long              the text has more than 65,536 bytes
+and then in the first line that has one
+  no-begin              the first line is not BEGIN:VCARD
+  no-version            the second line does not begin with VERSION:
+  other-version         the version is not 4.0
+  bad-line              it is no content line, or its KIND or MEMBER has no such value
+  twice                 it is a second KIND, UID or VERSION
+and then
+  no-end                no line is END:VCARD
+  after-end             a line after it is not empty
+  no-fn                 there is no FN; told at the line of END:VCARD
+  member-without-group  there is a MEMBER, and KIND is not group
+or at any time memory, at line 0.
+
+Status: 0 valid, 1 refused input, 2 usage, 3 memory, or a failed read or write.
+";
+
 /// What the program is to do.
 #[derive(Debug, Drop, PartialEq, Eq)]
 pub enum Command {
     /// Decide the question on standard input.
     Explain,
+    /// Tell what the card on standard input says.
+    Card,
     /// Print this help, which the words ask for.
     Help(String),
 }
@@ -94,12 +132,16 @@ fn program<'a>(alloc: Global) -> Result<clap::Command<'a>, AllocError> {
     let explain = clap::Command::new(alloc, "explain")
         .about(EXPLAIN)
         .after_help(QUESTION);
+    let card = clap::Command::new(alloc, "card")
+        .about(CARD)
+        .after_help(CARD_TEXT);
     clap::Command::new(alloc, "book_desk")
         .about(ABOUT)
         .bin_name("book_desk")?
         .no_binary_name(true)
         .subcommand_required(true)
-        .subcommand(explain)
+        .subcommand(explain)?
+        .subcommand(card)
 }
 
 /// What clap says in place of a command: help that was asked for, or what is wrong.
@@ -140,6 +182,7 @@ pub fn command_of(alloc: Global, words: &[String]) -> Result<Command, WordsFault
     };
     match matches.subcommand_name() {
         Some("explain") => Ok(Command::Explain),
+        Some("card") => Ok(Command::Card),
         _ => Err(usage(alloc, "a subcommand is required but one was not provided")),
     }
 }

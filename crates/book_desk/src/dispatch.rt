@@ -7,9 +7,11 @@ ghost use Rattle.book_desk.specs.Runs.{Does, Fails, Refuses};
 ghost use Rattle.book_desk.specs.declared.failures.Failure.{Failure};
 ghost use Rattle.book_desk.specs.declared.failures.Failure.TheVariants.{Output};
 
+use crate::card_summaries::summarize_input;
 use crate::commands::Command;
-use crate::explaining::{explain_input, print};
+use crate::explaining::explain_input;
 use crate::failures::{DONE, Failure};
+use crate::streams::print;
 use std::alloc::Global;
 use std::io::{Read, Write};
 
@@ -25,6 +27,7 @@ fn perform<R: Read + Drop, W: Write>(
 {
     match command {
         Command::Explain => explain_input(alloc, reader, writer),
+        Command::Card => summarize_input(alloc, reader, writer),
         Command::Help(text) => print(writer, text.as_str()),
     }
 }

@@ -1,8 +1,9 @@
 //! Why a command was not done: its text for standard error, and the status of the program.
 
 ghost use Rattle.std.specs.Prelude.{◌≡◌};
-ghost use Rattle.book_desk.specs.Failures.{failure_status, fault_status};
+ghost use Rattle.book_desk.specs.Failures.{failure_status, explain_status, card_status};
 
+use book_cards::{CardFault, CardFaultKind};
 use book_lists::{ExplainFault, ExplainFaultKind};
 use std::error::Error;
 use std::fmt;
@@ -27,6 +28,8 @@ pub enum Failure {
     Output,
     /// The text that `explain` read has this fault.
     Explain(ExplainFault),
+    /// The text that `card` read has this fault.
+    Card(CardFault),
 }
 
 impl Failure {
@@ -38,16 +41,26 @@ impl Failure {
             Failure::Input => BROKEN,
             Failure::NotUtf8 => REFUSED,
             Failure::Output => BROKEN,
-            Failure::Explain(fault) => fault_status(fault.kind),
+            Failure::Explain(fault) => explain_status(fault.kind),
+            Failure::Card(fault) => card_status(fault.kind),
         }
     }
 }
 
-fn fault_status(kind: ExplainFaultKind) -> u8
-    ensures { result ≡ fault_status kind }
+fn explain_status(kind: ExplainFaultKind) -> u8
+    ensures { result ≡ explain_status kind }
 {
     match kind {
         ExplainFaultKind::Memory => BROKEN,
+        _ => REFUSED,
+    }
+}
+
+fn card_status(kind: CardFaultKind) -> u8
+    ensures { result ≡ card_status kind }
+{
+    match kind {
+        CardFaultKind::Memory => BROKEN,
         _ => REFUSED,
     }
 }
@@ -64,6 +77,7 @@ impl fmt::Display for Failure {
             Failure::NotUtf8 => f.write_str("input: not-utf-8"),
             Failure::Output => f.write_str("output: write"),
             Failure::Explain(fault) => write!(f, "{fault}"),
+            Failure::Card(fault) => write!(f, "{fault}"),
         }
     }
 }

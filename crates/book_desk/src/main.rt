@@ -6,10 +6,12 @@
 ghost use Rattle.std.specs.Prelude.{◌≡◌};
 ghost use Rattle.book_desk.specs.WordsFaults.{words_status};
 
+mod card_summaries;
 mod commands;
 mod dispatch;
 mod explaining;
 mod failures;
+mod streams;
 #[cfg(test)]
 mod tests;
 

@@ -190,6 +190,72 @@ fn counts_members_and_entries(rt: HostRuntime) -> Result<(), Fail> {
     Ok(())
 }
 
+const FOLDED: &str = "BEGIN:VCARD\nVERSION:4.0\nFN:An\n n Bell\nEND:VCARD";
+
+fn told_of(alloc: Global, card: &str) -> Result<Told, Fail> {
+    run_over(alloc, &Command::Card, card.as_bytes())
+}
+
+#[test]
+fn tells_what_cards_say(rt: HostRuntime) -> Result<(), Fail> {
+    let cases = [
+        (FOLDED, "valid\nkind: individual\nuid: -\nfn: Ann Bell\n"),
+        (
+            "BEGIN:VCARD\r\nVERSION:4.0\r\nUID:urn:uuid:p\r\nFN:P\r\nEND:VCARD\r\n",
+            "valid\nkind: individual\nuid: urn:uuid:p\nfn: P\n",
+        ),
+        (
+            "BEGIN:VCARD\r\nVERSION:4.0\r\nKIND:group\r\nFN:G\r\nMEMBER:urn:uuid:p\r\n\
+             MEMBER:urn:uuid:q\r\nEND:VCARD\r\n",
+            "valid\nkind: group\nuid: -\nfn: G\nmember: urn:uuid:p\nmember: urn:uuid:q\n",
+        ),
+        // values as written, of any case and with their escapes; of two FN the first
+        (
+            "begin:vcard\nversion:4.0\nx.fn;language=en:Bell\\, Ann: \nFN:Ann\nKind:ORG\nUid:\nend:vcard\n",
+            "valid\nkind: ORG\nuid: \nfn: Bell\\, Ann: \n",
+        ),
+    ];
+    for (input, output) in cases {
+        let told = told_of(rt.alloc(), input)?;
+        assert!(rt; told.is(0, output, ""), "{input:?}: {told:?}");
+    }
+    Ok(())
+}
+
+#[test]
+fn tells_why_cards_are_refused(rt: HostRuntime) -> Result<(), Fail> {
+    let cases = [
+        ("", "line 1: no-begin\n"),
+        ("FN:A\n", "line 2: no-version\n"),
+        ("VERSION:3.0\nFN:A\n", "line 2: other-version\n"),
+        ("VERSION:4.0\nFN:A\nTEL 1\n", "line 4: bad-line\n"),
+        ("VERSION:4.0\nUID:a\nUID:b\nFN:A\n", "line 4: twice\n"),
+        (
+            "VERSION:4.0\nFN:A\nEND:VCARD\nFN:B\n",
+            "line 5: after-end\n",
+        ),
+        ("VERSION:4.0\nN:A\n", "line 4: no-fn\n"),
+        (
+            "VERSION:4.0\nFN:A\nMEMBER:urn:uuid:1\n",
+            "line 4: member-without-group\n",
+        ),
+    ];
+    for (lines, fault) in cases {
+        let input = match lines {
+            "" => String::new(rt.alloc()),
+            _ => format!(in rt.alloc(); "BEGIN:VCARD\n{lines}END:VCARD\n")?,
+        };
+        let told = told_of(rt.alloc(), input.as_str())?;
+        assert!(rt; told.is(1, "", fault), "{input:?}: {told:?}");
+    }
+    let open = told_of(rt.alloc(), "BEGIN:VCARD\nVERSION:4.0\nFN:A\n")?;
+    assert!(rt; open.is(1, "", "line 4: no-end\n"), "{open:?}");
+    let long = repeated(rt.alloc(), "A", 65_537, "")?;
+    let long = told_of(rt.alloc(), long.as_str())?;
+    assert!(rt; long.is(1, "", "line 0: too-long\n"), "{long:?}");
+    Ok(())
+}
+
 /// Gives its bytes one by one, and then fails.
 #[derive(Drop)]
 struct Breaking<'a>(&'a [u8]);
@@ -228,42 +294,47 @@ impl Write for Full {
 #[test]
 fn tells_a_failed_read_or_write(rt: HostRuntime) -> Result<(), Fail> {
     let alloc = rt.alloc();
-    let asked: &[u8] = b"caller -\nneed read\n";
-    let cut = run_over(alloc, &Command::Explain, Breaking(asked))?;
-    assert!(rt; cut.is(3, "", "input: read\n"), "{cut:?}");
+    let cases: [(Command, &str); 2] = [
+        (Command::Explain, "caller -\nneed read\n"),
+        (Command::Card, FOLDED),
+    ];
+    for (command, input) in cases {
+        let input = input.as_bytes();
+        let cut = run_over(alloc, &command, Breaking(input))?;
+        assert!(rt; cut.is(3, "", "input: read\n"), "{command:?}: {cut:?}");
+        for room in [0, 7, 1000] {
+            let mut errors = Vec::new(alloc);
+            let status = run(alloc, &command, input, &mut Full(room), &mut errors);
+            assert_eq!(rt;
+                (status, errors.as_slice()),
+                (3, b"output: write\n".as_slice()),
+                "{command:?}, {room}"
+            );
+        }
+        let mut output = Vec::new(alloc);
+        let refused = b"frob".as_slice();
+        let status = run(alloc, &command, refused, &mut output, &mut Full(3));
+        assert_eq!(rt; (status, output.is_empty()), (1, true), "{command:?}");
+    }
+    Ok(())
+}
+
+#[test]
+fn refuses_what_is_not_utf8(rt: HostRuntime) -> Result<(), Fail> {
     let cases: [&[u8]; 3] = [
         b"\xff",
         b"caller -\nneed read\n# \xc3",
         b"\xef\xbb\xbf\xed\xa0\x80",
     ];
     for bytes in cases {
-        let told = run_over(alloc, &Command::Explain, bytes)?;
-        assert!(rt; told.is(1, "", "input: not-utf-8\n"), "{told:?}");
+        for command in [Command::Explain, Command::Card] {
+            let told = run_over(rt.alloc(), &command, bytes)?;
+            assert!(rt;
+                told.is(1, "", "input: not-utf-8\n"),
+                "{command:?}: {told:?}"
+            );
+        }
     }
-    for room in [0, 7, 1000] {
-        let mut errors = Vec::new(alloc);
-        let status = run(
-            alloc,
-            &Command::Explain,
-            asked,
-            &mut Full(room),
-            &mut errors,
-        );
-        assert_eq!(rt;
-            (status, errors.as_slice()),
-            (3, b"output: write\n".as_slice()),
-            "{room}"
-        );
-    }
-    let mut output = Vec::new(alloc);
-    let status = run(
-        alloc,
-        &Command::Explain,
-        b"frob".as_slice(),
-        &mut output,
-        &mut Full(3),
-    );
-    assert_eq!(rt; (status, output.is_empty()), (1, true));
     Ok(())
 }
 
@@ -281,17 +352,25 @@ fn reads_words(rt: HostRuntime) -> Result<(), Fail> {
         command_of(alloc, explain.as_slice()).ok(),
         Some(Command::Explain)
     );
+    let card = words(alloc, "card")?;
+    assert_eq!(rt;
+        command_of(alloc, card.as_slice()).ok(),
+        Some(Command::Card)
+    );
     let cases = [
         ("--help", "Usage: book_desk <COMMAND>\n"),
         ("-h", "explain  Reads a question"),
         ("help", "explain  Reads a question"),
         ("explain --help", "Usage: book_desk explain\n"),
         ("help explain", "member GROUP MEMBER"),
+        ("--help", "card     Reads a card"),
+        ("card --help", "Usage: book_desk card\n"),
+        ("help card", "member-without-group"),
     ];
     for (line, part) in cases {
         let words = words(alloc, line)?;
         let command = command_of(alloc, words.as_slice()).ok().expect(&rt, "help");
-        assert!(rt; command != Command::Explain, "{line}");
+        assert!(rt; matches!(&command, Command::Help(_)), "{line}");
         let told = run_over(alloc, &command, b"".as_slice())?;
         assert!(rt;
             told.status == 0 && told.errors.is_empty(),
@@ -313,6 +392,7 @@ fn refuses_words(rt: HostRuntime) -> Result<(), Fail> {
         ("explan", "error: unrecognized subcommand 'explan'"),
         ("--store", "error: unexpected argument '--store' found"),
         ("explain this", "error: unexpected argument 'this' found"),
+        ("card a.vcf", "error: unexpected argument 'a.vcf' found"),
     ];
     for (line, wrong) in cases {
         let words = words(alloc, line)?;

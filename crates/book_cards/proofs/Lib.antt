@@ -1,0 +1,11 @@
+pub mod Folds
+pub mod FoldSteps
+pub mod Escapes
+pub mod Names
+pub mod LineEnds
+pub mod Scans
+pub mod Grammar
+pub mod ValidLaws
+pub mod Unfolding
+pub mod Numbers
+pub mod MadeUp

@@ -1,0 +1,12 @@
+pub mod Folding
+pub mod TextLines
+pub mod ContentLine
+pub mod Reading
+pub mod Properties
+pub mod Content
+pub mod Valid
+pub mod CardText
+pub mod FaultTexts
+pub mod Escaping
+pub mod Scanning
+pub mod Views
