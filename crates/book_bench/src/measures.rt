@@ -12,7 +12,7 @@ impl<R: CpuClock + AllocGlobal + Print> Bench for R {}
 
 const LEAST_MILLIS: u64 = 100;
 
-/// A time in milliseconds, or in microseconds below ten of them.
+/// A time in milliseconds, or in microseconds where it is below ten milliseconds.
 #[derive(Drop)]
 struct Shown(Duration);
 

@@ -10,8 +10,8 @@ HasNoLineFeed line = AllByRecursion (λ b. b == 10 ≡ false) line
 abbrev pub EndsInNoReturn : List ℕ → Type 0
 EndsInNoReturn line = (front : List ℕ) → line ≢ front ++ 13 ∷ []
 
--- the lines, each with its line end, make up the text: a line feed with or without a carriage return before
--- it, and no line end after a last line that isn't empty
+-- the lines, each with its line end, make up the text: a line end is a line feed, with the carriage return
+-- before it if there is one, and a last line that isn't empty may lack it
 pub data MakeUp : List (List ℕ) → List ℕ → Type 0 where
   nothing : MakeUp [] []
   last : (line : List ℕ) → 0 < length line → HasNoLineFeed line → MakeUp (line ∷ []) line

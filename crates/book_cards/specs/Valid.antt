@@ -17,7 +17,7 @@ pub record IsContent (line : List ℕ) : Type 0 where
   pub plain : list_any is_control line ≡ false
   pub value : may_have (property_of fields.name) fields.value ≡ true
 
--- the lines of a card
+-- the lines of a card: BEGIN, VERSION 4.0, content lines of which none is the end, the end, and then empty lines
 pub record AreCardLines (text_lines : List (List ℕ)) : Type 0 where
   pub first : List ℕ
   pub second : List ℕ

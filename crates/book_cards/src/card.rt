@@ -47,11 +47,15 @@ impl Model for Card {
     ghost invariant = { λ card. lines_fault (lines (string_bytes card.text)) ≡ None };
 }
 
-/// Reads a card: the text is one by RFC 6350, sections 3.2, 3.3 and 6, and by this project's profile.
+/// Reads a card (RFC 6350, sections 3.2, 3.3 and 6, and this project's profile).
 ///
-/// Else the one fault that the order of `CardFaultKind` picks, with its line; `Memory` may come in place of
-/// any answer. One pass over the text to unfold it and one over its lines; the card takes at most the bytes
-/// of the text, at once.
+/// One pass over the text to unfold it and one over its lines; the card takes at most the bytes of the text, at once.
+///
+/// # Errors
+///
+/// The one fault, with its line: `TooLong`; then the first line, not past END, with `NoBegin`, `NoVersion`,
+/// `OtherVersion`, `BadLine` or `Twice`; then `NoEnd` or `AfterEnd`; then `NoFormattedName`; then
+/// `MemberWithoutGroup`. `Memory` at line 0 may come in place of any answer.
 pub fn read_card(alloc: Global, text: &str) -> Result<Card, CardFault>
     ensures card { IfOk result (λ card. IsCard text.now × (card ≡ unfolded text.now)) }
     ensures fault { IfErr result (λ fault. (fault ≡ out_of_memory) ⊎ (card_fault text.now ≡ Some fault)) }

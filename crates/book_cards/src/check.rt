@@ -14,7 +14,7 @@ ghost use Rattle.book_cards.specs.Views.{view};
 ghost use Rattle.book_cards.specs.Scanning.{seen_in, seen_with, seen_fault, pass_content, scan};
 
 use crate::fault::{CardFault, CardFaultKind};
-use crate::line::{Line, is_name};
+use crate::line::{Line, is_name_byte};
 use crate::property::{Property, is_word, property_named};
 
 /// The first line, without its line end, and the text after it; none in an empty text.
@@ -83,7 +83,7 @@ fn has_control(text: &str) -> bool
 fn has_name_bytes(text: &str) -> bool
     ensures { result ≡ list_all is_name_byte text.now }
 {
-    text.as_bytes().iter().all(|byte| is_name(*byte))
+    text.as_bytes().iter().all(|byte| is_name_byte(*byte))
 }
 
 /// Whether the value is letters, digits and hyphens, at least one.
@@ -94,7 +94,7 @@ fn is_kind_text(value: &str) -> bool
 }
 
 /// Whether a property may have this value.
-fn fits(property: Property, value: &str) -> bool
+fn may_have(property: Property, value: &str) -> bool
     ensures { result ≡ may_have property value.now }
 {
     match property {
@@ -113,7 +113,7 @@ fn read_content(text: &str) -> Option<Line<'_>>
         return None;
     }
     let line = Line::read(text)?;
-    if fits(property_named(line.name), line.value) {
+    if may_have(property_named(line.name), line.value) {
         Some(line)
     } else {
         None

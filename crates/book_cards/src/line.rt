@@ -43,7 +43,7 @@ enum Place {
 }
 
 /// Whether the byte is a letter, a digit or a hyphen.
-pub(crate) fn is_name(byte: u8) -> bool
+pub(crate) fn is_name_byte(byte: u8) -> bool
     ensures { result ≡ is_name_byte byte }
 {
     byte.is_ascii_alphanumeric() || byte == b'-'
@@ -65,7 +65,7 @@ impl Place {
         ensures { result ≡ next self byte }
     {
         match (self, byte) {
-            (Place::NameStart | Place::Name, _) if is_name(byte) => Some(Place::Name),
+            (Place::NameStart | Place::Name, _) if is_name_byte(byte) => Some(Place::Name),
             (Place::Name, b'=') => Some(Place::ValueStart),
             (Place::Quoted, b'"') => Some(Place::AfterQuote),
             (Place::Quoted, _) => Some(Place::Quoted),
@@ -101,7 +101,7 @@ fn count_name(text: &str) -> usize
 {
     let bytes = text.as_bytes();
     for (i, byte) in bytes.iter().enumerate() {
-        if !is_name(*byte) {
+        if !is_name_byte(*byte) {
             return i;
         }
     }

@@ -31,7 +31,15 @@ Output:
   granted: NAME ..         all that the list grants to the caller, or -
 N is the number of the entry that denies, from 1.
 
-Status: 0 answered, 1 refused input (standard error says 'line N: FAULT'), 2 usage, 3 memory, or a failed read or write.
+A fault is told on standard error as 'line N: FAULT', for the first line that has one. In this order it is
+  bad-line           the line has none of these forms
+  bad-name           a word is no principal, or not a group or a person where one is wanted
+  unknown-privilege  a word is no privilege
+  twice              a second caller, need, owner or here
+  too-many           more than 1,000 members or 64 entries
+and then, at line 0, missing: there is no caller or no need; or at any time memory, at line 0.
+
+Status: 0 answered, 1 refused input, 2 usage, 3 memory, or a failed read or write.
 ";
 
 const CARD: &str = "Reads a card from standard input and prints what it says, or why it is refused";
@@ -58,7 +66,8 @@ and then in the first line that has one
   no-begin              the first line is not BEGIN:VCARD
   no-version            the second line does not begin with VERSION:
   other-version         the version is not 4.0
-  bad-line              it is no content line, or its KIND or MEMBER has no such value
+  bad-line              it is no content line, has a control character, or is named BEGIN or END; or it is a KIND
+                        that is not letters, digits and hyphens, or a MEMBER that is no URI
   twice                 it is a second KIND, UID or VERSION
 and then
   no-end                no line is END:VCARD
@@ -183,6 +192,7 @@ pub fn command_of(alloc: Global, words: &[String]) -> Result<Command, WordsFault
     match matches.subcommand_name() {
         Some("explain") => Ok(Command::Explain),
         Some("card") => Ok(Command::Card),
+        // Not reached: clap requires a subcommand.
         _ => Err(usage(alloc, "a subcommand is required but one was not provided")),
     }
 }

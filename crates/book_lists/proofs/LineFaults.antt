@@ -21,7 +21,7 @@ use Rattle.std.proofs.lemmas.List.Folds.{list_any-append}
 use Rattle.book_lists.specs.declared.lines.Line.{Line}
 use Rattle.book_lists.specs.declared.entries.Entry.{Entry}
 use Rattle.book_lists.specs.declared.lines.Line.TheVariants as lines
-use Rattle.book_lists.specs.Lines.{HasUnknown, need_form, entry_form, member_form, caller_form, owner_form, here_form, action, inverted, words, IsProper, HasForm, Means, Tell, WordsFault, words_of, IsBlank, Says, OwnFault, IsWho, AreLeaves, OrMemory, Form, FormFault, HasBadName, Names}
+use Rattle.book_lists.specs.Lines.{HasUnknown, need_form, entry_form, member_form, caller_form, owner_form, here_form, action, inverted, words, IsProper, HasForm, Means, WordsSay, FaultOfWords, words_of, IsBlank, Says, OwnFault, IsWho, AreLeaves, OrMemory, Form, FormFault, HasBadName, Names}
 use Rattle.book_lists.proofs.PathEnds.{ends_plain}
 
 pub passed_on : {A : Type 0} (r : Result A ExplainFaultKind) (P : ExplainFaultKind → Type 0) (kind : ExplainFaultKind) → IsErrAnd r (λ e. e ≡ kind) → P kind → IfErr r P
@@ -126,11 +126,11 @@ pub first_word : (ws : List (Bor (List ℕ))) → 1 ≤ length ws → texts ws �
 first_word [] h = absurd (omega (arith, h))
 first_word (a ∷ ws) h = refl
 
-pub tell_ok : (ws : List (List ℕ)) (form : Form) (r : Result Line ExplainFaultKind) → HasForm ws form → IfOk r (Means form) → IfOk r (Tell ws)
+pub tell_ok : (ws : List (List ℕ)) (form : Form) (r : Result Line ExplainFaultKind) → HasForm ws form → IfOk r (Means form) → IfOk r (WordsSay ws)
 tell_ok ws form (Ok line) has means = (form, has, means)
 tell_ok ws form (Err kind) has means = tt
 
-pub tell_err : (ws : List (List ℕ)) (form : Form) (r : Result Line ExplainFaultKind) → HasForm ws form → IfErr r (OrMemory (FormFault form)) → IfErr r (OrMemory (WordsFault ws))
+pub tell_err : (ws : List (List ℕ)) (form : Form) (r : Result Line ExplainFaultKind) → HasForm ws form → IfErr r (OrMemory (FormFault form)) → IfErr r (OrMemory (FaultOfWords ws))
 tell_err ws form (Ok line) has fault = tt
 tell_err ws form (Err kind) has (inl memory) = inl memory
 tell_err ws form (Err kind) has (inr fault) = inr (inr (form, has, fault))
@@ -147,25 +147,25 @@ pub if_none : {A : Type 0} (o : Option A) (P : Type 0) → P → IfNone o P
 if_none None P p = p
 if_none (Some x) P p = tt
 
-pub need_told : (names : List (List ℕ)) (set : Leaf → Bool) → (names ≡ [] → ⊥) → AreLeaves names set → Tell (codes "need" ∷ names) (lines.Need set)
+pub need_told : (names : List (List ℕ)) (set : Leaf → Bool) → (names ≡ [] → ⊥) → AreLeaves names set → WordsSay (codes "need" ∷ names) (lines.Need set)
 need_told [] set some leaves = absurd (some refl)
 need_told (name ∷ names) set some leaves = (need_form name names, (refl, tt), leaves)
 
-pub need_unknown : (names : List (List ℕ)) → (names ≡ [] → ⊥) → HasUnknown names → WordsFault (codes "need" ∷ names) UnknownPrivilege
+pub need_unknown : (names : List (List ℕ)) → (names ≡ [] → ⊥) → HasUnknown names → FaultOfWords (codes "need" ∷ names) UnknownPrivilege
 need_unknown [] some unknown = absurd (some refl)
 need_unknown (name ∷ names) some unknown = inr (need_form name names, (refl, tt), ((λ bad. bad), unknown))
 
 module _ (deny invert : Bool) (word : List ℕ) (proper : word ≢ codes "not") where
   pub entry_told : (names : List (List ℕ)) (entry : Entry) → (names ≡ [] → ⊥) → entry.deny ≡ deny → entry.invert ≡ invert → IsWho word entry.who → AreLeaves names entry.set
-      → Tell (action deny ∷ inverted invert (word ∷ names)) (lines.Listed entry)
+      → WordsSay (action deny ∷ inverted invert (word ∷ names)) (lines.Listed entry)
   entry_told [] entry some d i who leaves = absurd (some refl)
   entry_told (name ∷ names) entry some d i who leaves = (entry_form deny invert word name names, (refl, proper), (d, i, who, leaves))
 
-  pub entry_bad : (names : List (List ℕ)) → (names ≡ [] → ⊥) → ((who : Who) → IsWho word who → ⊥) → WordsFault (action deny ∷ inverted invert (word ∷ names)) BadName
+  pub entry_bad : (names : List (List ℕ)) → (names ≡ [] → ⊥) → ((who : Who) → IsWho word who → ⊥) → FaultOfWords (action deny ∷ inverted invert (word ∷ names)) BadName
   entry_bad [] some bad = absurd (some refl)
   entry_bad (name ∷ names) some bad = inr (entry_form deny invert word name names, (refl, proper), bad)
 
-  pub entry_unknown : (names : List (List ℕ)) (who : Who) → (names ≡ [] → ⊥) → IsWho word who → HasUnknown names → WordsFault (action deny ∷ inverted invert (word ∷ names)) UnknownPrivilege
+  pub entry_unknown : (names : List (List ℕ)) (who : Who) → (names ≡ [] → ⊥) → IsWho word who → HasUnknown names → FaultOfWords (action deny ∷ inverted invert (word ∷ names)) UnknownPrivilege
   entry_unknown [] who some is unknown = absurd (some refl)
   entry_unknown (name ∷ names) who some is unknown = inr (entry_form deny invert word name names, (refl, proper), ((λ bad. bad who is), unknown))
 
@@ -185,14 +185,14 @@ module _ (line : List ℕ) (not_blank : IsBlank line → ⊥) (ws : List (Bor (L
   empty_fault b e t = (not_blank, inl (refl, λ none. false≢true (sym none ∙ empties ∙ sym e ∙ t)))
 
   module _ (b : Bool) (e : b ≡ list_any (λ w. nat_eq (length w.now) 0) ws) (f : b ≡ false) where
-    pub line_said : (r : Result Line ExplainFaultKind) → IfOk r (Tell (texts ws)) → IfOk r (Says line)
-    line_said (Ok x) tell = inr (not_blank, empties ∙ sym e ∙ f, subst (λ vs. Tell vs x) same tell)
+    pub line_said : (r : Result Line ExplainFaultKind) → IfOk r (WordsSay (texts ws)) → IfOk r (Says line)
+    line_said (Ok x) tell = inr (not_blank, empties ∙ sym e ∙ f, subst (λ vs. WordsSay vs x) same tell)
     line_said (Err k) tell = tt
 
-    pub line_fault : (r : Result Line ExplainFaultKind) → IfErr r (OrMemory (WordsFault (texts ws))) → IfErr r (OrMemory (OwnFault line))
+    pub line_fault : (r : Result Line ExplainFaultKind) → IfErr r (OrMemory (FaultOfWords (texts ws))) → IfErr r (OrMemory (OwnFault line))
     line_fault (Ok x) fault = tt
     line_fault (Err k) (inl memory) = inl memory
-    line_fault (Err k) (inr fault) = inr (not_blank, inr (empties ∙ sym e ∙ f, subst (λ vs. WordsFault vs k) same fault))
+    line_fault (Err k) (inr fault) = inr (not_blank, inr (empties ∙ sym e ∙ f, subst (λ vs. FaultOfWords vs k) same fault))
 
 -- what follows the first word
 abbrev pub rest_of : List (Bor (List ℕ)) → List (Bor (List ℕ))
@@ -224,7 +224,7 @@ too_short true false word who name names p e = p (ap (λ ws. get_or ws 0 []) e)
 too_short false false word who name names p e = let h : length (who ∷ name ∷ names) ≡ 1 = ap length e in omega (arith, h)
 
 -- with no name the line has no form
-pub no_names : (deny invert : Bool) (vs : List (List ℕ)) (word : List ℕ) → word ∷ [] ≡ vs → WordsFault (action deny ∷ inverted invert vs) BadLine
+pub no_names : (deny invert : Bool) (vs : List (List ℕ)) (word : List ℕ) → word ∷ [] ≡ vs → FaultOfWords (action deny ∷ inverted invert vs) BadLine
 no_names deny invert vs word same = inl (
   refl,
   λ form has. entry_only deny (inverted invert vs) form has.0 has.1
@@ -232,7 +232,7 @@ no_names deny invert vs word same = inl (
 )
 
 -- `not` twice
-pub not_twice : (deny invert : Bool) (vs names : List (List ℕ)) → codes "not" ∷ names ≡ vs → (invert ≡ false → (rest : List (List ℕ)) → vs ≢ codes "not" ∷ rest) → WordsFault (action deny ∷ inverted invert vs) BadLine
+pub not_twice : (deny invert : Bool) (vs names : List (List ℕ)) → codes "not" ∷ names ≡ vs → (invert ≡ false → (rest : List (List ℕ)) → vs ≢ codes "not" ∷ rest) → FaultOfWords (action deny ∷ inverted invert vs) BadLine
 not_twice deny false vs names same once = absurd (once refl names (sym same))
 not_twice deny true vs names same once = inl (refl, λ form has. entry_only deny (codes "not" ∷ vs) form has.0 has.1 go)
   where

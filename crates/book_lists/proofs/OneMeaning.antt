@@ -20,7 +20,7 @@ use Rattle.book_lists.specs.declared.faults.ExplainFaultKind.{ExplainFaultKind}
 use Rattle.book_lists.specs.declared.faults.ExplainFaultKind.TheVariants.{BadName, UnknownPrivilege}
 use Rattle.book_lists.specs.declared.lines.Line.{Line}
 use Rattle.book_lists.specs.declared.lines.Line.TheVariants as lines
-use Rattle.book_lists.specs.Lines.{Form, member_form, caller_form, need_form, owner_form, here_form, entry_form, words, IsProper, HasForm, Names, IsWho, AreLeaves, HasUnknown, Means, HasBadName, HasUnknownPrivilege, FormFault, Tell, WordsFault, Says, OwnFault}
+use Rattle.book_lists.specs.Lines.{Form, member_form, caller_form, need_form, owner_form, here_form, entry_form, words, IsProper, HasForm, Names, IsWho, AreLeaves, HasUnknown, Means, HasBadName, HasUnknownPrivilege, FormFault, WordsSay, FaultOfWords, Says, OwnFault}
 use Rattle.book_lists.proofs.LineFaults.{one_path}
 
 -- ---- privileges by their names
@@ -210,14 +210,14 @@ one_form_fault form k l a b = absurd a
 
 -- ---- the words of a line
 module _ (ws : List (List ℕ)) where
-  one_tell : (x y : Line) → Tell ws x → Tell ws y → x ≡ y
+  one_tell : (x y : Line) → WordsSay ws x → WordsSay ws y → x ≡ y
   one_tell x y a b = one_line b.0 x y (subst (λ form. Means form x) (one_form ws a.0 b.0 a.1 b.1) a.2) b.2
 
-  fault_tells : (kind : ExplainFaultKind) (x : Line) → WordsFault ws kind → Tell ws x → ⊥
+  fault_tells : (kind : ExplainFaultKind) (x : Line) → FaultOfWords ws kind → WordsSay ws x → ⊥
   fault_tells kind x (inl none) told = none.1 told.0 told.1
   fault_tells kind x (inr fault) told = fault_says told.0 kind x (subst (λ form. FormFault form kind) (one_form ws fault.0 told.0 fault.1 told.1) fault.2) told.2
 
-  one_words_fault : (k l : ExplainFaultKind) → WordsFault ws k → WordsFault ws l → k ≡ l
+  one_words_fault : (k l : ExplainFaultKind) → FaultOfWords ws k → FaultOfWords ws l → k ≡ l
   one_words_fault k l (inl a) (inl b) = a.0 ∙ sym b.0
   one_words_fault k l (inl a) (inr b) = absurd (a.1 b.0 b.1)
   one_words_fault k l (inr a) (inl b) = absurd (b.1 a.0 a.1)

@@ -114,12 +114,15 @@ FormFault form Missing = ⊥
 FormFault form TooMany = ⊥
 FormFault form Memory = ⊥
 
-abbrev pub Tell : List (List ℕ) → Line → Type 0
-Tell ws line = (form : Form) × HasForm ws form × Means form line
+-- what the words of a line say
+abbrev pub WordsSay : List (List ℕ) → Line → Type 0
+WordsSay ws line = (form : Form) × HasForm ws form × Means form line
 
-abbrev pub WordsFault : List (List ℕ) → ExplainFaultKind → Type 0
-WordsFault ws kind = ((kind ≡ BadLine) × ((form : Form) → HasForm ws form → ⊥)) ⊎ ((form : Form) × HasForm ws form × FormFault form kind)
+-- the least fault of the words of a line
+abbrev pub FaultOfWords : List (List ℕ) → ExplainFaultKind → Type 0
+FaultOfWords ws kind = ((kind ≡ BadLine) × ((form : Form) → HasForm ws form → ⊥)) ⊎ ((form : Form) × HasForm ws form × FormFault form kind)
 
+-- no word is empty
 abbrev pub NoEmpty : List (List ℕ) → Type 0
 NoEmpty ws = list_any (λ w. nat_eq (length w) 0) ws ≡ false
 
@@ -129,11 +132,11 @@ IsBlank line = (line ≡ []) ⊎ ((rest : List ℕ) × (line ≡ codes "#" ++ re
 
 -- what a line says
 abbrev pub Says : List ℕ → Line → Type 0
-Says line said = (IsBlank line × (said ≡ lines.Blank)) ⊎ ((IsBlank line → ⊥) × NoEmpty (words_of line) × Tell (words_of line) said)
+Says line said = (IsBlank line × (said ≡ lines.Blank)) ⊎ ((IsBlank line → ⊥) × NoEmpty (words_of line) × WordsSay (words_of line) said)
 
 -- the least fault of a line by itself
 abbrev pub OwnFault : List ℕ → ExplainFaultKind → Type 0
-OwnFault line kind = (IsBlank line → ⊥) × (((kind ≡ BadLine) × (NoEmpty (words_of line) → ⊥)) ⊎ (NoEmpty (words_of line) × WordsFault (words_of line) kind))
+OwnFault line kind = (IsBlank line → ⊥) × (((kind ≡ BadLine) × (NoEmpty (words_of line) → ⊥)) ⊎ (NoEmpty (words_of line) × FaultOfWords (words_of line) kind))
 
 -- want of memory may come in place of any other fault
 abbrev pub OrMemory : (ExplainFaultKind → Type 0) → ExplainFaultKind → Type 0

@@ -1,4 +1,4 @@
--- The texts of `explain`.
+-- Short names of sets of leaves (own profile).
 use Rattle.std.specs.Prelude.{Bool, ◌&&◌, List, [], ◌∷◌, if◌then◌else◌, Option, Some, None, nat_eq}
 use Rattle.std.specs.List.{filter_map}
 use Rattle.book_rights.specs.declared.privileges.Leaf.{Leaf}
@@ -8,10 +8,11 @@ use Rattle.book_rights.specs.declared.privileges.Privilege.TheVariants.{One, Wri
 use Rattle.book_rights.specs.Privileges.{is_write}
 use Rattle.book_rights.specs.Leaves.{place_of}
 
--- every leaf of write is in the set; every leaf is
+-- whether every leaf of write is in the set
 abbrev pub has_write : (Leaf → Bool) → Bool
 has_write set = set WriteContent && (set WriteProperties && (set Bind && set Unbind))
 
+-- whether every leaf is
 abbrev pub has_all : (Leaf → Bool) → Bool
 has_all set = set Read && (has_write set && (set ReadAcl && (set WriteAcl && set ReadCurrentUserPrivilegeSet)))
 

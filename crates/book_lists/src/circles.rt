@@ -16,7 +16,7 @@ use std::marker::Model;
 pub enum Caller {
     /// No person is known. Nobody belongs to nothing.
     Nobody,
-    /// The person whom the gateway names.
+    /// A known caller, by its path; `explain` makes it of a person only.
     Known(Principal),
 }
 

@@ -57,7 +57,8 @@ pub fn decide(entries: &[Entry], circle: &Circle, here: &Here, need: LeafSet) ->
     }
 }
 
-/// The leaves that the entries grant: those that the first entry that applies and holds them grants.
+/// The leaves that the entries grant: those that the first entry that applies and holds them grants (RFC 3744,
+/// sections 5.4 and 6).
 ///
 /// Takes no memory, and looks principals up in the circle only for entries that hold a leaf still open.
 pub fn granted(entries: &[Entry], circle: &Circle, here: &Here) -> LeafSet

@@ -6,7 +6,7 @@ ghost use Rattle.book_rights.specs.declared.privileges.Leaf.{Leaf};
 ghost use Rattle.book_lists.specs.declared.entries.Who.{Who};
 ghost use Rattle.book_lists.specs.declared.lines.Line.{Line};
 ghost use Rattle.book_lists.specs.declared.faults.ExplainFaultKind.TheVariants.{BadName, UnknownPrivilege};
-ghost use Rattle.book_lists.specs.Lines.{Names, IsWho, AreLeaves, HasUnknown, action, Tell, WordsFault, OrMemory, Means, FormFault, member_form, caller_form, inverted, owner_form, here_form, IsBlank, Says, OwnFault};
+ghost use Rattle.book_lists.specs.Lines.{Names, IsWho, AreLeaves, HasUnknown, action, WordsSay, FaultOfWords, OrMemory, Means, FormFault, member_form, caller_form, inverted, owner_form, here_form, IsBlank, Says, OwnFault};
 
 use crate::circles::Caller;
 use crate::entries::{Entry, Who};
@@ -79,8 +79,8 @@ fn leaves(names: &[&str]) -> Option<LeafSet>
 /// The entry of a line that begins with `grant` or `deny`, and `not` where it is inverted.
 fn entry(alloc: Global, deny: bool, invert: bool, words: &[&str]) -> Result<Line, ExplainFaultKind>
     requires { invert ≡ false → (rest : List (List ℕ)) → map (λ w. w.now) words.now ≢ codes "not" ∷ rest }
-    ensures told { IfOk result (Tell (action deny ∷ inverted invert (map (λ w. w.now) words.now))) }
-    ensures faulty { IfErr result (OrMemory (WordsFault (action deny ∷ inverted invert (map (λ w. w.now) words.now)))) }
+    ensures told { IfOk result (WordsSay (action deny ∷ inverted invert (map (λ w. w.now) words.now))) }
+    ensures faulty { IfErr result (OrMemory (FaultOfWords (action deny ∷ inverted invert (map (λ w. w.now) words.now)))) }
 {
     let [word, names @ ..] = words else {
         return Err(ExplainFaultKind::BadLine);
@@ -100,8 +100,8 @@ fn entry(alloc: Global, deny: bool, invert: bool, words: &[&str]) -> Result<Line
 
 /// What a line says that begins with `grant` or `deny`.
 fn listed(alloc: Global, deny: bool, words: &[&str]) -> Result<Line, ExplainFaultKind>
-    ensures told { IfOk result (Tell (action deny ∷ map (λ w. w.now) words.now)) }
-    ensures faulty { IfErr result (OrMemory (WordsFault (action deny ∷ map (λ w. w.now) words.now))) }
+    ensures told { IfOk result (WordsSay (action deny ∷ map (λ w. w.now) words.now)) }
+    ensures faulty { IfErr result (OrMemory (FaultOfWords (action deny ∷ map (λ w. w.now) words.now))) }
 {
     match words {
         ["not", rest @ ..] => entry(alloc, deny, true, rest),
@@ -110,8 +110,8 @@ fn listed(alloc: Global, deny: bool, words: &[&str]) -> Result<Line, ExplainFaul
 }
 
 fn need(names: &[&str]) -> Result<Line, ExplainFaultKind>
-    ensures told { IfOk result (Tell (codes "need" ∷ map (λ w. w.now) names.now)) }
-    ensures faulty { IfErr result (WordsFault (codes "need" ∷ map (λ w. w.now) names.now)) }
+    ensures told { IfOk result (WordsSay (codes "need" ∷ map (λ w. w.now) names.now)) }
+    ensures faulty { IfErr result (FaultOfWords (codes "need" ∷ map (λ w. w.now) names.now)) }
 {
     if names.is_empty() {
         return Err(ExplainFaultKind::BadLine);
@@ -164,8 +164,8 @@ fn caller(alloc: Global, word: &str) -> Result<Line, ExplainFaultKind>
 
 /// What these words say.
 fn tell(alloc: Global, words: &[&str]) -> Result<Line, ExplainFaultKind>
-    ensures told { IfOk result (Tell (map (λ w. w.now) words.now)) }
-    ensures faulty { IfErr result (OrMemory (WordsFault (map (λ w. w.now) words.now))) }
+    ensures told { IfOk result (WordsSay (map (λ w. w.now) words.now)) }
+    ensures faulty { IfErr result (OrMemory (FaultOfWords (map (λ w. w.now) words.now))) }
 {
     match words {
         ["member", group, of] => member(alloc, group, of),

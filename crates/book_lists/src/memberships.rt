@@ -85,7 +85,8 @@ impl Pairs {
         self.len == 0
     }
 
-    /// Adds a pair, if it is not there. Without memory for it the pairs stay as they were.
+    /// Adds a pair, if it is not there. An error is want of memory, or that there are 2^64 - 1 pairs; the pairs then stay
+    /// as they were.
     pub fn add(&mut self, group: Principal, member: Principal) -> Result<(), AllocError>
         ensures ok { OnOk result (self.new ≡ set.insert self.old (record { group = group; member = member })) }
         ensures err { OnErr result (self.new ≡ self.old) }

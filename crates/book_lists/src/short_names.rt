@@ -6,7 +6,8 @@ ghost use Rattle.book_lists.specs.ShortNames.{short_list, short_name};
 use book_rights::{Leaf, LeafSet, Privilege};
 use std::alloc::{AllocError, Global};
 
-/// The short names of a set: `all` for every leaf; else the leaves in order, with `write` in the place of its own.
+/// The short names of a set: `all` for every leaf; else the leaves in order, with `write` in the place of
+/// write-content where all four of its leaves are held (own profile). An error is want of memory.
 pub fn short_privileges(alloc: Global, set: LeafSet) -> Result<Vec<Privilege>, AllocError>
     ensures { IfOk result (λ names. names.items ≡ short_list set) }
 {

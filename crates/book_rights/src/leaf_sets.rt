@@ -187,7 +187,7 @@ impl LeafSet {
         false
     }
 
-    /// The first leaf of the set, in the order of the leaves.
+    /// The first leaf of the set, in the order of the leaves; none of the empty set.
     pub fn least(self) -> Option<Leaf>
         ensures { IsLeast self result }
     {

@@ -32,7 +32,7 @@ pub enum Leaf {
 pub enum Privilege {
     /// One leaf.
     One(Leaf),
-    /// `write`: write-content, write-properties, bind and unbind (own profile).
+    /// `write`: write-content, write-properties, bind and unbind (section 3.2); no more is own profile.
     Write,
     /// `all`: every leaf.
     All,

@@ -1,4 +1,4 @@
-use crate::{Leaf, LeafSet, Privilege};
+use crate::{Leaf, LeafSet, Method, Need, Needs, Place, Privilege, Shape, needs};
 
 #[test]
 fn privileges_are_read_by_their_names(rt: HostRuntime) {
@@ -54,4 +54,65 @@ fn aggregates_hold_their_leaves(rt: HostRuntime) {
     assert!(rt; !others.meets(write) && others.meets(LeafSet::all()));
     assert_eq!(rt; others.union(write), LeafSet::all());
     assert_ne!(rt; others, LeafSet::all());
+}
+
+fn shape(destination_mapped: bool, book: bool, list_asked: bool) -> Shape {
+    Shape {
+        target_mapped: true,
+        destination_mapped,
+        book,
+        acl: list_asked,
+        privileges: false,
+        effective: list_asked,
+    }
+}
+
+fn need(place: Place, leaf: Leaf) -> Need {
+    Need {
+        place,
+        set: LeafSet::empty().with(leaf),
+    }
+}
+
+/// Whether the needs are these, leaf by leaf: one leaf at the first place, and at the second and the third, if any.
+fn are(
+    found: Needs,
+    first: Need,
+    second: Option<(Place, Leaf)>,
+    third: Option<(Place, Leaf)>,
+) -> bool {
+    found.first == first
+        && found.second == second.map(|(place, leaf)| need(place, leaf))
+        && found.third == third.map(|(place, leaf)| need(place, leaf))
+}
+
+#[test]
+fn methods_need_their_rows(rt: HostRuntime) {
+    let bind_there = Some((Place::DestinationParent, Leaf::Bind));
+    let unbind_there = Some((Place::DestinationParent, Leaf::Unbind));
+    for (method, list_asked) in [
+        (Method::Get, false),
+        (Method::Report, false),
+        (Method::Report, true),
+        (Method::Propfind, true),
+    ] {
+        let mut read = need(Place::Target, Leaf::Read);
+        if list_asked {
+            read.set = read.set.with(Leaf::ReadAcl);
+        }
+        let found = needs(method, shape(false, false, list_asked));
+        assert!(rt; are(found, read, None, None), "{method:?}");
+    }
+    let copied = needs(Method::Copy, shape(false, false, false));
+    assert!(rt; are(copied, need(Place::Target, Leaf::Read), bind_there, None));
+    for (over, last) in [(false, None), (true, unbind_there)] {
+        let moved = needs(Method::Move, shape(over, false, false));
+        let unbind = need(Place::Parent, Leaf::Unbind);
+        assert!(rt; are(moved, unbind, bind_there, last), "{over}");
+    }
+    for (book, last) in [(false, None), (true, Some((Place::Target, Leaf::Unbind)))] {
+        let deleted = needs(Method::Delete, shape(false, book, false));
+        let unbind = need(Place::Parent, Leaf::Unbind);
+        assert!(rt; are(deleted, unbind, last, None), "{book}");
+    }
 }

@@ -6,7 +6,7 @@ use Rattle.book_lists.specs.declared.entries.Who.{Who}
 use Rattle.book_lists.specs.declared.faults.ExplainFaultKind.{ExplainFaultKind}
 use Rattle.book_lists.specs.declared.faults.ExplainFaultKind.TheVariants.{BadName, UnknownPrivilege}
 use Rattle.book_lists.specs.declared.lines.Line.TheVariants.{Listed}
-use Rattle.book_lists.specs.Lines.{OrMemory, WordsFault, IsWho, AreLeaves, Tell, action, inverted}
+use Rattle.book_lists.specs.Lines.{OrMemory, FaultOfWords, IsWho, AreLeaves, WordsSay, action, inverted}
 use Rattle.book_lists.proofs.LineFaults.{texts, word_at, rest_of, first_rest, some_texts, passed_on, or_memory, from_none, if_some, entry_told, entry_bad, entry_unknown, no_names, not_twice, none_left, equal_bytes}
 use Rattle.book_lists.proofs.lines.entry.Goals as goal
 use Rattle.book_lists.proofs.lines.entry.Goals.{then-is_empty-via-then-is_empty, then-is_empty-via-else-is_empty+then-eq}
@@ -30,8 +30,8 @@ returns-in_err-who-clause-faulty c =
     let some = some_texts (rest_of ws) c.is_empty.result c.is_empty.ensures c.if-is_empty.false in
     let proper : word ≢ codes "not" = λ e. false≢true (sym c.if-eq.false ∙ c.eq.ensures ∙ ap (λ w. bytes_eq w (codes "not")) e) in
     let P : ExplainFaultKind → Type 0 = λ kind. (kind ≡ BadName) × ((who : Who) → IsWho word who → ⊥) in
-    let Q : ExplainFaultKind → Type 0 = WordsFault (action c.args.deny ∷ inverted c.args.invert (texts ws)) in
-    let R : List (List ℕ) → Type 0 = λ vs. WordsFault (action c.args.deny ∷ inverted c.args.invert vs) BadName in
+    let Q : ExplainFaultKind → Type 0 = FaultOfWords (action c.args.deny ∷ inverted c.args.invert (texts ws)) in
+    let R : List (List ℕ) → Type 0 = λ vs. FaultOfWords (action c.args.deny ∷ inverted c.args.invert vs) BadName in
     passed_on c.from_residual.result (OrMemory Q) c.in_err-who.field-0.0 c.from_residual.ensures.1
     (or_memory P Q c.in_err-who.field-0.0
     (λ b. subst Q (sym b.0) (subst R split (entry_bad c.args.deny c.args.invert word proper (texts (rest_of ws)) some b.1))) c.in_err-who.ensures.bad)
@@ -43,8 +43,8 @@ returns-in_err-set-clause-faulty c =
     let split = first_rest ws c.in-len1-up.len_at_least in
     let some = some_texts (rest_of ws) c.is_empty.result c.is_empty.ensures c.if-is_empty.false in
     let proper : word ≢ codes "not" = λ e. false≢true (sym c.if-eq.false ∙ c.eq.ensures ∙ ap (λ w. bytes_eq w (codes "not")) e) in
-    let P : ExplainFaultKind → Type 0 = OrMemory (WordsFault (action c.args.deny ∷ inverted c.args.invert (texts ws))) in
-    let R : List (List ℕ) → Type 0 = λ vs. WordsFault (action c.args.deny ∷ inverted c.args.invert vs) UnknownPrivilege in
+    let P : ExplainFaultKind → Type 0 = OrMemory (FaultOfWords (action c.args.deny ∷ inverted c.args.invert (texts ws))) in
+    let R : List (List ℕ) → Type 0 = λ vs. FaultOfWords (action c.args.deny ∷ inverted c.args.invert vs) UnknownPrivilege in
     passed_on c.from_residual-in_err-set.result P c.in_err-set.field-0.0 c.from_residual-in_err-set.ensures.1
     (from_none (Err c.in_err-set.field-0.0) c.leaves.result UnknownPrivilege _ P c.in_err-set.ensures.value c.leaves.ensures.unknown
     (λ unknown. inr (subst R split (entry_unknown c.args.deny c.args.invert word proper (texts (rest_of ws)) c.in_ok-who.who some c.in_ok-who.ensures.named unknown))))
@@ -58,6 +58,6 @@ returns-clause-told c =
     let some = some_texts (rest_of ws) c.is_empty.result c.is_empty.ensures c.if-is_empty.false in
     let proper : word ≢ codes "not" = λ e. false≢true (sym c.if-eq.false ∙ c.eq.ensures ∙ ap (λ w. bytes_eq w (codes "not")) e) in
     let entry : Entry = record { who = c.in_ok-who.who; invert = c.args.invert; deny = c.args.deny; set = c.in_ok-set.set } in
-    let R : List (List ℕ) → Type 0 = λ vs. Tell (action c.args.deny ∷ inverted c.args.invert vs) (Listed entry) in
+    let R : List (List ℕ) → Type 0 = λ vs. WordsSay (action c.args.deny ∷ inverted c.args.invert vs) (Listed entry) in
     subst R split (entry_told c.args.deny c.args.invert word proper names entry some refl refl c.in_ok-who.ensures.named
     (if_some c.leaves.result (AreLeaves names) c.in_ok-set.set c.in_ok-set.ensures.ok_part c.leaves.ensures.known))

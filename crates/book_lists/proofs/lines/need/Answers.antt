@@ -1,6 +1,6 @@
 use Rattle.std.proofs.Common.{◌∷◌, Err, codes}
 use Rattle.book_lists.specs.declared.faults.ExplainFaultKind.TheVariants.{UnknownPrivilege}
-use Rattle.book_lists.specs.Lines.{WordsFault, AreLeaves}
+use Rattle.book_lists.specs.Lines.{FaultOfWords, AreLeaves}
 use Rattle.book_lists.proofs.LineFaults.{texts, passed_on, from_none, if_some, some_texts, need_told, need_unknown}
 use Rattle.book_lists.proofs.lines.need.Goals as goal
 
@@ -8,7 +8,7 @@ pub returns-in_err-set-clause-faulty : goal.returns-in_err-set-clause-faulty
 returns-in_err-set-clause-faulty c =
     let names = texts c.args.names.now in
     let some = some_texts c.args.names.now c.is_empty.result c.is_empty.ensures c.if-is_empty.false in
-    let P = WordsFault (codes "need" ∷ names) in
+    let P = FaultOfWords (codes "need" ∷ names) in
     passed_on c.from_residual.result P c.in_err-set.field-0.0 c.from_residual.ensures.1
     (from_none (Err c.in_err-set.field-0.0) c.leaves.result UnknownPrivilege _ P c.in_err-set.ensures.value c.leaves.ensures.unknown (λ unknown. need_unknown names some unknown))
 
