@@ -1,20 +1,23 @@
-//! Benchmarks of the access decisions and of cards: `book_bench all`, or one of `expand`, `decide`, `explain`, `cards`.
+//! Benchmarks of the access decisions, of cards and of the keeper in memory: `book_bench all`, or one of `expand`,
+//! `decide`, `explain`, `cards`, `puts`.
 //! It prints figures, which no test compares, and nothing without a word. The time is the processor's, of one turn, as
 //! the mean of the turns that take a tenth of a second together; beside it stands the time at half the size, or of a card
 //! of twice the size, and the ratio of both.
 #![tactic(auto)]
 
 mod measures;
+mod puts;
 mod workloads;
 
 use anyhow::Result;
 use measures::{Bench, print_figure, print_rate};
+use puts::put_figures;
 use std::env;
 use std::io::Write;
 use std::process::ExitCode;
 use workloads::{CardReading, Decision, Expansion, Explanation, Unfolding};
 
-const WORDS: &str = "book_bench: the words are expand, decide, explain, cards and all\n";
+const WORDS: &str = "book_bench: the words are expand, decide, explain, cards, puts and all\n";
 
 const USAGE: u8 = 2;
 
@@ -97,11 +100,13 @@ fn figures_of(rt: &impl Bench, word: &str) -> Result<bool> {
         "decide" => decide_figures(rt)?,
         "explain" => explain_figures(rt)?,
         "cards" => card_figures(rt)?,
+        "puts" => put_figures(rt)?,
         "all" => {
             expand_figures(rt)?;
             decide_figures(rt)?;
             explain_figures(rt)?;
             card_figures(rt)?;
+            put_figures(rt)?;
         }
         _ => return Ok(false),
     }

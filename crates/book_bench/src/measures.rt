@@ -87,3 +87,19 @@ pub fn print_rate(
     )?;
     Ok(())
 }
+
+/// Prints the time of one step at the beginning and at the end of so many.
+pub fn print_growth(
+    rt: &impl Bench,
+    name: &str,
+    steps: usize,
+    first: Duration,
+    last: Duration,
+) -> Result<()> {
+    let ratio = last.div_duration_f64(first);
+    let (shown_first, shown_last) = (Shown(first), Shown(last));
+    println!(rt;
+        "{name}, {steps} times: {shown_first} among the first thousand, {shown_last} among the last (ratio {ratio:.1})"
+    )?;
+    Ok(())
+}

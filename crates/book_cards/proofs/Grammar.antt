@@ -5,7 +5,7 @@ use lib.Dec.{eqb}
 use Rattle.std.specs.Option.{option_map, option_and_then}
 use Rattle.std.specs.List.{AllByRecursion, join_with_byte, concat}
 use Rattle.book_cards.specs.declared.line.Place.{Place}
-use Rattle.book_cards.specs.declared.line.Place.TheVariants.{Mark, NameStart, Name, ValueStart, Bare, Quoted, AfterQuote}
+use Rattle.book_cards.specs.declared.line.Place.TheVariants.{Start, NameStart, Name, ValueStart, Bare, Quoted, AfterQuote}
 use Rattle.book_cards.specs.ContentLine.{Fields, is_name_byte, is_bare_byte, IsName, IsBareValue, IsQuotedValue, AreValues, IsParam, AreParams, group_text, IsContentLine}
 use Rattle.book_cards.specs.Reading.{may_end, after_value, next, colon_from, name_length, name_at, after_name, is_empty, with_value, fields_with, grouped, fields_of}
 use Rattle.book_cards.proofs.Folds.{eqb_is}
@@ -30,7 +30,7 @@ AfterValue t = AreParams t ⊎ ((rest : List ℕ) × ValuesThen rest × (t ≡ 4
 
 -- what may stand between a place and the colon
 abbrev pub Tail : Place → List ℕ → Type 0
-Tail Mark t = AreParams t
+Tail Start t = AreParams t
 Tail NameStart t = (name rest : List ℕ) × IsName name × ValuesThen rest × (t ≡ name ++ 61 ∷ rest)
 Tail Name t = (name rest : List ℕ) × AllNames name × ValuesThen rest × (t ≡ name ++ 61 ∷ rest)
 Tail ValueStart t = ValuesThen t
@@ -133,7 +133,7 @@ name_byte b e = (grind arith, grind arith, grind arith)
 
 -- A byte that leads on stands before what follows it.
 back : (place : Place) (b : ℕ) (q : Place) (t : List ℕ) → eqb b 58 && may_end place ≡ false → next place b ≡ Some q → Tail q t → Tail place (b ∷ t)
-back Mark b q t colon e h = here (eqb b 59) refl e
+back Start b q t colon e h = here (eqb b 59) refl e
   where
     here : (s : Bool) → eqb b 59 ≡ s → cond s (Some NameStart) None ≡ Some q → AreParams (b ∷ t)
     here true s g = subst (λ (c : ℕ). AreParams (c ∷ t)) (sym (eqb_is b 59 s)) (param_then t (to_tail q NameStart t g h))
@@ -210,9 +210,9 @@ after_bare b e =
     ap (λ c. cond c (Some ValueStart) (cond (eqb b 59) (Some NameStart) (Some Bare))) parts.3 ∙ ap (λ c. cond c (Some NameStart) (Some Bare)) parts.1
 
 forth : (place : Place) (b : ℕ) (t : List ℕ) → Tail place (b ∷ t) → (eqb b 58 && may_end place ≡ false) × Leads place b t
-forth Mark b t h =
+forth Start b t h =
     let first = then_param b t h in
-    (ap (λ (c : ℕ). eqb c 58 && true) first.0, (NameStart, ap (λ (c : ℕ). next Mark c) first.0, first.1))
+    (ap (λ (c : ℕ). eqb c 58 && true) first.0, (NameStart, ap (λ (c : ℕ). next Start c) first.0, first.1))
 forth NameStart b t ([], rest, is, values, e) = absurd (omega arith)
 forth NameStart b t ((c ∷ name), rest, is, values, e) =
     let byte : b ≡ c = cc in let same : t ≡ name ++ 61 ∷ rest = cc in (
@@ -270,7 +270,7 @@ no_end [] y ys e = cc
 no_end (x ∷ xs) y ys e = cc
 
 nothing : (place : Place) → Tail place [] → may_end place ≡ true
-nothing Mark h = refl
+nothing Start h = refl
 nothing NameStart (name, rest, is, values, e) = absurd (no_end name 61 rest e)
 nothing Name (name, rest, is, values, e) = absurd (no_end name 61 rest e)
 nothing ValueStart h = refl
@@ -289,7 +289,7 @@ sound place (b ∷ bs) n e = here (eqb b 58 && may_end place) refl (λ q m k. so
     and_right false d k = cc
 
     empty : (p : Place) → may_end p ≡ true → Tail p []
-    empty Mark k = params_nil
+    empty Start k = params_nil
     empty NameStart k = cc
     empty Name k = cc
     empty ValueStart k = value_then [] [] (inl tt) (inl params_nil)
@@ -390,19 +390,19 @@ with_sound group name rest f e = empty (is_empty name) refl e
     Right : Fields → Type 0
     Right g = (0 < length name) × (group ≡ g.group) × (name ≡ g.name) × AreParams g.params × (rest ≡ g.params ++ 58 ∷ g.value)
 
-    colon : (o : Option ℕ) → colon_from Mark rest ≡ o → is_empty name ≡ false → with_value group name rest o ≡ Some f
+    colon : (o : Option ℕ) → colon_from Start rest ≡ o → is_empty name ≡ false → with_value group name rest o ≡ Some f
         → (0 < length name) × (group ≡ f.group) × (name ≡ f.name) × AreParams f.params × (rest ≡ f.params ++ 58 ∷ f.value)
     colon None is n h = cc
     colon (Some k) is n h =
-        let place = at_colon Mark rest k is in
+        let place = at_colon Start rest k is in
         subst (λ (g : Fields). (0 < length name) × (group ≡ g.group) × (name ≡ g.name) × AreParams g.params × (rest ≡ g.params ++ 58 ∷ g.value))
         (some_is (record { group = group; name = name; params = take k rest; value = drop (k + 1) rest }) f h)
-        (not_empty name n, refl, refl, sound Mark rest k is, at_cut rest k place.0 place.1)
+        (not_empty name n, refl, refl, sound Start rest k is, at_cut rest k place.0 place.1)
 
-    empty : (t : Bool) → is_empty name ≡ t → cond t None (with_value group name rest (colon_from Mark rest)) ≡ Some f
+    empty : (t : Bool) → is_empty name ≡ t → cond t None (with_value group name rest (colon_from Start rest)) ≡ Some f
         → (0 < length name) × (group ≡ f.group) × (name ≡ f.name) × AreParams f.params × (rest ≡ f.params ++ 58 ∷ f.value)
     empty true n h = cc
-    empty false n h = colon (colon_from Mark rest) refl n h
+    empty false n h = colon (colon_from Start rest) refl n h
 
 dot_is : (r : List ℕ) → eqb (get_or r 0 0) 46 ≡ true → r ≡ 46 ∷ drop 1 r
 dot_is [] e = cc
@@ -455,8 +455,8 @@ with_complete group name params value is are =
     let rest = params ++ 58 ∷ value in
     let after : drop (length params + 1) rest ≡ value =
     sym (drop-drop 1 (length params) rest) ∙ ap (λ t. drop 1 t) (drop_front params (58 ∷ value)) in
-    ap (λ t. cond t None (with_value group name rest (colon_from Mark rest))) (is_not_empty name is.0)
-    ∙ ap (λ o. with_value group name rest o) (complete Mark params value are)
+    ap (λ t. cond t None (with_value group name rest (colon_from Start rest))) (is_not_empty name is.0)
+    ∙ ap (λ o. with_value group name rest o) (complete Start params value are)
     ∙ λ i. Some (record { group = group; name = name; params = take_front params (58 ∷ value) i; value = after i })
 
 pub fields_complete : (line : List ℕ) (f : Fields) → IsContentLine line f → fields_of line ≡ Some f

@@ -40,13 +40,28 @@ abbrev pub is_member : Property → Bool
 is_member Member = true
 is_member _ = false
 
--- whether a line has the property that is looked for; nobody looks for the others
+abbrev pub is_begin : Property → Bool
+is_begin Begin = true
+is_begin _ = false
+
+abbrev pub is_end : Property → Bool
+is_end End = true
+is_end _ = false
+
+abbrev pub is_other : Property → Bool
+is_other Other = true
+is_other _ = false
+
+-- whether a line has the property that is looked for
 abbrev pub is_property : Property → Property → Bool
+is_property Begin = is_begin
+is_property End = is_end
+is_property Version = is_version
 is_property FormattedName = is_formatted_name
 is_property Uid = is_uid
 is_property Kind = is_kind
 is_property Member = is_member
-is_property _ = λ p. false
+is_property Other = is_other
 
 -- the property of a line
 abbrev pub property_at : List ℕ → Property

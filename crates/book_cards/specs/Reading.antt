@@ -4,7 +4,7 @@ use Rattle.std.specs.Prelude.{ℕ, ◌+◌, Bool, true, false, not, ◌&&◌, Li
 use Rattle.std.specs.Option.{option_map, option_and_then}
 use Rattle.std.specs.List.{position_or_len}
 use Rattle.book_cards.specs.declared.line.Place.{Place}
-use Rattle.book_cards.specs.declared.line.Place.TheVariants.{Mark, NameStart, Name, ValueStart, Bare, Quoted, AfterQuote}
+use Rattle.book_cards.specs.declared.line.Place.TheVariants.{Start, NameStart, Name, ValueStart, Bare, Quoted, AfterQuote}
 use Rattle.book_cards.specs.ContentLine.{Fields, is_name_byte}
 
 abbrev pub is_empty : List ℕ → Bool
@@ -22,7 +22,7 @@ after_name text = drop (name_length text) text
 
 -- whether a colon here ends the parameters
 abbrev pub may_end : Place → Bool
-may_end Mark = true
+may_end Start = true
 may_end NameStart = false
 may_end Name = false
 may_end ValueStart = true
@@ -35,7 +35,7 @@ after_value b other = if b == 44 then Some ValueStart else if b == 59 then Some 
 
 -- where a byte leads, if it may stand there
 abbrev pub next : Place → ℕ → Option Place
-next Mark b = if b == 59 then Some NameStart else None
+next Start b = if b == 59 then Some NameStart else None
 next NameStart b = if is_name_byte b then Some Name else None
 next Name b = if is_name_byte b then Some Name else if b == 61 then Some ValueStart else None
 next ValueStart b = if b == 34 then Some Quoted else after_value b (Some Bare)
@@ -57,7 +57,7 @@ with_value group name rest (Some n) =
 
 -- the fields of a line that begins with this group and this name, and goes on with this rest
 abbrev pub fields_with : Option (List ℕ) → List ℕ → List ℕ → Option Fields
-fields_with group name rest = if is_empty name then None else with_value group name rest (colon_from Mark rest)
+fields_with group name rest = if is_empty name then None else with_value group name rest (colon_from Start rest)
 
 abbrev pub grouped : List ℕ → List ℕ → Option Fields
 grouped group rest = if is_empty group then None else fields_with (Some group) (name_at rest) (after_name rest)

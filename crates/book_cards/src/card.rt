@@ -12,11 +12,11 @@ ghost use Rattle.book_cards.specs.CardText.{card_fault, out_of_memory, card_line
 ghost use Rattle.book_cards.specs.Views.{view, lines_left, members_left};
 ghost use Rattle.book_cards.specs.Valid.{IsCard};
 
-use crate::check::{check_lines, split_line};
+use crate::check::check_lines;
 use crate::fault::{CardFault, CardFaultKind};
 use crate::line::Line;
 use crate::property::{Property, is_word, property_named};
-use crate::text::unfold;
+use crate::text::{split_line, unfold};
 use std::alloc::Global;
 use std::marker::Model;
 
@@ -78,7 +78,7 @@ fn find_value(text: &str, wanted: Property) -> Option<&str>
     let mut rest = text;
     while let Some((line, after)) = split_line(rest) {
         if let Some(line) = Line::read(line) {
-            if wanted.is(property_named(line.name)) {
+            if property_named(line.name) == wanted {
                 return Some(line.value);
             }
         }
@@ -215,7 +215,7 @@ impl<'a> Iterator for Members<'a> {
         while let Some((line, after)) = split_line(self.rest) {
             self.rest = after;
             if let Some(line) = Line::read(line) {
-                if Property::Member.is(property_named(line.name)) {
+                if property_named(line.name) == Property::Member {
                     return Some(line.value);
                 }
             }

@@ -1,35 +1,21 @@
 //! What is wrong with a text that is no card: one pass over its lines.
 
-ghost use Rattle.std.specs.Prelude.{◌≡◌, ◌<◌, ◌≤◌, ◌+◌, ◌^◌, ℕ, List, [], ◌∷◌, length, Option, None, MatchOption, IfOk, IfErr, ◌⊎◌};
-ghost use Rattle.std.specs.String.{string_bytes};
+ghost use Rattle.std.specs.Prelude.{◌≡◌, ◌<◌, ◌+◌, ◌^◌, [], length};
 ghost use Rattle.std.specs.Option.{option_map};
 ghost use Rattle.std.specs.Result.{result_err};
 ghost use Rattle.std.specs.List.{list_any, list_all};
 ghost use Rattle.std.specs.Str.Lines.{lines};
-ghost use Rattle.book_cards.specs.Folding.{is_blank, unfolded};
+ghost use Rattle.book_cards.specs.Folding.{is_blank};
 ghost use Rattle.book_cards.specs.ContentLine.{is_name_byte};
 ghost use Rattle.book_cards.specs.Content.{is_control, is_kind_value, is_scheme_byte, is_scheme, is_uri, may_have, content_of};
-ghost use Rattle.book_cards.specs.CardText.{is_end, after_end_fault, version_fault, lines_fault, content_fault, card_fault, out_of_memory};
+ghost use Rattle.book_cards.specs.CardText.{after_end_fault, version_fault, lines_fault};
 ghost use Rattle.book_cards.specs.Views.{view};
 ghost use Rattle.book_cards.specs.Scanning.{seen_in, seen_with, seen_fault, pass_content, scan};
 
 use crate::fault::{CardFault, CardFaultKind};
 use crate::line::{Line, is_name_byte};
 use crate::property::{Property, is_word, property_named};
-
-/// The first line, without its line end, and the text after it; none in an empty text.
-pub(crate) fn split_line(text: &str) -> Option<(&str, &str)>
-    ensures { MatchOption result (text.now ≡ [])
-        (λ parts. (lines text.now ≡ parts.0.now ∷ lines parts.1.now) × (length parts.1.now < length text.now)) }
-{
-    if text.is_empty() {
-        return None;
-    }
-    match text.split_once('\n') {
-        Some((line, rest)) => Some((line.strip_suffix('\r').unwrap_or(line), rest)),
-        None => Some((text, "")),
-    }
-}
+use crate::text::split_line;
 
 /// Whether all bytes are letters, digits, `+`, `-` or `.`.
 fn has_scheme_bytes(text: &str) -> bool

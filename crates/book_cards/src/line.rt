@@ -27,7 +27,7 @@ pub struct Line<'a> {
 #[derive(Clone, Copy)]
 enum Place {
     /// Before the parameters.
-    Mark,
+    Start,
     /// At the first byte of a parameter's name.
     NameStart,
     /// Later in the name, or at its equals sign.
@@ -55,7 +55,7 @@ impl Place {
         ensures { result ≡ may_end self }
     {
         match self {
-            Place::Mark | Place::ValueStart | Place::Bare | Place::AfterQuote => true,
+            Place::Start | Place::ValueStart | Place::Bare | Place::AfterQuote => true,
             Place::NameStart | Place::Name | Place::Quoted => false,
         }
     }
@@ -72,20 +72,20 @@ impl Place {
             (Place::ValueStart, b'"') => Some(Place::Quoted),
             (Place::Bare, b'"') => None,
             (Place::ValueStart | Place::Bare | Place::AfterQuote, b',') => Some(Place::ValueStart),
-            (Place::ValueStart | Place::Bare | Place::AfterQuote | Place::Mark, b';') => {
+            (Place::ValueStart | Place::Bare | Place::AfterQuote | Place::Start, b';') => {
                 Some(Place::NameStart)
             }
             (Place::ValueStart | Place::Bare, _) => Some(Place::Bare),
-            (Place::Mark | Place::NameStart | Place::Name | Place::AfterQuote, _) => None,
+            (Place::Start | Place::NameStart | Place::Name | Place::AfterQuote, _) => None,
         }
     }
 }
 
 /// The place of the colon that ends the parameters at the front of this text.
 fn find_colon(text: &str) -> Option<usize>
-    ensures { result ≡ colon_from Place.Mark text.now }
+    ensures { result ≡ colon_from Place.Start text.now }
 {
-    let mut place = Place::Mark;
+    let mut place = Place::Start;
     for (i, byte) in text.as_bytes().iter().enumerate() {
         if *byte == b':' && place.ends() {
             return Some(i);

@@ -2,10 +2,10 @@
 
 ghost use Rattle.std.specs.Prelude.{◌≡◌};
 ghost use Rattle.std.specs.Str.{str_eq_ignore_ascii_case};
-ghost use Rattle.book_cards.specs.Properties.{property_of, is_property};
+ghost use Rattle.book_cards.specs.Properties.{property_of};
 
 /// What the name of a line stands for; the rules say nothing of the others.
-#[derive(Clone, Copy)]
+#[derive(Clone, Copy, PartialEq, Eq)]
 pub(crate) enum Property {
     Begin,
     End,
@@ -44,20 +44,5 @@ pub(crate) fn property_named(name: &str) -> Property
         Property::Member
     } else {
         Property::Other
-    }
-}
-
-impl Property {
-    /// Whether a line has the property that is looked for.
-    pub(crate) fn is(self, other: Property) -> bool
-        ensures { result ≡ is_property self other }
-    {
-        matches!(
-            (self, other),
-            (Property::FormattedName, Property::FormattedName)
-                | (Property::Uid, Property::Uid)
-                | (Property::Kind, Property::Kind)
-                | (Property::Member, Property::Member)
-        )
     }
 }

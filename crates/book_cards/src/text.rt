@@ -1,6 +1,7 @@
-//! Folds and escapes (RFC 6350, sections 3.2 and 3.4).
+//! Folds, lines and escapes (RFC 6350, sections 3.2 and 3.4).
 
-ghost use Rattle.std.specs.Prelude.{◌≡◌, ◌∷◌, IfOk, IfNone, IfSome, MatchOption, ℕ, List, true, false};
+ghost use Rattle.std.specs.Prelude.{◌≡◌, ◌<◌, [], ◌∷◌, length, IfOk, IfNone, IfSome, MatchOption, ℕ, List, true, false};
+ghost use Rattle.std.specs.Str.Lines.{lines};
 ghost use Rattle.std.specs.String.{string_bytes};
 ghost use Rattle.book_cards.specs.Folding.{is_blank, unfolded};
 ghost use Rattle.book_cards.specs.Escaping.{escaped, unescaped};
@@ -44,6 +45,20 @@ pub fn unfold(alloc: Global, text: &str) -> Result<String, AllocError>
     }
     whole.push_str(rest)?;
     Ok(whole)
+}
+
+/// The first line, without its line end, and the text after it; none in an empty text.
+pub(crate) fn split_line(text: &str) -> Option<(&str, &str)>
+    ensures { MatchOption result (text.now ≡ [])
+        (λ parts. (lines text.now ≡ parts.0.now ∷ lines parts.1.now) × (length parts.1.now < length text.now)) }
+{
+    if text.is_empty() {
+        return None;
+    }
+    match text.split_once('\n') {
+        Some((line, rest)) => Some((line.strip_suffix('\r').unwrap_or(line), rest)),
+        None => Some((text, "")),
+    }
 }
 
 /// What a backslash before this byte stands for.

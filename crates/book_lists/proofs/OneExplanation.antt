@@ -8,7 +8,7 @@ use Rattle.book_lists.specs.Answers.{IsAnswer}
 use Rattle.book_lists.specs.Explanations.{AnswersText, HasOneAnswer, HasOneFault, AnswerExcludesFault}
 use Rattle.book_lists.specs.Lines.{lines_of}
 use Rattle.book_lists.specs.Memberships.{set_of}
-use Rattle.book_lists.specs.Questions.{caller_in, need_in, member_in, entry_in, here_of, Read}
+use Rattle.book_lists.specs.Questions.{caller_in, need_in, member_in, entry_in, here_of, LinesSay}
 use Rattle.book_lists.proofs.OneAnswer.{one_answer}
 use Rattle.book_lists.proofs.OneReading.{one_reading, read_or_faulty, one_first_fault}
 
@@ -29,7 +29,7 @@ one_answer_of text a b p q =
     one_answer _ q.caller q.need _ _ a b answers q.answers
 
 -- a text that asks a question lacks neither its caller nor its need
-complete : (text answer : List ℕ) (said : List Line) → AnswersText text answer → Read [] (lines_of text) said → (filter_map caller_in said ≡ []) ⊎ (filter_map need_in said ≡ []) → ⊥
+complete : (text answer : List ℕ) (said : List Line) → AnswersText text answer → LinesSay [] (lines_of text) said → (filter_map caller_in said ≡ []) ⊎ (filter_map need_in said ≡ []) → ⊥
 complete text answer said p read lacks = go lacks
   where
     same : p.said ≡ said

@@ -4,7 +4,7 @@ use Rattle.book_lists.specs.declared.faults.ExplainFaultKind.{ExplainFaultKind}
 use Rattle.book_lists.specs.declared.lines.Line.{Line}
 use Rattle.book_lists.specs.declared.lines.Line.TheVariants as lines
 use Rattle.book_lists.specs.Lines.{Says}
-use Rattle.book_lists.specs.Questions.{Fits, Excess, Read, LineFault, FirstFault}
+use Rattle.book_lists.specs.Questions.{Fits, Excess, LinesSay, LineFault, FirstFault}
 use Rattle.book_lists.proofs.OneMeaning.{one_saying, faulty_says, one_own_fault}
 
 -- ---- one line after others
@@ -39,11 +39,11 @@ one_line_fault said line k l (inr a) (inr b) =
     one_excess said b.0 k l (subst (λ y. Excess said y k) (one_saying line a.0 b.0 a.1 b.1) a.2) b.2
 
 -- ---- many lines
-pub one_reading : (before : List Line) (ls : List (List ℕ)) (xs ys : List Line) → Read before ls xs → Read before ls ys → xs ≡ ys
+pub one_reading : (before : List Line) (ls : List (List ℕ)) (xs ys : List Line) → LinesSay before ls xs → LinesSay before ls ys → xs ≡ ys
 one_reading before [] [] [] a b = refl
 one_reading before (l ∷ ls) (x ∷ xs) (y ∷ ys) a b =
     let same : x ≡ y = one_saying l x y a.0 b.0 in
-    let rest : xs ≡ ys = one_reading (before ++ y ∷ []) ls xs ys (subst (λ z. Read (before ++ z ∷ []) ls xs) same a.2) b.2 in
+    let rest : xs ≡ ys = one_reading (before ++ y ∷ []) ls xs ys (subst (λ z. LinesSay (before ++ z ∷ []) ls xs) same a.2) b.2 in
     λ i. same i ∷ rest i
 one_reading before [] (x ∷ xs) ys a b = absurd a
 one_reading before [] [] (y ∷ ys) a b = absurd b
@@ -52,7 +52,7 @@ one_reading before (l ∷ ls) (x ∷ xs) [] a b = absurd b
 
 -- lines that are read to their end have no faulty one
 no_fault : (before : List Line) (front : List (List ℕ)) (line : List ℕ) (after : List (List ℕ)) (xs said : List Line) (kind : ExplainFaultKind)
-    → Read before (front ++ line ∷ after) xs → Read before front said → LineFault (before ++ said) line kind → ⊥
+    → LinesSay before (front ++ line ∷ after) xs → LinesSay before front said → LineFault (before ++ said) line kind → ⊥
 no_fault before [] line after [] said kind whole read fault = absurd whole
 no_fault before [] line after (x ∷ xs) [] kind whole read fault =
     fault_fits before line kind x (subst (λ b. LineFault b line kind) (append-nil before) fault) whole.0 whole.1
@@ -61,12 +61,12 @@ no_fault before (l ∷ ls) line after [] said kind whole read fault = absurd who
 no_fault before (l ∷ ls) line after (x ∷ xs) [] kind whole read fault = absurd read
 no_fault before (l ∷ ls) line after (x ∷ xs) (y ∷ ys) kind whole read fault =
     let same : x ≡ y = one_saying l x y whole.0 read.0 in
-    no_fault (before ++ y ∷ []) ls line after xs ys kind (subst (λ z. Read (before ++ z ∷ []) (ls ++ line ∷ after) xs) same whole.2) read.2
+    no_fault (before ++ y ∷ []) ls line after xs ys kind (subst (λ z. LinesSay (before ++ z ∷ []) (ls ++ line ∷ after) xs) same whole.2) read.2
     (subst (λ b. LineFault b line kind) (sym (append_assoc before (y ∷ []) ys)) fault)
 
-pub read_or_faulty : (ls : List (List ℕ)) (said : List Line) (kind : ExplainFaultKind) (number : ℕ) → Read [] ls said → FirstFault ls kind number → ⊥
+pub read_or_faulty : (ls : List (List ℕ)) (said : List Line) (kind : ExplainFaultKind) (number : ℕ) → LinesSay [] ls said → FirstFault ls kind number → ⊥
 read_or_faulty ls said kind number read f =
-    no_fault [] f.before f.line f.after said f.said kind (subst (λ vs. Read [] vs said) f.there read) f.faultless f.fault
+    no_fault [] f.before f.line f.after said f.said kind (subst (λ vs. LinesSay [] vs said) f.there read) f.faultless f.fault
 
 -- of two places in one list, one comes first or they are the same
 two_places : {A : Type 0} (xs ys : List A) (x y : A) (us vs : List A) → xs ++ x ∷ us ≡ ys ++ y ∷ vs
@@ -90,13 +90,13 @@ one_first_fault ls k l m n f g = elim (two_places f.before g.before f.line g.lin
   | inr (inr p) ↦ absurd (earlier g.before g.line g.said l f.before f.said g.faultless g.fault f.faultless p.0 p.1)
 ]
   where
-    earlier : (front : List (List ℕ)) (line : List ℕ) (said : List Line) (kind : ExplainFaultKind) (all : List (List ℕ)) (more : List Line) → Read [] front said → LineFault said line kind
-        → Read [] all more → (rest : List (List ℕ)) → all ≡ front ++ line ∷ rest → ⊥
-    earlier front line said kind all more read fault whole rest e = no_fault [] front line rest more said kind (subst (λ vs. Read [] vs more) e whole) read fault
+    earlier : (front : List (List ℕ)) (line : List ℕ) (said : List Line) (kind : ExplainFaultKind) (all : List (List ℕ)) (more : List Line) → LinesSay [] front said → LineFault said line kind
+        → LinesSay [] all more → (rest : List (List ℕ)) → all ≡ front ++ line ∷ rest → ⊥
+    earlier front line said kind all more read fault whole rest e = no_fault [] front line rest more said kind (subst (λ vs. LinesSay [] vs more) e whole) read fault
 
     together : f.before ≡ g.before → f.line ≡ g.line → (k ≡ l) × (m ≡ n)
     together e d =
-        let read : Read [] g.before f.said = subst (λ vs. Read [] vs f.said) e f.faultless in
+        let read : LinesSay [] g.before f.said = subst (λ vs. LinesSay [] vs f.said) e f.faultless in
         let same : f.said ≡ g.said = one_reading [] g.before f.said g.said read g.faultless in
         let fault : LineFault f.said g.line k = subst (λ v. LineFault f.said v k) d f.fault in (
           one_line_fault g.said g.line k l (subst (λ s. LineFault s g.line k) same fault) g.fault,

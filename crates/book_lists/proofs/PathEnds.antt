@@ -3,7 +3,8 @@ use Rattle.std.proofs.Common.{◌≡◌, ℕ, ◌+◌, ◌-◌, ◌<◌, List, [
 use Rattle.std.proofs.lemmas.Bool.{false≢true}
 use Rattle.std.proofs.lemmas.List.{get_or-append-add}
 use Rattle.std.proofs.Math.Seq.{get_or-append_seam}
-use Rattle.book_lists.specs.Principals.{IsName, IsPrincipal, EndsPlain, is_name_byte}
+use Rattle.book_lists.specs.Names.{IsName, is_name_byte}
+use Rattle.book_lists.specs.Principals.{IsPrincipal, EndsPlain}
 
 last_byte : (home name front : List ℕ) → 0 < length name → home ++ name ≡ front ++ 47 ∷ [] → get_or name (length name - 1) 0 ≡ 47
 last_byte home name front some e =

@@ -16,12 +16,12 @@ use Rattle.book_lists.specs.declared.entries.Here.{Here}
 use Rattle.book_lists.specs.declared.questions.Question.{Question}
 use Rattle.book_lists.specs.Answers.{IsAnswer}
 use Rattle.book_lists.specs.Memberships.{Memberships, set_of}
-use Rattle.book_lists.specs.Questions.{Fits, Read, FirstFault, LineFault, IsQuestion, listed, first, here_of, member_in, owner_in, place_in}
+use Rattle.book_lists.specs.Questions.{Fits, LinesSay, FirstFault, LineFault, IsQuestion, listed, first, here_of, member_in, owner_in, place_in}
 use Rattle.book_lists.specs.Explanations.{AnswersText, IsFault}
 use Rattle.book_lists.proofs.LineFaults.{texts, word_at}
 
 -- one line more
-pub read_more : (before : List Line) (ls : List (List ℕ)) (said : List Line) (line : List ℕ) (x : Line) → Read before ls said → Says line x → Fits (before ++ said) x → Read before (ls ++ line ∷ []) (said ++ x ∷ [])
+pub read_more : (before : List Line) (ls : List (List ℕ)) (said : List Line) (line : List ℕ) (x : Line) → LinesSay before ls said → Says line x → Fits (before ++ said) x → LinesSay before (ls ++ line ∷ []) (said ++ x ∷ [])
 read_more before [] [] line x r s f = (s, subst (λ b. Fits b x) (append-nil before) f, tt)
 read_more before (l ∷ ls) (y ∷ ys) line x r s f = (r.0, r.1, read_more (before ++ y ∷ []) ls ys line x r.2 s (subst (λ b. Fits b x) (sym (append_assoc before (y ∷ []) ys)) f))
 read_more before [] (y ∷ ys) line x r s f = absurd r
@@ -37,7 +37,7 @@ length_taken ws zero h = refl
 length_taken [] (suc i) h = absurd (omega (arith, h))
 length_taken (w ∷ ws) (suc i) h = ap suc (length_taken ws i (omega (arith, h)))
 
-pub first_fault : (lines : List (List ℕ)) (ws : List (Bor (List ℕ))) (i : ℕ) (said : List Line) (kind : ExplainFaultKind) → texts ws ≡ lines → i < length ws → Read [] (texts (take i ws)) said → LineFault said (word_at ws i) kind → FirstFault lines kind (i + 1)
+pub first_fault : (lines : List (List ℕ)) (ws : List (Bor (List ℕ))) (i : ℕ) (said : List Line) (kind : ExplainFaultKind) → texts ws ≡ lines → i < length ws → LinesSay [] (texts (take i ws)) said → LineFault said (word_at ws i) kind → FirstFault lines kind (i + 1)
 first_fault lines ws i said kind same lt read fault =
     let count : length (texts (take i ws)) ≡ i = length_taken ws i (omega (arith, lt)) in
     record {
@@ -58,7 +58,7 @@ on_ok P Q (Err e) f p = tt
 -- a fault that is told with its line
 pub placed : (lines : List (List ℕ)) (ws : List (Bor (List ℕ))) (i : ℕ) (said : List Line) (kind : ExplainFaultKind) (r : ExplainFault)
     → (r.kind ≡ kind) × (((kind ≡ Memory) × (r.line ≡ 0)) ⊎ ((kind ≢ Memory) × (r.line ≡ i + 1)))
-    → texts ws ≡ lines → i < length ws → Read [] (texts (take i ws)) said → OrMemory (λ k. LineFault said (word_at ws i) k) kind
+    → texts ws ≡ lines → i < length ws → LinesSay [] (texts (take i ws)) said → OrMemory (λ k. LineFault said (word_at ws i) k) kind
     → ((r.kind ≡ Memory) × (r.line ≡ 0)) ⊎ FirstFault lines r.kind r.line
 placed lines ws i said kind r (same, inl m) all lt read fault = inl (same ∙ m.0, m.1)
 placed lines ws i said kind r (same, inr n) all lt read (inl memory) = absurd (n.0 memory)
@@ -68,7 +68,7 @@ first_listed : {A : Type 0} (o : Option A) → first (listed o) ≡ o
 first_listed None = refl
 first_listed (Some x) = refl
 
-pub answers_text : (text answer : List ℕ) (said : List Line) (q : Question) → Read [] (lines_of text) said → IsQuestion said q → (caller : Caller) (need : Leaf → Bool)
+pub answers_text : (text answer : List ℕ) (said : List Line) (q : Question) → LinesSay [] (lines_of text) said → IsQuestion said q → (caller : Caller) (need : Leaf → Bool)
     → q.caller ≡ Some caller → q.need ≡ Some need → IsAnswer q.pairs caller need q.here q.entries.items answer → AnswersText text answer
 answers_text text answer said q read is caller need a n answers =
     let owner : q.here.owner ≡ first (filter_map owner_in said) = sym (first_listed q.here.owner) ∙ ap first is.owner in
@@ -87,7 +87,7 @@ answers_text text answer said q read is caller need a n answers =
       answers = subst C is.entries (subst B same (subst A is.pairs answers));
     }
 
-pub missing_text : (text : List ℕ) (said : List Line) (q : Question) (kind : ExplainFaultKind) (r : ExplainFault) → Read [] (lines_of text) said → IsQuestion said q
+pub missing_text : (text : List ℕ) (said : List Line) (q : Question) (kind : ExplainFaultKind) (r : ExplainFault) → LinesSay [] (lines_of text) said → IsQuestion said q
     → (r.kind ≡ kind) × (((kind ≡ Memory) × (r.line ≡ 0)) ⊎ ((kind ≢ Memory) × (r.line ≡ 0)))
     → OrMemory (λ k. (k ≡ Missing) × ((q.caller ≡ None) ⊎ (q.need ≡ None))) kind → IsFault text r.kind r.line
 missing_text text said q kind r read is (same, inl m) fault = inl (same ∙ m.0, m.1)

@@ -9,14 +9,14 @@ use Rattle.book_lists.specs.declared.lines.Line.{Line}
 use Rattle.book_lists.specs.Answers.{IsAnswer}
 use Rattle.book_lists.specs.Lines.{lines_of}
 use Rattle.book_lists.specs.Memberships.{set_of}
-use Rattle.book_lists.specs.Questions.{member_in, caller_in, need_in, entry_in, here_of, Read, FirstFault}
+use Rattle.book_lists.specs.Questions.{member_in, caller_in, need_in, entry_in, here_of, LinesSay, FirstFault}
 
 -- the text asks a question, and the answer is that question's
 pub record AnswersText (text answer : List ℕ) : Type 0 where
   pub said : List Line
   pub caller : Caller
   pub need : Leaf → Bool
-  pub faultless : Read [] (lines_of text) said
+  pub faultless : LinesSay [] (lines_of text) said
   pub asks : filter_map caller_in said ≡ caller ∷ []
   pub needs : filter_map need_in said ≡ need ∷ []
   pub answers : IsAnswer (set_of (filter_map member_in said)) caller need (here_of said) (filter_map entry_in said) answer
@@ -27,7 +27,7 @@ abbrev pub IsFault : List ℕ → ExplainFaultKind → ℕ → Type 0
 IsFault text kind number =
     ((kind ≡ Memory) × (number ≡ 0))
     ⊎ FirstFault (lines_of text) kind number
-    ⊎ ((said : List Line) × (kind ≡ Missing) × (number ≡ 0) × Read [] (lines_of text) said × ((filter_map caller_in said ≡ []) ⊎ (filter_map need_in said ≡ [])))
+    ⊎ ((said : List Line) × (kind ≡ Missing) × (number ≡ 0) × LinesSay [] (lines_of text) said × ((filter_map caller_in said ≡ []) ⊎ (filter_map need_in said ≡ [])))
 
 -- a text has at most one answer
 abbrev pub HasOneAnswer : Type 0

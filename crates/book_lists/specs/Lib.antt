@@ -1,3 +1,4 @@
+pub mod Names
 pub mod Principals
 pub mod Circles
 pub mod PrincipalSets

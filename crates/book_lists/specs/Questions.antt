@@ -60,11 +60,11 @@ Excess said (lines.Here path) kind = (kind ≡ Twice) × (filter_map place_in sa
 Excess said (lines.Listed entry) kind = (kind ≡ TooMany) × (64 ≤ length (filter_map entry_in said))
 
 -- the lines have no fault, and say this after what was said before
-abbrev pub Read : List Line → List (List ℕ) → List Line → Type 0
-Read before [] [] = Unit {0}
-Read before (line ∷ lines) (said ∷ more) = Says line said × Fits before said × Read (before ++ said ∷ []) lines more
-Read before [] (said ∷ more) = ⊥
-Read before (line ∷ lines) [] = ⊥
+abbrev pub LinesSay : List Line → List (List ℕ) → List Line → Type 0
+LinesSay before [] [] = Unit {0}
+LinesSay before (line ∷ lines) (said ∷ more) = Says line said × Fits before said × LinesSay (before ++ said ∷ []) lines more
+LinesSay before [] (said ∷ more) = ⊥
+LinesSay before (line ∷ lines) [] = ⊥
 
 -- the least fault of a line after these
 abbrev pub LineFault : List Line → List ℕ → ExplainFaultKind → Type 0
@@ -77,7 +77,7 @@ pub record FirstFault (lines : List (List ℕ)) (kind : ExplainFaultKind) (numbe
   pub after : List (List ℕ)
   pub said : List Line
   pub there : lines ≡ before ++ line ∷ after
-  pub faultless : Read [] before said
+  pub faultless : LinesSay [] before said
   pub fault : LineFault said line kind
   pub numbered : number ≡ length before + 1
 

@@ -20,6 +20,18 @@ pub enum Caller {
     Known(Principal),
 }
 
+/// A copy equals its source. An error is want of memory.
+impl Clone for Caller {
+    ghost is_clone = { λ source copy. copy ≡ source };
+
+    fn clone(&self) -> Result<Caller, AllocError> {
+        match self {
+            Caller::Nobody => Ok(Caller::Nobody),
+            Caller::Known(person) => Ok(Caller::Known(person.clone()?)),
+        }
+    }
+}
+
 /// The principals to which a caller belongs, and whether the caller is known. A contract sees none for nobody, and
 /// else the set of the principals.
 #[derive(Debug, Drop)]

@@ -6,6 +6,7 @@ ghost use Rattle.book_lists.specs.Entries.{form_applies, applies};
 use crate::circles::Circle;
 use crate::principals::Principal;
 use book_rights::LeafSet;
+use std::alloc::AllocError;
 
 /// The principal form of an entry (RFC 3744, section 5.5.1), and the callers to whom it applies.
 #[derive(Debug, Drop, PartialEq, Eq)]
@@ -24,6 +25,22 @@ pub enum Who {
     Own,
 }
 
+/// A copy equals its source. An error is want of memory.
+impl Clone for Who {
+    ghost is_clone = { λ source copy. copy ≡ source };
+
+    fn clone(&self) -> Result<Who, AllocError> {
+        match self {
+            Who::Href(principal) => Ok(Who::Href(principal.clone()?)),
+            Who::Everyone => Ok(Who::Everyone),
+            Who::Authenticated => Ok(Who::Authenticated),
+            Who::Unauthenticated => Ok(Who::Unauthenticated),
+            Who::Owner => Ok(Who::Owner),
+            Who::Own => Ok(Who::Own),
+        }
+    }
+}
+
 /// An access control entry (RFC 3744, section 5.5): it grants or denies a set of leaves where it applies.
 #[derive(Debug, Drop, PartialEq, Eq)]
 pub struct Entry {
@@ -35,6 +52,20 @@ pub struct Entry {
     pub deny: bool,
     /// The leaves that it holds.
     pub set: LeafSet,
+}
+
+/// A copy equals its source. An error is want of memory.
+impl Clone for Entry {
+    ghost is_clone = { λ source copy. copy ≡ source };
+
+    fn clone(&self) -> Result<Entry, AllocError> {
+        Ok(Entry {
+            who: self.who.clone()?,
+            invert: self.invert,
+            deny: self.deny,
+            set: self.set,
+        })
+    }
 }
 
 /// What an entry asks of the resource that a need names, also where the entry is inherited (own profile).

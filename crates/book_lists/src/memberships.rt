@@ -22,6 +22,18 @@ pub struct Membership {
     pub member: Principal,
 }
 
+/// A copy equals its source. An error is want of memory.
+impl Clone for Membership {
+    ghost is_clone = { λ source copy. copy ≡ source };
+
+    fn clone(&self) -> Result<Membership, AllocError> {
+        Ok(Membership {
+            group: self.group.clone()?,
+            member: self.member.clone()?,
+        })
+    }
+}
+
 /// Direct memberships (RFC 3744, section 2), seen as a set of pairs of a group and a member.
 ///
 /// They are kept by member, so that what a principal belongs to is found without a scan of all pairs.
@@ -47,6 +59,19 @@ impl Model for Pairs {
     ghost view = { λ p. pairs_in p.groups.entries };
 
     ghost invariant = { λ p. IsOrdered path_cmp p.groups × (p.len ≡ set.len (pairs_in p.groups.entries)) };
+}
+
+/// A copy equals its source. An error is want of memory.
+impl Clone for Pairs {
+    ghost is_clone = { λ source copy. copy ≡ source };
+
+    fn clone(&self) -> Result<Pairs, AllocError> {
+        Ok(Pairs {
+            alloc: self.alloc,
+            groups: self.groups.clone()?,
+            len: self.len,
+        })
+    }
 }
 
 impl Pairs {

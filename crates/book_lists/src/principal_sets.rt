@@ -10,7 +10,7 @@ use std::collections::BTreeSet;
 use std::marker::Model;
 
 /// Principals, each once; look-ups take a number of comparisons that grows with the logarithm of the size.
-#[derive(Debug, Drop)]
+#[derive(Clone, Debug, Drop)]
 pub(crate) struct PrincipalSet {
     tree: BTreeSet<Principal>,
 }

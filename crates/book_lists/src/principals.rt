@@ -1,16 +1,16 @@
 //! Principals: persons and groups, by their paths.
 
 ghost use Rattle.std.specs.Prelude.{◌≡◌, ◌≢◌, ◌↔◌, ◌++◌, ℕ, List, IsTrue, IfOk, IfSome, IfNone};
-ghost use Rattle.book_lists.specs.Principals.{is_name_byte, IsName, IsGroup, IsPrincipal, Spells, EndsPlain};
+ghost use Rattle.book_lists.specs.Principals.{IsGroup, IsPrincipal, Spells, EndsPlain, person_path, group_path};
 
+use crate::names::{Name, is_name};
 use std::alloc::{AllocError, Global};
 use std::cmp::Ordering;
 use std::marker::Model;
 
-/// A principal (RFC 3744, section 2): a person, `/people/NAME`, or a group, `/groups/NAME`. A contract sees its path.
-///
-/// A name is 1 to 64 bytes of ASCII letters, digits, `.`, `_` and `-`, and does not begin with `.` (own profile).
-#[derive(Clone, Debug, Drop)]
+/// A principal (RFC 3744, section 2): a person, `/people/NAME`, or a group, `/groups/NAME`, with a `Name` (own profile).
+/// A contract sees its path.
+#[derive(Debug, Drop)]
 pub struct Principal {
     path: String,
 }
@@ -25,6 +25,17 @@ impl Model for Principal {
     ghost view = { λ p. string_bytes p.path };
 
     ghost invariant = { λ p. IsPrincipal (string_bytes p.path) };
+}
+
+/// A copy equals its source. An error is want of memory.
+impl Clone for Principal {
+    ghost is_clone = { λ source copy. copy ≡ source };
+
+    fn clone(&self) -> Result<Principal, AllocError> {
+        Ok(Principal {
+            path: self.path.clone()?,
+        })
+    }
 }
 
 impl PartialEq for Principal {
@@ -84,24 +95,6 @@ impl Ord for Principal {
     }
 }
 
-/// Whether a name may have the byte.
-fn is_name_byte(byte: u8) -> bool
-    ensures { result ≡ is_name_byte byte }
-{
-    matches!(byte, b'a'..=b'z' | b'A'..=b'Z' | b'0'..=b'9' | b'.' | b'_' | b'-')
-}
-
-/// Whether the text is a name of one member of a collection.
-fn is_name(name: &str) -> bool
-    ensures { IsTrue result ↔ IsName name.now }
-{
-    let bytes = name.as_bytes();
-    !bytes.is_empty()
-        && bytes.len() <= 64
-        && bytes[0] != b'.'
-        && bytes.iter().all(|byte| is_name_byte(*byte))
-}
-
 /// What follows the beginning of the text, if it begins so.
 pub(crate) fn after<'a>(text: &'a str, beginning: &str) -> Option<&'a str>
     ensures some { IfSome result (λ rest. text.now ≡ beginning.now ++ rest.now) }
@@ -146,6 +139,33 @@ impl Principal {
         Ok(Some(Principal {
             path: String::from_str(alloc, path)?,
         }))
+    }
+
+    /// The person with this name. An error is want of memory.
+    pub fn person(alloc: Global, name: &Name) -> Result<Principal, AllocError>
+        ensures { IfOk result (λ principal. principal ≡ person_path name.now) }
+    {
+        name.known();
+        let mut path = String::from_str(alloc, "/people/")?;
+        path.push_str(name.text())?;
+        Ok(Principal { path })
+    }
+
+    /// The group with this name. An error is want of memory.
+    pub fn group(alloc: Global, name: &Name) -> Result<Principal, AllocError>
+        ensures { IfOk result (λ principal. principal ≡ group_path name.now) }
+    {
+        name.known();
+        let mut path = String::from_str(alloc, "/groups/")?;
+        path.push_str(name.text())?;
+        Ok(Principal { path })
+    }
+
+    /// Hands out the rule that each principal meets.
+    pub fn known(&self)
+        ensures { IsPrincipal self.now }
+    {
+        let _ = &self.path;
     }
 
     /// Whether this is a group.

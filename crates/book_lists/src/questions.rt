@@ -4,7 +4,7 @@ ghost use Rattle.std.specs.Prelude.{◌≡◌, ◌⊎◌, ◌++◌, ◌∷◌, [
 ghost use Rattle.book_lists.specs.declared.lines.Line.{Line as SaidLine};
 ghost use Rattle.book_lists.specs.declared.faults.ExplainFaultKind.TheVariants.{Memory};
 ghost use Rattle.book_lists.specs.Lines.{OrMemory, Says, lines_of};
-ghost use Rattle.book_lists.specs.Questions.{IsQuestion, Fits, Excess, LineFault, Read, FirstFault};
+ghost use Rattle.book_lists.specs.Questions.{IsQuestion, Fits, Excess, LineFault, LinesSay, FirstFault};
 
 use crate::circles::Caller;
 use crate::entries::{Entry, Here};
@@ -112,7 +112,7 @@ impl Question {
 
 pub(crate) fn read_question(alloc: Global, text: &str) -> Result<Question, ExplainFault>
     ensures read { IfOk result (λ question. (said : List SaidLine)
-        × Read [] (lines_of text.now) said × IsQuestion said question) }
+        × LinesSay [] (lines_of text.now) said × IsQuestion said question) }
     ensures faulty { IfErr result (λ fault. ((fault.kind ≡ Memory) × (fault.line ≡ 0))
         ⊎ FirstFault (lines_of text.now) fault.kind fault.line) }
 {

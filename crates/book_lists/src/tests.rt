@@ -1,6 +1,6 @@
 use crate::{
-    Caller, Entry, ExplainFault, ExplainFaultKind, Here, Outcome, Pairs, Principal, Who, applies,
-    decide, expand, explain, granted, short_privileges,
+    Caller, Entry, ExplainFault, ExplainFaultKind, Here, Membership, Name, Outcome, Pairs,
+    Principal, Who, applies, decide, expand, explain, granted, short_privileges,
 };
 use book_rights::{Leaf, LeafSet, Privilege};
 use std::alloc::Global;
@@ -39,6 +39,43 @@ fn named(alloc: Global, path: &str) -> Result<Principal, Fail> {
 }
 
 #[test]
+fn names_are_read(rt: HostRuntime) -> Result<(), Fail> {
+    let cases = [
+        ("ann", true),
+        ("a.b_c-1.", true),
+        (&LONGEST["/people/".len()..], true),
+        (&TOO_LONG["/people/".len()..], false),
+        ("", false),
+        (".ann", false),
+        ("an n", false),
+        ("ann/", false),
+        ("änn", false),
+    ];
+    for (text, is_name) in cases {
+        let name = Name::parse(rt.alloc(), text)?;
+        let expected = if is_name { Some(text) } else { None };
+        assert_eq!(rt; name.as_ref().map(|n| n.text()), expected, "{text:?}");
+    }
+    Ok(())
+}
+
+#[test]
+fn names_make_principals(rt: HostRuntime) -> Result<(), Fail> {
+    let alloc = rt.alloc();
+    let ann = Name::parse(alloc, "ann")?.ok_or("no name")?;
+    let bob = Name::parse(alloc, "bob")?.ok_or("no name")?;
+    assert!(rt; ann < bob && ann != bob && ann == ann.clone()?);
+    let person = Principal::person(alloc, &ann)?;
+    let group = Principal::group(alloc, &ann)?;
+    assert_eq!(rt; person.text(), "/people/ann");
+    assert_eq!(rt; group.text(), "/groups/ann");
+    ann.known();
+    person.known();
+    assert!(rt; group.is_group() && !person.is_group());
+    Ok(())
+}
+
+#[test]
 fn pairs_are_a_set(rt: HostRuntime) -> Result<(), Fail> {
     let alloc = rt.alloc();
     let staff = named(alloc, "/groups/staff")?;
@@ -51,6 +88,35 @@ fn pairs_are_a_set(rt: HostRuntime) -> Result<(), Fail> {
     }
     assert!(rt; pairs.has(&staff, &ann) && !pairs.has(&ann, &staff) && !pairs.is_empty());
     assert!(rt; staff.is_group() && !ann.is_group());
+    Ok(())
+}
+
+fn one_membership(alloc: Global) -> Result<Membership, Fail> {
+    Ok(Membership {
+        group: named(alloc, "/groups/staff")?,
+        member: named(alloc, "/people/ann")?,
+    })
+}
+
+#[test]
+fn copies_equal_their_sources(rt: HostRuntime) -> Result<(), Fail> {
+    let pair = one_membership(rt.alloc())?;
+    assert_eq!(rt; pair.clone()?, pair);
+    let owner = Some(pair.member);
+    assert_eq!(rt; owner.clone()?, owner);
+    Ok(())
+}
+
+#[test]
+fn a_copy_of_pairs_grows_alone(rt: HostRuntime) -> Result<(), Fail> {
+    let alloc = rt.alloc();
+    let pair = one_membership(alloc)?;
+    let mut pairs = Pairs::new(alloc);
+    pairs.add(pair.group.clone()?, pair.member.clone()?)?;
+    let mut copy = pairs.clone()?;
+    assert!(rt; copy.len() == 1 && copy.has(&pair.group, &pair.member));
+    copy.add(pair.group, named(alloc, "/people/bob")?)?;
+    assert!(rt; copy.len() == 2 && pairs.len() == 1);
     Ok(())
 }
 
@@ -110,6 +176,19 @@ fn entry(who: Who, deny: bool, set: LeafSet) -> Entry {
         deny,
         set,
     }
+}
+
+#[test]
+fn copied_entries_equal_their_sources(rt: HostRuntime) -> Result<(), Fail> {
+    let alloc = rt.alloc();
+    let staff = named(alloc, "/groups/staff")?;
+    let mut entries = Vec::new(alloc);
+    entries.push(entry(Who::Href(staff), true, LeafSet::all()))?;
+    entries.push(entry(Who::Own, false, LeafSet::empty()))?;
+    assert_eq!(rt; entries.clone()?, entries);
+    let caller = Caller::Known(named(alloc, "/people/ann")?);
+    assert_eq!(rt; caller.clone()?, caller);
+    Ok(())
 }
 
 #[test]

@@ -1,6 +1,6 @@
 use Rattle.std.proofs.Common.{◌≡◌, List, ℕ, sym, ap, ◌∙◌, arith, subst, take, ◌++◌, ◌∷◌, [], get_or, ◌+◌, inl, inr}
 use Rattle.std.proofs.lemmas.List.{take_more, take_all, map-append}
-use Rattle.book_lists.specs.Questions.{Read}
+use Rattle.book_lists.specs.Questions.{LinesSay}
 use Rattle.book_lists.specs.Lines.{lines_of}
 use Rattle.book_lists.proofs.LineFaults.{texts, word_at, no_word}
 use Rattle.book_lists.proofs.Readings.{read_more, placed}
@@ -14,7 +14,7 @@ loop-index-preserved c =
     let t = c.in_default.ensures.taken v.0 v.2 in
     let same : texts (take (i + 1) ws) ≡ texts (take i ws) ++ word_at ws i ∷ [] =
     ap texts (take_more ws i no_word (omega arith)) ∙ map-append (λ w. w.now) (take i ws) (get_or ws i no_word ∷ []) in
-    let R : List (List ℕ) → Type 0 = λ ls. Read [] ls (v.0 ++ t.0 ∷ []) in
+    let R : List (List ℕ) → Type 0 = λ ls. LinesSay [] ls (v.0 ++ t.0 ∷ []) in
     (v.0 ++ t.0 ∷ [], subst R (sym same) (read_more [] (texts (take i ws)) v.0 (word_at ws i) t.0 v.1 t.1 t.2), t.3)
 
 pub returns-in-Err-take_text-clause-faulty : goal.returns-in-Err-take_text-clause-faulty
@@ -30,5 +30,5 @@ returns-clause-read c =
     let ws = c.deref-line-items.result.now in
     let v = c.loop-index.invariant in
     let all : texts ws ≡ lines_of c.args.text.now = ap texts c.deref-line-items.ensures.value ∙ c.in-Ok.ensures in
-    let R : List (List ℕ) → Type 0 = λ ls. Read [] ls v.0 in
+    let R : List (List ℕ) → Type 0 = λ ls. LinesSay [] ls v.0 in
     (v.0, subst R (ap texts (take_all c.loop-index.index ws (omega arith)) ∙ all) v.1, v.2)

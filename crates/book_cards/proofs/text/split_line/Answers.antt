@@ -1,7 +1,7 @@
 use Rattle.std.proofs.Common.{lit<, arith, sym, ◌∙◌, ap, length, length-append}
 use Rattle.std.proofs.lemmas.Str.Pattern.{split_parts, strip_suffix_char}
 use Rattle.book_cards.proofs.LineEnds.{line_at, last_line, positive}
-use Rattle.book_cards.proofs.check.split_line.Goals as goal
+use Rattle.book_cards.proofs.text.split_line.Goals as goal
 
 pub returns-in-Some : goal.returns-in-Some
 returns-in-Some c =

@@ -1,0 +1,48 @@
+-- The Office of a new keeper is sound.
+use Rattle.std.proofs.Common.{◌≡◌, ℕ, List, Bool, true, ◌&&◌, Some, None, sym, ap, ◌∙◌, arith}
+use Rattle.std.specs.FinMap.{get, empty, get-empty, len-empty}
+use Rattle.std.specs.FinSet as set
+use Rattle.book_lists.proofs.Pairing.{memberships_total, memberships_exact}
+use Rattle.book_lists.specs.Memberships.{membership_cmp}
+use Rattle.book_lists.specs.Names.{name_cmp}
+use Rattle.book_lists.specs.declared.memberships.Membership.{Membership}
+use Rattle.book_office.proofs.OneName.{some_apart}
+use Rattle.book_office.specs.Edits.{empty_office, empty_place}
+use Rattle.book_office.specs.Sound.{IsSound, IsSoundPlace}
+use Rattle.book_office.specs.declared.offices.Book.{Book}
+use Rattle.book_office.specs.declared.offices.Office.{Office}
+
+nothing_in : {V P : Type 0} (q : List ℕ) (v : V) → get (empty {X = V} {R = name_cmp}) q ≡ Some v → P
+nothing_in q v e = some_apart (sym e ∙ get-empty name_cmp q)
+
+-- no pair is kept of none
+none_kept : (p : Membership → Bool) → set.retain (set.empty {R = membership_cmp}) p ≡ set.empty
+none_kept p = set.same_set memberships_total memberships_exact _ _ (λ q.
+    set.contains-retain set.empty p q (λ x e. ap p (sym (memberships_exact q x e)))
+    ∙ ap (λ b. b && p q) (set.contains-empty membership_cmp q) ∙ sym (set.contains-empty membership_cmp q))
+
+no_pair : {P : Type 0} (pair : Membership) → set.contains (set.empty {R = membership_cmp}) pair ≡ true → P
+no_pair pair e = absurd (let none = set.contains-empty membership_cmp pair in cc)
+
+empty_place_sound : (o : Office) → IsSoundPlace o (empty_place None)
+empty_place_sound o = record {
+  owner = tt;
+  label = omega arith;
+  protected = record { few = omega arith; known = λ k d l. absurd (omega arith) };
+  own = record { few = omega arith; known = λ k d l. absurd (omega arith) };
+}
+
+pub empty_sound : IsSound empty_office
+empty_sound = record {
+  root = empty_place_sound empty_office;
+  people = empty_place_sound empty_office;
+  groups_home = empty_place_sound empty_office;
+  books_home = empty_place_sound empty_office;
+  persons = λ q k e. nothing_in q k e;
+  groups = λ q k e. nothing_in q k e;
+  books = λ q k e. nothing_in q k e;
+  few = rw (len-empty name_cmp Book) (omega arith);
+  pairs = λ pair e. no_pair pair e;
+  members = λ group. rw (none_kept _, set.len-empty membership_cmp) (omega arith);
+  epoch = omega arith;
+}

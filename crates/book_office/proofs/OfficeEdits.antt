@@ -1,0 +1,19 @@
+-- An edit of one book in place, against the Office with that book changed.
+use Rattle.std.proofs.Common.{◌≡◌, ℕ, List, Some, sym, ap, ◌∙◌}
+use Rattle.std.specs.FinMap.{get, insert}
+use Rattle.book_office.specs.Names.{NamesTo}
+use Rattle.book_office.specs.declared.offices.Book.{Book}
+use Rattle.book_office.specs.declared.offices.Office.{Office}
+use Rattle.book_office.specs.Edits.{changed_if, with_book}
+use Rattle.book_office.proofs.NameMapLaws.{insert_same}
+
+pub edited : (o : Office) (b : List ℕ) (change : Book → Book) (old new : Book) (books : NamesTo Book)
+    → Some old ≡ get o.books b → books ≡ insert o.books b new → new ≡ change old
+    → record o { books = books } ≡ with_book change o b
+edited o b change old new books there left changed =
+    ap (λ bs. record o { books = bs }) (left ∙ ap (insert o.books b) changed ∙ ap (changed_if change o.books b) there)
+
+pub kept : (o : Office) (b : List ℕ) (old new : Book) (books : NamesTo Book)
+    → Some old ≡ get o.books b → books ≡ insert o.books b new → new ≡ old → record o { books = books } ≡ o
+kept o b old new books there left same =
+    ap (λ bs. record o { books = bs }) (left ∙ ap (insert o.books b) same ∙ insert_same o.books b old (sym there))

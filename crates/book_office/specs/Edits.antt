@@ -1,0 +1,166 @@
+-- What each edit leaves.
+use Rattle.std.specs.Prelude.{ℕ, ◌+◌, List, [], ◌∷◌, Bool, true, false, not, map, Option, Some, None}
+use Rattle.std.specs.FinMap.{get, insert, remove, empty}
+use Rattle.std.specs.FinSet as set
+use Rattle.std.specs.Str.{bytes_eq}
+use Rattle.book_lists.specs.Memberships.{Memberships}
+use Rattle.book_lists.specs.declared.entries.Entry.{Entry}
+use Rattle.book_lists.specs.declared.memberships.Membership.{Membership}
+use Rattle.book_office.specs.declared.edits.Edit.{Edit}
+use Rattle.book_office.specs.declared.edits.Edit.TheVariants.{PutCard, RemoveCard, AddBook, RemoveBook}
+use Rattle.book_office.specs.declared.offices.Book.{Book}
+use Rattle.book_office.specs.declared.offices.Card.{Card}
+use Rattle.book_office.specs.declared.offices.Office.{Office}
+use Rattle.book_office.specs.declared.offices.Place.{Place}
+use Rattle.book_office.specs.declared.paths.Path.{Path}
+use Rattle.book_office.specs.declared.paths.Path.TheVariants as path
+use Rattle.book_office.specs.Changes.{touched}
+use Rattle.book_office.specs.Names.{NamesTo}
+use Rattle.book_office.specs.Resources.{card_at}
+
+-- the map with the value at a name changed; the same map where there is none
+abbrev pub changed_if : {V : Type 0} → (V → V) → NamesTo V → List ℕ → Option V → NamesTo V
+changed_if change m name None = m
+changed_if change m name (Some old) = insert m name (change old)
+
+abbrev pub changed_at : {V : Type 0} → (V → V) → NamesTo V → List ℕ → NamesTo V
+changed_at change m name = changed_if change m name (get m name)
+
+abbrev pub with_book : (Book → Book) → Office → List ℕ → Office
+with_book change o b = record o { books = changed_at change o.books b }
+
+-- the book with a card at a name, which is touched
+abbrev pub place_card : Book → List ℕ → Card → Book
+place_card book c card = record book { cards = insert book.cards c card; changes = touched book.changes c }
+
+abbrev pub with_text : List ℕ → Card → Card
+with_text text card = record card { text = text }
+
+-- PUT: a new card has the owner, an empty label and an empty own list; of a card that is there the text is replaced
+abbrev pub card_put : Option Card → Option (List ℕ) → List ℕ → Card
+card_put None owner text = record { owner = owner; label = []; own = []; text = text }
+card_put (Some card) owner text = with_text text card
+
+abbrev pub put_card : List ℕ → Option (List ℕ) → List ℕ → Book → Book
+put_card c owner text book = place_card book c (card_put (get book.cards c) owner text)
+
+-- DELETE of a card: the name is touched, and has no card
+abbrev pub remove_card : List ℕ → Book → Book
+remove_card c book = record book { cards = remove book.cards c; changes = touched book.changes c }
+
+-- COPY: a new card has the source's text and label, the owner and an empty own list; of a card that is there text and label are replaced
+abbrev pub card_copied : Option Card → Option (List ℕ) → Card → Card
+card_copied None owner source = record { owner = owner; label = source.label; own = []; text = source.text }
+card_copied (Some card) owner source = record card { label = source.label; text = source.text }
+
+abbrev pub copy_from : Option Card → List ℕ → Option (List ℕ) → Book → Book
+copy_from None c owner book = book
+copy_from (Some source) c owner book = place_card book c (card_copied (get book.cards c) owner source)
+
+abbrev pub copy_card : List ℕ → List ℕ → List ℕ → List ℕ → Option (List ℕ) → Office → Office
+copy_card from_book from_card to_book to_card owner o = with_book (copy_from (card_at o from_book from_card) to_card owner) o to_book
+
+-- MOVE: the source is removed, and then the whole card is put at the destination, in place of a card that is there
+abbrev pub move_to : Option Card → List ℕ → Book → Book
+move_to None c book = book
+move_to (Some card) c book = place_card book c card
+
+abbrev pub move_card : List ℕ → List ℕ → List ℕ → List ℕ → Office → Office
+move_card from_book from_card to_book to_card o = with_book (move_to (card_at o from_book from_card) to_card) (with_book (remove_card from_card) o from_book) to_book
+
+-- a place with an empty label and empty lists
+abbrev pub empty_place : Option (List ℕ) → Place
+empty_place owner = record { owner = owner; label = []; protected = []; own = [] }
+
+-- MKCOL: a book with an empty label, empty lists, no cards and the number 0
+abbrev pub new_book : Option (List ℕ) → Book
+new_book owner = record {
+  place = empty_place owner;
+  cards = empty;
+  changes = record { number = 0; last = empty };
+}
+
+abbrev pub add_book : List ℕ → Option (List ℕ) → Office → Office
+add_book b owner o = record o { books = insert o.books b (new_book owner) }
+
+-- DELETE of a book: its cards and removed names go with it, and access has changed
+abbrev pub remove_book : List ℕ → Office → Office
+remove_book b o = record o { books = remove o.books b; epoch = o.epoch + 1 }
+
+-- an Office with the owner, label and lists at a path changed; a card's label and list are changed by edits of their own
+abbrev pub with_place : (Place → Place) → Office → Path → Office
+with_place change o path.Root = record o { root = change o.root }
+with_place change o path.People = record o { people = change o.people }
+with_place change o path.Groups = record o { groups_home = change o.groups_home }
+with_place change o path.Books = record o { books_home = change o.books_home }
+with_place change o (path.Person n) = record o { persons = changed_at change o.persons n }
+with_place change o (path.Group n) = record o { groups = changed_at change o.groups n }
+with_place change o (path.Book b) = with_book (λ book. record book { place = change book.place }) o b
+with_place change o (path.Card b c) = o
+
+abbrev pub with_card : (Card → Card) → Office → List ℕ → List ℕ → Office
+with_card change o b c = with_book (λ book. record book { cards = changed_at change book.cards c }) o b
+
+-- PROPPATCH of a displayname (RFC 4918, section 15.2): a card's is a change of the card, which touches its name
+abbrev pub label_card : List ℕ → List ℕ → Option Card → Book → Book
+label_card c label None book = book
+label_card c label (Some card) book = place_card book c (record card { label = label })
+
+abbrev pub set_label : Path → List ℕ → Office → Office
+set_label (path.Card b c) label o = with_book (λ book. label_card c label (get book.cards c) book) o b
+set_label p label o = with_place (λ place. record place { label = label }) o p
+
+-- ACL (RFC 3744, section 8.1): the own list is replaced; no name is touched
+abbrev pub own_list_set : Path → List Entry → Office → Office
+own_list_set (path.Card b c) list o = with_card (λ card. record card { own = list }) o b c
+own_list_set p list o = with_place (λ place. record place { own = list }) o p
+
+abbrev pub set_list : Path → List Entry → Office → Office
+set_list p list o = record (own_list_set p list o) { epoch = o.epoch + 1 }
+
+-- the direct members of one group
+abbrev pub members_of : Memberships → List ℕ → Memberships
+members_of pairs group = set.retain pairs (λ (m : Membership). bytes_eq m.group group)
+
+-- PROPPATCH of a group-member-set (RFC 3744, section 4.3): the direct members of the group become those of the list
+abbrev pub members_set : Memberships → List ℕ → List (List ℕ) → Memberships
+members_set pairs group members = set.union (set.retain pairs (λ (m : Membership). not (bytes_eq m.group group)))
+    (set.from_list (map (λ member. record { group = group; member = member }) members))
+
+abbrev pub set_members : List ℕ → List (List ℕ) → Office → Office
+set_members group members o = record o { pairs = members_set o.pairs group members; epoch = o.epoch + 1 }
+
+-- the Office that a new keeper has: the root and the homes
+abbrev pub empty_office : Office
+empty_office = record {
+  root = empty_place None;
+  people = empty_place None;
+  groups_home = empty_place None;
+  books_home = empty_place None;
+  persons = empty;
+  groups = empty;
+  books = empty;
+  pairs = set.empty;
+  epoch = 0;
+}
+
+-- what an edit leaves
+abbrev pub apply : Office → Edit → Office
+apply o (PutCard b c owner text) = with_book (put_card c owner text) o b
+apply o (RemoveCard b c) = with_book (remove_card c) o b
+apply o (AddBook b owner) = add_book b owner o
+apply o (RemoveBook b) = remove_book b o
+
+-- which edits change access: the epoch rises with each of them, and with no other
+abbrev pub raises_epoch : Edit → Bool
+raises_epoch (PutCard b c owner text) = false
+raises_epoch (RemoveCard b c) = false
+raises_epoch (AddBook b owner) = false
+raises_epoch (RemoveBook b) = true
+
+-- the names that an edit touches, each with its book, in order
+abbrev pub touches : Edit → List (List ℕ × List ℕ)
+touches (PutCard b c owner text) = (b, c) ∷ []
+touches (RemoveCard b c) = (b, c) ∷ []
+touches (AddBook b owner) = []
+touches (RemoveBook b) = []

@@ -1,0 +1,34 @@
+-- When an edit of a sound Office fits: it stays within the limits, and names what may be there.
+use Rattle.std.specs.Prelude.{◌≡◌, ◌≢◌, ◌⊎◌, ℕ, ◌<◌, ◌≤◌, List, length, Option, Some, None}
+use Rattle.std.specs.FinMap.{get, len}
+use Rattle.book_lists.specs.Names.{IsName}
+use Rattle.book_office.specs.declared.edits.Edit.TheVariants.{PutCard, RemoveCard, AddBook, RemoveBook}
+use Rattle.book_office.specs.declared.offices.Book.{Book}
+use Rattle.book_office.specs.declared.offices.Office.{Office}
+use Rattle.book_office.specs.declared.offices.TheConstants.{MAX_CARD_BYTES, MAX_CARDS, MAX_BOOKS, LAST_NUMBER}
+use Rattle.book_office.specs.Sound.{IsOwner, IsSound, Fits}
+
+-- a card of this name is there, or one more has room
+abbrev pub HasRoom : Book → List ℕ → Type 0
+HasRoom book c = (get book.cards c ≢ None) ⊎ (len book.cards < MAX_CARDS)
+
+abbrev pub PutCardFits : Type 0
+PutCardFits = (o : Office) (b c : List ℕ) (owner : Option (List ℕ)) (text : List ℕ) (book : Book) → IsSound o
+    → get o.books b ≡ Some book → IsName c → IsOwner o owner
+    → book.changes.number < LAST_NUMBER → HasRoom book c → length text ≤ MAX_CARD_BYTES
+    → Fits o (PutCard b c owner text)
+
+abbrev pub RemoveCardFits : Type 0
+RemoveCardFits = (o : Office) (b c : List ℕ) (book : Book) → IsSound o
+    → get o.books b ≡ Some book → get book.cards c ≢ None → book.changes.number < LAST_NUMBER
+    → Fits o (RemoveCard b c)
+
+abbrev pub AddBookFits : Type 0
+AddBookFits = (o : Office) (b : List ℕ) (owner : Option (List ℕ)) → IsSound o
+    → get o.books b ≡ None → IsName b → IsOwner o owner → len o.books < MAX_BOOKS
+    → Fits o (AddBook b owner)
+
+abbrev pub RemoveBookFits : Type 0
+RemoveBookFits = (o : Office) (b : List ℕ) → IsSound o
+    → get o.books b ≢ None → o.epoch < LAST_NUMBER
+    → Fits o (RemoveBook b)

@@ -1,0 +1,32 @@
+//! The edits of an Office.
+
+use crate::texts::Text;
+use book_lists::{Name, Principal};
+
+/// A change of an Office. It fits an Office where what it names as present is mapped, what it adds is not mapped and has
+/// a mapped parent, and what it leaves is sound.
+#[derive(Debug, Drop)]
+pub enum Edit {
+    /// PUT: the text of a card. A new card gets the owner, an empty label and an empty own list; of a card that is there
+    /// the text alone is replaced.
+    PutCard {
+        book: Name,
+        card: Name,
+        owner: Option<Principal>,
+        text: Text,
+    },
+    /// DELETE of a card: its name is kept as removed.
+    RemoveCard {
+        book: Name,
+        card: Name,
+    },
+    /// MKCOL: a book with an empty label, empty lists and the number 0.
+    AddBook {
+        book: Name,
+        owner: Option<Principal>,
+    },
+    /// DELETE of a book, with its cards and removed names. The epoch rises.
+    RemoveBook {
+        book: Name,
+    },
+}

@@ -1,0 +1,72 @@
+//! What keeps an Office.
+
+ghost use Rattle.std.specs.Prelude.{◌≡◌};
+ghost use Rattle.book_lists.specs.Callers.{IsCircle};
+ghost use Rattle.book_office.specs.declared.keepers.StoreFault.TheVariants.{Memory};
+ghost use Rattle.book_office.specs.Keeping.{Standing, Reads, Edits};
+ghost use Rattle.book_office.specs.Resources.{node_at, children_at};
+ghost use Rattle.book_office.specs.Levels.{lists_at};
+
+use crate::edits::Edit;
+use crate::items::Items;
+use crate::nodes::{Listed, Lists, Node};
+use crate::paths::Path;
+use book_lists::{Caller, Circle, Pairs};
+use std::alloc::{AllocError, Global};
+
+/// Why a keeper gave up.
+#[derive(Clone, Copy, Debug, PartialEq, Eq)]
+pub enum StoreFault {
+    /// Memory was refused.
+    Memory,
+    /// The store failed.
+    Store,
+}
+
+impl From<AllocError> for StoreFault {
+    ghost from_gives = { λ _ fault. fault ≡ Memory };
+
+    fn from(_error: AllocError) -> Self {
+        StoreFault::Memory
+    }
+}
+
+/// What keeps an Office: the one interface between the machine and any store.
+///
+/// An implementation says what it stands for (`standing`). Each read tells what the Office has and leaves it as it was;
+/// `act` leaves the edited Office, or on an error the Office as it was. A stop leaves no third.
+pub trait Keeper {
+    ghost standing: { Self → Standing };
+
+    /// The resource at a path; none where none is mapped.
+    fn find(&mut self, alloc: Global, path: &Path) -> Result<Option<Node>, StoreFault>
+        ensures { Reads (standing self.old) (standing self.new) result (λ o node. node ≡ node_at o path.now) };
+
+    /// The children of a resource, in byte order of their names; none where none is mapped.
+    fn children(&mut self, alloc: Global, path: &Path) -> Result<Items<Listed>, StoreFault>
+        ensures { Reads (standing self.old) (standing self.new) result (λ o children. children ≡ children_at o path.now) };
+
+    /// The lists of the resource at a path and of each ancestor; the lists of a path that is not mapped are empty.
+    fn lists(&mut self, alloc: Global, path: &Path) -> Result<Lists, StoreFault>
+        ensures { Reads (standing self.old) (standing self.new) result (λ o lists. lists ≡ lists_at o path.now) };
+
+    /// The direct members of all groups.
+    fn pairs(&mut self, alloc: Global) -> Result<Pairs, StoreFault>
+        ensures { Reads (standing self.old) (standing self.new) result (λ o pairs. pairs ≡ o.pairs) };
+
+    /// The principals to which the caller belongs.
+    fn circle(&mut self, alloc: Global, caller: &Caller) -> Result<Circle, StoreFault>
+        ensures { Reads (standing self.old) (standing self.new) result (λ o circle. IsCircle o.pairs caller.now circle) };
+
+    /// The access epoch.
+    fn epoch(&mut self) -> Result<u64, StoreFault>
+        ensures { Reads (standing self.old) (standing self.new) result (λ o epoch. epoch ≡ o.epoch) };
+
+    /// How often the store has failed. Takes no memory.
+    fn failures(&self) -> u64
+        ensures { result ≡ (standing self.now).failures };
+
+    /// Makes an edit that fits; one that does not fit may do anything to the Office.
+    fn act(&mut self, alloc: Global, edit: &Edit) -> Result<(), StoreFault>
+        ensures { Edits (standing self.old) (standing self.new) result edit.now };
+}

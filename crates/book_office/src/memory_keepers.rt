@@ -1,0 +1,97 @@
+//! The keeper in memory.
+
+ghost use Rattle.std.specs.Prelude.{◌≡◌};
+ghost use Rattle.book_office.specs.Edits.{empty_office, empty_place};
+ghost use Rattle.book_office.specs.Keeping.{in_memory};
+ghost use Rattle.book_office.specs.Sound.{IsSound};
+
+use crate::edits::Edit;
+use crate::items::Items;
+use crate::keepers::{Keeper, StoreFault};
+use crate::name_maps::NameMap;
+use crate::nodes::{Listed, Lists, Node};
+use crate::offices::{Office, Place};
+use crate::paths::Path;
+use book_lists::{Caller, Circle, Pairs, expand};
+use std::alloc::{AllocError, Global};
+use std::marker::Model;
+
+/// A keeper of an Office in memory. A contract sees the Office.
+///
+/// Look-ups take a number of comparisons that grows with the logarithm of the map; a change of one card does not depend
+/// on the size of its book. An error leaves the Office as it was, also where memory was refused half way.
+#[derive(Drop)]
+pub struct MemoryKeeper {
+    office: Office,
+}
+
+impl Model for MemoryKeeper {
+    ghost use Rattle.book_office.specs.declared.offices.Office.{Office};
+    ghost use Rattle.book_office.specs.contracts.offices.Office as office_type;
+
+    ghost Value = { Office };
+
+    ghost coded = { office_type.the_row.coded };
+
+    ghost view = { λ k. k.office };
+}
+
+impl MemoryKeeper {
+    /// A keeper of the empty Office: the root and the homes, with no owner, empty labels and empty lists; no pairs; the
+    /// epoch 0. Takes no memory.
+    pub fn new(alloc: Global) -> MemoryKeeper
+        ensures value { result ≡ empty_office }
+        ensures sound { IsSound result }
+    {
+        MemoryKeeper {
+            office: Office {
+                root: Place::empty(alloc, None),
+                people: Place::empty(alloc, None),
+                groups_home: Place::empty(alloc, None),
+                books_home: Place::empty(alloc, None),
+                persons: NameMap::new(alloc),
+                groups: NameMap::new(alloc),
+                books: NameMap::new(alloc),
+                pairs: Pairs::new(alloc),
+                epoch: 0,
+            },
+        }
+    }
+}
+
+impl Keeper for MemoryKeeper {
+    ghost standing = { λ k. in_memory k };
+
+    fn find(&mut self, _alloc: Global, path: &Path) -> Result<Option<Node>, StoreFault> {
+        Ok(self.office.find(path)?)
+    }
+
+    fn children(&mut self, alloc: Global, path: &Path) -> Result<Items<Listed>, StoreFault> {
+        Ok(self.office.children(alloc, path)?)
+    }
+
+    fn lists(&mut self, alloc: Global, path: &Path) -> Result<Lists, StoreFault> {
+        Ok(self.office.lists(alloc, path)?)
+    }
+
+    fn pairs(&mut self, _alloc: Global) -> Result<Pairs, StoreFault> {
+        Ok(self.office.pairs.clone()?)
+    }
+
+    fn circle(&mut self, alloc: Global, caller: &Caller) -> Result<Circle, StoreFault> {
+        Ok(expand(alloc, &self.office.pairs, caller)?)
+    }
+
+    fn epoch(&mut self) -> Result<u64, StoreFault> {
+        Ok(self.office.epoch)
+    }
+
+    fn failures(&self) -> u64 {
+        0
+    }
+
+    fn act(&mut self, alloc: Global, edit: &Edit) -> Result<(), StoreFault> {
+        self.office.act(alloc, edit)?;
+        Ok(())
+    }
+}
