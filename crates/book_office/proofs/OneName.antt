@@ -3,8 +3,8 @@ use Rattle.std.proofs.Common.{◌≡◌, ◌≢◌, ℕ, ◌+◌, List, true, co
 use Rattle.std.specs.Cmp.Lexicographic.{nat_list_cmp_total}
 use Rattle.std.specs.FinMap.{get, insert, remove, len, len-insert}
 use Rattle.book_office.specs.Edits.{changed_if, changed_at}
-use Rattle.book_office.specs.Names.{NamesTo}
-use Rattle.book_office.proofs.NameMapLaws.{by_names, put_at, removed_at}
+use Rattle.book_values.specs.Names.{NamesTo}
+use Rattle.book_values.proofs.NameMapLaws.{by_names, put_at, removed_at}
 
 pub some_apart : {A P : Type 0} {x : A} → Some x ≡ None → P
 some_apart e = absurd cc

@@ -11,13 +11,13 @@ use Rattle.book_office.specs.declared.offices.Book.{Book}
 use Rattle.book_office.specs.declared.offices.Card.{Card}
 use Rattle.book_office.specs.declared.offices.Office.{Office}
 use Rattle.book_office.specs.declared.offices.Place.{Place}
-use Rattle.book_office.specs.declared.paths.Path.{Path}
-use Rattle.book_office.specs.declared.paths.Path.TheVariants as path
+use Rattle.book_values.specs.declared.paths.Path.{Path}
+use Rattle.book_values.specs.declared.paths.Path.TheVariants as path
 use Rattle.book_office.specs.Edits.{changed_at, set_list}
 use Rattle.book_office.specs.Levels.{protected_at, level_at, lists_at, protected_entries, own_entries}
-use Rattle.book_office.specs.Names.{NamesTo}
+use Rattle.book_values.specs.Names.{NamesTo}
 use Rattle.book_office.specs.OwnLists.{ProtectedListsStay, ProtectedEntriesStay, ProtectedDecisionsStay, protected_in_force, entries_in_force}
-use Rattle.book_office.specs.Paths.{levels}
+use Rattle.book_values.specs.Paths.{levels}
 use Rattle.book_office.specs.Resources.{Resource}
 use Rattle.book_office.proofs.OneName.{by_changed}
 

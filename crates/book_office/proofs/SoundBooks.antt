@@ -2,8 +2,8 @@
 use Rattle.std.proofs.Common.{◌≡◌, ◌≢◌, inl, inr, ℕ, ◌+◌, ◌<◌, List, Option, Some, None, sym, ◌∙◌, subst, le_trans, arith}
 use Rattle.std.specs.FinMap.{get, empty, get-empty, len-empty}
 use Rattle.book_lists.specs.Names.{IsName}
-use Rattle.book_office.specs.Changes.{touched, AreNumbers}
-use Rattle.book_office.specs.declared.changes.Numbers.{Numbers}
+use Rattle.book_values.specs.Changes.{touched, AreNumbers}
+use Rattle.book_values.specs.declared.changes.Numbers.{Numbers}
 use Rattle.book_office.specs.declared.offices.Book.{Book}
 use Rattle.book_office.specs.declared.offices.Card.{Card}
 use Rattle.book_office.specs.declared.offices.Office.{Office}
@@ -12,8 +12,8 @@ use Rattle.book_office.specs.Edits.{place_card, remove_card, new_book}
 use Rattle.book_office.specs.Fitting.{HasRoom}
 use Rattle.book_lists.specs.Names.{name_cmp}
 use Rattle.book_office.specs.Sound.{IsOwner, IsSoundCard, IsSoundBook}
-use Rattle.book_office.proofs.NameMapLaws.{len_put, len_removed}
-use Rattle.book_office.proofs.Touches.{touched_are}
+use Rattle.book_values.proofs.NameMapLaws.{len_put, len_removed}
+use Rattle.book_values.proofs.Touches.{touched_are}
 use Rattle.book_office.proofs.OneName.{some_apart, same_some, where_some, is_there, by_put, by_removed}
 
 -- a book, sound before, whose name is touched

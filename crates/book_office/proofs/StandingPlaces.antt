@@ -5,11 +5,11 @@ use Rattle.book_office.specs.declared.offices.Book.{Book}
 use Rattle.book_office.specs.declared.offices.Card.{Card}
 use Rattle.book_office.specs.declared.offices.Office.{Office}
 use Rattle.book_office.specs.declared.offices.Place.{Place}
-use Rattle.book_office.specs.declared.paths.Kind.{Kind}
-use Rattle.book_office.specs.declared.paths.Kind.TheVariants as kind
-use Rattle.book_office.specs.declared.paths.Path.{Path}
-use Rattle.book_office.specs.declared.paths.Path.TheVariants as path
-use Rattle.book_office.specs.Paths.{IsPath, parent_of, kind_of}
+use Rattle.book_values.specs.declared.paths.Kind.{Kind}
+use Rattle.book_values.specs.declared.paths.Kind.TheVariants as kind
+use Rattle.book_values.specs.declared.paths.Path.{Path}
+use Rattle.book_values.specs.declared.paths.Path.TheVariants as path
+use Rattle.book_values.specs.Paths.{IsPath, parent_of, kind_of}
 use Rattle.book_office.specs.Places.{IsThere, HomesAreThere, StandsInPlace, ResourcesStandInPlace, RemovedNamesAreFree, HasNumber, NumbersAreFromOneToTheBooks, NumbersTellNames}
 use Rattle.book_office.specs.Resources.{Resource, place_resource, book_resource, card_resource, number_of, card_in, unless_mapped, removed_at}
 use Rattle.book_office.specs.Sound.{IsSound}

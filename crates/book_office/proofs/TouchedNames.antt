@@ -3,8 +3,8 @@ use Rattle.std.proofs.Common.{◌≡◌, ◌≢◌, ◌⊎◌, inl, inr, ℕ, �
 use Rattle.std.proofs.lemmas.Bool.{false_from_ne_true}
 use Rattle.std.proofs.lemmas.Slice.Eq.{bytes_eq-Decides}
 use Rattle.std.specs.FinMap.{get, get-empty}
-use Rattle.book_office.specs.Changes.{touched}
-use Rattle.book_office.specs.declared.changes.Numbers.{Numbers}
+use Rattle.book_values.specs.Changes.{touched}
+use Rattle.book_values.specs.declared.changes.Numbers.{Numbers}
 use Rattle.book_office.specs.declared.edits.Edit.TheVariants.{PutCard, RemoveCard, AddBook, RemoveBook}
 use Rattle.book_office.specs.declared.offices.Book.{Book}
 use Rattle.book_office.specs.declared.offices.Card.{Card}
@@ -12,7 +12,7 @@ use Rattle.book_office.specs.declared.offices.Office.{Office}
 use Rattle.book_office.specs.Edits.{with_book, place_card, card_put, put_card, remove_card, new_book, touches}
 use Rattle.book_lists.specs.Names.{name_cmp}
 use Rattle.book_office.specs.Touches.{OtherBooksStay, names_in, NamesAreTouchedInTurn, Renumbers, TouchedNamesAloneChange, ChangesOneName, PutCardChangesOneName, RemoveCardChangesOneName, NewBookHasNoChanges, RemovedBookIsGone}
-use Rattle.book_office.proofs.NameMapLaws.{by_names}
+use Rattle.book_values.proofs.NameMapLaws.{by_names}
 use Rattle.book_office.proofs.OneName.{some_apart, same_some, by_put, by_removed, by_changed, put_here, put_elsewhere, removed_here, removed_elsewhere, changed_here, changed_elsewhere}
 
 -- the elements of a list

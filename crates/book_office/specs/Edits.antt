@@ -12,10 +12,10 @@ use Rattle.book_office.specs.declared.offices.Book.{Book}
 use Rattle.book_office.specs.declared.offices.Card.{Card}
 use Rattle.book_office.specs.declared.offices.Office.{Office}
 use Rattle.book_office.specs.declared.offices.Place.{Place}
-use Rattle.book_office.specs.declared.paths.Path.{Path}
-use Rattle.book_office.specs.declared.paths.Path.TheVariants as path
-use Rattle.book_office.specs.Changes.{touched}
-use Rattle.book_office.specs.Names.{NamesTo}
+use Rattle.book_values.specs.declared.paths.Path.{Path}
+use Rattle.book_values.specs.declared.paths.Path.TheVariants as path
+use Rattle.book_values.specs.Changes.{touched}
+use Rattle.book_values.specs.Names.{NamesTo}
 use Rattle.book_office.specs.Resources.{card_at}
 
 -- the map with the value at a name changed; the same map where there is none

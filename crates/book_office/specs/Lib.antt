@@ -1,13 +1,9 @@
-pub mod Changes
 pub mod Edits
 pub mod Fitting
 pub mod Keeping
 pub mod Laws
-pub mod Lending
 pub mod Levels
-pub mod Names
 pub mod OwnLists
-pub mod Paths
 pub mod Places
 pub mod Resources
 pub mod Sound

@@ -8,10 +8,10 @@ use Rattle.book_office.specs.declared.offices.Book.{Book}
 use Rattle.book_office.specs.declared.offices.Card.{Card}
 use Rattle.book_office.specs.declared.offices.Office.{Office}
 use Rattle.book_office.specs.declared.offices.Place.{Place}
-use Rattle.book_office.specs.declared.paths.Kind.{Kind}
-use Rattle.book_office.specs.declared.paths.Kind.TheVariants as kind
-use Rattle.book_office.specs.declared.paths.Path.{Path}
-use Rattle.book_office.specs.declared.paths.Path.TheVariants as path
+use Rattle.book_values.specs.declared.paths.Kind.{Kind}
+use Rattle.book_values.specs.declared.paths.Kind.TheVariants as kind
+use Rattle.book_values.specs.declared.paths.Path.{Path}
+use Rattle.book_values.specs.declared.paths.Path.TheVariants as path
 
 -- a resource
 pub record Resource : Type 0 where

@@ -2,13 +2,13 @@
 use Rattle.std.specs.Prelude.{◌≡◌, ◌≢◌, ℕ, ◌+◌, ◌<◌, ◌≤◌, List, [], ◌∷◌, length, map, filter, fold, Contains, Option, Some, None}
 use Rattle.std.specs.FinMap.{get}
 use Rattle.std.specs.Str.{bytes_eq}
-use Rattle.book_office.specs.declared.changes.Numbers.{Numbers}
+use Rattle.book_values.specs.declared.changes.Numbers.{Numbers}
 use Rattle.book_office.specs.declared.edits.Edit.{Edit}
 use Rattle.book_office.specs.declared.edits.Edit.TheVariants.{PutCard, RemoveCard, AddBook, RemoveBook}
 use Rattle.book_office.specs.declared.offices.Book.{Book}
 use Rattle.book_office.specs.declared.offices.Office.{Office}
 use Rattle.book_office.specs.Edits.{apply, touches}
-use Rattle.book_office.specs.Changes.{touched}
+use Rattle.book_values.specs.Changes.{touched}
 use Rattle.book_office.specs.Sound.{HasPlace}
 
 -- the books that an edit changes, adds or removes

@@ -4,13 +4,10 @@ ghost use Rattle.std.specs.Prelude.{◌≡◌, None, OnOk, OnErr};
 ghost use Rattle.std.specs.FinMap.{get};
 ghost use Rattle.book_office.specs.Edits.{add_book, apply, changed_at, put_card, remove_book, remove_card, with_text};
 
-use crate::changes::Changes;
 use crate::edits::Edit;
-use crate::items::Items;
-use crate::name_maps::NameMap;
 use crate::offices::{Book, Card, Office, Place};
-use crate::texts::Text;
 use book_lists::{Name, Principal};
+use book_values::{Changes, Items, NameMap, Text};
 use std::alloc::{AllocError, Global};
 
 /// Replaces the text of the card of a name, if there is one.

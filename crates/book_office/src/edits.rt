@@ -1,7 +1,7 @@
 //! The edits of an Office.
 
-use crate::texts::Text;
 use book_lists::{Name, Principal};
+use book_values::Text;
 
 /// A change of an Office. It fits an Office where what it names as present is mapped, what it adds is not mapped and has
 /// a mapped parent, and what it leaves is sound.

@@ -8,10 +8,9 @@ ghost use Rattle.book_office.specs.Resources.{node_at, children_at};
 ghost use Rattle.book_office.specs.Levels.{lists_at};
 
 use crate::edits::Edit;
-use crate::items::Items;
 use crate::nodes::{Listed, Lists, Node};
-use crate::paths::Path;
 use book_lists::{Caller, Circle, Pairs};
+use book_values::{Items, Path};
 use std::alloc::{AllocError, Global};
 
 /// Why a keeper gave up.

@@ -3,20 +3,8 @@
 ghost use Rattle.book_office.specs.Fitting.{PutCardFits, RemoveCardFits, AddBookFits, RemoveBookFits};
 ghost use Rattle.book_office.specs.Laws.{EpochLaw, OfficeIsItsResources};
 ghost use Rattle.book_office.specs.OwnLists.{ProtectedListsStay, ProtectedEntriesStay, ProtectedDecisionsStay};
-ghost use Rattle.book_office.specs.Paths.{TextsSpellOnePath, TextsTellPaths, LevelsGoUp};
 ghost use Rattle.book_office.specs.Places.{HomesAreThere, ResourcesStandInPlace, RemovedNamesAreFree, NumbersAreFromOneToTheBooks, NumbersTellNames};
 ghost use Rattle.book_office.specs.Touches.{OtherBooksStay, NamesAreTouchedInTurn, TouchedNamesAloneChange, PutCardChangesOneName, RemoveCardChangesOneName, NewBookHasNoChanges, RemovedBookIsGone};
-
-/// A text spells at most one path; so different paths have different texts.
-pub fn texts_spell_one_path()
-    ensures spelled { TextsSpellOnePath }
-    ensures told { TextsTellPaths }
-{}
-
-/// The levels of a path are the path and the levels of the path above it, up to the root.
-pub fn levels_go_up()
-    ensures { LevelsGoUp }
-{}
 
 /// The epoch rises by one with each edit that changes access, and with no other.
 pub fn access_changes_raise_the_epoch()

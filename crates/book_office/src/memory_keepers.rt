@@ -6,13 +6,11 @@ ghost use Rattle.book_office.specs.Keeping.{in_memory};
 ghost use Rattle.book_office.specs.Sound.{IsSound};
 
 use crate::edits::Edit;
-use crate::items::Items;
 use crate::keepers::{Keeper, StoreFault};
-use crate::name_maps::NameMap;
 use crate::nodes::{Listed, Lists, Node};
 use crate::offices::{Office, Place};
-use crate::paths::Path;
 use book_lists::{Caller, Circle, Pairs, expand};
+use book_values::{Items, NameMap, Path};
 use std::alloc::{AllocError, Global};
 use std::marker::Model;
 
@@ -56,6 +54,13 @@ impl MemoryKeeper {
                 epoch: 0,
             },
         }
+    }
+
+    /// A keeper of this Office. It stands for it where it is sound. Takes no memory.
+    pub fn from_office(office: Office) -> MemoryKeeper
+        ensures { result ≡ office }
+    {
+        MemoryKeeper { office }
     }
 }
 

@@ -1,9 +1,7 @@
 //! What a keeper tells of resources.
 
-use crate::items::Items;
-use crate::paths::{Kind, Path};
-use crate::texts::Text;
 use book_lists::{Entry, Name, Principal};
+use book_values::{Items, Kind, Path, Text};
 
 /// A resource without its lists.
 #[derive(Debug, Drop)]

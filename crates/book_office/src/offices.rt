@@ -3,11 +3,8 @@
 ghost use Rattle.std.specs.Prelude.{◌≡◌};
 ghost use Rattle.book_office.specs.Edits.{empty_place};
 
-use crate::changes::Changes;
-use crate::items::Items;
-use crate::name_maps::NameMap;
-use crate::texts::Text;
 use book_lists::{Entry, Pairs, Principal};
+use book_values::{Changes, Items, NameMap, Text};
 use std::alloc::Global;
 
 /// The most bytes of a label (own profile).

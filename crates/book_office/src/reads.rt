@@ -6,14 +6,12 @@ ghost use Rattle.std.specs.Option.{option_copied};
 ghost use Rattle.book_lists.specs.Names.{IsName};
 ghost use Rattle.book_office.specs.Levels.{level_at, lists_at, own_at, protected_at};
 ghost use Rattle.book_office.specs.Resources.{book_resource, card_at, card_in, card_resource, children_at, listed_books, listed_cards, listed_home, listed_homes, listed_places, node_at, node_of, number_of, place_at, place_resource, without_text};
-ghost use Rattle.book_office.specs.declared.paths.Kind.TheVariants as kind;
+ghost use Rattle.book_values.specs.declared.paths.Kind.TheVariants as kind;
 
-use crate::items::Items;
-use crate::name_maps::NameMap;
 use crate::nodes::{Level, Listed, Lists, Node};
 use crate::offices::{Book, Card, Office, Place};
-use crate::paths::{Kind, Path};
 use book_lists::{Entry, Name};
+use book_values::{Items, Kind, NameMap, Path};
 use std::alloc::{AllocError, Global};
 
 /// The node of a resource other than a card.

@@ -4,11 +4,10 @@ ghost use Rattle.std.specs.Prelude.{◌≡◌, ◌++◌, map, IfOk, OnOk};
 ghost use Rattle.book_office.specs.Keeping.{Reads};
 ghost use Rattle.book_office.specs.Levels.{effective_at, effective_of, standing_at};
 
-use crate::items::Items;
 use crate::keepers::{Keeper, StoreFault};
 use crate::nodes::{EffectiveEntry, Level, Lists};
-use crate::paths::Path;
 use book_lists::Entry;
+use book_values::{Items, Path};
 use std::alloc::{AllocError, Global};
 
 /// Adds the entries of one list, with the path where they stand.

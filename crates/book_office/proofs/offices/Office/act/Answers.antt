@@ -1,6 +1,6 @@
 use Rattle.std.proofs.lemmas.Result.{on_ok_weaker, on_err_weaker}
 use Rattle.book_office.specs.Edits.{put_card, remove_card}
-use Rattle.book_office.proofs.NameMapLaws.{at_some}
+use Rattle.book_values.proofs.NameMapLaws.{at_some}
 use Rattle.book_office.proofs.OfficeEdits.{edited, kept}
 use Rattle.book_office.proofs.offices.Office.act.Goals as goal
 

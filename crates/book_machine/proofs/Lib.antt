@@ -1,0 +1,9 @@
+pub mod Answering
+pub mod Asked
+pub mod AvailableSteps
+pub mod FittingPlans
+pub mod Judging
+pub mod OnePlan
+pub mod Planning
+pub mod RunLemmas
+pub mod StepLaws

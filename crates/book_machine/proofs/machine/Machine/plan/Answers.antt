@@ -1,0 +1,61 @@
+use Rattle.std.proofs.Common.{◌≡◌, ◌∙◌, Err, option_copied}
+use Rattle.book_machine.proofs.Asked.{still_quiet, refused_on}
+use Rattle.book_machine.proofs.Planning.{refused_by_needs, planned, target_of_ready}
+use Rattle.book_machine.specs.Asking.{MeetsPlan, Quietly}
+use Rattle.book_machine.specs.declared.plans.Plan.{Plan}
+use Rattle.book_machine.proofs.machine.Machine.plan.Goals as goal
+
+pub returns-in_err-check_needs : goal.returns-in_err-check_needs
+returns-in_err-check_needs g c =
+    let e = c.in_err-check_needs.field-0.0 in
+    let is = c.from_residual-in_err-check_needs.ensures.1 in
+    let r = c.from_residual-in_err-check_needs.result in
+    record {
+      was_honest = λ h. c.in_ok-ready.ensures.was_honest (c.in_ok-circle.ensures.was_honest (c.in_err-check_needs.ensures.was_honest h));
+      tells = λ h o stands.
+          let h2 = c.in_err-check_needs.ensures.was_honest h in
+          let h1 = c.in_ok-circle.ensures.was_honest h2 in
+          let s1 = c.in_ok-ready.ensures.kept h1 o stands in
+          let s2 = c.in_ok-circle.ensures.kept h2 o s1 in
+          let ready_is = c.in_ok-ready.ensures.tells h1 o stands in
+          refused_on r e (λ x. MeetsPlan o (option_copied c.args.name) c.args.request.now x) is
+          (refused_by_needs o (option_copied c.args.name) c.args.request.now c.in_ok-ready.ready ready_is _ (c.in_ok-circle.ensures.value h2 o s1) e
+          (c.in_err-check_needs.ensures.tells h o s2 (target_of_ready o (option_copied c.args.name) c.args.request.now c.in_ok-ready.ready ready_is)));
+      kept = λ h o stands.
+          let h2 = c.in_err-check_needs.ensures.was_honest h in
+          let h1 = c.in_ok-circle.ensures.was_honest h2 in
+          c.in_err-check_needs.ensures.kept h o (c.in_ok-circle.ensures.kept h2 o (c.in_ok-ready.ensures.kept h1 o stands));
+      left = λ h x left.
+          let h2 = c.in_err-check_needs.ensures.was_honest h in
+          let h1 = c.in_ok-circle.ensures.was_honest h2 in
+          c.in_ok-ready.ensures.left h1 x (c.in_ok-circle.ensures.left h2 x (c.in_err-check_needs.ensures.left h x left));
+      quiet = refused_on r e (λ x. Quietly {A = Plan} x ((g.K.Keeper.standing c.check_needs.new.self.keeper).failures ≡ (g.K.Keeper.standing c.args.self.now.keeper).failures)) is
+          (still_quiet {A = Plan} (Err e) _ _ _ c.in_err-check_needs.ensures.quiet (c.in_ok-circle.ensures.counted ∙ c.in_ok-ready.ensures.quiet));
+    }
+
+pub returns : goal.returns
+returns g c = record {
+  was_honest = λ h. c.in_ok-ready.ensures.was_honest (c.in_ok-circle.ensures.was_honest (c.in_ok-check_needs.ensures.was_honest (c.granted.ensures.was_honest h)));
+  tells = λ h o stands.
+      let h3 = c.granted.ensures.was_honest h in
+      let h2 = c.in_ok-check_needs.ensures.was_honest h3 in
+      let h1 = c.in_ok-circle.ensures.was_honest h2 in
+      let s1 = c.in_ok-ready.ensures.kept h1 o stands in
+      let s2 = c.in_ok-circle.ensures.kept h2 o s1 in
+      let s3 = c.in_ok-check_needs.ensures.kept h3 o s2 in
+      let ready_is = c.in_ok-ready.ensures.tells h1 o stands in
+      planned o (option_copied c.args.name) c.args.request.now c.in_ok-ready.ready ready_is _ (c.in_ok-circle.ensures.value h2 o s1) c.in_ok-check_needs.field-0 c.granted.result
+      (c.in_ok-check_needs.ensures.tells h3 o s2 (target_of_ready o (option_copied c.args.name) c.args.request.now c.in_ok-ready.ready ready_is))
+      (c.granted.ensures.tells h o s3);
+  kept = λ h o stands.
+      let h3 = c.granted.ensures.was_honest h in
+      let h2 = c.in_ok-check_needs.ensures.was_honest h3 in
+      let h1 = c.in_ok-circle.ensures.was_honest h2 in
+      c.granted.ensures.kept h o (c.in_ok-check_needs.ensures.kept h3 o (c.in_ok-circle.ensures.kept h2 o (c.in_ok-ready.ensures.kept h1 o stands)));
+  left = λ h x left.
+      let h3 = c.granted.ensures.was_honest h in
+      let h2 = c.in_ok-check_needs.ensures.was_honest h3 in
+      let h1 = c.in_ok-circle.ensures.was_honest h2 in
+      c.in_ok-ready.ensures.left h1 x (c.in_ok-circle.ensures.left h2 x (c.in_ok-check_needs.ensures.left h3 x (c.granted.ensures.left h x left)));
+  quiet = still_quiet _ _ _ _ c.granted.ensures.quiet (c.in_ok-check_needs.ensures.quiet ∙ c.in_ok-circle.ensures.counted ∙ c.in_ok-ready.ensures.quiet);
+}

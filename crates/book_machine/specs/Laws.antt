@@ -1,0 +1,44 @@
+-- What the definition of a step implies, in words of its own.
+use Rattle.std.specs.Prelude.{◌≡◌, ◌⊎◌, ◌↔◌, ℕ, ◌<◌, List, Option, Ok}
+use Rattle.book_cards.specs.declared.fault.CardFault.{CardFault}
+use Rattle.book_office.specs.declared.offices.Office.{Office}
+use Rattle.book_machine.specs.Refusals.{refused}
+use Rattle.book_machine.specs.Stages.{ready_of}
+use Rattle.book_machine.specs.Steps.{Steps}
+use Rattle.book_machine.specs.Verdicts.{IsGranted, IsDenied}
+use Rattle.book_machine.specs.declared.messages.Reply.{Reply}
+use Rattle.book_machine.specs.declared.messages.Request.{Request}
+use Rattle.book_machine.specs.declared.plans.Ready.{Ready}
+use Rattle.book_machine.specs.declared.refusals.Denial.{Denial}
+use Rattle.book_machine.specs.declared.refusals.Refusal.{Refusal}
+use Rattle.book_machine.specs.declared.refusals.Refusal.TheVariants.{BadCard, Full, NeedPrivileges, Unavailable}
+
+-- a request finds one reply and one Office after it
+abbrev pub RequestsHaveOneStep : Type 0
+RequestsHaveOneStep = (o : Office) (name : Option (List ℕ)) (request : Request) (reply other : Reply) (after later : Office)
+    → Steps o name request reply after → Steps o name request other later → (reply ≡ other) × (after ≡ later)
+
+-- a success, or a refusal by the body or by the limits
+abbrev pub IsPastVerdict : Reply → Type 0
+IsPastVerdict reply = (reply.status < 300) ⊎ ((fault : CardFault) × (reply ≡ refused (BadCard fault))) ⊎ (reply ≡ refused Full)
+
+-- among the requests that pass caller, shape and path, those whose needs are granted, and no others, get past the verdict
+abbrev pub RequestsActWhereGranted : Type 0
+RequestsActWhereGranted = (o : Office) (name : Option (List ℕ)) (request : Request) (ready : Ready) (reply : Reply) (after : Office)
+    → ready_of o name request ≡ Ok ready → Steps o name request reply after
+    → IsGranted o request ready ↔ IsPastVerdict reply
+
+-- the others are told the denial, which is the one of the verdict
+abbrev pub DenialsAreTold : Type 0
+DenialsAreTold = (o : Office) (name : Option (List ℕ)) (request : Request) (ready : Ready) (reply : Reply) (after : Office) (denial : Denial)
+    → ready_of o name request ≡ Ok ready → Steps o name request reply after
+    → IsDenied o request ready denial ↔ (reply ≡ refused (NeedPrivileges denial))
+
+-- a refusal leaves the Office as it was
+abbrev pub RefusalsChangeNothing : Type 0
+RefusalsChangeNothing = (o : Office) (name : Option (List ℕ)) (request : Request) (refusal : Refusal) (after : Office)
+    → Steps o name request (refused refusal) after → after ≡ o
+
+-- a step is never unavailable, which is told where memory was refused or the store failed, and only there
+abbrev pub StepsAreAvailable : Type 0
+StepsAreAvailable = (o : Office) (name : Option (List ℕ)) (request : Request) (after : Office) → Steps o name request (refused Unavailable) after → ⊥

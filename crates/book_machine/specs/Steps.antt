@@ -1,0 +1,47 @@
+-- What the machine does for one request.
+use Rattle.std.specs.Prelude.{◌≡◌, ◌⊎◌, ℕ, List, Option, Some, None, Result, Ok, Err}
+use Rattle.book_office.specs.Edits.{apply}
+use Rattle.book_office.specs.declared.edits.Edit.{Edit}
+use Rattle.book_office.specs.declared.offices.Office.{Office}
+use Rattle.book_machine.specs.Refusals.{refused}
+use Rattle.book_machine.specs.Stages.{ready_of, granted_plan}
+use Rattle.book_machine.specs.Verdicts.{IsGranted, IsDenied}
+use Rattle.book_machine.specs.declared.messages.Reply.{Reply}
+use Rattle.book_machine.specs.declared.messages.Request.{Request}
+use Rattle.book_machine.specs.declared.plans.Plan.{Plan}
+use Rattle.book_machine.specs.declared.plans.Ready.{Ready}
+use Rattle.book_machine.specs.declared.refusals.Denial.{Denial}
+use Rattle.book_machine.specs.declared.refusals.Refusal.{Refusal}
+use Rattle.book_machine.specs.declared.refusals.Refusal.TheVariants.{NeedPrivileges, Unavailable}
+
+-- where each need is granted the request goes on; else the denial is its refusal
+abbrev pub IsDecided : Office → Request → Ready → Result Plan Refusal → Type 0
+IsDecided o request ready result = (IsGranted o request ready × (result ≡ granted_plan o request.method ready))
+    ⊎ ((denial : Denial) × IsDenied o request ready denial × (result ≡ Err (NeedPrivileges denial)))
+
+-- the first stage that refuses decides
+abbrev pub IsPlannedFrom : Office → Request → Result Ready Refusal → Result Plan Refusal → Type 0
+IsPlannedFrom o request (Err refusal) result = result ≡ Err refusal
+IsPlannedFrom o request (Ok ready) result = IsDecided o request ready result
+
+-- what is to be done for a request: caller, shape, path, verdict, body, limits, success
+abbrev pub IsPlan : Office → Option (List ℕ) → Request → Result Plan Refusal → Type 0
+IsPlan o name request result = IsPlannedFrom o request (ready_of o name request) result
+
+-- the Office after an edit, if there is one
+abbrev pub apply_any : Office → Option Edit → Office
+apply_any o None = o
+apply_any o (Some edit) = apply o edit
+
+-- the reply and the Office after it
+abbrev pub settled : Office → Result Plan Refusal → Reply × Office
+settled o (Ok plan) = (plan.reply, apply_any o plan.edit)
+settled o (Err refusal) = (refused refusal, o)
+
+-- one step of the machine
+abbrev pub Steps : Office → Option (List ℕ) → Request → Reply → Office → Type 0
+Steps o name request reply after = (result : Result Plan Refusal) × IsPlan o name request result × ((reply, after) ≡ settled o result)
+
+-- a step, or want of memory or a failed store with the Office as it was
+abbrev pub Serves : Office → Option (List ℕ) → Request → Reply → Office → Type 0
+Serves o name request reply after = Steps o name request reply after ⊎ ((reply ≡ refused Unavailable) × (after ≡ o))

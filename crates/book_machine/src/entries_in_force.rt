@@ -1,0 +1,81 @@
+//! The entries in force at a resource, as a decision takes them.
+
+ghost use Rattle.std.specs.Prelude.{◌≡◌, IfOk};
+ghost use Rattle.book_machine.specs.Verdicts.{Judges, entries_of, entry_place, paths_of};
+
+use crate::refusals::{Denial, EntryPlace, Refusal};
+use book_lists::{Circle, Entry, Here, Outcome, decide};
+use book_office::{EffectiveEntry, Items, Path};
+use book_rights::LeafSet;
+use std::alloc::{AllocError, Global};
+
+/// An effective list: its entries, and for each the resource at which it stands.
+#[derive(Drop)]
+struct EntriesInForce {
+    /// The entries, in the order in which they are asked.
+    entries: Items<Entry>,
+    /// Where each stands.
+    paths: Items<Path>,
+}
+
+/// The entries of an effective list, and where they stand. No entry is copied.
+fn split(alloc: Global, effective: Items<EffectiveEntry>) -> Result<EntriesInForce, AllocError>
+    ensures entries { IfOk result (λ force. force.entries ≡ entries_of effective) }
+    ensures paths { IfOk result (λ force. force.paths ≡ paths_of effective) }
+{
+    let mut entries = Vec::with_capacity(alloc, effective.len())?;
+    let mut paths = Vec::with_capacity(alloc, effective.len())?;
+    for standing in effective.into_vec() {
+        let EffectiveEntry { path, entry, .. } = standing;
+        entries.push(entry)?;
+        paths.push(path)?;
+    }
+    Ok(EntriesInForce {
+        entries: Items::from_vec(entries),
+        paths: Items::from_vec(paths),
+    })
+}
+
+/// The entry at a place of the list, if there is one, as a denial names it.
+pub(crate) fn named_entry(
+    paths: &[Path],
+    place: Option<usize>,
+) -> Result<Option<EntryPlace>, AllocError>
+    ensures { IfOk result (λ entry. entry ≡ entry_place paths.now place) }
+{
+    let Some(place) = place else {
+        return Ok(None);
+    };
+    match paths.get(place) {
+        Some(path) => Ok(Some(EntryPlace {
+            from: path.clone()?,
+            number: place + 1,
+        })),
+        None => Ok(None),
+    }
+}
+
+/// The decision on one need by an effective list.
+pub(crate) fn judge(
+    alloc: Global,
+    circle: &Circle,
+    path: Path,
+    here: Here,
+    set: LeafSet,
+    effective: Items<EffectiveEntry>,
+) -> Result<(), Refusal>
+    ensures { Judges effective circle.now here path set result }
+{
+    let EntriesInForce { entries, paths } = split(alloc, effective)?;
+    match decide(entries.as_slice(), circle, &here, set) {
+        Outcome::Allowed => Ok(()),
+        Outcome::Denied { leaf, entry } => {
+            let entry = named_entry(paths.as_slice(), entry)?;
+            Err(Refusal::NeedPrivileges(Denial {
+                resource: path,
+                privilege: leaf,
+                entry,
+            }))
+        }
+    }
+}

@@ -1,0 +1,22 @@
+//! What the definition of a step implies, stated on public functions since only what a contract names is proved.
+
+ghost use Rattle.book_machine.specs.Laws.{DenialsAreTold, RefusalsChangeNothing, RequestsActWhereGranted, RequestsHaveOneStep, StepsAreAvailable};
+
+/// In an Office a request has one reply, and leaves one Office.
+pub fn requests_have_one_step()
+    ensures { RequestsHaveOneStep }
+{}
+
+/// Among the requests that pass the stages caller, shape and path, the reply is a success, or a refusal by the body or by
+/// the limits, exactly where each privilege that the method needs is granted (RFC 3744, section 6). To each other
+/// the reply names the resource, the privilege and the deciding entry (RFC 3744, section 7.1.1).
+pub fn requests_act_where_granted()
+    ensures granted { RequestsActWhereGranted }
+    ensures denied { DenialsAreTold }
+{}
+
+/// Every refusal leaves the Office as it was. None of a step is `Unavailable`, which tells want of memory or a failed store.
+pub fn refusals_change_nothing()
+    ensures unchanged { RefusalsChangeNothing }
+    ensures available { StepsAreAvailable }
+{}

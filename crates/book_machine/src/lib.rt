@@ -1,0 +1,23 @@
+//! The machine: from a request to its reply (RFC 3744, section 6; RFC 4918).
+//!
+//! It stands on `book_office` and the crates below. The crate above uses that `Machine::serve` answers as the machine's step
+//! says, or that the store is unavailable with the Office as it was, and that `serve_all` is a run of such steps.
+//!
+//! Read `messages`, `refusals` and `allowed_methods` first; then `plans`, `stages`, `entries_in_force` and `machine`.
+#![tactic(auto)]
+
+mod allowed_methods;
+mod entries_in_force;
+mod laws;
+mod machine;
+mod messages;
+mod plans;
+mod refusals;
+mod stages;
+
+pub use allowed_methods::AllowedMethods;
+pub use laws::{refusals_change_nothing, requests_act_where_granted, requests_have_one_step};
+pub use machine::Machine;
+pub use messages::{Body, Content, Depth, Flag, Reply, Request};
+pub use plans::{Plan, Ready, Target};
+pub use refusals::{Denial, EntryPlace, Refusal};

@@ -1,0 +1,395 @@
+//! The machine: it serves one request after the other.
+
+ghost use Rattle.std.specs.Prelude.{◌≡◌, [], Ok, IfOk, OnErr, is_some, option_and_then};
+ghost use Rattle.std.specs.FinMap.{get};
+ghost use Rattle.std.specs.Option.{option_copied};
+ghost use Rattle.book_rights.specs.Needs.{listed_too};
+ghost use Rattle.book_rights.specs.declared.places.Place.TheVariants as at;
+ghost use Rattle.book_office.specs.Resources.{node_at};
+ghost use Rattle.book_office.specs.declared.nodes.Node.{Node};
+ghost use Rattle.book_values.specs.declared.paths.Path.TheVariants as path;
+ghost use Rattle.book_machine.specs.Asking.{Answers, Asks, HasPath, Meets, MeetsPlan};
+ghost use Rattle.book_machine.specs.Runs.{Runs, name_of};
+ghost use Rattle.book_machine.specs.Stages.{at_node, at_unmapped, caller_of, check, granted_plan, has_room, limits_of, ready_of, target_of};
+ghost use Rattle.book_machine.specs.Verdicts.{IsTarget, JudgesNeed, JudgesNeeds, needs_at, owner_at, place_path};
+ghost use Rattle.book_machine.specs.declared.refusals.Refusal.TheVariants.{Full};
+
+use crate::allowed_methods::AllowedMethods;
+use crate::entries_in_force::judge;
+use crate::messages::{Reply, Request};
+use crate::plans::{Plan, Ready, Target};
+use crate::refusals::{Refusal, refused};
+use crate::stages::{
+    check, check_body, check_kind, check_shape, has_room, has_room_for_a_book, place_path,
+    principal_of, shape_at, success,
+};
+use book_lists::{Caller, Circle, Here, Name, Principal};
+use book_office::{Keeper, LAST_NUMBER, Node, Path, effective};
+use book_rights::{LeafSet, Method, Need, Needs, Place, needs};
+use std::alloc::{AllocError, Global};
+
+/// The machine over a keeper.
+#[derive(Drop)]
+pub struct Machine<K> {
+    /// What keeps the Office.
+    pub keeper: K,
+}
+
+impl<K: Keeper> Machine<K> {
+    /// A machine over the keeper. Takes no memory.
+    pub fn new(keeper: K) -> Machine<K>
+        ensures { result.keeper ≡ keeper }
+    {
+        Machine { keeper }
+    }
+
+    /// Gives the keeper back. Takes no memory.
+    pub fn release(self) -> K
+        ensures { result ≡ self.keeper }
+    {
+        let Machine { keeper } = self;
+        keeper
+    }
+
+    /// The caller: nobody, or the person of that name.
+    fn caller(&mut self, alloc: Global, name: Option<&str>) -> Result<Caller, Refusal>
+        ensures { Asks (K.standing self.old.keeper) (K.standing self.new.keeper) result (λ o r. Meets r (caller_of o (option_copied name.entry))) }
+    {
+        let Some(text) = name else {
+            return Ok(Caller::Nobody);
+        };
+        let Some(name) = Name::parse(alloc, text)? else {
+            return Err(Refusal::UnknownCaller);
+        };
+        let person = Principal::person(alloc, &name)?;
+        match self.keeper.find(alloc, &Path::Person(name))? {
+            Some(_) => Ok(Caller::Known(person)),
+            None => Err(Refusal::UnknownCaller),
+        }
+    }
+
+    /// Whether a book is there.
+    fn has_book(&mut self, alloc: Global, book: &Name) -> Result<bool, Refusal>
+        ensures { Asks (K.standing self.old.keeper) (K.standing self.new.keeper) result (λ o r. Meets r (Ok (is_some (get o.books book.now)))) }
+    {
+        let path = Path::Book(book.clone()?);
+        Ok(self.keeper.find(alloc, &path)?.is_some())
+    }
+
+    /// The path of a request at which nothing is mapped.
+    fn check_unmapped(&mut self, alloc: Global, method: Method, path: &Path) -> Result<(), Refusal>
+        ensures { Asks (K.standing self.old.keeper) (K.standing self.new.keeper) result (λ o r. Meets r (at_unmapped o method path.now)) }
+    {
+        match (method, path) {
+            (Method::Put, Path::Book(_)) => Err(Refusal::NotAllowed(AllowedMethods::OfNewBook)),
+            (Method::Put, Path::Card(book, _)) => match self.has_book(alloc, book)? {
+                true => Ok(()),
+                false => Err(Refusal::NoParent),
+            },
+            (Method::Mkcol, Path::Book(_)) => Ok(()),
+            (Method::Mkcol, Path::Card(book, _)) => match self.has_book(alloc, book)? {
+                true => Err(Refusal::NotAllowed(AllowedMethods::OfNewCard)),
+                false => Err(Refusal::NoParent),
+            },
+            _ => Err(Refusal::NotFound),
+        }
+    }
+
+    /// The path of a request, with what is mapped there.
+    fn target_at(
+        &mut self,
+        alloc: Global,
+        method: Method,
+        path: Path,
+        node: Option<Node>,
+    ) -> Result<Target, Refusal>
+        ensures { Asks (K.standing self.old.keeper) (K.standing self.new.keeper) result (λ o r. Meets r (at_node o method path node)) }
+    {
+        match node {
+            None => {
+                self.check_unmapped(alloc, method, &path)?;
+                Ok(Target { path, node: None })
+            }
+            Some(node) => {
+                check_kind(method, node.kind)?;
+                Ok(Target {
+                    path,
+                    node: Some(node),
+                })
+            }
+        }
+    }
+
+    /// The path: what the request asks for.
+    fn target(&mut self, alloc: Global, request: &Request) -> Result<Target, Refusal>
+        ensures { Asks (K.standing self.old.keeper) (K.standing self.new.keeper) result
+            (λ o r. Meets r (target_of o request.now.method request.now.path)) }
+    {
+        let Some(path) = &request.path else {
+            return Err(Refusal::NotFound);
+        };
+        let path = path.clone()?;
+        let node = self.keeper.find(alloc, &path)?;
+        self.target_at(alloc, request.method, path, node)
+    }
+
+    /// The stages before the verdict.
+    fn ready(
+        &mut self,
+        alloc: Global,
+        name: Option<&str>,
+        request: &Request,
+    ) -> Result<Ready, Refusal>
+        ensures { Asks (K.standing self.old.keeper) (K.standing self.new.keeper) result
+            (λ o r. Meets r (ready_of o (option_copied name.entry) request.now)) }
+    {
+        let caller = self.caller(alloc, name)?;
+        let text = check_shape(alloc, request.method, &request.body)?;
+        let target = self.target(alloc, request)?;
+        Ok(Ready {
+            caller,
+            text,
+            target,
+        })
+    }
+
+    /// The owner of the resource at a path.
+    fn owner(&mut self, alloc: Global, path: &Path) -> Result<Option<Principal>, Refusal>
+        ensures { Asks (K.standing self.old.keeper) (K.standing self.new.keeper) result (λ o r. Meets r (Ok (owner_at o path.now))) }
+    {
+        match self.keeper.find(alloc, path)? {
+            Some(Node { owner, .. }) => Ok(owner),
+            None => Ok(None),
+        }
+    }
+
+    /// The verdict on one need at a resource with this owner.
+    fn check_owned(
+        &mut self,
+        alloc: Global,
+        circle: &Circle,
+        path: Path,
+        owner: Option<Principal>,
+        set: LeafSet,
+    ) -> Result<(), Refusal>
+        ensures { Asks (K.standing self.old.keeper) (K.standing self.new.keeper) result
+            (λ o r. owner ≡ owner_at o path → JudgesNeed o circle.now path set r) }
+    {
+        let principal = principal_of(alloc, &path)?;
+        let effective = effective(alloc, &mut self.keeper, &path)?;
+        judge(
+            alloc,
+            circle,
+            path,
+            Here { owner, principal },
+            set,
+            effective,
+        )
+    }
+
+    /// The owner of the resource at which a need is checked; of the target it is known.
+    fn owner_for(
+        &mut self,
+        alloc: Global,
+        path: &Path,
+        target: &Target,
+        place: Place,
+    ) -> Result<Option<Principal>, Refusal>
+        ensures { Asks (K.standing self.old.keeper) (K.standing self.new.keeper) result
+            (λ o r. IsTarget o target.now → (place ≡ at.Target → path.now ≡ target.now.path) → Meets r (Ok (owner_at o path.now))) }
+    {
+        if place == Place::Target {
+            return Ok(owner_in(&target.node)?);
+        }
+        self.owner(alloc, path)
+    }
+
+    /// The verdict on one need.
+    fn check_need(
+        &mut self,
+        alloc: Global,
+        circle: &Circle,
+        request: &Request,
+        target: &Target,
+        need: Need,
+    ) -> Result<(), Refusal>
+        ensures { Asks (K.standing self.old.keeper) (K.standing self.new.keeper) result
+            (λ o r. IsTarget o target.now → JudgesNeed o circle.now (place_path request.now target.now.path need.place) need.set r) }
+    {
+        let path = place_path(request, &target.path, need.place)?;
+        let owner = self.owner_for(alloc, &path, target, need.place)?;
+        self.check_owned(alloc, circle, path, owner, need.set)
+    }
+
+    /// The verdict on a need, if there is one.
+    fn check_any(
+        &mut self,
+        alloc: Global,
+        circle: &Circle,
+        request: &Request,
+        target: &Target,
+        need: Option<Need>,
+    ) -> Result<(), Refusal>
+        ensures { Asks (K.standing self.old.keeper) (K.standing self.new.keeper) result
+            (λ o r. IsTarget o target.now → JudgesNeeds o circle.now request.now target.now.path (listed_too need []) r) }
+    {
+        match need {
+            Some(need) => self.check_need(alloc, circle, request, target, need),
+            None => Ok(()),
+        }
+    }
+
+    /// The verdict: each need of the request in turn.
+    fn check_needs(
+        &mut self,
+        alloc: Global,
+        circle: &Circle,
+        request: &Request,
+        ready: &Ready,
+    ) -> Result<(), Refusal>
+        ensures { Asks (K.standing self.old.keeper) (K.standing self.new.keeper) result
+            (λ o r. IsTarget o ready.now.target → JudgesNeeds o circle.now request.now ready.now.target.path (needs_at request.now ready.now) r) }
+    {
+        let Needs {
+            first,
+            second,
+            third,
+        } = needs(request.method, shape_at(ready));
+        self.check_need(alloc, circle, request, &ready.target, first)?;
+        self.check_any(alloc, circle, request, &ready.target, second)?;
+        self.check_any(alloc, circle, request, &ready.target, third)
+    }
+
+    /// The room of a book: its number can rise, and where a card is added it has fewer than the most.
+    fn check_book(&mut self, alloc: Global, book: &Name, mapped: bool) -> Result<(), Refusal>
+        ensures { Asks (K.standing self.old.keeper) (K.standing self.new.keeper) result
+            (λ o r. Meets r (check (has_room (node_at o (path.Book book.now)) mapped) Full)) }
+    {
+        let path = Path::Book(book.clone()?);
+        let node = self.keeper.find(alloc, &path)?;
+        check(has_room(&node, mapped), Refusal::Full)?;
+        Ok(())
+    }
+
+    /// The limits, which the Office keeps after the edit.
+    fn check_limits(
+        &mut self,
+        alloc: Global,
+        method: Method,
+        target: &Target,
+    ) -> Result<(), Refusal>
+        ensures { Asks (K.standing self.old.keeper) (K.standing self.new.keeper) result (λ o r. Meets r (limits_of o method target.now)) }
+    {
+        match (method, &target.path) {
+            (Method::Put, Path::Card(book, _)) => {
+                self.check_book(alloc, book, target.node.is_some())
+            }
+            (Method::Delete, Path::Card(book, _)) => self.check_book(alloc, book, true),
+            (Method::Delete, Path::Book(_)) => {
+                let epoch = self.keeper.epoch()?;
+                check(epoch < LAST_NUMBER, Refusal::Full)?;
+                Ok(())
+            }
+            (Method::Mkcol, _) => {
+                let books = self.keeper.find(alloc, &Path::Books)?;
+                check(has_room_for_a_book(&books), Refusal::Full)?;
+                Ok(())
+            }
+            _ => Ok(()),
+        }
+    }
+
+    /// The stages after a verdict that grants.
+    fn granted(&mut self, alloc: Global, method: Method, ready: Ready) -> Result<Plan, Refusal>
+        ensures { Asks (K.standing self.old.keeper) (K.standing self.new.keeper) result (λ o r. Meets r (granted_plan o method ready)) }
+    {
+        check_body(alloc, method, &ready.text)?;
+        self.check_limits(alloc, method, &ready.target)?;
+        Ok(success(method, ready))
+    }
+
+    /// What is to be done for a request.
+    fn plan(
+        &mut self,
+        alloc: Global,
+        name: Option<&str>,
+        request: &Request,
+    ) -> Result<Plan, Refusal>
+        ensures { Asks (K.standing self.old.keeper) (K.standing self.new.keeper) result
+            (λ o r. MeetsPlan o (option_copied name.entry) request.now r) }
+    {
+        let ready = self.ready(alloc, name, request)?;
+        let circle = self.keeper.circle(alloc, &ready.caller)?;
+        self.check_needs(alloc, &circle, request, &ready)?;
+        self.granted(alloc, request.method, ready)
+    }
+
+    /// Serves one request.
+    ///
+    /// The caller is its bare name; none is nobody. The request is worked in this order: the caller, the shape, the path,
+    /// the needs, the body, the limits, and then the edit. The reply is made before the edit, and nothing is allocated
+    /// between the edit and the return. Each refusal leaves the Office as it was.
+    pub fn serve(&mut self, alloc: Global, name: Option<&str>, request: &Request) -> Reply
+        ensures { Answers (K.standing self.old.keeper) (K.standing self.new.keeper) (option_copied name.entry) request.now result }
+    {
+        has_path(request);
+        match self.plan(alloc, name, request) {
+            Err(refusal) => refused(refusal),
+            Ok(Plan { reply, edit }) => match edit {
+                None => reply,
+                Some(edit) => match self.keeper.act(alloc, &edit) {
+                    Ok(()) => reply,
+                    Err(_) => refused(Refusal::Unavailable),
+                },
+            },
+        }
+    }
+
+    /// Serves requests in order, each with the caller's bare name. All replies are reserved first: an error is want of
+    /// memory for them, and none was served then.
+    pub fn serve_all(
+        &mut self,
+        alloc: Global,
+        calls: &[(Option<String>, Request)],
+    ) -> Result<Vec<Reply>, AllocError>
+        ensures run { IfOk result (λ replies. Runs (K.standing self.old.keeper) (K.standing self.new.keeper) calls.now replies.items) }
+        ensures err { OnErr result (self.new ≡ self.old) }
+    {
+        let mut replies = Vec::with_capacity(alloc, calls.len())?;
+        for call in calls {
+            let name = name_text(&call.0);
+            let reply = self.serve(alloc, name, &call.1);
+            replies.push_reserved(reply);
+        }
+        Ok(replies)
+    }
+}
+
+/// The text of a name, if there is one.
+fn name_text(name: &Option<String>) -> Option<&str>
+    ensures { option_copied result ≡ name_of name.now }
+{
+    match name {
+        Some(name) => Some(name.as_str()),
+        None => None,
+    }
+}
+
+/// The owner of what is mapped at the target.
+fn owner_in(node: &Option<Node>) -> Result<Option<Principal>, AllocError>
+    ensures { IfOk result (λ owner. owner ≡ option_and_then (λ (n : Node). n.owner) node.now) }
+{
+    match node {
+        Some(node) => node.owner.clone(),
+        None => Ok(None),
+    }
+}
+
+/// Hands out that the names of the request's path are names.
+fn has_path(request: &Request)
+    ensures { HasPath request.now.path }
+{
+    if let Some(path) = &request.path {
+        path.known();
+    }
+}

@@ -1,0 +1,34 @@
+//! What is found out about a request, and what is to be done for it.
+
+use crate::messages::Reply;
+use book_lists::Caller;
+use book_office::{Edit, Node, Path, Text};
+
+/// The resource that a request asks for.
+#[derive(Debug, Drop)]
+pub struct Target {
+    /// Where it is.
+    pub path: Path,
+    /// What is mapped there, if anything is.
+    pub node: Option<Node>,
+}
+
+/// A request that has passed the stages before its verdict: caller, shape and path.
+#[derive(Debug, Drop)]
+pub struct Ready {
+    /// Who asks.
+    pub caller: Caller,
+    /// The text that is to be put; empty for other methods than PUT.
+    pub text: Text,
+    /// What is asked for.
+    pub target: Target,
+}
+
+/// What is to be done for a request that nothing refuses. The reply is made before the edit.
+#[derive(Debug, Drop)]
+pub struct Plan {
+    /// The reply.
+    pub reply: Reply,
+    /// The edit, if the request makes one.
+    pub edit: Option<Edit>,
+}

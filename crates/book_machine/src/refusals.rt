@@ -1,0 +1,147 @@
+//! Why a request is refused.
+
+ghost use Rattle.std.specs.Prelude.{◌≡◌};
+ghost use Rattle.book_machine.specs.Refusals.{refused, refusal_name, status_of};
+ghost use Rattle.book_machine.specs.declared.refusals.Refusal.TheVariants.{Unavailable};
+
+use crate::allowed_methods::AllowedMethods;
+use crate::messages::{Content, Reply};
+use book_cards::CardFault;
+use book_office::{Path, StoreFault};
+use book_rights::Leaf;
+use std::alloc::AllocError;
+
+/// The entry that decides a denial: where it stands, and its number in the effective list.
+#[derive(Debug, Drop)]
+pub struct EntryPlace {
+    /// The resource at which the entry stands.
+    pub from: Path,
+    /// Its number in the effective list of the resource that was asked, from 1.
+    pub number: usize,
+}
+
+/// A need that is not granted (RFC 3744, section 7.1.1).
+#[derive(Debug, Drop)]
+pub struct Denial {
+    /// The resource at which the privilege is needed.
+    pub resource: Path,
+    /// The privilege.
+    pub privilege: Leaf,
+    /// The entry that denies it; none where no entry decides it.
+    pub entry: Option<EntryPlace>,
+}
+
+/// Why a request is refused. Every refusal leaves the Office as it was.
+#[derive(Debug, Drop)]
+pub enum Refusal {
+    /// 400: the request has not the shape that its method asks.
+    BadRequest,
+    /// 400: the caller's name is no name of a person.
+    UnknownCaller,
+    /// 400: the text is no card.
+    BadCard(CardFault),
+    /// 403: a privilege that the method needs is not granted (RFC 3744, section 7.1.1).
+    NeedPrivileges(Denial),
+    /// 403: an entry conflicts with a protected one (RFC 3744, section 8.1.1).
+    NoProtectedAceConflict,
+    /// 403: an entry is marked as inherited (RFC 3744, section 8.1.1).
+    NoInheritedAceConflict,
+    /// 403: there are too many entries (RFC 3744, section 8.1.1).
+    LimitedNumberOfAces,
+    /// 403: a privilege is not known (RFC 3744, section 8.1.1).
+    NotSupportedPrivilege,
+    /// 403: a principal is not there (RFC 3744, section 8.1.1).
+    RecognizedPrincipal,
+    /// 403: the sync token is not valid (RFC 6578, section 3.2).
+    ValidSyncToken,
+    /// 404: nothing is mapped at the path.
+    NotFound,
+    /// 405: the resource does not allow the method; these are the methods that it allows (RFC 9110, section 15.5.6).
+    NotAllowed(AllowedMethods),
+    /// 409: the collection that would hold the resource is not there (RFC 4918, sections 9.3.1 and 9.7.1).
+    NoParent,
+    /// 412: the destination is mapped, and may not be overwritten (RFC 4918, section 10.6).
+    Overwrite,
+    /// 415: MKCOL with a body (RFC 4918, section 9.3.1).
+    BodyOnMkcol,
+    /// 507: a limit would be passed (RFC 4918, section 11.5).
+    Full,
+    /// 503: memory was refused, or the store failed.
+    Unavailable,
+}
+
+impl From<StoreFault> for Refusal {
+    ghost from_gives = { λ _ refusal. refusal ≡ Unavailable };
+
+    fn from(_fault: StoreFault) -> Self {
+        Refusal::Unavailable
+    }
+}
+
+impl From<AllocError> for Refusal {
+    ghost from_gives = { λ _ refusal. refusal ≡ Unavailable };
+
+    fn from(_error: AllocError) -> Self {
+        Refusal::Unavailable
+    }
+}
+
+impl Refusal {
+    /// The status of the reply.
+    pub fn status(&self) -> u16
+        ensures { result ≡ status_of self.now }
+    {
+        match self {
+            Refusal::BadRequest | Refusal::UnknownCaller | Refusal::BadCard(_) => 400,
+            Refusal::NeedPrivileges(_)
+            | Refusal::NoProtectedAceConflict
+            | Refusal::NoInheritedAceConflict
+            | Refusal::LimitedNumberOfAces
+            | Refusal::NotSupportedPrivilege
+            | Refusal::RecognizedPrincipal
+            | Refusal::ValidSyncToken => 403,
+            Refusal::NotFound => 404,
+            Refusal::NotAllowed(_) => 405,
+            Refusal::NoParent => 409,
+            Refusal::Overwrite => 412,
+            Refusal::BodyOnMkcol => 415,
+            Refusal::Full => 507,
+            Refusal::Unavailable => 503,
+        }
+    }
+
+    /// The name, as replies print it.
+    pub fn name(&self) -> &'static str
+        ensures { result.now ≡ refusal_name self.now }
+    {
+        match self {
+            Refusal::BadRequest => "bad-request",
+            Refusal::UnknownCaller => "unknown-caller",
+            Refusal::BadCard(_) => "bad-card",
+            Refusal::NeedPrivileges(_) => "need-privileges",
+            Refusal::NoProtectedAceConflict => "no-protected-ace-conflict",
+            Refusal::NoInheritedAceConflict => "no-inherited-ace-conflict",
+            Refusal::LimitedNumberOfAces => "limited-number-of-aces",
+            Refusal::NotSupportedPrivilege => "not-supported-privilege",
+            Refusal::RecognizedPrincipal => "recognized-principal",
+            Refusal::ValidSyncToken => "valid-sync-token",
+            Refusal::NotFound => "not-found",
+            Refusal::NotAllowed(_) => "not-allowed",
+            Refusal::NoParent => "no-parent",
+            Refusal::Overwrite => "overwrite",
+            Refusal::BodyOnMkcol => "body-on-mkcol",
+            Refusal::Full => "full",
+            Refusal::Unavailable => "unavailable",
+        }
+    }
+}
+
+/// The reply to a refused request.
+pub(crate) fn refused(refusal: Refusal) -> Reply
+    ensures { result ≡ refused refusal }
+{
+    Reply {
+        status: refusal.status(),
+        content: Content::Refusal(refusal),
+    }
+}

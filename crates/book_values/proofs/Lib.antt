@@ -1,0 +1,8 @@
+pub mod Above
+pub mod Indexes
+pub mod Members
+pub mod NameMapLaws
+pub mod Slashes
+pub mod Spelling
+pub mod Touches
+pub mod TreeMaps

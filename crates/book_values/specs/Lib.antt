@@ -1,0 +1,4 @@
+pub mod Changes
+pub mod Lending
+pub mod Names
+pub mod Paths
