@@ -1,5 +1,5 @@
-//! Benchmarks of the access decisions, of cards, of the keeper in memory and of the machine: `book_bench all`, or one of
-//! `expand`, `decide`, `explain`, `cards`, `puts`, `requests`.
+//! Benchmarks of the access decisions, of cards and of the keeper in memory: `book_bench all`, or one of `expand`,
+//! `decide`, `explain`, `cards`, `puts`.
 //! It prints figures, which no test compares, and nothing without a word. The time is the processor's, of one turn, as
 //! the mean of the turns that take a tenth of a second together; beside it stands the time at half the size, or of a card
 //! of twice the size, and the ratio of both.
@@ -7,20 +7,17 @@
 
 mod measures;
 mod puts;
-mod requests;
 mod workloads;
 
 use anyhow::Result;
 use measures::{Bench, print_figure, print_rate};
 use puts::put_figures;
-use requests::request_figures;
 use std::env;
 use std::io::Write;
 use std::process::ExitCode;
 use workloads::{CardReading, Decision, Expansion, Explanation, Unfolding};
 
-const WORDS: &str =
-    "book_bench: the words are expand, decide, explain, cards, puts, requests and all\n";
+const WORDS: &str = "book_bench: the words are expand, decide, explain, cards, puts and all\n";
 
 const USAGE: u8 = 2;
 
@@ -104,14 +101,12 @@ fn figures_of(rt: &impl Bench, word: &str) -> Result<bool> {
         "explain" => explain_figures(rt)?,
         "cards" => card_figures(rt)?,
         "puts" => put_figures(rt)?,
-        "requests" => request_figures(rt)?,
         "all" => {
             expand_figures(rt)?;
             decide_figures(rt)?;
             explain_figures(rt)?;
             card_figures(rt)?;
             put_figures(rt)?;
-            request_figures(rt)?;
         }
         _ => return Ok(false),
     }

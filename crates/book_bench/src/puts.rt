@@ -7,29 +7,23 @@ use book_office::{Edit, Keeper, MAX_CARDS, MemoryKeeper, Path, Text};
 use std::alloc::Global;
 use std::time::Duration;
 
-pub const THOUSAND: usize = 1000;
+const THOUSAND: usize = 1000;
 
 /// 316 bytes.
-pub const CARD: &str =
+const CARD: &str =
     "BEGIN:VCARD\r\nVERSION:4.0\r\nUID:urn:uuid:5f1c0d9e-8b1a-4a55-9d0e-3a6f2b1c7e41\r\nFN:Lena Fischer\r\nN:Fischer;Lena;;;\r\nORG:Linden Office;Sales\r\nTEL;TYPE=\"voice,work\":+49 30 5550 1842\r\nEMAIL;TYPE=work:lena.fischer@linden.example\r\nNOTE:Answers for the northern districts. Ask for her at the front desk on T\r\n uesdays.\r\nEND:VCARD\r\n";
 
-/// The name that the text is.
-pub fn name(alloc: Global, text: &str) -> Result<Name> {
+fn name(alloc: Global, text: &str) -> Result<Name> {
     Name::parse(alloc, text)?.context("no name")
 }
 
-/// The name of the card at this place, in an order that is not the byte order.
-pub fn card_name(alloc: Global, place: usize) -> Result<Name> {
+/// The put at this place, in an order that is not the byte order of the names.
+fn put(alloc: Global, place: usize) -> Result<Edit> {
     let number = place.wrapping_mul(7919) % MAX_CARDS;
     let card = format!(in alloc; "{number:05}.vcf")?;
-    name(alloc, card.as_str())
-}
-
-/// The put at this place.
-pub fn put(alloc: Global, place: usize) -> Result<Edit> {
     Ok(Edit::PutCard {
         book: name(alloc, "sales")?,
-        card: card_name(alloc, place)?,
+        card: name(alloc, card.as_str())?,
         owner: None,
         text: Text::copy_of(alloc, CARD)?,
     })

@@ -19,18 +19,17 @@ fn principal(alloc: Global, home: &str, number: usize) -> Result<Principal> {
     Principal::parse(alloc, path.as_str())?.context("a path of no principal")
 }
 
-/// The group of this number.
-pub fn group(alloc: Global, number: usize) -> Result<Principal> {
+fn group(alloc: Global, number: usize) -> Result<Principal> {
     principal(alloc, "groups", number)
 }
 
 /// The one who asks, in every workload.
-pub fn person(alloc: Global) -> Result<Principal> {
+fn person(alloc: Global) -> Result<Principal> {
     principal(alloc, "people", 0)
 }
 
 /// The pair at this place of a chain: the person is a member of the first group, and each group of the next.
-pub fn add_link(alloc: Global, pairs: &mut Pairs, place: usize) -> Result<()> {
+fn add_link(alloc: Global, pairs: &mut Pairs, place: usize) -> Result<()> {
     let member = match place {
         0 => person(alloc)?,
         _ => group(alloc, place - 1)?,
