@@ -1,23 +1,28 @@
-//! Benchmarks of the access decisions, of cards and of the keeper in memory: `book_bench all`, or one of `expand`,
-//! `decide`, `explain`, `cards`, `puts`.
+//! Benchmarks of the access decisions, of cards, of the keeper in memory and of the machine: `book_bench all`, or one of
+//! `expand`, `decide`, `explain`, `cards`, `puts`, `requests`, `adoptions`.
 //! It prints figures, which no test compares, and nothing without a word. The time is the processor's, of one turn, as
-//! the mean of the turns that take a tenth of a second together; beside it stands the time at half the size, or of a card
-//! of twice the size, and the ratio of both.
+//! the mean of the turns that take a tenth of a second together, of a thousand puts, of a hundred thousand requests, or of
+//! twenty adoptions; beside it stands the time at another size, and the ratio of both.
 #![tactic(auto)]
 
+mod adoptions;
 mod measures;
 mod puts;
+mod requests;
 mod workloads;
 
+use adoptions::adoption_figures;
 use anyhow::Result;
 use measures::{Bench, print_figure, print_rate};
 use puts::put_figures;
+use requests::request_figures;
 use std::env;
 use std::io::Write;
 use std::process::ExitCode;
 use workloads::{CardReading, Decision, Expansion, Explanation, Unfolding};
 
-const WORDS: &str = "book_bench: the words are expand, decide, explain, cards, puts and all\n";
+const WORDS: &str =
+    "book_bench: the words are expand, decide, explain, cards, puts, requests, adoptions and all\n";
 
 const USAGE: u8 = 2;
 
@@ -101,12 +106,16 @@ fn figures_of(rt: &impl Bench, word: &str) -> Result<bool> {
         "explain" => explain_figures(rt)?,
         "cards" => card_figures(rt)?,
         "puts" => put_figures(rt)?,
+        "requests" => request_figures(rt)?,
+        "adoptions" => adoption_figures(rt)?,
         "all" => {
             expand_figures(rt)?;
             decide_figures(rt)?;
             explain_figures(rt)?;
             card_figures(rt)?;
             put_figures(rt)?;
+            request_figures(rt)?;
+            adoption_figures(rt)?;
         }
         _ => return Ok(false),
     }

@@ -58,12 +58,23 @@ pub fn print_figure(
     whole: &impl Work,
     half: &impl Work,
 ) -> Result<()> {
-    let half_size = size / 2;
     let half_time = time_of(rt, half)?;
     let whole_time = time_of(rt, whole)?;
-    let ratio = whole_time.div_duration_f64(half_time);
-    let (shown_whole, shown_half) = (Shown(whole_time), Shown(half_time));
-    println!(rt; "{name} {size}: {shown_whole} ({half_size}: {shown_half}, ratio {ratio:.1})")?;
+    print_times(rt, name, size, whole_time, size / 2, half_time)
+}
+
+/// Prints the time at one size, beside that at another.
+pub fn print_times(
+    rt: &impl Bench,
+    name: &str,
+    size: usize,
+    time: Duration,
+    other_size: usize,
+    other_time: Duration,
+) -> Result<()> {
+    let ratio = time.div_duration_f64(other_time);
+    let (shown, shown_other) = (Shown(time), Shown(other_time));
+    println!(rt; "{name} {size}: {shown} ({other_size}: {shown_other}, ratio {ratio:.1})")?;
     Ok(())
 }
 

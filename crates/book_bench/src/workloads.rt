@@ -5,6 +5,7 @@ use book_cards::{read_card, unfold};
 use book_lists::{
     Caller, Circle, Entry, Here, Outcome, Pairs, Principal, Who, decide, expand, explain,
 };
+use book_office::Items;
 use book_rights::{Leaf, LeafSet};
 use std::alloc::{AllocError, Global};
 
@@ -67,9 +68,7 @@ impl Expansion {
     /// The same chain, the innermost pair first.
     pub fn of_inward_chain(alloc: Global, size: usize) -> Result<Expansion> {
         let mut pairs = Pairs::new(alloc);
-        for place in 0..size {
-            add_link(alloc, &mut pairs, place)?;
-        }
+        add_chain(alloc, &mut pairs, size)?;
         Expansion::of(alloc, pairs, size)
     }
 
@@ -93,9 +92,17 @@ impl Work for Expansion {
 /// The decision of seven leaves, which the last entry grants and no other applies to.
 #[derive(Drop)]
 pub struct Decision {
-    entries: Vec<Entry>,
+    entries: Items<Entry>,
     circle: Circle,
     here: Here,
+}
+
+/// Adds the pairs of a chain of so many groups, the innermost first.
+pub fn add_chain(alloc: Global, pairs: &mut Pairs, groups: usize) -> Result<()> {
+    for place in 0..groups {
+        add_link(alloc, pairs, place)?;
+    }
+    Ok(())
 }
 
 fn entry(who: Principal, deny: bool) -> Entry {
@@ -107,15 +114,26 @@ fn entry(who: Principal, deny: bool) -> Entry {
     }
 }
 
+/// Adds so many entries: the last grants all to the last of so many nested groups, the others deny it to groups of others.
+pub fn add_entries(
+    alloc: Global,
+    entries: &mut Items<Entry>,
+    size: usize,
+    groups: usize,
+) -> Result<()> {
+    for number in 1..size {
+        entries.push(entry(group(alloc, groups.saturating_add(number))?, true))?;
+    }
+    entries.push(entry(group(alloc, groups.saturating_sub(1))?, false))?;
+    Ok(())
+}
+
 impl Decision {
     /// So many entries, for a caller within so many nested groups.
     pub fn of_entries(alloc: Global, size: usize, groups: usize) -> Result<Decision> {
         let expansion = Expansion::of_inward_chain(alloc, groups)?;
-        let mut entries = Vec::new(alloc);
-        for number in 1..size {
-            entries.push(entry(group(alloc, groups.saturating_add(number))?, true))?;
-        }
-        entries.push(entry(expansion.group, false))?;
+        let mut entries = Items::new(alloc);
+        add_entries(alloc, &mut entries, size, groups)?;
         Ok(Decision {
             entries,
             circle: expand(alloc, &expansion.pairs, &expansion.caller)?,
@@ -131,7 +149,7 @@ impl Work for Decision {
     fn once(&self, _alloc: Global, turn: u32) -> Result<bool, AllocError> {
         let spared = Leaf::ALL[(turn % 8) as usize];
         let need = LeafSet::all().minus(LeafSet::empty().with(spared));
-        Ok(decide(&self.entries, &self.circle, &self.here, need) == Outcome::Allowed)
+        Ok(decide(self.entries.as_slice(), &self.circle, &self.here, need) == Outcome::Allowed)
     }
 }
 

@@ -2,7 +2,7 @@ use crate::commands::{Command, WordsFault, command_of, words_not_text};
 use crate::dispatch::run;
 use std::alloc::{AllocError, Global};
 use std::io::{self, Read, Write};
-use std::test::Fail;
+use std::process::Abort;
 
 /// What a run told: its status, its output, and what stands on standard error.
 #[derive(Debug, Drop)]
@@ -18,23 +18,23 @@ impl Told {
     }
 }
 
-fn run_over<R: Read + Drop>(alloc: Global, command: &Command, reader: R) -> Result<Told, Fail> {
+fn run_over<R: Read + Drop>(rt: &impl Abort, alloc: Global, command: &Command, reader: R) -> Told {
     let mut output = Vec::new(alloc);
     let mut errors = Vec::new(alloc);
     let status = run(alloc, command, reader, &mut output, &mut errors);
-    Ok(Told {
+    Told {
         status,
-        output: String::from_utf8(output)?,
-        errors: String::from_utf8(errors)?,
-    })
+        output: String::from_utf8(output).ok().expect(rt, "UTF-8"),
+        errors: String::from_utf8(errors).ok().expect(rt, "UTF-8"),
+    }
 }
 
-fn explained(alloc: Global, input: &str) -> Result<Told, Fail> {
-    run_over(alloc, &Command::Explain, input.as_bytes())
+fn explained(rt: &impl Abort, alloc: Global, input: &str) -> Told {
+    run_over(rt, alloc, &Command::Explain, input.as_bytes())
 }
 
 #[test]
-fn answers_questions(rt: HostRuntime) -> Result<(), Fail> {
+fn answers_questions(rt: HostRuntime) {
     let cases = [
         // an empty list grants nothing
         (
@@ -75,14 +75,13 @@ fn answers_questions(rt: HostRuntime) -> Result<(), Fail> {
         ),
     ];
     for (input, answer) in cases {
-        let told = explained(rt.alloc(), input)?;
+        let told = explained(&rt, rt.alloc(), input);
         assert!(rt; told.is(0, answer, ""), "{input:?}: {told:?}");
     }
-    Ok(())
 }
 
 #[test]
-fn names_the_first_fault(rt: HostRuntime) -> Result<(), Fail> {
+fn names_the_first_fault(rt: HostRuntime) {
     let cases = [
         // no form
         ("caller -\nfrob /people/ann\n", "line 2: bad-line\n"),
@@ -122,24 +121,23 @@ fn names_the_first_fault(rt: HostRuntime) -> Result<(), Fail> {
         ("need read\nfrob\n", "line 2: bad-line\n"),
     ];
     for (input, fault) in cases {
-        let told = explained(rt.alloc(), input)?;
+        let told = explained(&rt, rt.alloc(), input);
         assert!(rt; told.is(1, "", fault), "{input:?}: {told:?}");
     }
-    Ok(())
 }
 
 /// The line so many times, and then the rest.
-fn repeated(alloc: Global, line: &str, times: usize, rest: &str) -> Result<String, AllocError> {
+fn repeated(rt: &impl Abort, alloc: Global, line: &str, times: usize, rest: &str) -> String {
     let mut text = String::new(alloc);
     for _ in 0..times {
-        text.push_str(line)?;
+        text.push_str(line).expect(rt, "memory");
     }
-    text.push_str(rest)?;
-    Ok(text)
+    text.push_str(rest).expect(rt, "memory");
+    text
 }
 
 #[test]
-fn counts_members_and_entries(rt: HostRuntime) -> Result<(), Fail> {
+fn counts_members_and_entries(rt: HostRuntime) {
     let asked = "caller /people/ann\nneed read\n";
     let allowed = "allowed\ngranted: read\n";
     let cases = [
@@ -179,25 +177,24 @@ fn counts_members_and_entries(rt: HostRuntime) -> Result<(), Fail> {
         ),
     ];
     for (line, times, rest, status, output, errors) in cases {
-        let lines = repeated(rt.alloc(), line, times, rest)?;
-        let input = format!(in rt.alloc(); "{asked}{lines}")?;
-        let told = explained(rt.alloc(), input.as_str())?;
+        let lines = repeated(&rt, rt.alloc(), line, times, rest);
+        let input = format!(in rt.alloc(); "{asked}{lines}").expect(&rt, "memory");
+        let told = explained(&rt, rt.alloc(), input.as_str());
         assert!(rt;
             told.is(status, output, errors),
             "{times} times {line:?}: {told:?}"
         );
     }
-    Ok(())
 }
 
 const FOLDED: &str = "BEGIN:VCARD\nVERSION:4.0\nFN:An\n n Bell\nEND:VCARD";
 
-fn told_of(alloc: Global, card: &str) -> Result<Told, Fail> {
-    run_over(alloc, &Command::Card, card.as_bytes())
+fn told_of(rt: &impl Abort, alloc: Global, card: &str) -> Told {
+    run_over(rt, alloc, &Command::Card, card.as_bytes())
 }
 
 #[test]
-fn tells_what_cards_say(rt: HostRuntime) -> Result<(), Fail> {
+fn tells_what_cards_say(rt: HostRuntime) {
     let cases = [
         (FOLDED, "valid\nkind: individual\nuid: -\nfn: Ann Bell\n"),
         (
@@ -216,14 +213,13 @@ fn tells_what_cards_say(rt: HostRuntime) -> Result<(), Fail> {
         ),
     ];
     for (input, output) in cases {
-        let told = told_of(rt.alloc(), input)?;
+        let told = told_of(&rt, rt.alloc(), input);
         assert!(rt; told.is(0, output, ""), "{input:?}: {told:?}");
     }
-    Ok(())
 }
 
 #[test]
-fn tells_why_cards_are_refused(rt: HostRuntime) -> Result<(), Fail> {
+fn tells_why_cards_are_refused(rt: HostRuntime) {
     let cases = [
         ("", "line 1: no-begin\n"),
         ("FN:A\n", "line 2: no-version\n"),
@@ -243,17 +239,16 @@ fn tells_why_cards_are_refused(rt: HostRuntime) -> Result<(), Fail> {
     for (lines, fault) in cases {
         let input = match lines {
             "" => String::new(rt.alloc()),
-            _ => format!(in rt.alloc(); "BEGIN:VCARD\n{lines}END:VCARD\n")?,
+            _ => format!(in rt.alloc(); "BEGIN:VCARD\n{lines}END:VCARD\n").expect(&rt, "memory"),
         };
-        let told = told_of(rt.alloc(), input.as_str())?;
+        let told = told_of(&rt, rt.alloc(), input.as_str());
         assert!(rt; told.is(1, "", fault), "{input:?}: {told:?}");
     }
-    let open = told_of(rt.alloc(), "BEGIN:VCARD\nVERSION:4.0\nFN:A\n")?;
+    let open = told_of(&rt, rt.alloc(), "BEGIN:VCARD\nVERSION:4.0\nFN:A\n");
     assert!(rt; open.is(1, "", "line 4: no-end\n"), "{open:?}");
-    let long = repeated(rt.alloc(), "A", 65_537, "")?;
-    let long = told_of(rt.alloc(), long.as_str())?;
+    let long = repeated(&rt, rt.alloc(), "A", 65_537, "");
+    let long = told_of(&rt, rt.alloc(), long.as_str());
     assert!(rt; long.is(1, "", "line 0: too-long\n"), "{long:?}");
-    Ok(())
 }
 
 /// Gives its bytes one by one, and then fails.
@@ -292,7 +287,7 @@ impl Write for Full {
 }
 
 #[test]
-fn tells_a_failed_read_or_write(rt: HostRuntime) -> Result<(), Fail> {
+fn tells_a_failed_read_or_write(rt: HostRuntime) {
     let alloc = rt.alloc();
     let cases: [(Command, &str); 2] = [
         (Command::Explain, "caller -\nneed read\n"),
@@ -300,7 +295,7 @@ fn tells_a_failed_read_or_write(rt: HostRuntime) -> Result<(), Fail> {
     ];
     for (command, input) in cases {
         let input = input.as_bytes();
-        let cut = run_over(alloc, &command, Breaking(input))?;
+        let cut = run_over(&rt, alloc, &command, Breaking(input));
         assert!(rt; cut.is(3, "", "input: read\n"), "{command:?}: {cut:?}");
         for room in [0, 7, 1000] {
             let mut errors = Vec::new(alloc);
@@ -316,11 +311,10 @@ fn tells_a_failed_read_or_write(rt: HostRuntime) -> Result<(), Fail> {
         let status = run(alloc, &command, refused, &mut output, &mut Full(3));
         assert_eq!(rt; (status, output.is_empty()), (1, true), "{command:?}");
     }
-    Ok(())
 }
 
 #[test]
-fn refuses_what_is_not_utf8(rt: HostRuntime) -> Result<(), Fail> {
+fn refuses_what_is_not_utf8(rt: HostRuntime) {
     let cases: [&[u8]; 3] = [
         b"\xff",
         b"caller -\nneed read\n# \xc3",
@@ -328,31 +322,32 @@ fn refuses_what_is_not_utf8(rt: HostRuntime) -> Result<(), Fail> {
     ];
     for bytes in cases {
         for command in [Command::Explain, Command::Card] {
-            let told = run_over(rt.alloc(), &command, bytes)?;
+            let told = run_over(&rt, rt.alloc(), &command, bytes);
             assert!(rt;
                 told.is(1, "", "input: not-utf-8\n"),
                 "{command:?}: {told:?}"
             );
         }
     }
-    Ok(())
 }
 
-fn words(alloc: Global, line: &str) -> Result<Vec<String>, AllocError> {
-    line.split_whitespace()
+fn words(rt: &impl Abort, alloc: Global, line: &str) -> Vec<String> {
+    let words: Result<Vec<String>, AllocError> = line
+        .split_whitespace()
         .map(|word| String::from_str(alloc, word))
-        .try_collect(alloc)
+        .try_collect(alloc);
+    words.expect(rt, "memory")
 }
 
 #[test]
-fn reads_words(rt: HostRuntime) -> Result<(), Fail> {
+fn reads_words(rt: HostRuntime) {
     let alloc = rt.alloc();
-    let explain = words(alloc, "explain")?;
+    let explain = words(&rt, alloc, "explain");
     assert_eq!(rt;
         command_of(alloc, explain.as_slice()).ok(),
         Some(Command::Explain)
     );
-    let card = words(alloc, "card")?;
+    let card = words(&rt, alloc, "card");
     assert_eq!(rt;
         command_of(alloc, card.as_slice()).ok(),
         Some(Command::Card)
@@ -368,21 +363,20 @@ fn reads_words(rt: HostRuntime) -> Result<(), Fail> {
         ("help card", "member-without-group"),
     ];
     for (line, part) in cases {
-        let words = words(alloc, line)?;
+        let words = words(&rt, alloc, line);
         let command = command_of(alloc, words.as_slice()).ok().expect(&rt, "help");
         assert!(rt; matches!(&command, Command::Help(_)), "{line}");
-        let told = run_over(alloc, &command, b"".as_slice())?;
+        let told = run_over(&rt, alloc, &command, b"".as_slice());
         assert!(rt;
             told.status == 0 && told.errors.is_empty(),
             "{line}: {told:?}"
         );
         assert!(rt; told.output.contains(part), "{line}: {told:?}");
     }
-    Ok(())
 }
 
 #[test]
-fn refuses_words(rt: HostRuntime) -> Result<(), Fail> {
+fn refuses_words(rt: HostRuntime) {
     let alloc = rt.alloc();
     let cases = [
         (
@@ -395,21 +389,20 @@ fn refuses_words(rt: HostRuntime) -> Result<(), Fail> {
         ("card a.vcf", "error: unexpected argument 'a.vcf' found"),
     ];
     for (line, wrong) in cases {
-        let words = words(alloc, line)?;
+        let words = words(&rt, alloc, line);
         let fault = command_of(alloc, words.as_slice())
             .err()
-            .ok_or("a command")?;
+            .expect(&rt, "no command");
         assert!(rt; matches!(&fault, WordsFault::Usage(_)), "{line}");
-        let told = format!(in alloc; "{fault}")?;
+        let told = format!(in alloc; "{fault}").expect(&rt, "memory");
         assert!(rt;
             told.starts_with(wrong) && told.contains("Usage: book_desk"),
             "{line}: {told}"
         );
     }
-    let told = format!(in alloc; "{}", words_not_text(alloc))?;
+    let told = format!(in alloc; "{}", words_not_text(alloc)).expect(&rt, "memory");
     assert!(rt;
         told.contains("invalid UTF-8") && told.contains("Usage: book_desk"),
         "{told}"
     );
-    Ok(())
 }

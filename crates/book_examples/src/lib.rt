@@ -2,13 +2,15 @@
 //! and those crates have few or none.
 //!
 //! `keepers` asks each question of a keeper and makes each edit, through the trait `Keeper`, on a keeper in memory;
-//! `requests` serves the requests of several callers in the Office of `offices`. The wanted answers are those of the
-//! rules (RFC 3744, RFC 4918 and own profile).
+//! `adoptions` adopts the policies of `policies`, and `requests` serves the requests of several callers under them. The
+//! wanted answers are those of the rules (RFC 3744, RFC 4918 and own profile).
 #![tactic(auto)]
 
 #[cfg(test)]
+mod adoptions;
+#[cfg(test)]
 mod keepers;
 #[cfg(test)]
-mod offices;
+mod policies;
 #[cfg(test)]
 mod requests;

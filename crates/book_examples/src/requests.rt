@@ -1,10 +1,10 @@
 //! Requests of several callers, and their replies. Each test is a table of calls with the wanted replies.
 
-use crate::offices::{POLICY, WIDER_POLICY, keeper};
+use crate::policies::{POLICY, STAFF, WIDER_POLICY, adopt, machine};
 use book_cards::CardFault;
 use book_machine::{
     Body, Content, Denial, Depth, Flag, Machine, Refusal, Reply, Request, refusals_change_nothing,
-    requests_act_where_granted, requests_have_one_step,
+    requests_act_where_granted, requests_are_full_at_limits, requests_have_one_step,
 };
 use book_office::{Keeper, Path, Text};
 use book_rights::Method;
@@ -283,14 +283,16 @@ const REFUSALS: &[Call] = &[
         Sent::Unread,
         "200 allow ACL, DELETE, OPTIONS, PROPFIND, PROPPATCH, REPORT",
     ),
-    Call(
-        ANN,
-        Method::Delete,
-        "/books/sales",
-        Sent::Nothing,
-        "403 need-privileges unbind /books null",
-    ),
 ];
+
+/// Nobody may remove a book.
+const BOOKS_ARE_KEPT: &[Call] = &[Call(
+    ANN,
+    Method::Delete,
+    "/books/sales",
+    Sent::Nothing,
+    "403 need-privileges unbind /books null",
+)];
 
 /// Owning a book grants nothing by itself. A book that is removed and made again begins anew.
 const BOOK_MADE_AGAIN: &[Call] = &[
@@ -408,45 +410,49 @@ fn check<K: Keeper>(rt: &impl Abort, alloc: Global, machine: &mut Machine<K>, ca
     assert_eq!(rt; tell(rt, alloc, &reply).as_str(), call.4);
 }
 
-/// A machine over this keeper answers the calls, one after the other, and its store never fails.
-fn check_all<K: Keeper>(rt: &impl Abort, alloc: Global, keeper: K, calls: &[Call]) -> K {
-    let mut machine = Machine::new(keeper);
+/// The machine answers the calls, one after the other, and its store never fails.
+fn check_all<K: Keeper>(rt: &impl Abort, alloc: Global, machine: &mut Machine<K>, calls: &[Call]) {
     for call in calls {
-        check(rt, alloc, &mut machine, *call);
+        check(rt, alloc, machine, *call);
     }
-    let keeper = machine.release();
-    assert_eq!(rt; keeper.failures(), 0);
-    keeper
+    assert_eq!(rt; machine.keeper.failures(), 0);
 }
 
 #[test]
 fn cards_are_bound_and_written_apart(rt: HostRuntime) {
-    let keeper = keeper(&rt, rt.alloc(), POLICY, 1);
-    drop(check_all(&rt, rt.alloc(), keeper, BOUND_CARDS));
+    let mut machine = machine(&rt, rt.alloc(), POLICY);
+    check_all(&rt, rt.alloc(), &mut machine, BOUND_CARDS);
 }
 
 #[test]
 fn cards_are_kept_byte_for_byte(rt: HostRuntime) {
-    let keeper = keeper(&rt, rt.alloc(), POLICY, 1);
-    drop(check_all(&rt, rt.alloc(), keeper, CARDS));
+    let mut machine = machine(&rt, rt.alloc(), POLICY);
+    check_all(&rt, rt.alloc(), &mut machine, CARDS);
 }
 
 #[test]
 fn refusals_name_their_cause(rt: HostRuntime) {
-    let keeper = keeper(&rt, rt.alloc(), POLICY, 1);
-    drop(check_all(&rt, rt.alloc(), keeper, REFUSALS));
+    let mut machine = machine(&rt, rt.alloc(), POLICY);
+    check_all(&rt, rt.alloc(), &mut machine, REFUSALS);
+}
+
+/// The number of the new book.
+fn number_of_the_book<K: Keeper>(rt: &impl Abort, alloc: Global, keeper: &mut K) -> u64 {
+    let path = Path::parse(alloc, "/books/new").expect(rt, "a path");
+    let node = keeper.find(alloc, &path).expect(rt, "memory");
+    node.expect(rt, "a book").number
 }
 
 #[test]
 fn a_book_made_again_begins_anew(rt: HostRuntime) {
     let alloc = rt.alloc();
-    let keeper = keeper(&rt, alloc, WIDER_POLICY, 2);
-    let mut kept = check_all(&rt, alloc, keeper, BOOK_MADE_AGAIN);
-    let epoch = kept.epoch().expect(&rt, "the epoch");
-    assert_eq!(rt; epoch, 3);
-    let path = Path::parse(alloc, "/books/new").expect(&rt, "a path");
-    let node = kept.find(alloc, &path).expect(&rt, "memory");
-    assert_eq!(rt; node.expect(&rt, "a book").number, 0);
+    let mut machine = machine(&rt, alloc, POLICY);
+    check_all(&rt, alloc, &mut machine, BOOKS_ARE_KEPT);
+    adopt(&rt, alloc, &mut machine, STAFF, WIDER_POLICY, true, 2);
+    check_all(&rt, alloc, &mut machine, BOOK_MADE_AGAIN);
+    let mut keeper = machine.release();
+    assert_eq!(rt; keeper.epoch().expect(&rt, "the epoch"), 3);
+    assert_eq!(rt; number_of_the_book(&rt, alloc, &mut keeper), 0);
 }
 
 fn call_of(rt: &impl Abort, alloc: Global, call: Call) -> (Option<String>, Request) {
@@ -479,7 +485,7 @@ fn check_replies(rt: &impl Abort, alloc: Global, replies: &[Reply], calls: &[Cal
 fn calls_are_served_in_order(rt: HostRuntime) {
     let alloc = rt.alloc();
     let calls = calls_of(&rt, alloc, BOUND_CARDS);
-    let mut machine = Machine::new(keeper(&rt, alloc, POLICY, 1));
+    let mut machine = machine(&rt, alloc, POLICY);
     let replies = machine.serve_all(alloc, calls.as_slice());
     let replies = replies.expect(&rt, "memory");
     check_replies(&rt, alloc, replies.as_slice(), BOUND_CARDS);
@@ -489,5 +495,6 @@ fn calls_are_served_in_order(rt: HostRuntime) {
 fn laws_are_called() {
     requests_have_one_step();
     requests_act_where_granted();
+    requests_are_full_at_limits();
     refusals_change_nothing();
 }

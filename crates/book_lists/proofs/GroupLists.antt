@@ -1,5 +1,5 @@
 -- Memberships by member: which pairs they are, and one pair more.
-use Rattle.std.proofs.Common.{◌≡◌, ℕ, Bool, true, false, cond, ◌&&◌, ◌||◌, List, [], ◌∷◌, map, unwrap_or, Some, None, refl, sym, ap, ◌∙◌}
+use Rattle.std.proofs.Common.{◌≡◌, ℕ, Bool, true, false, cond, ◌&&◌, ◌||◌, List, [], ◌∷◌, ◌++◌, map, unwrap_or, Some, None, refl, sym, ap, ◌∙◌}
 use Rattle.std.specs.BTreeMap.{is_at}
 use Rattle.std.specs.FinSet as set
 use Rattle.std.specs.List.{flat_map, list_any, AllByRecursion}
@@ -14,8 +14,8 @@ use Rattle.std.proofs.lemmas.Map.{lookup-none, NonePasses}
 use Rattle.std.proofs.lemmas.Map.Keys.{sorted_head, sorted_tail}
 use Rattle.std.proofs.lemmas.Map.Text.{is_eq-slice_cmp}
 use Rattle.book_lists.specs.declared.memberships.Membership.{Membership}
-use Rattle.book_lists.specs.GroupEntries.{GroupEntries, pairs_of, pairs_in, groups_at}
-use Rattle.book_lists.specs.Memberships.{membership_cmp}
+use Rattle.book_lists.specs.GroupEntries.{GroupEntries, memberships_in, pairs_of, pairs_in, groups_at}
+use Rattle.book_lists.specs.Memberships.{membership_cmp, set_of}
 use Rattle.book_lists.specs.Principals.{path_cmp}
 use Rattle.book_lists.proofs.Pairing.{memberships_total, memberships_exact, same_membership, same_path, both_true}
 
@@ -139,3 +139,30 @@ inserted_again pairs e there = set.same_set memberships_total memberships_exact 
         let same : e ≡ q = λ i. record { group = same_path e.group q.group both.0 i; member = same_path e.member q.member both.1 i } in
         ap (set.contains pairs) (sym same) ∙ there
     go q false tie = refl
+
+-- ---- a list of the pairs
+
+-- whether a pair is among those of a member with some groups depends on the set of the groups alone
+among : (q : Membership) (k : List ℕ) (groups : List (List ℕ)) (s : set.FinSet path_cmp) → s ≡ set.from_list groups
+    → list_any (eq_by_cmp membership_cmp q) (memberships_in k groups) ≡ list_any (eq_by_cmp membership_cmp q) (pairs_of (k, s))
+among q k groups s is =
+    of_member q.group q.member k groups
+    ∙ ap (λ b. is_at (path_cmp q.member) k && b)
+    (sym (set.contains-from_list nat_list_cmp_total groups q.group) ∙ ap (λ t. set.contains t q.group) (sym is) ∙ set.contains-items s q.group)
+    ∙ sym (of_member q.group q.member k (set.items s))
+
+-- a member's pairs may be listed in any order
+pub listed_next : (list : List Membership) (k : List ℕ) (s : set.FinSet path_cmp) (rest : List Membership) (groups : List (List ℕ)) (new : List Membership)
+    → s ≡ set.from_list groups → new ≡ list ++ memberships_in k groups → set_of (new ++ rest) ≡ set_of (list ++ (pairs_of (k, s) ++ rest))
+listed_next list k s rest groups new is e = ap (λ l. set_of (l ++ rest)) e ∙ set.same_set memberships_total memberships_exact _ _ (λ q.
+    set.contains-from_list memberships_total ((list ++ memberships_in k groups) ++ rest) q
+    ∙ list_any-append (eq_by_cmp membership_cmp q) (list ++ memberships_in k groups) rest
+    ∙ ap (λ b. b || list_any (eq_by_cmp membership_cmp q) rest) (list_any-append (eq_by_cmp membership_cmp q) list (memberships_in k groups) ∙ ap (λ b. list_any (eq_by_cmp membership_cmp q) list || b) (among q k groups s is))
+    ∙ or_assoc (list_any (eq_by_cmp membership_cmp q) list) _ _
+    ∙ sym (set.contains-from_list memberships_total (list ++ (pairs_of (k, s) ++ rest)) q
+    ∙ list_any-append (eq_by_cmp membership_cmp q) list (pairs_of (k, s) ++ rest)
+    ∙ ap (λ b. list_any (eq_by_cmp membership_cmp q) list || b) (list_any-append (eq_by_cmp membership_cmp q) (pairs_of (k, s)) rest)))
+  where
+    or_assoc : (a b c : Bool) → ((a || b) || c) ≡ (a || (b || c))
+    or_assoc true b c = refl
+    or_assoc false b c = refl

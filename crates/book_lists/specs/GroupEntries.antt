@@ -11,6 +11,10 @@ use Rattle.book_lists.specs.declared.memberships.Membership.{Membership}
 abbrev pub GroupEntries : Type 0
 GroupEntries = List (List ℕ × set.FinSet path_cmp)
 
+-- the pairs of a member with some groups
+abbrev pub memberships_in : List ℕ → List (List ℕ) → List Membership
+memberships_in member groups = map (λ group. record { group = group; member = member }) groups
+
 -- the pairs of one member
 abbrev pub pairs_of : List ℕ × set.FinSet path_cmp → List Membership
 pairs_of e = map (λ group. record { group = group; member = e.0 }) (set.items e.1)

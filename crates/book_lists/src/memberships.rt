@@ -4,6 +4,7 @@ ghost use Rattle.std.specs.Prelude.{◌≡◌, ◌==◌, ◌++◌, ℕ, List, If
 ghost use Rattle.std.specs.FinSet as set;
 ghost use Rattle.std.specs.BTreeMap.{IsOrdered};
 ghost use Rattle.book_lists.specs.GroupEntries.{pairs_in, groups_at};
+ghost use Rattle.book_lists.specs.Memberships.{set_of};
 ghost use Rattle.book_lists.specs.PrincipalSets.{ListsAll, IsClosure};
 ghost use Rattle.book_lists.specs.Principals.{path_cmp};
 
@@ -123,6 +124,17 @@ impl Pairs {
         add_group(self.alloc, &mut self.groups, group, member)?;
         self.len = more;
         Ok(())
+    }
+
+    /// A list of the pairs. An error is want of memory.
+    pub fn list(&self) -> Result<Vec<Membership>, AllocError>
+        ensures { IfOk result (λ list. set_of list.items ≡ self.now) }
+    {
+        let mut list = Vec::new(self.alloc);
+        for (member, groups) in self.groups.iter() {
+            groups.append_memberships(member, &mut list)?;
+        }
+        Ok(list)
     }
 
     /// The principal, and each group to which a chain of these memberships leads from it.

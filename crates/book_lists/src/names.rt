@@ -9,7 +9,7 @@ use std::marker::Model;
 
 /// A name of one member of a collection: 1 to 64 bytes of ASCII letters, digits, `.`, `_` and `-`, not beginning with
 /// `.` (own profile). A contract sees its bytes.
-#[derive(Clone, Debug, Drop)]
+#[derive(Debug, Drop)]
 pub struct Name {
     text: String,
 }
@@ -24,6 +24,17 @@ impl Model for Name {
     ghost view = { λ n. string_bytes n.text };
 
     ghost invariant = { λ n. IsName (string_bytes n.text) };
+}
+
+/// A copy equals its source. An error is want of memory.
+impl Clone for Name {
+    ghost is_clone = { λ source copy. copy ≡ source };
+
+    fn clone(&self) -> Result<Name, AllocError> {
+        Ok(Name {
+            text: self.text.clone()?,
+        })
+    }
 }
 
 impl PartialEq for Name {

@@ -2,8 +2,10 @@
 
 ghost use Rattle.std.specs.Prelude.{◌≡◌, ◌++◌, ℕ, List, IfOk, OnOk, OnErr, not, map};
 ghost use Rattle.std.specs.FinSet as set;
+ghost use Rattle.book_lists.specs.GroupEntries.{memberships_in};
 ghost use Rattle.book_lists.specs.PrincipalSets.{ListsAll};
 
+use crate::memberships::Membership;
 use crate::principals::Principal;
 use std::alloc::{AllocError, Global};
 use std::collections::BTreeSet;
@@ -52,6 +54,23 @@ impl PrincipalSet {
         ensures err { OnErr result (self.new ≡ self.old) }
     {
         Ok(self.tree.insert(principal)?)
+    }
+
+    /// Adds the memberships of a member in these groups to a list.
+    pub(crate) fn append_memberships(
+        &self,
+        member: &Principal,
+        list: &mut Vec<Membership>,
+    ) -> Result<(), AllocError>
+        ensures { OnOk result ((groups : List (List ℕ)) × (self.now ≡ set.from_list groups)
+            × (list.new.items ≡ list.old.items ++ memberships_in member.now groups)) }
+    {
+        for group in self.tree.iter() {
+            let group = group.clone()?;
+            let member = member.clone()?;
+            list.push(Membership { group, member })?;
+        }
+        Ok(())
     }
 
     /// Adds the principals to a list, in byte order.

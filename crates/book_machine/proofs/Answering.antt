@@ -1,8 +1,8 @@
 -- A request is answered by its plan, and then by the edit of it.
-use Rattle.std.proofs.Common.{◌≡◌, ◌⊎◌, inl, inr, ℕ, List, Option, Some, None, Result, Ok, Err, refl, sym, ap, ◌∙◌, subst}
+use Rattle.std.proofs.Common.{◌≡◌, inl, inr, ℕ, List, Option, Some, None, Ok, Err, refl, sym, ap, ◌∙◌}
 use Rattle.book_office.specs.declared.edits.Edit.{Edit}
 use Rattle.book_office.specs.declared.keepers.StoreFault.{StoreFault}
-use Rattle.book_office.specs.declared.offices.Office.{Office}
+use Rattle.book_values.specs.declared.offices.Office.{Office}
 use Rattle.book_office.specs.Edits.{apply}
 use Rattle.book_office.specs.Keeping.{Standing, Edits, whole, broken}
 use Rattle.book_office.specs.Sound.{Fits}
@@ -15,7 +15,7 @@ use Rattle.book_machine.specs.declared.refusals.Refusal.{Refusal}
 use Rattle.book_machine.specs.declared.refusals.Refusal.TheVariants.{Unavailable}
 use Rattle.book_machine.specs.Asking.{Asks, MeetsPlan, HasPath, IsPlanned, Answers}
 use Rattle.book_machine.specs.Refusals.{refused}
-use Rattle.book_machine.specs.Steps.{IsPlan, apply_any, settled}
+use Rattle.book_machine.specs.Steps.{apply_any, settled}
 
 module _ (old new : Standing) (name : Option (List ℕ)) (request : Request) where
   -- a stop leaves no broken rows that it could not leave before

@@ -1,5 +1,5 @@
 -- No stage refuses a request as unavailable.
-use Rattle.std.proofs.Common.{◌≡◌, ◌⊎◌, ℕ, List, Bool, true, false, Option, Some, None, Result, Ok, Err, inl, inr, refl, sym, ap, is_some}
+use Rattle.std.proofs.Common.{◌≡◌, ℕ, List, Bool, true, false, Option, Some, None, Result, Ok, Err, inl, inr, sym, ap, is_some}
 use Rattle.std.specs.Prelude.{if◌then◌else◌}
 use Rattle.std.specs.FinMap.{get}
 use Rattle.book_lists.specs.Principals.{person_path}
@@ -10,8 +10,8 @@ use Rattle.book_values.specs.declared.paths.Path.{Path}
 use Rattle.book_values.specs.declared.paths.Path.TheVariants as path
 use Rattle.book_office.specs.Resources.{node_at}
 use Rattle.book_office.specs.declared.nodes.Node.{Node}
-use Rattle.book_office.specs.declared.offices.Office.{Office}
-use Rattle.book_machine.proofs.StepLaws.{granted_answer, GrantedAnswer, done, bad, full, not_success, planned_succeeds, same_refusal}
+use Rattle.book_values.specs.declared.offices.Office.{Office}
+use Rattle.book_machine.proofs.StepLaws.{granted_answer, done, bad, full, not_success, planned_succeeds, same_refusal}
 use Rattle.book_machine.specs.Laws.{StepsAreAvailable}
 use Rattle.book_machine.specs.Refusals.{refused}
 use Rattle.book_machine.specs.Stages.{◌>>=◌, check, caller_of, shape_of, put_text, no_body, target_of, at_node, at_unmapped, new_card, new_book_at, goes_on, ready_of, granted_plan}
@@ -24,7 +24,6 @@ use Rattle.book_machine.specs.declared.messages.Reply.{Reply}
 use Rattle.book_machine.specs.declared.messages.Request.{Request}
 use Rattle.book_machine.specs.declared.plans.Plan.{Plan}
 use Rattle.book_machine.specs.declared.plans.Ready.{Ready}
-use Rattle.book_machine.specs.declared.plans.Target.{Target}
 use Rattle.book_machine.specs.declared.refusals.Refusal.{Refusal}
 use Rattle.book_machine.specs.declared.refusals.Refusal.TheVariants.{UnknownCaller, NotAllowed, NoParent, Unavailable}
 

@@ -9,17 +9,15 @@ use Rattle.book_lists.specs.Names.{IsName}
 use Rattle.book_lists.specs.Principals.{person_path}
 use Rattle.book_lists.specs.declared.circles.Caller.{Caller}
 use Rattle.book_lists.specs.declared.circles.Caller.TheVariants.{Nobody, Known}
-use Rattle.book_values.specs.Paths.{kind_of}
 use Rattle.book_values.specs.declared.paths.Path.{Path}
 use Rattle.book_values.specs.declared.paths.Path.TheVariants as path
 use Rattle.book_office.proofs.FittingEdits.{put_card_fits, remove_card_fits, add_book_fits, remove_book_fits}
 use Rattle.book_office.specs.declared.edits.Edit.{Edit}
-use Rattle.book_office.specs.declared.edits.Edit.TheVariants.{PutCard, RemoveCard, AddBook, RemoveBook}
+use Rattle.book_office.specs.declared.edits.Edit.TheVariants.{PutCard, RemoveCard}
 use Rattle.book_office.specs.declared.nodes.Node.{Node}
-use Rattle.book_office.specs.declared.offices.Book.{Book}
-use Rattle.book_office.specs.declared.offices.Card.{Card}
-use Rattle.book_office.specs.declared.offices.Office.{Office}
-use Rattle.book_office.specs.declared.offices.TheConstants.{MAX_CARDS, MAX_BOOKS, MAX_CARD_BYTES, LAST_NUMBER}
+use Rattle.book_values.specs.declared.offices.Book.{Book}
+use Rattle.book_values.specs.declared.offices.Office.{Office}
+use Rattle.book_values.specs.declared.offices.TheConstants.{MAX_CARDS, MAX_CARD_BYTES, LAST_NUMBER}
 use Rattle.book_office.specs.Fitting.{HasRoom}
 use Rattle.book_office.specs.Resources.{node_of, node_at, members_at, book_resource, card_resource, card_in, number_of}
 use Rattle.book_office.specs.Sound.{IsSound, IsOwner, Fits}
@@ -57,7 +55,7 @@ either_true false b e = inr e
 below : (a b : ℕ) → nat_lt a b ≡ true → a < b
 below a b e = grind (arith, nat_tests)
 
-same_Some : {A : Type 0} (x y : A) → Some x ≡ Some y → x ≡ y
+pub same_Some : {A : Type 0} (x y : A) → Some x ≡ Some y → x ≡ y
 same_Some x y e = cc
 
 abbrev answered : {A : Type 0} → A → Result A Refusal
@@ -103,10 +101,10 @@ book_room (Some book) members mapped e =
     let both = both_true _ _ e in
     (book, refl, below _ _ both.0, elim (either_true mapped _ both.1) [ inl h ↦ inl h | inr h ↦ inr (below _ _ h) ])
 
-members_of_book : (o : Office) (b : List ℕ) (book : Book) → get o.books b ≡ Some book → members_at o (path.Book b) ≡ len book.cards
+pub members_of_book : (o : Office) (b : List ℕ) (book : Book) → get o.books b ≡ Some book → members_at o (path.Book b) ≡ len book.cards
 members_of_book o b book found = ap (λ x. unwrap_or (option_map (λ (book : Book). len book.cards) x) 0) found
 
-node_of_card : (o : Office) (b c : List ℕ) (book : Book) → get o.books b ≡ Some book
+pub node_of_card : (o : Office) (b c : List ℕ) (book : Book) → get o.books b ≡ Some book
     → node_at o (path.Card b c) ≡ option_map (node_of 0) (option_map (card_resource (number_of book c)) (get book.cards c))
 node_of_card o b c book found = ap (λ x. option_map (node_of 0) (option_and_then (λ (book : Book). card_in book c) x)) found
 
@@ -151,7 +149,7 @@ mapped_book o b there none =
     let gone : is_some (node_at o (path.Book b)) ≡ false = ap (λ x. is_some (option_map (node_of (members_at o (path.Book b))) (option_map book_resource x))) none in
     absurd (cc (sym there ∙ gone))
 
-no_book : (node : Option Book) (members : ℕ) → option_map (node_of members) (option_map book_resource node) ≡ None → node ≡ None
+pub no_book : (node : Option Book) (members : ℕ) → option_map (node_of members) (option_map book_resource node) ≡ None → node ≡ None
 no_book None members e = refl
 no_book (Some book) members e = absurd cc
 
@@ -159,13 +157,23 @@ is_there : {A : Type 0} (node : Option A) → (node ≡ None → ⊥) → is_som
 is_there None there = absurd (there refl)
 is_there (Some n) there = refl
 
-is_free : {A : Type 0} (node : Option A) → ((n : A) → node ≡ Some n → ⊥) → node ≡ None
+pub is_free : {A : Type 0} (node : Option A) → ((n : A) → node ≡ Some n → ⊥) → node ≡ None
 is_free None free = refl
 is_free (Some n) free = absurd (free n refl)
 
 -- what has passed the path stage at a path
-abbrev ready_at : Office → Path → Caller → List ℕ → Ready
+abbrev pub ready_at : Office → Path → Caller → List ℕ → Ready
 ready_at o p caller text = record { caller = caller; text = text; target = record { path = p; node = node_at o p } }
+
+pub record Passed (o : Office) (m : Method) (ready : Ready) : Type 0 where
+  pub caller : Caller
+  pub owned : IsOwner o (owner_of caller)
+  pub text : List ℕ
+  pub at : Path
+  pub named : HasPath (Some at)
+  pub free : node_at o at ≡ None → at_unmapped o m at ≡ Ok tt
+  pub there : (n : Node) → node_at o at ≡ Some n → goes_on m n.kind ≡ true
+  pub is : ready ≡ ready_at o at caller text
 
 module _ (o : Office) (sound : IsSound o) (caller : Caller) (owned : IsOwner o (owner_of caller)) (text : List ℕ) (u v : Unit {0}) (edit : Edit) where
   put_plan_fits : (p : Path) → HasPath (Some p) → body_of Put text ≡ Ok u → limits_of o Put (ready_at o p caller text).target ≡ Ok v
@@ -209,7 +217,7 @@ module _ (o : Office) (sound : IsSound o) (caller : Caller) (owned : IsOwner o (
       let none = no_book (get o.books b) _ (is_free (node_at o (path.Book b)) (λ n some. let h = there n some in absurd cc)) in
       subst (Fits o) (same_Some _ _ is) (add_book_fits o b (owner_of caller) sound none named owned (below _ _ (check_true _ _ v limits)))
 
-  plan_at_fits : (m : Method) (p : Path) → HasPath (Some p) → (node_at o p ≡ None → at_unmapped o m p ≡ Ok tt)
+  pub plan_at_fits : (m : Method) (p : Path) → HasPath (Some p) → (node_at o p ≡ None → at_unmapped o m p ≡ Ok tt)
       → ((n : Node) → node_at o p ≡ Some n → goes_on m n.kind ≡ true)
       → body_of m text ≡ Ok u → limits_of o m (ready_at o p caller text).target ≡ Ok v
       → (success m (ready_at o p caller text)).edit ≡ Some edit → Fits o edit
@@ -258,24 +266,41 @@ module _ (o : Office) (request : Request) where
   abbrev to_limits : Ready → Unit {0} → Result Plan Refusal
   to_limits ready _ = limits_of o request.method ready.target >>= to_success ready
 
+  -- what has passed the stages before the verdict
+  pub passed : (name : Option (List ℕ)) (ready : Ready) → HasPath request.path → ready_of o name request ≡ Ok ready → Passed o request.method ready
+  passed name ready named is =
+      let a = bind_ok (caller_of o name) to_shape ready is in
+      let b = bind_ok (shape_of request.method request.body) (to_target a.0) ready a.2 in
+      let c = bind_ok (target_of o request.method request.path) (to_ready a.0 b.0) ready b.2 in
+      let at = at_path o request.method request.path c.0 named c.1 in
+      record {
+        caller = a.0;
+        owned = caller_is_owner o name a.0 a.1;
+        text = b.0;
+        at = at.0;
+        named = at.1;
+        free = at.2.free;
+        there = at.2.there;
+        is = sym (same_Ok _ _ c.2) ∙ ap (λ t. record { caller = a.0; text = b.0; target = t }) at.2.is;
+      }
+
+  -- the edit of a success fits where body and limits have passed
+  pub success_fits : (ready : Ready) (edit : Edit) (u v : Unit {0}) → IsSound o → Passed o request.method ready
+      → body_of request.method ready.text ≡ Ok u → limits_of o request.method ready.target ≡ Ok v → (success request.method ready).edit ≡ Some edit → Fits o edit
+  success_fits ready edit u v sound past body limits is =
+      plan_at_fits o sound past.caller past.owned past.text u v edit request.method past.at past.named past.free past.there
+      (subst (λ (x : Ready). body_of request.method x.text ≡ Ok u) past.is body)
+      (subst (λ (x : Ready). limits_of o request.method x.target ≡ Ok v) past.is limits)
+      (subst (λ (x : Ready). (success request.method x).edit ≡ Some edit) past.is is)
+
   -- the edit of a plan fits
   pub plan_fits : (name : Option (List ℕ)) (p : Plan) (edit : Edit) → IsSound o → HasPath request.path → IsPlan o name request (Ok p) → p.edit ≡ Some edit → Fits o edit
   plan_fits name p edit sound named planned is =
       let r = planned_ready o request (ready_of o name request) p planned in
-      let a = bind_ok (caller_of o name) to_shape r.0 r.1 in
-      let b = bind_ok (shape_of request.method request.body) (to_target a.0) r.0 a.2 in
-      let c = bind_ok (target_of o request.method request.path) (to_ready a.0 b.0) r.0 b.2 in
       let d = bind_ok (body_of request.method r.0.text) (to_limits r.0) p r.2 in
       let e = bind_ok (limits_of o request.method r.0.target) (to_success r.0) p d.2 in
-      let at = at_path o request.method request.path c.0 named c.1 in
-      let ready : r.0 ≡ ready_at o at.0 a.0 b.0 =
-      sym (same_Ok _ _ c.2) ∙ ap (λ t. record { caller = a.0; text = b.0; target = t }) at.2.is in
       let plan : success request.method r.0 ≡ p = same_Ok _ _ e.2 in
-      let edit_is : (success request.method r.0).edit ≡ Some edit = ap (λ (x : Plan). x.edit) plan ∙ is in
-      plan_at_fits o sound a.0 (caller_is_owner o name a.0 a.1) b.0 d.0 e.0 edit request.method at.0 at.1 at.2.free at.2.there
-      (subst (λ (x : Ready). body_of request.method x.text ≡ Ok d.0) ready d.1)
-      (subst (λ (x : Ready). limits_of o request.method x.target ≡ Ok e.0) ready e.1)
-      (subst (λ (x : Ready). (success request.method x).edit ≡ Some edit) ready edit_is)
+      success_fits r.0 edit d.0 e.0 sound (passed name r.0 named r.1) d.1 e.1 (ap (λ (x : Plan). x.edit) plan ∙ is)
 
   -- the target of a request that has passed the path stage is told with what is mapped there
   pub ready_is_target : (name : Option (List ℕ)) (ready : Ready) → ready_of o name request ≡ Ok ready → IsTarget o ready.target

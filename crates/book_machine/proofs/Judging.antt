@@ -1,5 +1,5 @@
 -- The verdict, need by need.
-use Rattle.std.proofs.Common.{◌≡◌, ◌⊎◌, List, [], ◌∷◌, Bool, Option, Some, None, Result, Ok, Err, inl, inr, refl, sym, subst, ap, ◌∙◌, option_map, option_and_then, ℕ}
+use Rattle.std.proofs.Common.{◌≡◌, List, [], ◌∷◌, Bool, Option, Some, None, Result, Ok, Err, inl, inr, refl, subst, ap, ◌∙◌, option_map, option_and_then, ℕ}
 use Rattle.book_rights.specs.Needs.{listed_too}
 use Rattle.book_rights.specs.declared.privileges.Leaf.{Leaf}
 use Rattle.book_rights.specs.declared.places.Need.{Need}
@@ -7,10 +7,10 @@ use Rattle.book_lists.specs.Circles.{CircleOf}
 use Rattle.book_lists.specs.declared.entries.Here.{Here}
 use Rattle.book_values.specs.declared.paths.Path.{Path}
 use Rattle.book_office.specs.Levels.{effective_at}
-use Rattle.book_office.specs.Resources.{Resource, resource_at, node_of, node_at, members_at}
+use Rattle.book_office.specs.Resources.{Resource, resource_at, node_of, members_at}
 use Rattle.book_office.specs.declared.nodes.EffectiveEntry.{EffectiveEntry}
 use Rattle.book_office.specs.declared.nodes.Node.{Node}
-use Rattle.book_office.specs.declared.offices.Office.{Office}
+use Rattle.book_values.specs.declared.offices.Office.{Office}
 use Rattle.book_machine.specs.Verdicts.{here_of, owner_at, place_path, Judges, JudgesNeed, JudgesNeeds, IsTarget}
 use Rattle.book_machine.specs.declared.messages.Request.{Request}
 use Rattle.book_machine.specs.declared.plans.Target.{Target}

@@ -1,8 +1,10 @@
 pub mod Answering
+pub mod AnsweringAdoptions
 pub mod Asked
 pub mod AvailableSteps
 pub mod FittingPlans
 pub mod Judging
+pub mod Limits
 pub mod OnePlan
 pub mod Planning
 pub mod RunLemmas

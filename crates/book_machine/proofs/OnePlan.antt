@@ -1,6 +1,5 @@
 -- A request has one plan at most.
-use Rattle.std.proofs.Common.{◌≡◌, ◌⊎◌, ℕ, List, [], ◌∷◌, Bool, Option, Some, None, Result, Ok, Err, inl, inr, refl, sym, ap, ◌∙◌, subst}
-use Rattle.std.specs.Prelude.{◌↔◌}
+use Rattle.std.proofs.Common.{◌≡◌, ℕ, List, [], ◌∷◌, Bool, Option, Some, None, Result, Ok, Err, inl, inr, sym, ap, ◌∙◌, subst}
 use Rattle.book_rights.specs.declared.privileges.Leaf.{Leaf}
 use Rattle.book_rights.specs.declared.places.Need.{Need}
 use Rattle.book_lists.specs.declared.entries.Entry.{Entry}
@@ -12,7 +11,7 @@ use Rattle.book_lists.specs.Decisions.{IsAllowed, IsDenial}
 use Rattle.book_lists.proofs.OneAnswer.{one_circle, one_outcome}
 use Rattle.book_lists.proofs.OneLeaf.{denied_not_granted}
 use Rattle.book_office.specs.Levels.{effective_at}
-use Rattle.book_office.specs.declared.offices.Office.{Office}
+use Rattle.book_values.specs.declared.offices.Office.{Office}
 use Rattle.book_values.specs.declared.paths.Path.{Path}
 use Rattle.book_machine.specs.declared.messages.Request.{Request}
 use Rattle.book_machine.specs.declared.plans.Plan.{Plan}

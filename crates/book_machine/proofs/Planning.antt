@@ -1,10 +1,10 @@
 -- A plan, from what its stages tell.
-use Rattle.std.proofs.Common.{◌≡◌, ◌⊎◌, ℕ, List, Option, Some, None, Result, Ok, Err, inl, inr, refl, sym, subst, ap, ◌∙◌}
+use Rattle.std.proofs.Common.{◌≡◌, ℕ, List, Option, Some, None, Result, Ok, Err, inl, inr, refl, sym, subst, ap}
 use Rattle.std.specs.FinMap.{get}
 use Rattle.book_lists.specs.Callers.{IsCircle}
 use Rattle.book_lists.specs.Circles.{CircleOf}
 use Rattle.book_lists.specs.Names.{IsName}
-use Rattle.book_office.specs.declared.offices.Office.{Office}
+use Rattle.book_values.specs.declared.offices.Office.{Office}
 use Rattle.book_office.specs.Sound.{IsSound}
 use Rattle.book_machine.proofs.FittingPlans.{ready_is_target}
 use Rattle.book_machine.specs.Asking.{Meets, MeetsPlan}
@@ -15,7 +15,7 @@ use Rattle.book_machine.specs.declared.messages.Request.{Request}
 use Rattle.book_machine.specs.declared.plans.Plan.{Plan}
 use Rattle.book_machine.specs.declared.plans.Ready.{Ready}
 use Rattle.book_machine.specs.declared.refusals.Refusal.{Refusal}
-use Rattle.book_machine.specs.declared.refusals.Refusal.TheVariants.{NeedPrivileges, UnknownCaller, Unavailable}
+use Rattle.book_machine.specs.declared.refusals.Refusal.TheVariants.{UnknownCaller}
 
 -- a text that is no name is no person's
 pub strangers_are_unknown : (o : Office) (text : List ℕ) → IsSound o → (IsName text → ⊥) → caller_of o (Some text) ≡ Err UnknownCaller

@@ -1,6 +1,6 @@
 -- A run goes on by one step.
-use Rattle.std.proofs.Common.{◌≡◌, List, [], ◌∷◌, ◌++◌, refl, subst}
-use Rattle.book_office.specs.declared.offices.Office.{Office}
+use Rattle.std.proofs.Common.{List, [], ◌∷◌, ◌++◌, refl, subst}
+use Rattle.book_values.specs.declared.offices.Office.{Office}
 use Rattle.book_office.specs.Keeping.{Standing}
 use Rattle.book_machine.proofs.Answering.{never_broken}
 use Rattle.book_machine.specs.declared.messages.Reply.{Reply}

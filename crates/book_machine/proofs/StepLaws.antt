@@ -1,31 +1,24 @@
 -- What a step tells of the verdict.
 use Rattle.std.proofs.Common.{◌≡◌, ◌⊎◌, ℕ, ◌<◌, ◌≤◌, List, Bool, true, false, Option, Some, None, Result, Ok, Err, inl, inr, refl, sym, ap, ◌∙◌, subst, is_some, arith}
-use Rattle.std.specs.Prelude.{◌↔◌, if◌then◌else◌}
-use Rattle.std.specs.FinMap.{get}
 use Rattle.book_cards.specs.CardText.{card_fault}
 use Rattle.book_cards.specs.declared.fault.CardFault.{CardFault}
-use Rattle.book_lists.specs.Principals.{person_path}
-use Rattle.book_lists.specs.declared.circles.Caller.TheVariants.{Nobody, Known}
 use Rattle.book_rights.specs.declared.methods.Method.{Method}
 use Rattle.book_rights.specs.declared.methods.Method.TheVariants.{Get, Head, Options, Put, Propfind, Proppatch, Acl, Copy, Move, Delete, Mkcol, Report}
 use Rattle.book_values.specs.declared.paths.Path.{Path}
 use Rattle.book_values.specs.declared.paths.Path.TheVariants as path
 use Rattle.book_office.specs.Resources.{node_at}
 use Rattle.book_office.specs.declared.nodes.Node.{Node}
-use Rattle.book_office.specs.declared.offices.Office.{Office}
+use Rattle.book_values.specs.declared.offices.Office.{Office}
 use Rattle.book_machine.proofs.OnePlan.{one_plan, one_denial, verdicts_exclude}
-use Rattle.book_machine.specs.Laws.{RequestsHaveOneStep, IsPastVerdict, RequestsActWhereGranted, DenialsAreTold, RefusalsChangeNothing, StepsAreAvailable}
+use Rattle.book_machine.specs.Laws.{RequestsHaveOneStep, IsPastVerdict, RequestsActWhereGranted, DenialsAreTold, RefusalsChangeNothing}
 use Rattle.book_machine.specs.Refusals.{refused, status_of}
-use Rattle.book_machine.specs.Stages.{◌>>=◌, check, caller_of, shape_of, put_text, no_body, target_of, at_node, at_unmapped, new_card, new_book_at, goes_on, ready_of, bad_card, body_of, limits_at, limits_of, has_room, has_room_for_a_book, put_status, success, granted_plan}
-use Rattle.book_machine.specs.Steps.{IsDecided, IsPlannedFrom, IsPlan, apply_any, settled, Steps}
-use Rattle.book_machine.specs.Verdicts.{IsGranted, IsDenied}
-use Rattle.book_machine.specs.declared.messages.Body.{Body}
-use Rattle.book_machine.specs.declared.messages.Body.TheVariants as body
+use Rattle.book_machine.specs.Stages.{◌>>=◌, check, ready_of, bad_card, body_of, limits_at, limits_of, has_room, has_room_for_a_book, put_status, success, granted_plan}
+use Rattle.book_machine.specs.Steps.{IsDecided, IsPlannedFrom, IsPlan, settled}
+use Rattle.book_machine.specs.Verdicts.{IsDenied}
 use Rattle.book_machine.specs.declared.messages.Reply.{Reply}
 use Rattle.book_machine.specs.declared.messages.Request.{Request}
 use Rattle.book_machine.specs.declared.plans.Plan.{Plan}
 use Rattle.book_machine.specs.declared.plans.Ready.{Ready}
-use Rattle.book_machine.specs.declared.plans.Target.{Target}
 use Rattle.book_machine.specs.declared.refusals.Denial.{Denial}
 use Rattle.book_machine.specs.declared.refusals.Refusal.{Refusal}
 use Rattle.book_machine.specs.declared.refusals.Refusal.TheVariants.{BadRequest, UnknownCaller, BadCard, NeedPrivileges, NoProtectedAceConflict, NoInheritedAceConflict, LimitedNumberOfAces, NotSupportedPrivilege, RecognizedPrincipal, ValidSyncToken, NotFound, NotAllowed, NoParent, Overwrite, BodyOnMkcol, Full, Unavailable}
@@ -76,7 +69,7 @@ delete_limits o (path.Group n) mapped = inl refl
 delete_limits o (path.Book b) mapped = check_answers _
 delete_limits o (path.Card b c) mapped = check_answers (has_room (node_at o (path.Book b)) true)
 
-limits_answers : (o : Office) (m : Method) (p : Path) (mapped : Bool) → AnswersLimits o m p mapped
+pub limits_answers : (o : Office) (m : Method) (p : Path) (mapped : Bool) → AnswersLimits o m p mapped
 limits_answers o Get p mapped = inl refl
 limits_answers o Head p mapped = inl refl
 limits_answers o Options p mapped = inl refl
@@ -94,7 +87,7 @@ put_succeeds : (node : Option Node) → put_status node < 300
 put_succeeds None = omega arith
 put_succeeds (Some node) = omega arith
 
-succeeds : (m : Method) (ready : Ready) → (success m ready).reply.status < 300
+pub succeeds : (m : Method) (ready : Ready) → (success m ready).reply.status < 300
 succeeds Get ready = omega arith
 succeeds Head ready = omega arith
 succeeds Options ready = omega arith
@@ -186,7 +179,7 @@ one_step o name request reply other after later a b =
     (ap (λ (x : Reply × Office). x.0) settles, ap (λ (x : Reply × Office). x.1) settles)
 
 -- how a request that has passed caller, shape and path is decided
-decided : (o : Office) (name : Option (List ℕ)) (request : Request) (ready : Ready) (result : Result Plan Refusal)
+pub decided : (o : Office) (name : Option (List ℕ)) (request : Request) (ready : Ready) (result : Result Plan Refusal)
     → ready_of o name request ≡ Ok ready → IsPlan o name request result → IsDecided o request ready result
 decided o name request ready result is plan = subst (λ r. IsPlannedFrom o request r result) is plan
 

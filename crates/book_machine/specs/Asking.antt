@@ -3,7 +3,7 @@ use Rattle.std.specs.Prelude.{◌≡◌, ◌≢◌, ◌⊎◌, ℕ, List, Option
 use Rattle.book_office.specs.Edits.{apply}
 use Rattle.book_office.specs.Keeping.{Leftover, whole, Standing}
 use Rattle.book_office.specs.declared.edits.Edit.{Edit}
-use Rattle.book_office.specs.declared.offices.Office.{Office}
+use Rattle.book_values.specs.declared.offices.Office.{Office}
 use Rattle.book_values.specs.declared.paths.Path.{Path}
 use Rattle.book_values.specs.Paths.{IsPath}
 use Rattle.book_machine.specs.Refusals.{refused}

@@ -1,9 +1,13 @@
 -- What the definition of a step implies, in words of its own.
-use Rattle.std.specs.Prelude.{◌≡◌, ◌⊎◌, ◌↔◌, ℕ, ◌<◌, List, Option, Ok}
+use Rattle.std.specs.Prelude.{◌≡◌, ◌⊎◌, ◌↔◌, ℕ, ◌<◌, List, Option, Some, Ok}
 use Rattle.book_cards.specs.declared.fault.CardFault.{CardFault}
-use Rattle.book_office.specs.declared.offices.Office.{Office}
+use Rattle.book_values.specs.declared.offices.Office.{Office}
+use Rattle.book_office.specs.Edits.{apply}
+use Rattle.book_office.specs.Sound.{IsSound}
+use Rattle.book_office.specs.declared.edits.Edit.{Edit}
+use Rattle.book_machine.specs.Asking.{HasPath}
 use Rattle.book_machine.specs.Refusals.{refused}
-use Rattle.book_machine.specs.Stages.{ready_of}
+use Rattle.book_machine.specs.Stages.{ready_of, body_of, success}
 use Rattle.book_machine.specs.Steps.{Steps}
 use Rattle.book_machine.specs.Verdicts.{IsGranted, IsDenied}
 use Rattle.book_machine.specs.declared.messages.Reply.{Reply}
@@ -42,3 +46,10 @@ RefusalsChangeNothing = (o : Office) (name : Option (List ℕ)) (request : Reque
 -- a step is never unavailable, which is told where memory was refused or the store failed, and only there
 abbrev pub StepsAreAvailable : Type 0
 StepsAreAvailable = (o : Office) (name : Option (List ℕ)) (request : Request) (after : Office) → Steps o name request (refused Unavailable) after → ⊥
+
+-- a request that is granted, with a body that is accepted, is refused as full exactly where its edit would leave an Office beyond a limit
+abbrev pub RequestsAreFullAtLimits : Type 0
+RequestsAreFullAtLimits = (o : Office) (name : Option (List ℕ)) (request : Request) (ready : Ready) (edit : Edit) (reply : Reply) (after : Office)
+    → IsSound o → HasPath request.path → ready_of o name request ≡ Ok ready → IsGranted o request ready
+    → body_of request.method ready.text ≡ Ok tt → (success request.method ready).edit ≡ Some edit → Steps o name request reply after
+    → (reply ≡ refused Full) ↔ (IsSound (apply o edit) → ⊥)

@@ -1,3 +1,4 @@
+pub mod Adoptions
 pub mod AllowedMethods
 pub mod Asking
 pub mod Laws

@@ -1,6 +1,6 @@
 -- What the machine does for one request before its verdict, and after it.
-use Rattle.std.specs.Prelude.{◌≡◌, ℕ, ◌+◌, Bool, true, false, ◌&&◌, ◌||◌, List, [], nat_lt, is_some, Option, Some, None, option_map, option_and_then, unwrap_or, Result, Ok, Err, if◌then◌else◌, codes, ◌++◌}
-use Rattle.std.specs.FinMap.{get, len}
+use Rattle.std.specs.Prelude.{ℕ, Bool, true, false, ◌&&◌, ◌||◌, List, [], nat_lt, is_some, Option, Some, None, option_map, unwrap_or, Result, Ok, Err, if◌then◌else◌}
+use Rattle.std.specs.FinMap.{get}
 use Rattle.book_cards.specs.CardText.{card_fault}
 use Rattle.book_cards.specs.declared.fault.CardFault.{CardFault}
 use Rattle.book_lists.specs.declared.circles.Caller.{Caller}
@@ -9,16 +9,16 @@ use Rattle.book_lists.specs.Principals.{person_path}
 use Rattle.book_office.specs.declared.edits.Edit.{Edit}
 use Rattle.book_office.specs.declared.edits.Edit.TheVariants.{PutCard, RemoveCard, AddBook, RemoveBook}
 use Rattle.book_office.specs.declared.nodes.Node.{Node}
-use Rattle.book_office.specs.declared.offices.Office.{Office}
-use Rattle.book_office.specs.declared.offices.TheConstants.{MAX_BOOKS, MAX_CARDS, LAST_NUMBER}
+use Rattle.book_values.specs.declared.offices.Office.{Office}
+use Rattle.book_values.specs.declared.offices.TheConstants.{MAX_BOOKS, MAX_CARDS, LAST_NUMBER}
 use Rattle.book_values.specs.declared.paths.Kind.{Kind}
 use Rattle.book_values.specs.declared.paths.Kind.TheVariants as kind
 use Rattle.book_values.specs.declared.paths.Path.{Path}
 use Rattle.book_values.specs.declared.paths.Path.TheVariants as path
 use Rattle.book_values.specs.Paths.{kind_of}
-use Rattle.book_office.specs.Resources.{node_at, members_at}
+use Rattle.book_office.specs.Resources.{node_at}
 use Rattle.book_rights.specs.declared.methods.Method.{Method}
-use Rattle.book_rights.specs.declared.methods.Method.TheVariants.{Get, Head, Options, Put, Propfind, Proppatch, Acl, Copy, Move, Delete, Mkcol, Report}
+use Rattle.book_rights.specs.declared.methods.Method.TheVariants.{Get, Head, Options, Put, Delete, Mkcol}
 use Rattle.book_machine.specs.AllowedMethods.{allowed_of}
 use Rattle.book_machine.specs.declared.allowed_methods.AllowedMethods.TheVariants.{OfNewBook, OfNewCard}
 use Rattle.book_machine.specs.declared.messages.Body.{Body}

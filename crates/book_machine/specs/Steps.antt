@@ -2,7 +2,7 @@
 use Rattle.std.specs.Prelude.{◌≡◌, ◌⊎◌, ℕ, List, Option, Some, None, Result, Ok, Err}
 use Rattle.book_office.specs.Edits.{apply}
 use Rattle.book_office.specs.declared.edits.Edit.{Edit}
-use Rattle.book_office.specs.declared.offices.Office.{Office}
+use Rattle.book_values.specs.declared.offices.Office.{Office}
 use Rattle.book_machine.specs.Refusals.{refused}
 use Rattle.book_machine.specs.Stages.{ready_of, granted_plan}
 use Rattle.book_machine.specs.Verdicts.{IsGranted, IsDenied}

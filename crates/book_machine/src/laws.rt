@@ -1,6 +1,6 @@
 //! What the definition of a step implies, stated on public functions since only what a contract names is proved.
 
-ghost use Rattle.book_machine.specs.Laws.{DenialsAreTold, RefusalsChangeNothing, RequestsActWhereGranted, RequestsHaveOneStep, StepsAreAvailable};
+ghost use Rattle.book_machine.specs.Laws.{DenialsAreTold, RefusalsChangeNothing, RequestsActWhereGranted, RequestsAreFullAtLimits, RequestsHaveOneStep, StepsAreAvailable};
 
 /// In an Office a request has one reply, and leaves one Office.
 pub fn requests_have_one_step()
@@ -13,6 +13,12 @@ pub fn requests_have_one_step()
 pub fn requests_act_where_granted()
     ensures granted { RequestsActWhereGranted }
     ensures denied { DenialsAreTold }
+{}
+
+/// Where the needs are granted and the body is accepted, a request is refused as full (RFC 4918, section 11.5) exactly where
+/// its edit would leave an Office beyond a limit (own profile).
+pub fn requests_are_full_at_limits()
+    ensures { RequestsAreFullAtLimits }
 {}
 
 /// Every refusal leaves the Office as it was. None of a step is `Unavailable`, which tells want of memory or a failed store.

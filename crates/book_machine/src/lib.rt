@@ -1,11 +1,14 @@
 //! The machine: from a request to its reply (RFC 3744, section 6; RFC 4918).
 //!
 //! It stands on `book_office` and the crates below. The crate above uses that `Machine::serve` answers as the machine's step
-//! says, or that the store is unavailable with the Office as it was, and that `serve_all` is a run of such steps.
+//! says, or that the store is unavailable with the Office as it was; that `serve_all` is a run of such steps; and that
+//! `Machine::adopt` leaves the Office that adopts the policy, or tells why it does not.
 //!
-//! Read `messages`, `refusals` and `allowed_methods` first; then `plans`, `stages`, `entries_in_force` and `machine`.
+//! Read `messages`, `refusals` and `allowed_methods` first; then `plans`, `stages`, `entries_in_force` and `machine`; and
+//! `adoptions` by itself.
 #![tactic(auto)]
 
+mod adoptions;
 mod allowed_methods;
 mod entries_in_force;
 mod laws;
@@ -15,8 +18,12 @@ mod plans;
 mod refusals;
 mod stages;
 
+pub use adoptions::{AdoptFault, Adopted};
 pub use allowed_methods::AllowedMethods;
-pub use laws::{refusals_change_nothing, requests_act_where_granted, requests_have_one_step};
+pub use laws::{
+    refusals_change_nothing, requests_act_where_granted, requests_are_full_at_limits,
+    requests_have_one_step,
+};
 pub use machine::Machine;
 pub use messages::{Body, Content, Depth, Flag, Reply, Request};
 pub use plans::{Plan, Ready, Target};

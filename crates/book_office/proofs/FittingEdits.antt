@@ -2,17 +2,17 @@
 use Rattle.std.proofs.Common.{◌≡◌, inr, ℕ, ◌+◌, ◌≤◌, List, length, Option, Some, None, refl, sym, ap, ◌∙◌, subst, option_map, option_and_then, le_trans, arith}
 use Rattle.std.specs.FinMap.{get, insert, remove, len}
 use Rattle.book_lists.specs.Names.{IsName}
-use Rattle.book_office.specs.declared.offices.Book.{Book}
-use Rattle.book_office.specs.declared.offices.Card.{Card}
-use Rattle.book_office.specs.declared.offices.Office.{Office}
-use Rattle.book_office.specs.declared.offices.TheConstants.{MAX_CARD_BYTES, MAX_BOOKS, LAST_NUMBER}
+use Rattle.book_values.specs.declared.offices.Book.{Book}
+use Rattle.book_values.specs.declared.offices.Card.{Card}
+use Rattle.book_values.specs.declared.offices.Office.{Office}
+use Rattle.book_values.specs.declared.offices.TheConstants.{MAX_CARD_BYTES, MAX_BOOKS, LAST_NUMBER}
 use Rattle.book_office.specs.Edits.{changed_at, with_book, card_put, put_card, remove_card, new_book}
 use Rattle.book_office.specs.Fitting.{PutCardFits, RemoveCardFits, AddBookFits, RemoveBookFits}
 use Rattle.book_values.specs.Names.{NamesTo}
 use Rattle.book_office.specs.Sound.{IsMapped, IsOwner, IsSoundCard, IsSoundBook, IsSound}
 use Rattle.book_office.proofs.KnownPrincipals.{place_known, book_known}
 use Rattle.book_values.proofs.NameMapLaws.{len_put, len_removed}
-use Rattle.book_office.proofs.OneName.{some_apart, same_some, by_put, by_removed, by_changed, len_changed}
+use Rattle.book_values.proofs.OneName.{some_apart, same_some, by_put, by_removed, by_changed, len_changed}
 use Rattle.book_office.proofs.SoundBooks.{place_sound, removed_sound, card_named, new_book_sound}
 
 -- other books and another epoch make a sound Office where these are sound

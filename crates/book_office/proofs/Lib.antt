@@ -3,9 +3,9 @@ pub mod FittingEdits
 pub mod KnownPrincipals
 pub mod NewOffices
 pub mod OfficeEdits
-pub mod OneName
 pub mod ProtectedLists
 pub mod SameOffices
+pub mod SoundAdoptions
 pub mod SoundBooks
 pub mod StandingPlaces
 pub mod TouchedNames

@@ -6,11 +6,11 @@ use Rattle.book_lists.proofs.Pairing.{memberships_total, memberships_exact}
 use Rattle.book_lists.specs.Memberships.{membership_cmp}
 use Rattle.book_lists.specs.Names.{name_cmp}
 use Rattle.book_lists.specs.declared.memberships.Membership.{Membership}
-use Rattle.book_office.proofs.OneName.{some_apart}
+use Rattle.book_values.proofs.OneName.{some_apart}
 use Rattle.book_office.specs.Edits.{empty_office, empty_place}
 use Rattle.book_office.specs.Sound.{IsSound, IsSoundPlace}
-use Rattle.book_office.specs.declared.offices.Book.{Book}
-use Rattle.book_office.specs.declared.offices.Office.{Office}
+use Rattle.book_values.specs.declared.offices.Book.{Book}
+use Rattle.book_values.specs.declared.offices.Office.{Office}
 
 nothing_in : {V P : Type 0} (q : List ℕ) (v : V) → get (empty {X = V} {R = name_cmp}) q ≡ Some v → P
 nothing_in q v e = some_apart (sym e ∙ get-empty name_cmp q)

@@ -2,8 +2,8 @@
 use Rattle.std.proofs.Common.{◌≡◌, ℕ, List, Some, sym, ap, ◌∙◌}
 use Rattle.std.specs.FinMap.{get, insert}
 use Rattle.book_values.specs.Names.{NamesTo}
-use Rattle.book_office.specs.declared.offices.Book.{Book}
-use Rattle.book_office.specs.declared.offices.Office.{Office}
+use Rattle.book_values.specs.declared.offices.Book.{Book}
+use Rattle.book_values.specs.declared.offices.Office.{Office}
 use Rattle.book_office.specs.Edits.{changed_if, with_book}
 use Rattle.book_values.proofs.NameMapLaws.{insert_same}
 

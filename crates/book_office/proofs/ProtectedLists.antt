@@ -7,10 +7,10 @@ use Rattle.book_lists.specs.Decisions.{Decides}
 use Rattle.book_lists.specs.declared.entries.Entry.{Entry}
 use Rattle.book_lists.specs.declared.entries.Here.{Here}
 use Rattle.book_office.specs.declared.nodes.EffectiveEntry.{EffectiveEntry}
-use Rattle.book_office.specs.declared.offices.Book.{Book}
-use Rattle.book_office.specs.declared.offices.Card.{Card}
-use Rattle.book_office.specs.declared.offices.Office.{Office}
-use Rattle.book_office.specs.declared.offices.Place.{Place}
+use Rattle.book_values.specs.declared.offices.Book.{Book}
+use Rattle.book_values.specs.declared.offices.Card.{Card}
+use Rattle.book_values.specs.declared.offices.Office.{Office}
+use Rattle.book_values.specs.declared.offices.Place.{Place}
 use Rattle.book_values.specs.declared.paths.Path.{Path}
 use Rattle.book_values.specs.declared.paths.Path.TheVariants as path
 use Rattle.book_office.specs.Edits.{changed_at, set_list}
@@ -19,7 +19,7 @@ use Rattle.book_values.specs.Names.{NamesTo}
 use Rattle.book_office.specs.OwnLists.{ProtectedListsStay, ProtectedEntriesStay, ProtectedDecisionsStay, protected_in_force, entries_in_force}
 use Rattle.book_values.specs.Paths.{levels}
 use Rattle.book_office.specs.Resources.{Resource}
-use Rattle.book_office.proofs.OneName.{by_changed}
+use Rattle.book_values.proofs.OneName.{by_changed}
 
 read_changed : {V R : Type 0} (f : V → V) (read : V → R) → ((v : V) → read (f v) ≡ read v) → (r : Option V) → option_map read (option_map f r) ≡ option_map read r
 read_changed f read keeps None = refl

@@ -2,9 +2,9 @@
 use Rattle.std.proofs.Common.{◌≡◌, ◌≢◌, ℕ, List, [], Option, Some, None, option_map, option_and_then, unwrap_or, refl, sym, ap, ◌∙◌}
 use Rattle.std.specs.Cmp.Lexicographic.{nat_list_cmp_total}
 use Rattle.std.specs.FinMap.{get, same_map}
-use Rattle.book_office.specs.declared.offices.Book.{Book}
-use Rattle.book_office.specs.declared.offices.Card.{Card}
-use Rattle.book_office.specs.declared.offices.Place.{Place}
+use Rattle.book_values.specs.declared.offices.Book.{Book}
+use Rattle.book_values.specs.declared.offices.Card.{Card}
+use Rattle.book_values.specs.declared.offices.Place.{Place}
 use Rattle.book_values.specs.declared.paths.Kind.{Kind}
 use Rattle.book_values.specs.declared.paths.Kind.TheVariants as kind
 use Rattle.book_values.specs.declared.paths.Path.TheVariants as path
@@ -12,7 +12,7 @@ use Rattle.book_office.specs.Laws.{OfficeIsItsResources}
 use Rattle.book_values.specs.Names.{NamesTo}
 use Rattle.book_office.specs.Resources.{Resource, place_resource, card_resource, number_of, unless_mapped}
 use Rattle.book_values.proofs.NameMapLaws.{names_apart}
-use Rattle.book_office.proofs.OneName.{some_apart, same_some, by_option, where_some}
+use Rattle.book_values.proofs.OneName.{some_apart, same_some, by_option, where_some}
 
 -- the place or card that a resource tells
 abbrev told_place : Resource → Place

@@ -4,17 +4,17 @@ use Rattle.std.specs.FinMap.{get, empty, get-empty, len-empty}
 use Rattle.book_lists.specs.Names.{IsName}
 use Rattle.book_values.specs.Changes.{touched, AreNumbers}
 use Rattle.book_values.specs.declared.changes.Numbers.{Numbers}
-use Rattle.book_office.specs.declared.offices.Book.{Book}
-use Rattle.book_office.specs.declared.offices.Card.{Card}
-use Rattle.book_office.specs.declared.offices.Office.{Office}
-use Rattle.book_office.specs.declared.offices.TheConstants.{MAX_CARDS, LAST_NUMBER}
+use Rattle.book_values.specs.declared.offices.Book.{Book}
+use Rattle.book_values.specs.declared.offices.Card.{Card}
+use Rattle.book_values.specs.declared.offices.Office.{Office}
+use Rattle.book_values.specs.declared.offices.TheConstants.{MAX_CARDS, LAST_NUMBER}
 use Rattle.book_office.specs.Edits.{place_card, remove_card, new_book}
 use Rattle.book_office.specs.Fitting.{HasRoom}
 use Rattle.book_lists.specs.Names.{name_cmp}
 use Rattle.book_office.specs.Sound.{IsOwner, IsSoundCard, IsSoundBook}
 use Rattle.book_values.proofs.NameMapLaws.{len_put, len_removed}
 use Rattle.book_values.proofs.Touches.{touched_are}
-use Rattle.book_office.proofs.OneName.{some_apart, same_some, where_some, is_there, by_put, by_removed}
+use Rattle.book_values.proofs.OneName.{some_apart, same_some, where_some, is_there, by_put, by_removed}
 
 -- a book, sound before, whose name is touched
 module _ (o : Office) (book : Book) (name : List ℕ) (sound : IsSoundBook o book) where

@@ -1,10 +1,10 @@
 -- What holds of the resources and numbers of a sound Office.
 use Rattle.std.proofs.Common.{◌≡◌, ◌≢◌, inl, inr, ℕ, ◌≤◌, List, Option, Some, None, option_map, option_and_then, unwrap_or, refl, sym, ap, ◌∙◌, subst}
 use Rattle.std.specs.FinMap.{get}
-use Rattle.book_office.specs.declared.offices.Book.{Book}
-use Rattle.book_office.specs.declared.offices.Card.{Card}
-use Rattle.book_office.specs.declared.offices.Office.{Office}
-use Rattle.book_office.specs.declared.offices.Place.{Place}
+use Rattle.book_values.specs.declared.offices.Book.{Book}
+use Rattle.book_values.specs.declared.offices.Card.{Card}
+use Rattle.book_values.specs.declared.offices.Office.{Office}
+use Rattle.book_values.specs.declared.offices.Place.{Place}
 use Rattle.book_values.specs.declared.paths.Kind.{Kind}
 use Rattle.book_values.specs.declared.paths.Kind.TheVariants as kind
 use Rattle.book_values.specs.declared.paths.Path.{Path}
@@ -13,7 +13,7 @@ use Rattle.book_values.specs.Paths.{IsPath, parent_of, kind_of}
 use Rattle.book_office.specs.Places.{IsThere, HomesAreThere, StandsInPlace, ResourcesStandInPlace, RemovedNamesAreFree, HasNumber, NumbersAreFromOneToTheBooks, NumbersTellNames}
 use Rattle.book_office.specs.Resources.{Resource, place_resource, book_resource, card_resource, number_of, card_in, unless_mapped, removed_at}
 use Rattle.book_office.specs.Sound.{IsSound}
-use Rattle.book_office.proofs.OneName.{some_apart, same_some, where_some}
+use Rattle.book_values.proofs.OneName.{some_apart, same_some, where_some}
 use Rattle.book_office.proofs.SoundBooks.{card_named}
 
 pub homes_are_there : HomesAreThere

@@ -1,19 +1,29 @@
 -- Which names of a book get a new last change.
-use Rattle.std.proofs.Common.{◌≡◌, ◌≢◌, ◌⊎◌, inl, inr, ℕ, ◌+◌, zero, suc, List, [], ◌∷◌, fold, Contains, Some, option_map, bytes_eq, refl, sym, ap, ◌∙◌, subst, arith}
+use Rattle.std.proofs.Common.{◌≡◌, ◌≢◌, ◌⊎◌, inl, inr, ℕ, ◌+◌, zero, suc, List, [], ◌∷◌, true, false, cond, ◌||◌, fold, Contains, Option, Some, None, is_some, option_map, bytes_eq, refl, sym, ap, ◌∙◌, subst, arith}
 use Rattle.std.proofs.lemmas.Bool.{false_from_ne_true}
 use Rattle.std.proofs.lemmas.Slice.Eq.{bytes_eq-Decides}
-use Rattle.std.specs.FinMap.{get, get-empty}
+use Rattle.std.proofs.lemmas.Bool.{false≢true}
+use Rattle.std.proofs.lemmas.List.Elements.{Contains-append_left, Contains-append_right}
+use Rattle.std.specs.FinMap.{get, get-empty, keys, contains_key-keys}
+use Rattle.std.specs.List.{list_any}
+use Rattle.book_values.specs.Names.{NamesTo}
+use Rattle.book_values.specs.Paths.{book_path}
+use Rattle.book_policies.specs.declared.parts.PolicyBook.{PolicyBook}
+use Rattle.book_policies.specs.declared.parts.PolicyTables.{PolicyTables}
+use Rattle.book_adopting.specs.Adopting.{taken_over, adopt}
+use Rattle.book_adopting.specs.Sameness.{same_office}
 use Rattle.book_values.specs.Changes.{touched}
 use Rattle.book_values.specs.declared.changes.Numbers.{Numbers}
-use Rattle.book_office.specs.declared.edits.Edit.TheVariants.{PutCard, RemoveCard, AddBook, RemoveBook}
-use Rattle.book_office.specs.declared.offices.Book.{Book}
-use Rattle.book_office.specs.declared.offices.Card.{Card}
-use Rattle.book_office.specs.declared.offices.Office.{Office}
+use Rattle.book_office.specs.declared.edits.Edit.TheVariants.{PutCard, RemoveCard, AddBook, RemoveBook, Adopt}
+use Rattle.book_values.specs.declared.offices.Book.{Book}
+use Rattle.book_values.specs.declared.offices.Card.{Card}
+use Rattle.book_values.specs.declared.offices.Office.{Office}
 use Rattle.book_office.specs.Edits.{with_book, place_card, card_put, put_card, remove_card, new_book, touches}
 use Rattle.book_lists.specs.Names.{name_cmp}
 use Rattle.book_office.specs.Touches.{OtherBooksStay, names_in, NamesAreTouchedInTurn, Renumbers, TouchedNamesAloneChange, ChangesOneName, PutCardChangesOneName, RemoveCardChangesOneName, NewBookHasNoChanges, RemovedBookIsGone}
-use Rattle.book_values.proofs.NameMapLaws.{by_names}
-use Rattle.book_office.proofs.OneName.{some_apart, same_some, by_put, by_removed, by_changed, put_here, put_elsewhere, removed_here, removed_elsewhere, changed_here, changed_elsewhere}
+use Rattle.book_values.proofs.NameMapLaws.{by_names, by_same, same}
+use Rattle.book_adopting.proofs.Adoptions.{book_after, book_there}
+use Rattle.book_values.proofs.OneName.{some_apart, same_some, by_put, by_removed, by_changed, put_here, put_elsewhere, removed_here, removed_elsewhere, changed_here, changed_elsewhere}
 
 -- the elements of a list
 contains_first : {A : Type 0} (x : A) (xs : List A) (y : A) → y ≡ x → Contains (x ∷ xs) y
@@ -39,11 +49,42 @@ among (name ∷ names) q = by_names q name (λ _. Contains (name ∷ names) q �
       | inr h ↦ inr (λ c. elim (contains_cases name names q c) [ inl is ↦ apart is | inr later ↦ h later ])
     ])
 
+-- ---- adopting a policy
+
+book_adopted : (t : PolicyTables) (o : Office) (b : List ℕ) → get (adopt t o).books b ≡ book_after t (book_path b) (get t.books b) (get o.books b)
+book_adopted t o b = elim (same_office o (taken_over t o)) as (λ same.
+    get (cond same (taken_over t o) (record (taken_over t o) { epoch = (taken_over t o).epoch + 1 })).books b
+    ≡ book_after t (book_path b) (get t.books b) (get o.books b)) [ true ↦ book_there t o b | false ↦ book_there t o b ]
+
+book_kept : (t : PolicyTables) (at : List ℕ) (named : Option PolicyBook) (old new : Book) → book_after t at named (Some old) ≡ Some new → new.changes ≡ old.changes
+book_kept t at None old new e = ap (λ (book : Book). book.changes) (sym (same_some _ _ e))
+book_kept t at (Some named) old new e = ap (λ (book : Book). book.changes) (sym (same_some _ _ e))
+
+-- a name with a value is a key
+any_there : (b : List ℕ) (ks : List (List ℕ)) → list_any (same b) ks ≡ true → Contains ks b
+any_there b [] e = absurd (false≢true e)
+any_there b (k ∷ ks) e = by_same b k (λ t. (t || list_any (same b) ks) ≡ true → Contains (k ∷ ks) b)
+    (λ is _. contains_first k ks b is) (λ later. contains_later k ks b (any_there b ks later)) e
+
+key_there : {V : Type 0} (m : NamesTo V) (b : List ℕ) (v : V) → get m b ≡ Some v → Contains (keys m) b
+key_there m b v is = any_there b (keys m) (sym (contains_key-keys m b) ∙ ap is_some is)
+
+-- a name that is no key has no value
+no_key : {V : Type 0} (m : NamesTo V) (b : List ℕ) → (Contains (keys m) b → ⊥) → get m b ≡ None
+no_key m b h = elim (get m b) as (λ r. get m b ≡ r → r ≡ None) [
+  | None ↦ λ _. refl
+  | Some v ↦ λ is. absurd (h (key_there m b v is))
+] refl
+
 pub other_books_stay : OtherBooksStay
 other_books_stay o (PutCard b' c owner text) b h = changed_elsewhere o.books b' (put_card c owner text) b (apart_from_one b' b h)
 other_books_stay o (RemoveCard b' c) b h = changed_elsewhere o.books b' (remove_card c) b (apart_from_one b' b h)
 other_books_stay o (AddBook b' owner) b h = put_elsewhere o.books b' (new_book owner) b (apart_from_one b' b h)
 other_books_stay o (RemoveBook b') b h = removed_elsewhere o.books b' b (apart_from_one b' b h)
+other_books_stay o (Adopt t) b h =
+    let old = no_key o.books b (λ k. h (Contains-append_left (keys o.books) (keys t.books) b k)) in
+    let named = no_key t.books b (λ k. h (Contains-append_right (keys o.books) (keys t.books) b k)) in
+    book_adopted t o b ∙ (λ i. book_after t (book_path b) (named i) (old i)) ∙ sym old
 
 -- one touch in a book, seen from any book
 names_in_one : (b b' c : List ℕ) → b ≡ b' → names_in b ((b', c) ∷ []) ≡ c ∷ []
@@ -73,6 +114,8 @@ names_touched_in_turn o (AddBook b' owner) b old new none before = by_put o.book
 names_touched_in_turn o (RemoveBook b') b old new place before = by_removed o.books b' b (λ r. r ≡ Some new → new.changes ≡ old.changes)
     (λ _ after. some_apart (sym after))
     (λ _ after. ap (λ (book : Book). book.changes) (same_some _ _ (sym after ∙ before)))
+names_touched_in_turn o (Adopt t) b old new place before = λ after.
+    book_kept t (book_path b) (get t.books b) old new (ap (book_after t (book_path b) (get t.books b)) (sym before) ∙ sym (book_adopted t o b) ∙ after)
 
 -- names touched in turn
 in_turn_renumbers : (names : List (List ℕ)) (old : Numbers) → Renumbers old (fold touched old names) names

@@ -7,24 +7,19 @@ use Rattle.book_lists.specs.Memberships.{Memberships}
 use Rattle.book_lists.specs.declared.entries.Entry.{Entry}
 use Rattle.book_lists.specs.declared.memberships.Membership.{Membership}
 use Rattle.book_office.specs.declared.edits.Edit.{Edit}
-use Rattle.book_office.specs.declared.edits.Edit.TheVariants.{PutCard, RemoveCard, AddBook, RemoveBook}
-use Rattle.book_office.specs.declared.offices.Book.{Book}
-use Rattle.book_office.specs.declared.offices.Card.{Card}
-use Rattle.book_office.specs.declared.offices.Office.{Office}
-use Rattle.book_office.specs.declared.offices.Place.{Place}
+use Rattle.book_office.specs.declared.edits.Edit.TheVariants.{PutCard, RemoveCard, AddBook, RemoveBook, Adopt}
+use Rattle.book_values.specs.declared.offices.Book.{Book}
+use Rattle.book_values.specs.declared.offices.Card.{Card}
+use Rattle.book_values.specs.declared.offices.Office.{Office}
+use Rattle.book_values.specs.declared.offices.Place.{Place}
 use Rattle.book_values.specs.declared.paths.Path.{Path}
 use Rattle.book_values.specs.declared.paths.Path.TheVariants as path
 use Rattle.book_values.specs.Changes.{touched}
-use Rattle.book_values.specs.Names.{NamesTo}
+use Rattle.book_adopting.specs.Adopting.{taken_over, adopt}
 use Rattle.book_office.specs.Resources.{card_at}
-
--- the map with the value at a name changed; the same map where there is none
-abbrev pub changed_if : {V : Type 0} → (V → V) → NamesTo V → List ℕ → Option V → NamesTo V
-changed_if change m name None = m
-changed_if change m name (Some old) = insert m name (change old)
-
-abbrev pub changed_at : {V : Type 0} → (V → V) → NamesTo V → List ℕ → NamesTo V
-changed_at change m name = changed_if change m name (get m name)
+use Rattle.book_adopting.specs.Sameness.{same_office}
+pub use Rattle.book_values.specs.Fresh.{empty_place, new_book}
+pub use Rattle.book_values.specs.Names.{changed_if, changed_at}
 
 abbrev pub with_book : (Book → Book) → Office → List ℕ → Office
 with_book change o b = record o { books = changed_at change o.books b }
@@ -67,18 +62,6 @@ move_to (Some card) c book = place_card book c card
 
 abbrev pub move_card : List ℕ → List ℕ → List ℕ → List ℕ → Office → Office
 move_card from_book from_card to_book to_card o = with_book (move_to (card_at o from_book from_card) to_card) (with_book (remove_card from_card) o from_book) to_book
-
--- a place with an empty label and empty lists
-abbrev pub empty_place : Option (List ℕ) → Place
-empty_place owner = record { owner = owner; label = []; protected = []; own = [] }
-
--- MKCOL: a book with an empty label, empty lists, no cards and the number 0
-abbrev pub new_book : Option (List ℕ) → Book
-new_book owner = record {
-  place = empty_place owner;
-  cards = empty;
-  changes = record { number = 0; last = empty };
-}
 
 abbrev pub add_book : List ℕ → Option (List ℕ) → Office → Office
 add_book b owner o = record o { books = insert o.books b (new_book owner) }
@@ -150,13 +133,15 @@ apply o (PutCard b c owner text) = with_book (put_card c owner text) o b
 apply o (RemoveCard b c) = with_book (remove_card c) o b
 apply o (AddBook b owner) = add_book b owner o
 apply o (RemoveBook b) = remove_book b o
+apply o (Adopt t) = adopt t o
 
 -- which edits change access: the epoch rises with each of them, and with no other
-abbrev pub raises_epoch : Edit → Bool
-raises_epoch (PutCard b c owner text) = false
-raises_epoch (RemoveCard b c) = false
-raises_epoch (AddBook b owner) = false
-raises_epoch (RemoveBook b) = true
+abbrev pub raises_epoch : Office → Edit → Bool
+raises_epoch o (PutCard b c owner text) = false
+raises_epoch o (RemoveCard b c) = false
+raises_epoch o (AddBook b owner) = false
+raises_epoch o (RemoveBook b) = true
+raises_epoch o (Adopt t) = not (same_office o (taken_over t o))
 
 -- the names that an edit touches, each with its book, in order
 abbrev pub touches : Edit → List (List ℕ × List ℕ)
@@ -164,3 +149,4 @@ touches (PutCard b c owner text) = (b, c) ∷ []
 touches (RemoveCard b c) = (b, c) ∷ []
 touches (AddBook b owner) = []
 touches (RemoveBook b) = []
+touches (Adopt t) = []

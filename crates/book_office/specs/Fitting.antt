@@ -2,10 +2,13 @@
 use Rattle.std.specs.Prelude.{◌≡◌, ◌≢◌, ◌⊎◌, ℕ, ◌<◌, ◌≤◌, List, length, Option, Some, None}
 use Rattle.std.specs.FinMap.{get, len}
 use Rattle.book_lists.specs.Names.{IsName}
-use Rattle.book_office.specs.declared.edits.Edit.TheVariants.{PutCard, RemoveCard, AddBook, RemoveBook}
-use Rattle.book_office.specs.declared.offices.Book.{Book}
-use Rattle.book_office.specs.declared.offices.Office.{Office}
-use Rattle.book_office.specs.declared.offices.TheConstants.{MAX_CARD_BYTES, MAX_CARDS, MAX_BOOKS, LAST_NUMBER}
+use Rattle.book_office.specs.declared.edits.Edit.TheVariants.{PutCard, RemoveCard, AddBook, RemoveBook, Adopt}
+use Rattle.book_values.specs.declared.offices.Book.{Book}
+use Rattle.book_values.specs.declared.offices.Office.{Office}
+use Rattle.book_values.specs.declared.offices.TheConstants.{MAX_CARD_BYTES, MAX_CARDS, MAX_BOOKS, LAST_NUMBER}
+use Rattle.book_policies.specs.Policies.{IsPolicy}
+use Rattle.book_policies.specs.declared.parts.PolicyTables.{PolicyTables}
+use Rattle.book_adopting.specs.Adopting.{adopt}
 use Rattle.book_office.specs.Sound.{IsOwner, IsSound, Fits}
 
 -- a card of this name is there, or one more has room
@@ -32,3 +35,8 @@ abbrev pub RemoveBookFits : Type 0
 RemoveBookFits = (o : Office) (b : List ℕ) → IsSound o
     → get o.books b ≢ None → o.epoch < LAST_NUMBER
     → Fits o (RemoveBook b)
+
+abbrev pub AdoptFits : Type 0
+AdoptFits = (o : Office) (t : PolicyTables) → IsSound o → IsPolicy t
+    → len (adopt t o).books ≤ MAX_BOOKS → o.epoch < LAST_NUMBER
+    → Fits o (Adopt t)

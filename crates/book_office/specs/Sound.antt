@@ -9,12 +9,13 @@ use Rattle.book_lists.specs.declared.memberships.Membership.{Membership}
 use Rattle.book_lists.specs.Names.{IsName}
 use Rattle.book_lists.specs.Principals.{person_path, group_path}
 use Rattle.book_office.specs.declared.edits.Edit.{Edit}
-use Rattle.book_office.specs.declared.edits.Edit.TheVariants.{PutCard, RemoveCard, AddBook, RemoveBook}
-use Rattle.book_office.specs.declared.offices.Book.{Book}
-use Rattle.book_office.specs.declared.offices.Card.{Card}
-use Rattle.book_office.specs.declared.offices.Office.{Office}
-use Rattle.book_office.specs.declared.offices.Place.{Place}
-use Rattle.book_office.specs.declared.offices.TheConstants.{MAX_LABEL_BYTES, MAX_CARD_BYTES, MAX_ENTRIES, MAX_MEMBERS, MAX_CARDS, MAX_BOOKS, LAST_NUMBER}
+use Rattle.book_office.specs.declared.edits.Edit.TheVariants.{PutCard, RemoveCard, AddBook, RemoveBook, Adopt}
+use Rattle.book_values.specs.declared.offices.Book.{Book}
+use Rattle.book_values.specs.declared.offices.Card.{Card}
+use Rattle.book_values.specs.declared.offices.Office.{Office}
+use Rattle.book_values.specs.declared.offices.Place.{Place}
+use Rattle.book_values.specs.declared.offices.TheConstants.{MAX_CARD_BYTES, MAX_CARDS, MAX_BOOKS, LAST_NUMBER}
+use Rattle.book_values.specs.declared.limits.TheConstants.{MAX_LABEL_BYTES, MAX_ENTRIES, MAX_MEMBERS}
 use Rattle.book_office.specs.Edits.{apply, members_of}
 use Rattle.book_office.specs.Resources.{card_at}
 
@@ -94,6 +95,7 @@ HasPlace o (PutCard b c owner text) = get o.books b ≢ None
 HasPlace o (RemoveCard b c) = card_at o b c ≢ None
 HasPlace o (AddBook b owner) = get o.books b ≡ None
 HasPlace o (RemoveBook b) = get o.books b ≢ None
+HasPlace o (Adopt t) = Unit {0}
 
 -- an edit fits where it has its place, and leaves a sound Office
 pub record Fits (o : Office) (edit : Edit) : Type 0 where

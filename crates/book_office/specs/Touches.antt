@@ -1,26 +1,27 @@
 -- What an edit makes of the books and their change numbers (own profile).
-use Rattle.std.specs.Prelude.{◌≡◌, ◌≢◌, ℕ, ◌+◌, ◌<◌, ◌≤◌, List, [], ◌∷◌, length, map, filter, fold, Contains, Option, Some, None}
-use Rattle.std.specs.FinMap.{get}
+use Rattle.std.specs.Prelude.{◌≡◌, ◌≢◌, ℕ, ◌+◌, ◌<◌, ◌≤◌, List, [], ◌∷◌, ◌++◌, length, map, filter, fold, Contains, Option, Some, None}
+use Rattle.std.specs.FinMap.{get, keys}
 use Rattle.std.specs.Str.{bytes_eq}
 use Rattle.book_values.specs.declared.changes.Numbers.{Numbers}
 use Rattle.book_office.specs.declared.edits.Edit.{Edit}
-use Rattle.book_office.specs.declared.edits.Edit.TheVariants.{PutCard, RemoveCard, AddBook, RemoveBook}
-use Rattle.book_office.specs.declared.offices.Book.{Book}
-use Rattle.book_office.specs.declared.offices.Office.{Office}
+use Rattle.book_office.specs.declared.edits.Edit.TheVariants.{PutCard, RemoveCard, AddBook, RemoveBook, Adopt}
+use Rattle.book_values.specs.declared.offices.Book.{Book}
+use Rattle.book_values.specs.declared.offices.Office.{Office}
 use Rattle.book_office.specs.Edits.{apply, touches}
 use Rattle.book_values.specs.Changes.{touched}
 use Rattle.book_office.specs.Sound.{HasPlace}
 
 -- the books that an edit changes, adds or removes
-abbrev pub books_of : Edit → List (List ℕ)
-books_of (PutCard b c owner text) = b ∷ []
-books_of (RemoveCard b c) = b ∷ []
-books_of (AddBook b owner) = b ∷ []
-books_of (RemoveBook b) = b ∷ []
+abbrev pub books_of : Office → Edit → List (List ℕ)
+books_of o (PutCard b c owner text) = b ∷ []
+books_of o (RemoveCard b c) = b ∷ []
+books_of o (AddBook b owner) = b ∷ []
+books_of o (RemoveBook b) = b ∷ []
+books_of o (Adopt t) = keys o.books ++ keys t.books
 
 abbrev pub OtherBooksStay : Type 0
 OtherBooksStay = (o : Office) (edit : Edit) (b : List ℕ)
-    → (Contains (books_of edit) b → ⊥) → get (apply o edit).books b ≡ get o.books b
+    → (Contains (books_of o edit) b → ⊥) → get (apply o edit).books b ≡ get o.books b
 
 -- the names of one book among those that are touched, in order
 abbrev pub names_in : List ℕ → List (List ℕ × List ℕ) → List (List ℕ)

@@ -5,9 +5,9 @@ ghost use Rattle.std.specs.FinMap.{get};
 ghost use Rattle.book_office.specs.Edits.{add_book, apply, changed_at, put_card, remove_book, remove_card, with_text};
 
 use crate::edits::Edit;
-use crate::offices::{Book, Card, Office, Place};
+use book_adopting::adopt;
 use book_lists::{Name, Principal};
-use book_values::{Changes, Items, NameMap, Text};
+use book_values::{Book, Card, Changes, Items, NameMap, Office, Place, Text};
 use std::alloc::{AllocError, Global};
 
 /// Replaces the text of the card of a name, if there is one.
@@ -76,60 +76,59 @@ fn remove_card(book: &mut Book, name: &Name) -> Result<(), AllocError>
     Ok(())
 }
 
-impl Office {
-    /// Adds a book.
-    fn add_book(
-        &mut self,
-        alloc: Global,
-        name: &Name,
-        owner: &Option<Principal>,
-    ) -> Result<(), AllocError>
-        ensures ok { OnOk result (self.new ≡ add_book name.now owner.now self.old) }
-        ensures err { OnErr result (self.new ≡ self.old) }
-    {
-        let key = name.clone()?;
-        let owner = owner.clone()?;
-        let book = Book {
-            place: Place::empty(alloc, owner),
-            cards: NameMap::new(alloc),
-            changes: Changes::new(alloc),
-        };
-        self.books.insert(key, book)?;
-        Ok(())
-    }
+/// Adds a book.
+fn add_book(
+    alloc: Global,
+    office: &mut Office,
+    name: &Name,
+    owner: &Option<Principal>,
+) -> Result<(), AllocError>
+    ensures ok { OnOk result (office.new ≡ add_book name.now owner.now office.old) }
+    ensures err { OnErr result (office.new ≡ office.old) }
+{
+    let key = name.clone()?;
+    let owner = owner.clone()?;
+    let book = Book {
+        place: Place::empty(alloc, owner),
+        cards: NameMap::new(alloc),
+        changes: Changes::new(alloc),
+    };
+    office.books.insert(key, book)?;
+    Ok(())
+}
 
-    /// Removes a book, with its cards and removed names.
-    fn remove_book(&mut self, name: &Name) -> Result<(), AllocError>
-        ensures ok { OnOk result (self.new ≡ remove_book name.now self.old) }
-        ensures err { OnErr result (self.new ≡ self.old) }
-    {
-        let epoch = self.epoch.checked_add(1).ok_or(AllocError)?;
-        self.books.remove(name);
-        self.epoch = epoch;
-        Ok(())
-    }
+/// Removes a book, with its cards and removed names.
+fn remove_book(office: &mut Office, name: &Name) -> Result<(), AllocError>
+    ensures ok { OnOk result (office.new ≡ remove_book name.now office.old) }
+    ensures err { OnErr result (office.new ≡ office.old) }
+{
+    let epoch = office.epoch.checked_add(1).ok_or(AllocError)?;
+    office.books.remove(name);
+    office.epoch = epoch;
+    Ok(())
+}
 
-    /// Makes an edit. An error is want of memory, or that there is no further number; the Office is then as it was.
-    pub(crate) fn act(&mut self, alloc: Global, edit: &Edit) -> Result<(), AllocError>
-        ensures ok { OnOk result (self.new ≡ apply self.old edit.now) }
-        ensures err { OnErr result (self.new ≡ self.old) }
-    {
-        match edit {
-            Edit::PutCard {
-                book,
-                card,
-                owner,
-                text,
-            } => match self.books.get_mut(book) {
-                Some(book) => put_card(alloc, book, card, owner, text),
-                None => Ok(()),
-            },
-            Edit::RemoveCard { book, card } => match self.books.get_mut(book) {
-                Some(book) => remove_card(book, card),
-                None => Ok(()),
-            },
-            Edit::AddBook { book, owner } => self.add_book(alloc, book, owner),
-            Edit::RemoveBook { book } => self.remove_book(book),
-        }
+/// Makes an edit. An error is want of memory, or that there is no further number; the Office is then as it was.
+pub(crate) fn act(alloc: Global, office: &mut Office, edit: &Edit) -> Result<(), AllocError>
+    ensures ok { OnOk result (office.new ≡ apply office.old edit.now) }
+    ensures err { OnErr result (office.new ≡ office.old) }
+{
+    match edit {
+        Edit::PutCard {
+            book,
+            card,
+            owner,
+            text,
+        } => match office.books.get_mut(book) {
+            Some(book) => put_card(alloc, book, card, owner, text),
+            None => Ok(()),
+        },
+        Edit::RemoveCard { book, card } => match office.books.get_mut(book) {
+            Some(book) => remove_card(book, card),
+            None => Ok(()),
+        },
+        Edit::AddBook { book, owner } => add_book(alloc, office, book, owner),
+        Edit::RemoveBook { book } => remove_book(office, book),
+        Edit::Adopt { policy } => adopt(alloc, office, policy),
     }
 }

@@ -1,6 +1,7 @@
 //! The edits of an Office.
 
 use book_lists::{Name, Principal};
+use book_policies::Policy;
 use book_values::Text;
 
 /// A change of an Office. It fits an Office where what it names as present is mapped, what it adds is not mapped and has
@@ -28,5 +29,10 @@ pub enum Edit {
     /// DELETE of a book, with its cards and removed names. The epoch rises.
     RemoveBook {
         book: Name,
+    },
+    /// Adopting a policy (own profile): what it names is added, and labels, owners of books, members and lists become the
+    /// policy's. The epoch rises where the Office differs from before.
+    Adopt {
+        policy: Policy,
     },
 }

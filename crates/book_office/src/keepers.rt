@@ -3,13 +3,16 @@
 ghost use Rattle.std.specs.Prelude.{◌≡◌};
 ghost use Rattle.book_lists.specs.Callers.{IsCircle};
 ghost use Rattle.book_office.specs.declared.keepers.StoreFault.TheVariants.{Memory};
+ghost use Rattle.book_adopting.specs.Adopting.{adoption_of};
 ghost use Rattle.book_office.specs.Keeping.{Standing, Reads, Edits};
 ghost use Rattle.book_office.specs.Resources.{node_at, children_at};
 ghost use Rattle.book_office.specs.Levels.{lists_at};
 
 use crate::edits::Edit;
 use crate::nodes::{Listed, Lists, Node};
+use book_adopting::Adoption;
 use book_lists::{Caller, Circle, Pairs};
+use book_policies::Policy;
 use book_values::{Items, Path};
 use std::alloc::{AllocError, Global};
 
@@ -60,6 +63,10 @@ pub trait Keeper {
     /// The access epoch.
     fn epoch(&mut self) -> Result<u64, StoreFault>
         ensures { Reads (standing self.old) (standing self.new) result (λ o epoch. epoch ≡ o.epoch) };
+
+    /// What adopting a policy would do.
+    fn adoption(&mut self, alloc: Global, policy: &Policy) -> Result<Adoption, StoreFault>
+        ensures { Reads (standing self.old) (standing self.new) result (λ o told. told ≡ adoption_of policy.now o) };
 
     /// How often the store has failed. Takes no memory.
     fn failures(&self) -> u64

@@ -1,6 +1,6 @@
 //! What the definitions of an Office imply, stated on public functions since only what a contract names is proved.
 
-ghost use Rattle.book_office.specs.Fitting.{PutCardFits, RemoveCardFits, AddBookFits, RemoveBookFits};
+ghost use Rattle.book_office.specs.Fitting.{PutCardFits, RemoveCardFits, AddBookFits, RemoveBookFits, AdoptFits};
 ghost use Rattle.book_office.specs.Laws.{EpochLaw, OfficeIsItsResources};
 ghost use Rattle.book_office.specs.OwnLists.{ProtectedListsStay, ProtectedEntriesStay, ProtectedDecisionsStay};
 ghost use Rattle.book_office.specs.Places.{HomesAreThere, ResourcesStandInPlace, RemovedNamesAreFree, NumbersAreFromOneToTheBooks, NumbersTellNames};
@@ -18,6 +18,7 @@ pub fn edits_within_the_limits_fit()
     ensures remove_card { RemoveCardFits }
     ensures add_book { AddBookFits }
     ensures remove_book { RemoveBookFits }
+    ensures adopt { AdoptFits }
 {}
 
 /// Replacing an own list (RFC 3744, section 8.1) changes no protected list at any path. So what protected entries decide

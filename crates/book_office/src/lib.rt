@@ -1,4 +1,11 @@
-//! The Office: resources by path, and the keepers of one.
+//! What keeps an Office: what it has at each path, what each edit leaves, and the trait of its keepers.
+//!
+//! It stands on `book_values`, `book_policies` and `book_adopting`, whose types it names again, and on the crates below them.
+//! The crate above uses that a `Keeper` stands for a sound Office: each read tells what that Office has (`Reads`), and `act`
+//! leaves the edited Office or, on an error, the Office as it was (`Edits`); and that edits within the limits fit.
+//!
+//! Read `nodes`, `edits` and `keepers` first; then `reads`, `changing` and `memory_keepers`, which keep an Office in memory;
+//! then `views` and `laws`.
 #![tactic(auto)]
 
 mod changing;
@@ -7,11 +14,18 @@ mod keepers;
 mod laws;
 mod memory_keepers;
 mod nodes;
-mod offices;
 mod reads;
 mod views;
 
-pub use book_values::{Changes, Items, Kind, NameMap, Numbers, Path, PathFault, Text};
+pub use book_adopting::{Adoption, adopting_twice_is_adopting_once};
+pub use book_policies::{
+    BookPart, EntryPart, GroupPart, PersonPart, Policy, PolicyBook, PolicyEntry, PolicyTables,
+};
+pub use book_values::{
+    Book, Card, Changes, Items, Kind, LAST_NUMBER, MAX_BOOKS, MAX_CARD_BYTES, MAX_CARDS,
+    MAX_ENTRIES, MAX_LABEL_BYTES, MAX_MEMBERS, MAX_NAMED, NameMap, Numbers, Office, Path,
+    PathFault, Place, Text,
+};
 pub use edits::Edit;
 pub use keepers::{Keeper, StoreFault};
 pub use laws::{
@@ -20,8 +34,4 @@ pub use laws::{
 };
 pub use memory_keepers::MemoryKeeper;
 pub use nodes::{EffectiveEntry, Level, Listed, Lists, Node};
-pub use offices::{
-    Book, Card, LAST_NUMBER, MAX_BOOKS, MAX_CARD_BYTES, MAX_CARDS, MAX_ENTRIES, MAX_LABEL_BYTES,
-    MAX_MEMBERS, Office, Place,
-};
 pub use views::effective;

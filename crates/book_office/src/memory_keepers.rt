@@ -5,12 +5,15 @@ ghost use Rattle.book_office.specs.Edits.{empty_office, empty_place};
 ghost use Rattle.book_office.specs.Keeping.{in_memory};
 ghost use Rattle.book_office.specs.Sound.{IsSound};
 
+use crate::changing::act;
 use crate::edits::Edit;
 use crate::keepers::{Keeper, StoreFault};
 use crate::nodes::{Listed, Lists, Node};
-use crate::offices::{Office, Place};
+use crate::reads::{children, find, lists};
+use book_adopting::{Adoption, adoption_of};
 use book_lists::{Caller, Circle, Pairs, expand};
-use book_values::{Items, NameMap, Path};
+use book_policies::Policy;
+use book_values::{Items, NameMap, Office, Path, Place};
 use std::alloc::{AllocError, Global};
 use std::marker::Model;
 
@@ -24,8 +27,8 @@ pub struct MemoryKeeper {
 }
 
 impl Model for MemoryKeeper {
-    ghost use Rattle.book_office.specs.declared.offices.Office.{Office};
-    ghost use Rattle.book_office.specs.contracts.offices.Office as office_type;
+    ghost use Rattle.book_values.specs.declared.offices.Office.{Office};
+    ghost use Rattle.book_values.specs.contracts.offices.Office as office_type;
 
     ghost Value = { Office };
 
@@ -68,15 +71,15 @@ impl Keeper for MemoryKeeper {
     ghost standing = { λ k. in_memory k };
 
     fn find(&mut self, _alloc: Global, path: &Path) -> Result<Option<Node>, StoreFault> {
-        Ok(self.office.find(path)?)
+        Ok(find(&self.office, path)?)
     }
 
     fn children(&mut self, alloc: Global, path: &Path) -> Result<Items<Listed>, StoreFault> {
-        Ok(self.office.children(alloc, path)?)
+        Ok(children(alloc, &self.office, path)?)
     }
 
     fn lists(&mut self, alloc: Global, path: &Path) -> Result<Lists, StoreFault> {
-        Ok(self.office.lists(alloc, path)?)
+        Ok(lists(alloc, &self.office, path)?)
     }
 
     fn pairs(&mut self, _alloc: Global) -> Result<Pairs, StoreFault> {
@@ -91,12 +94,16 @@ impl Keeper for MemoryKeeper {
         Ok(self.office.epoch)
     }
 
+    fn adoption(&mut self, alloc: Global, policy: &Policy) -> Result<Adoption, StoreFault> {
+        Ok(adoption_of(alloc, &self.office, policy)?)
+    }
+
     fn failures(&self) -> u64 {
         0
     }
 
     fn act(&mut self, alloc: Global, edit: &Edit) -> Result<(), StoreFault> {
-        self.office.act(alloc, edit)?;
+        act(alloc, &mut self.office, edit)?;
         Ok(())
     }
 }

@@ -9,9 +9,8 @@ ghost use Rattle.book_office.specs.Resources.{book_resource, card_at, card_in, c
 ghost use Rattle.book_values.specs.declared.paths.Kind.TheVariants as kind;
 
 use crate::nodes::{Level, Listed, Lists, Node};
-use crate::offices::{Book, Card, Office, Place};
 use book_lists::{Entry, Name};
-use book_values::{Items, Kind, NameMap, Path};
+use book_values::{Book, Card, Items, Kind, NameMap, Office, Path, Place};
 use std::alloc::{AllocError, Global};
 
 /// The node of a resource other than a card.
@@ -150,138 +149,140 @@ fn copied(alloc: Global, list: Option<&Items<Entry>>) -> Result<Items<Entry>, Al
     }
 }
 
-impl Office {
-    /// The place at a path, if the path is mapped and is no card's.
-    fn place(&self, path: &Path) -> Option<&Place>
-        ensures { option_copied result ≡ place_at self.now path.now }
-    {
-        match path {
-            Path::Root => Some(&self.root),
-            Path::People => Some(&self.people),
-            Path::Groups => Some(&self.groups_home),
-            Path::Books => Some(&self.books_home),
-            Path::Person(name) => self.persons.get(name),
-            Path::Group(name) => self.groups.get(name),
-            Path::Book(name) => self.books.get(name).map(|book| &book.place),
-            Path::Card(_, _) => None,
-        }
+/// The place at a path, if the path is mapped and is no card's.
+fn place_of<'a>(office: &'a Office, path: &Path) -> Option<&'a Place>
+    ensures { option_copied result ≡ place_at office.now path.now }
+{
+    match path {
+        Path::Root => Some(&office.root),
+        Path::People => Some(&office.people),
+        Path::Groups => Some(&office.groups_home),
+        Path::Books => Some(&office.books_home),
+        Path::Person(name) => office.persons.get(name),
+        Path::Group(name) => office.groups.get(name),
+        Path::Book(name) => office.books.get(name).map(|book| &book.place),
+        Path::Card(_, _) => None,
     }
+}
 
-    /// The card of a name in a book, if there is one.
-    fn card(&self, book: &Name, name: &Name) -> Option<&Card>
-        ensures { option_copied result ≡ card_at self.now book.now name.now }
-    {
-        match self.books.get(book) {
-            Some(book) => book.cards.get(name),
+/// The card of a name in a book, if there is one.
+fn card_of<'a>(office: &'a Office, book: &Name, name: &Name) -> Option<&'a Card>
+    ensures { option_copied result ≡ card_at office.now book.now name.now }
+{
+    match office.books.get(book) {
+        Some(book) => book.cards.get(name),
+        None => None,
+    }
+}
+
+/// The resource at a path.
+pub(crate) fn find(office: &Office, path: &Path) -> Result<Option<Node>, AllocError>
+    ensures { IfOk result (λ node. node ≡ node_at office.now path.now) }
+{
+    match path {
+        Path::Root => Ok(Some(place_node(&office.root, Kind::Root, 0, 3)?)),
+        Path::People => Ok(Some(place_node(&office.people, Kind::Home, 0, office.persons.len())?)),
+        Path::Groups => Ok(Some(place_node(
+            &office.groups_home,
+            Kind::Home,
+            0,
+            office.groups.len(),
+        )?)),
+        Path::Books => Ok(Some(place_node(&office.books_home, Kind::Home, 0, office.books.len())?)),
+        Path::Person(name) => find_place(&office.persons, name, Kind::Person),
+        Path::Group(name) => find_place(&office.groups, name, Kind::Group),
+        Path::Book(name) => match office.books.get(name) {
+            Some(book) => Ok(Some(book_node(book)?)),
+            None => Ok(None),
+        },
+        Path::Card(book, name) => match office.books.get(book) {
+            Some(book) => find_card(book, name),
+            None => Ok(None),
+        },
+    }
+}
+
+/// The homes, in byte order of their names.
+fn list_homes(alloc: Global, office: &Office) -> Result<Items<Listed>, AllocError>
+    ensures { IfOk result (λ children. children ≡ listed_homes office.now) }
+{
+    let mut children = Vec::with_capacity(alloc, 3)?;
+    children.push(list_home(alloc, "books", &office.books_home, office.books.len())?)?;
+    children.push(list_home(alloc, "groups", &office.groups_home, office.groups.len())?)?;
+    children.push(list_home(alloc, "people", &office.people, office.persons.len())?)?;
+    Ok(Items::from_vec(children))
+}
+
+/// The children of a resource, in byte order of their names.
+pub(crate) fn children(
+    alloc: Global,
+    office: &Office,
+    path: &Path,
+) -> Result<Items<Listed>, AllocError>
+    ensures { IfOk result (λ children. children ≡ children_at office.now path.now) }
+{
+    match path {
+        Path::Root => list_homes(alloc, office),
+        Path::People => list_places(alloc, &office.persons, Kind::Person),
+        Path::Groups => list_places(alloc, &office.groups, Kind::Group),
+        Path::Books => list_books(alloc, &office.books),
+        Path::Book(name) => match office.books.get(name) {
+            Some(book) => list_cards(alloc, book),
+            None => Ok(Items::new(alloc)),
+        },
+        Path::Person(_) | Path::Group(_) | Path::Card(_, _) => Ok(Items::new(alloc)),
+    }
+}
+
+/// The protected list that stands at a path.
+fn protected_list<'a>(office: &'a Office, path: &Path) -> Option<&'a Items<Entry>>
+    ensures { unwrap_or (option_copied result) [] ≡ protected_at office.now path.now }
+{
+    match place_of(office, path) {
+        Some(place) => Some(&place.protected),
+        None => None,
+    }
+}
+
+/// The own list that stands at a path.
+fn own_list<'a>(office: &'a Office, path: &Path) -> Option<&'a Items<Entry>>
+    ensures { unwrap_or (option_copied result) [] ≡ own_at office.now path.now }
+{
+    if let Path::Card(book, name) = path {
+        return match card_of(office, book, name) {
+            Some(card) => Some(&card.own),
             None => None,
-        }
+        };
     }
+    match place_of(office, path) {
+        Some(place) => Some(&place.own),
+        None => None,
+    }
+}
 
-    /// The resource at a path.
-    pub(crate) fn find(&self, path: &Path) -> Result<Option<Node>, AllocError>
-        ensures { IfOk result (λ node. node ≡ node_at self.now path.now) }
-    {
-        match path {
-            Path::Root => Ok(Some(place_node(&self.root, Kind::Root, 0, 3)?)),
-            Path::People => Ok(Some(place_node(&self.people, Kind::Home, 0, self.persons.len())?)),
-            Path::Groups => Ok(Some(place_node(
-                &self.groups_home,
-                Kind::Home,
-                0,
-                self.groups.len(),
-            )?)),
-            Path::Books => Ok(Some(place_node(&self.books_home, Kind::Home, 0, self.books.len())?)),
-            Path::Person(name) => find_place(&self.persons, name, Kind::Person),
-            Path::Group(name) => find_place(&self.groups, name, Kind::Group),
-            Path::Book(name) => match self.books.get(name) {
-                Some(book) => Ok(Some(book_node(book)?)),
-                None => Ok(None),
-            },
-            Path::Card(book, name) => match self.books.get(book) {
-                Some(book) => find_card(book, name),
-                None => Ok(None),
-            },
-        }
-    }
+/// The lists at a path, empty where it is not mapped.
+fn level_of(alloc: Global, office: &Office, path: Path) -> Result<Level, AllocError>
+    ensures { IfOk result (λ level. level ≡ level_at office.now path) }
+{
+    let protected = copied(alloc, protected_list(office, &path))?;
+    let own = copied(alloc, own_list(office, &path))?;
+    Ok(Level {
+        path,
+        protected,
+        own,
+    })
+}
 
-    /// The homes, in byte order of their names.
-    fn list_homes(&self, alloc: Global) -> Result<Items<Listed>, AllocError>
-        ensures { IfOk result (λ children. children ≡ listed_homes self.now) }
-    {
-        let mut children = Vec::with_capacity(alloc, 3)?;
-        children.push(list_home(alloc, "books", &self.books_home, self.books.len())?)?;
-        children.push(list_home(alloc, "groups", &self.groups_home, self.groups.len())?)?;
-        children.push(list_home(alloc, "people", &self.people, self.persons.len())?)?;
-        Ok(Items::from_vec(children))
+/// The lists of the resource at a path, and of each ancestor.
+pub(crate) fn lists(alloc: Global, office: &Office, path: &Path) -> Result<Lists, AllocError>
+    ensures { IfOk result (λ lists. lists ≡ lists_at office.now path.now) }
+{
+    let paths = path.levels(alloc)?.into_vec();
+    let mut levels = Vec::with_capacity(alloc, paths.len())?;
+    for path in paths {
+        levels.push(level_of(alloc, office, path)?)?;
     }
-
-    /// The children of a resource, in byte order of their names.
-    pub(crate) fn children(&self, alloc: Global, path: &Path) -> Result<Items<Listed>, AllocError>
-        ensures { IfOk result (λ children. children ≡ children_at self.now path.now) }
-    {
-        match path {
-            Path::Root => self.list_homes(alloc),
-            Path::People => list_places(alloc, &self.persons, Kind::Person),
-            Path::Groups => list_places(alloc, &self.groups, Kind::Group),
-            Path::Books => list_books(alloc, &self.books),
-            Path::Book(name) => match self.books.get(name) {
-                Some(book) => list_cards(alloc, book),
-                None => Ok(Items::new(alloc)),
-            },
-            Path::Person(_) | Path::Group(_) | Path::Card(_, _) => Ok(Items::new(alloc)),
-        }
-    }
-
-    /// The protected list that stands at a path.
-    fn protected(&self, path: &Path) -> Option<&Items<Entry>>
-        ensures { unwrap_or (option_copied result) [] ≡ protected_at self.now path.now }
-    {
-        match self.place(path) {
-            Some(place) => Some(&place.protected),
-            None => None,
-        }
-    }
-
-    /// The own list that stands at a path.
-    fn own(&self, path: &Path) -> Option<&Items<Entry>>
-        ensures { unwrap_or (option_copied result) [] ≡ own_at self.now path.now }
-    {
-        if let Path::Card(book, name) = path {
-            return match self.card(book, name) {
-                Some(card) => Some(&card.own),
-                None => None,
-            };
-        }
-        match self.place(path) {
-            Some(place) => Some(&place.own),
-            None => None,
-        }
-    }
-
-    /// The lists at a path, empty where it is not mapped.
-    fn level(&self, alloc: Global, path: Path) -> Result<Level, AllocError>
-        ensures { IfOk result (λ level. level ≡ level_at self.now path) }
-    {
-        let protected = copied(alloc, self.protected(&path))?;
-        let own = copied(alloc, self.own(&path))?;
-        Ok(Level {
-            path,
-            protected,
-            own,
-        })
-    }
-
-    /// The lists of the resource at a path, and of each ancestor.
-    pub(crate) fn lists(&self, alloc: Global, path: &Path) -> Result<Lists, AllocError>
-        ensures { IfOk result (λ lists. lists ≡ lists_at self.now path.now) }
-    {
-        let paths = path.levels(alloc)?.into_vec();
-        let mut levels = Vec::with_capacity(alloc, paths.len())?;
-        for path in paths {
-            levels.push(self.level(alloc, path)?)?;
-        }
-        Ok(Lists {
-            levels: Items::from_vec(levels),
-        })
-    }
+    Ok(Lists {
+        levels: Items::from_vec(levels),
+    })
 }

@@ -6,3 +6,4 @@ pub mod Slashes
 pub mod Spelling
 pub mod Touches
 pub mod TreeMaps
+pub mod OneName

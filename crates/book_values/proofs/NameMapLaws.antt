@@ -1,11 +1,12 @@
 -- Laws of finite maps from names.
-use Rattle.std.proofs.Common.{◌≡◌, ℕ, ◌+◌, ◌-◌, ◌<◌, ◌≤◌, ◌⊎◌, inl, inr, List, Bool, true, false, cond, Option, Some, None, is_some, refl, sym, ap, ◌∙◌, subst, OnSome, arith}
+use Rattle.std.proofs.Common.{◌≡◌, ℕ, ◌+◌, ◌-◌, ◌<◌, ◌≤◌, ◌⊎◌, inl, inr, List, [], ◌∷◌, Bool, true, false, cond, Option, Some, None, is_some, refl, sym, ap, ◌∙◌, subst, OnSome, arith}
 use Rattle.std.specs.declared.cmp.Ordering.{Ordering}
 use Rattle.std.specs.declared.cmp.Ordering.TheVariants.{Less, Equal, Greater}
+use Rattle.std.specs.List.{AllZip}
 use Rattle.std.specs.Ordering.{is_eq}
 use Rattle.std.specs.Cmp.{eq_by_cmp_equiv}
 use Rattle.std.specs.Cmp.Lexicographic.{nat_list_cmp_total}
-use Rattle.std.specs.FinMap.{get, insert, remove, len, get-insert, get-remove, len-insert, len-remove, same_map, nat_cmp-IsAntisymmetric, slice_cmp-IsAntisymmetric, IsAntisymmetric}
+use Rattle.std.specs.FinMap.{get, insert, remove, len, entries, find, get-insert, get-remove, get-entries, len-insert, len-remove, same_map, nat_cmp-IsAntisymmetric, slice_cmp-IsAntisymmetric, IsAntisymmetric}
 use Rattle.book_lists.specs.Names.{name_cmp}
 use Rattle.book_values.specs.Names.{NamesTo}
 
@@ -80,3 +81,18 @@ module _ {V : Type 0} (m : NamesTo V) (k : List ℕ) where
 -- what is said where there is a value
 pub at_some : {B P : Type 0} (r : Option B) (x : B) → r ≡ Some x → OnSome r P → P
 at_some {P = P} r x e h = subst (λ o. OnSome o P) e h
+
+-- ---- copies
+
+copied_entries : {V : Type 0} (D : V → V → Type 0) → ((x y : V) → D x y → y ≡ x)
+    → (es fs : List (List ℕ × V)) → AllZip (λ p q. (q.0 ≡ p.0) × D p.1 q.1) es fs → fs ≡ es
+copied_entries D same [] [] h = refl
+copied_entries D same [] (f ∷ fs) h = absurd h
+copied_entries D same (e ∷ es) [] h = absurd h
+copied_entries D same (e ∷ es) (f ∷ fs) h = λ i. (h.0.0 i, same e.1 f.1 h.0.1 i) ∷ copied_entries D same es fs h.1 i
+
+-- where each copy of a value is the value, the copy of a map is the map
+pub copied_map : {V : Type 0} (D : V → V → Type 0) → ((x y : V) → D x y → y ≡ x)
+    → (m n : NamesTo V) → AllZip (λ p q. (q.0 ≡ p.0) × D p.1 q.1) (entries m) (entries n) → n ≡ m
+copied_map D same_value m n h = same_map nat_list_cmp_total names_apart n m (λ q.
+    get-entries n q ∙ ap (find name_cmp q) (copied_entries D same_value (entries m) (entries n) h) ∙ sym (get-entries m q))

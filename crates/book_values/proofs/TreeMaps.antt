@@ -6,7 +6,7 @@ use lib.Dec.{T}
 use Rattle.std.specs.Option.{option_map, IsSome, OnSome}
 use Rattle.std.specs.declared.cmp.Ordering.{Ordering}
 use Rattle.std.specs.declared.cmp.Ordering.TheVariants.{Less}
-use Rattle.std.specs.List.{AllByRecursion}
+use Rattle.std.specs.List.{AllByRecursion, AllZip}
 use Rattle.std.specs.Ordering.{is_lt}
 use Rattle.std.specs.Map.{lookup, keys_of}
 use Rattle.std.specs.BTreeMap.{is_at}
@@ -17,6 +17,13 @@ use Rattle.std.specs.FinMap.Entries.{below_all}
 both_true : (a b : Bool) → T a → T b → T (a && b)
 both_true true b p q = q
 both_true false b p q = p
+
+-- copies have the keys of their sources
+pub same_keys : {K V : Type 0} (D : V → V → Type 0) (es fs : List (K × V)) → AllZip (λ p q. (q.0 ≡ p.0) × D p.1 q.1) es fs → keys_of fs ≡ keys_of es
+same_keys D [] [] h = refl
+same_keys D [] (f ∷ fs) h = absurd h
+same_keys D (e ∷ es) [] h = absurd h
+same_keys D (e ∷ es) (f ∷ fs) h = λ i. h.0.0 i ∷ same_keys D es fs h.1 i
 
 module _ {K V : Type 0} (R : K → K → Ordering) where
   find_lookup : (es : List (K × V)) (q : K) → find R q es ≡ lookup (is_at (R q)) es

@@ -2,3 +2,4 @@ pub mod Changes
 pub mod Lending
 pub mod Names
 pub mod Paths
+pub mod Fresh

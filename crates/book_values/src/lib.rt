@@ -1,24 +1,29 @@
-//! The values of which an Office is made: lists, texts, maps by name, change numbers, and paths.
+//! The values of which an Office is made: lists, texts, maps by name, change numbers and paths; and the Office itself.
 //!
 //! It stands on `book_lists`. The crate above uses that contracts see each type as a plain value: `Items` as a list, `Text`
-//! as bytes, `NameMap` as a finite map, `Changes` as numbers, `Path` as itself; and that a path's text determines the path.
+//! as bytes, `NameMap` as a finite map, `Changes` as numbers, `Path` and `Office` as themselves; and that a path's text
+//! determines the path.
 //!
 //! Read `items`, `texts` and `name_maps` first; then `changes`, which is found by name and, through `number_maps`, in order
-//! of number; and `paths` by itself.
+//! of number; then `offices`; and `paths` by itself.
 #![tactic(auto)]
 
 mod changes;
 mod items;
 mod laws;
+mod limits;
 mod name_maps;
 mod number_maps;
+mod offices;
 mod paths;
 mod texts;
 
 pub use changes::{Changes, Numbers};
 pub use items::Items;
 pub use laws::{levels_go_up, texts_spell_one_path};
+pub use limits::{MAX_ENTRIES, MAX_LABEL_BYTES, MAX_MEMBERS, MAX_NAMED};
 pub use name_maps::NameMap;
+pub use offices::{Book, Card, LAST_NUMBER, MAX_BOOKS, MAX_CARD_BYTES, MAX_CARDS, Office, Place};
 pub use paths::{Kind, Path, PathFault};
 pub use texts::Text;
 

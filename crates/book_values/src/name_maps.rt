@@ -3,14 +3,14 @@
 ghost use Rattle.std.specs.Prelude.{◌≡◌, ℕ, List, None, OnOk, OnErr, IfOk};
 ghost use Rattle.std.specs.Option.{option_copied, option_copied_mut};
 ghost use Rattle.std.specs.FinMap as map;
-ghost use Rattle.std.specs.Map.Iter.{ShowsInOrder, deref_pair};
+ghost use Rattle.std.specs.Map.Iter.{GivesInOrder, ShowsInOrder, deref_pair};
 ghost use Rattle.std.specs.Borrow.{sem};
 ghost use Rattle.book_values.specs.Lending.{LendsValue};
 
 use book_lists::Name;
 use std::alloc::{AllocError, Global};
 use std::collections::BTreeMap;
-use std::collections::btree_map::Iter;
+use std::collections::btree_map::{IntoIter, Iter};
 use std::marker::Model;
 
 /// A map from names, seen as the finite map of its entries in byte order of the names.
@@ -35,6 +35,20 @@ impl<V> Model for NameMap<V> {
     ghost view = { λ a. map.from_entries a.tree.entries };
 
     ghost invariant = { λ a. IsOrdered name_cmp a.tree };
+}
+
+/// Name by name. Where each copy of a value is the value, the copy is the map. An error is want of memory.
+impl<V: Clone> Clone for NameMap<V> {
+    ghost use Rattle.std.specs.Prelude.{◌≡◌};
+    ghost use Rattle.std.specs.FinMap as map;
+    ghost use Rattle.std.specs.List.{AllZip};
+
+    ghost is_clone = { λ m n. AllZip (λ p q. (q.0 ≡ p.0) × V.is_clone p.1 q.1) (map.entries m) (map.entries n) };
+
+    fn clone(&self) -> Result<NameMap<V>, AllocError> {
+        let tree = self.tree.clone()?;
+        Ok(NameMap { tree })
+    }
 }
 
 impl<V> NameMap<V> {
@@ -88,6 +102,17 @@ impl<V> NameMap<V> {
         ensures removed { self.new ≡ map.remove self.old name.now }
     {
         self.tree.remove(name)
+    }
+
+    /// The entries by value, in byte order of the names. Takes no memory.
+    pub fn into_entries(self) -> IntoIter<Name, V>
+    where
+        V: Drop,
+        ensures entries { result ≡ map.entries self }
+        ensures runs { GivesInOrder (List ℕ × V) }
+    {
+        let NameMap { tree } = self;
+        tree.into_iter()
     }
 
     /// The entries, in byte order of the names. Takes no memory.

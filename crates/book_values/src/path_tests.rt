@@ -2,14 +2,14 @@
 
 use crate::{Kind, Path, PathFault, levels_go_up, texts_spell_one_path};
 use std::alloc::Global;
-use std::test::Fail;
+use std::process::Abort;
 
-fn at(alloc: Global, text: &str) -> Result<Path, Fail> {
-    Ok(Path::parse(alloc, text).ok().ok_or("no path")?)
+fn at(rt: &impl Abort, alloc: Global, text: &str) -> Path {
+    Path::parse(alloc, text).ok().expect(rt, "a path")
 }
 
 #[test]
-fn paths_are_spelled(rt: HostRuntime) -> Result<(), Fail> {
+fn paths_are_spelled(rt: HostRuntime) {
     let alloc = rt.alloc();
     let cases = [
         ("/", "/", "", Kind::Root),
@@ -34,24 +34,23 @@ fn paths_are_spelled(rt: HostRuntime) -> Result<(), Fail> {
         ("/books/law/law", "/books/law/law", "/books/law", Kind::Card),
     ];
     for (spelled, text, parent, kind) in cases {
-        let path = at(alloc, spelled)?;
-        let own = path.text(alloc)?;
+        let path = at(&rt, alloc, spelled);
+        let own = path.text(alloc).expect(&rt, "memory");
         assert!(rt; own.as_str() == text, "{spelled}");
         assert_eq!(rt; path.kind(), kind, "{spelled}");
-        let above = match path.parent()? {
-            Some(above) => above.text(alloc)?,
+        let above = match path.parent().expect(&rt, "memory") {
+            Some(above) => above.text(alloc).expect(&rt, "memory"),
             None => String::new(alloc),
         };
         assert!(rt; above.as_str() == parent, "{spelled}");
         path.known();
     }
-    Ok(())
 }
 
 #[test]
-fn other_texts_spell_no_path(rt: HostRuntime) -> Result<(), Fail> {
+fn other_texts_spell_no_path(rt: HostRuntime) {
     let long = "abcdefghijklmnopqrstuvwxyzABCDEFGHIJKLMNOPQRSTUVWXYZ0123456789._-";
-    let long = format!(in rt.alloc(); "/people/{long}")?;
+    let long = format!(in rt.alloc(); "/people/{long}").expect(&rt, "memory");
     let cases = [
         "",
         "people",
@@ -75,17 +74,17 @@ fn other_texts_spell_no_path(rt: HostRuntime) -> Result<(), Fail> {
         let answer = Path::parse(rt.alloc(), text);
         assert!(rt; matches!(answer, Err(PathFault::BadPath)), "{text:?}");
     }
-    Ok(())
 }
 
 #[test]
-fn paths_are_compared(rt: HostRuntime) -> Result<(), Fail> {
+fn paths_are_compared(rt: HostRuntime) {
     let alloc = rt.alloc();
-    let card = at(alloc, "/books/law/a.vcf")?;
-    assert!(rt; card == card.clone()? && card != at(alloc, "/books/law/b.vcf")?);
-    assert!(rt; at(alloc, "/people/ann")? != at(alloc, "/groups/ann")?);
-    assert!(rt; at(alloc, "/books/law")? == at(alloc, "/books/law/")?);
+    let card = at(&rt, alloc, "/books/law/a.vcf");
+    assert!(rt;
+        card == card.clone().expect(&rt, "memory") && card != at(&rt, alloc, "/books/law/b.vcf")
+    );
+    assert!(rt; at(&rt, alloc, "/people/ann") != at(&rt, alloc, "/groups/ann"));
+    assert!(rt; at(&rt, alloc, "/books/law") == at(&rt, alloc, "/books/law/"));
     texts_spell_one_path();
     levels_go_up();
-    Ok(())
 }

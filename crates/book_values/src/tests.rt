@@ -6,10 +6,12 @@ ghost use Rattle.std.specs.FinMap as map;
 use crate::{Changes, Items, NameMap, Text};
 use book_lists::Name;
 use std::alloc::{AllocError, Global};
-use std::test::Fail;
+use std::process::Abort;
 
-fn named(alloc: Global, text: &str) -> Result<Name, Fail> {
-    Ok(Name::parse(alloc, text)?.ok_or("no name")?)
+fn named(rt: &impl Abort, alloc: Global, text: &str) -> Name {
+    Name::parse(alloc, text)
+        .expect(rt, "memory")
+        .expect(rt, "a name")
 }
 
 /// A copy of a list is the list, where a copy of an item is the item.
@@ -46,39 +48,37 @@ fn same_texts(texts: &Items<Text>, others: &Items<Text>) -> bool
 }
 
 #[test]
-fn lists_keep_their_items(rt: HostRuntime) -> Result<(), Fail> {
+fn lists_keep_their_items(rt: HostRuntime) {
     let alloc = rt.alloc();
     let mut names = Items::new(alloc);
     assert_eq!(rt; names.len(), 0);
-    names.push(named(alloc, "ann")?)?;
-    names.push(named(alloc, "bob")?)?;
-    let copy = copied_names(&names)?;
+    names.push(named(&rt, alloc, "ann")).expect(&rt, "memory");
+    names.push(named(&rt, alloc, "bob")).expect(&rt, "memory");
+    let copy = copied_names(&names).expect(&rt, "memory");
     assert_eq!(rt; copy.len(), 2);
     assert!(rt; same_names(&copy, &names));
-    names.push(named(alloc, "ann")?)?;
+    names.push(named(&rt, alloc, "ann")).expect(&rt, "memory");
     assert!(rt; !same_names(&copy, &names));
     let texts = Items::from_vec(names.into_vec());
     for (name, text) in texts.as_slice().iter().zip(["ann", "bob", "ann"]) {
         assert_eq!(rt; name.text(), text);
     }
-    Ok(())
 }
 
 #[test]
-fn texts_keep_their_bytes(rt: HostRuntime) -> Result<(), Fail> {
+fn texts_keep_their_bytes(rt: HostRuntime) {
     let alloc = rt.alloc();
-    let text = Text::copy_of(alloc, "Zürich")?;
+    let text = Text::copy_of(alloc, "Zürich").expect(&rt, "memory");
     assert_eq!(rt; text.len(), 7);
     assert_eq!(rt; text.as_str(), "Zürich");
-    let copy = text.clone()?;
+    let copy = text.clone().expect(&rt, "memory");
     assert!(rt; same_text(&copy, &text));
-    assert!(rt; Text::copy_of(alloc, "Zurich")? != copy);
+    assert!(rt; Text::copy_of(alloc, "Zurich").expect(&rt, "memory") != copy);
     let again = Text::from_string(copy.into_string());
     assert!(rt; again == text);
     let mut texts = Items::new(alloc);
-    texts.push(again)?;
-    assert!(rt; same_texts(&copied_texts(&texts)?, &texts));
-    Ok(())
+    texts.push(again).expect(&rt, "memory");
+    assert!(rt; same_texts(&copied_texts(&texts).expect(&rt, "memory"), &texts));
 }
 
 /// The names of a map, in byte order, found in one pass.
@@ -93,49 +93,51 @@ fn names_of(alloc: Global, numbers: &NameMap<u64>) -> Result<Items<Name>, AllocE
 }
 
 #[test]
-fn maps_are_ordered_by_name(rt: HostRuntime) -> Result<(), Fail> {
+fn maps_are_ordered_by_name(rt: HostRuntime) {
     let alloc = rt.alloc();
     let mut map = NameMap::new(alloc);
     for (text, value) in [("b", 2), ("a", 1), ("B", 3), ("b-1", 4), ("b", 5)] {
-        let before = map.insert(named(alloc, text)?, value)?;
+        let before = map
+            .insert(named(&rt, alloc, text), value)
+            .expect(&rt, "memory");
         assert_eq!(rt; before, if value == 5 { Some(2) } else { None }, "{text}");
     }
     assert_eq!(rt; map.len(), 4);
-    let names = names_of(alloc, &map)?;
+    let names = names_of(alloc, &map).expect(&rt, "memory");
     for (name, text) in names.as_slice().iter().zip(["B", "a", "b", "b-1"]) {
         assert_eq!(rt; name.text(), text);
     }
-    if let Some(value) = map.get_mut(&named(alloc, "a")?) {
+    if let Some(value) = map.get_mut(&named(&rt, alloc, "a")) {
         *value = 7;
     }
-    assert_eq!(rt; map.get(&named(alloc, "a")?).copied(), Some(7));
-    assert_eq!(rt; map.remove(&named(alloc, "a")?), Some(7));
-    assert_eq!(rt; map.get(&named(alloc, "a")?).copied(), None);
-    assert_eq!(rt; map.remove(&named(alloc, "a")?), None);
+    assert_eq!(rt; map.get(&named(&rt, alloc, "a")).copied(), Some(7));
+    assert_eq!(rt; map.remove(&named(&rt, alloc, "a")), Some(7));
+    assert_eq!(rt; map.get(&named(&rt, alloc, "a")).copied(), None);
+    assert_eq!(rt; map.remove(&named(&rt, alloc, "a")), None);
     assert_eq!(rt; map.len(), 3);
-    Ok(())
 }
 
 #[test]
-fn changes_are_found_in_order_of_number(rt: HostRuntime) -> Result<(), Fail> {
+fn changes_are_found_in_order_of_number(rt: HostRuntime) {
     let alloc = rt.alloc();
     let mut changes = Changes::new(alloc);
     assert_eq!(rt; changes.number(), 0);
     for text in ["b", "a", "c", "b"] {
-        changes.touch(&named(alloc, text)?)?;
+        changes
+            .touch(&named(&rt, alloc, text))
+            .expect(&rt, "memory");
     }
     changes.known();
     assert_eq!(rt; changes.number(), 4);
-    assert_eq!(rt; changes.get(&named(alloc, "a")?), Some(2));
-    assert_eq!(rt; changes.get(&named(alloc, "b")?), Some(4));
-    assert_eq!(rt; changes.get(&named(alloc, "d")?), None);
-    let after = changes.after(alloc, 2)?;
+    assert_eq!(rt; changes.get(&named(&rt, alloc, "a")), Some(2));
+    assert_eq!(rt; changes.get(&named(&rt, alloc, "b")), Some(4));
+    assert_eq!(rt; changes.get(&named(&rt, alloc, "d")), None);
+    let after = changes.after(alloc, 2).expect(&rt, "memory");
     assert_eq!(rt; after.len(), 2);
     for (change, (number, text)) in after.as_slice().iter().zip([(3, "c"), (4, "b")]) {
         assert_eq!(rt; change.0, number, "{text}");
         assert_eq!(rt; change.1.text(), text);
     }
-    assert_eq!(rt; changes.after(alloc, 0)?.len(), 3);
-    assert_eq!(rt; changes.after(alloc, 4)?.len(), 0);
-    Ok(())
+    assert_eq!(rt; changes.after(alloc, 0).expect(&rt, "memory").len(), 3);
+    assert_eq!(rt; changes.after(alloc, 4).expect(&rt, "memory").len(), 0);
 }

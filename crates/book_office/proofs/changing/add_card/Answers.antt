@@ -2,7 +2,7 @@ use Rattle.std.proofs.Common.{◌≡◌, refl, ap, ◌∙◌, rules}
 use Rattle.std.specs.FinMap.{insert, remove}
 use Rattle.book_values.proofs.NameMapLaws.{undone}
 use Rattle.book_office.proofs.changing.add_card.Goals as goal
-use Rattle.book_office.specs.declared.offices.Card.{Card}
+use Rattle.book_values.specs.declared.offices.Card.{Card}
 
 pub returns-in-Err-clause-err : goal.returns-in-Err-clause-err
 returns-in-Err-clause-err c =

@@ -1,0 +1,16 @@
+use Rattle.std.proofs.Common.{◌≡◌, Some, option_map}
+use Rattle.std.specs.FinMap.{get}
+use Rattle.std.specs.List.{AllByRecursion}
+use Rattle.book_values.specs.declared.offices.Book.{Book}
+use Rattle.book_adopting.proofs.comparing.books_stand.Given as goal
+
+-- the places to come stand in the other exactly where all do
+abbrev pub invariant-loop-name : goal.invariant-loop-name
+invariant-loop-name l = record {
+  next : (goal.iterator-loop-name).can_next l.name-iterator;
+  finite : (goal.iterator-loop-name).is_finite l.name-iterator;
+  there : AllByRecursion (λ e. option_map (λ (book : Book). book.place) (get l.other e.0) ≡ Some e.1.place) l.name-iterator
+      → AllByRecursion (λ e. option_map (λ (book : Book). book.place) (get l.other e.0) ≡ Some e.1.place) l.initial.name-iterator;
+  all : AllByRecursion (λ e. option_map (λ (book : Book). book.place) (get l.other e.0) ≡ Some e.1.place) l.initial.name-iterator
+      → AllByRecursion (λ e. option_map (λ (book : Book). book.place) (get l.other e.0) ≡ Some e.1.place) l.name-iterator;
+}

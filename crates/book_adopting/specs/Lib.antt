@@ -1,0 +1,4 @@
+pub mod Adopting
+pub mod Laws
+pub mod Sameness
+pub mod TakingOver

@@ -1,0 +1,80 @@
+-- The parts of an Office that takes over a policy, as they are made aside: maps with entries put into them, in turn.
+use Rattle.std.specs.Prelude.{ℕ, ◌++◌, true, false, cond, List, [], ◌∷◌, Option, Some, None}
+use Rattle.std.specs.FinMap.{get, insert, empty}
+use Rattle.std.specs.FinSet as set
+use Rattle.book_lists.specs.Memberships.{Memberships}
+use Rattle.book_lists.specs.declared.memberships.Membership.{Membership}
+use Rattle.book_values.specs.Names.{NamesTo}
+use Rattle.book_values.specs.Paths.{book_path}
+use Rattle.book_policies.specs.Policies.{entries_at}
+use Rattle.book_policies.specs.declared.parts.PolicyBook.{PolicyBook}
+use Rattle.book_policies.specs.declared.parts.PolicyTables.{PolicyTables}
+use Rattle.book_values.specs.declared.offices.Book.{Book}
+use Rattle.book_values.specs.declared.offices.Office.{Office}
+use Rattle.book_values.specs.declared.offices.Place.{Place}
+use Rattle.book_adopting.specs.Adopting.{labelled, owned, or_else, is_group_of, mapped}
+use Rattle.book_values.specs.Names.{changed_at}
+
+-- a place with its lists taken over
+abbrev pub listed : PolicyTables → List ℕ → Place → Place
+listed t at place = record place {
+  protected = entries_at true at t.entries;
+  own = or_else (entries_at false at t.entries) place.own;
+}
+
+abbrev pub listed_book : PolicyTables → List ℕ → Book → Book
+listed_book t at book = record book { place = listed t at book.place }
+
+-- entries put into a map, in turn
+abbrev pub placed : {X V : Type 0} → (List ℕ → X → V) → NamesTo V → List (List ℕ × X) → NamesTo V
+placed make m [] = m
+placed make m (e ∷ es) = placed make (insert m e.0 (make e.0 e.1)) es
+
+-- persons and groups that the policy names, and those that are there
+abbrev pub new_place : PolicyTables → List ℕ → List ℕ → List ℕ → Place
+new_place t home name label = listed t (home ++ name) (labelled label None)
+
+abbrev pub relabelled : Option (List ℕ) → Place → Place
+relabelled None place = place
+relabelled (Some label) place = record place { label = label }
+
+abbrev pub old_place : PolicyTables → List ℕ → NamesTo (List ℕ) → List ℕ → Place → Place
+old_place t home labels name place = listed t (home ++ name) (relabelled (get labels name) place)
+
+-- books that the policy names, and those that are there, without their cards
+abbrev pub fresh_book : PolicyTables → List ℕ → PolicyBook → Book
+fresh_book t name named = listed_book t (book_path name) (owned named None)
+
+abbrev pub reowned : Option PolicyBook → Place → Place
+reowned None place = place
+reowned (Some named) place = record place { owner = named.owner; label = named.label }
+
+abbrev pub bare_book : PolicyTables → List ℕ → Book → Book
+bare_book t name book = record {
+  place = listed t (book_path name) (reowned (get t.books name) book.place);
+  cards = empty;
+  changes = record { number = 0; last = empty };
+}
+
+-- an Office without cards and their changes
+abbrev pub emptied : Book → Book
+emptied book = record { place = book.place; cards = empty; changes = record { number = 0; last = empty } }
+
+abbrev pub bare_books : NamesTo Book → NamesTo Book
+bare_books = mapped (λ name book. emptied book)
+
+abbrev pub bare : Office → Office
+bare o = record o { books = bare_books o.books }
+
+-- the cards and changes of books moved over
+abbrev pub with_contents : Book → Book → Book
+with_contents old book = record book { cards = old.cards; changes = old.changes }
+
+abbrev pub moved : NamesTo Book → List (List ℕ × Book) → NamesTo Book
+moved m [] = m
+moved m (e ∷ es) = moved (changed_at (with_contents e.1) m e.0) es
+
+-- the pairs of other groups added
+abbrev pub kept_pairs : PolicyTables → Memberships → List Membership → Memberships
+kept_pairs t pairs [] = pairs
+kept_pairs t pairs (q ∷ qs) = kept_pairs t (cond (is_group_of t q.group) pairs (set.insert pairs q)) qs

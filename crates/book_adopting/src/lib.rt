@@ -1,0 +1,15 @@
+//! Adopting a policy: what it makes of an Office.
+//!
+//! It stands on `book_policies` and the crates below. The crate above uses that `adopt` leaves exactly the Office that the
+//! definition says, or on an error the Office as it was; that `adoption` tells beforehand whether anything changes and how
+//! many books there are then; and that adopting twice is adopting once.
+//!
+//! Read `adopting` first, then `comparing`.
+#![tactic(auto)]
+
+mod adopting;
+mod comparing;
+mod laws;
+
+pub use adopting::{Adoption, adopt, adoption_of};
+pub use laws::adopting_twice_is_adopting_once;

@@ -1,0 +1,41 @@
+-- What the machine does to adopt a policy.
+use Rattle.std.specs.Prelude.{◌≡◌, ◌≢◌, ◌⊎◌, ◌↔◌, ℕ, ◌+◌, ◌<◌, Bool, ◌&&◌, nat_lt, nat_le, if◌then◌else◌, cond, IsTrue, Option, Some, None, Result, Ok, Err, OnOk}
+use Rattle.book_policies.specs.declared.parts.PolicyTables.{PolicyTables}
+use Rattle.book_adopting.specs.Adopting.{adopt}
+use Rattle.book_office.specs.Keeping.{Leftover, whole, Standing}
+use Rattle.book_office.specs.Sound.{IsSound}
+use Rattle.book_adopting.specs.declared.adopting.Adoption.{Adoption}
+use Rattle.book_values.specs.declared.offices.Office.{Office}
+use Rattle.book_values.specs.declared.offices.TheConstants.{MAX_BOOKS, LAST_NUMBER}
+use Rattle.book_machine.specs.declared.adoptions.AdoptFault.{AdoptFault}
+use Rattle.book_machine.specs.declared.adoptions.AdoptFault.TheVariants.{Full, Unavailable}
+use Rattle.book_machine.specs.declared.adoptions.Adopted.{Adopted}
+
+-- the Office that adopts the policy keeps every limit, and the epoch is not at its last value
+abbrev pub HasRoomFor : PolicyTables → Office → Type 0
+HasRoomFor t o = IsSound (adopt t o) × (o.epoch < LAST_NUMBER)
+
+-- the answer, and the Office after it
+abbrev pub Adopts : Office → PolicyTables → Result Adopted AdoptFault → Office → Type 0
+Adopts o t (Ok adopted) after = HasRoomFor t o × (after ≡ adopt t o) × (adopted.epoch ≡ after.epoch) × (IsTrue adopted.changed ↔ (after ≢ o))
+Adopts o t (Err Full) after = (HasRoomFor t o → ⊥) × (after ≡ o)
+Adopts o t (Err Unavailable) after = after ≡ o
+
+-- adopting a policy, with what a stop may leave
+pub record AnswersAdoption (old new : Standing) (t : PolicyTables) (result : Result Adopted AdoptFault) : Type 0 where
+  pub was_honest : new.honest → old.honest
+  pub adopted : new.honest → (o : Office) → old.stands o → (after : Office) × new.stands after × Adopts o t result after
+  pub left : new.honest → (o : Office) → old.stands o → (x : Leftover) → new.left x
+      → old.left x ⊎ (HasRoomFor t o × (x ≡ whole (adopt t o)))
+  pub left_made : new.honest → OnOk result ((o : Office) → old.stands o → (x : Leftover) → new.left x → x ≡ whole (adopt t o))
+  pub quiet : (result ≡ Err Unavailable) ⊎ (new.failures ≡ old.failures)
+
+-- the answer where there is room, by the epoch before and what adopting would do
+abbrev pub epoch_after : Bool → ℕ → ℕ
+epoch_after changed epoch = cond changed (epoch + 1) epoch
+
+abbrev pub adopted_by : ℕ → Adoption → Option Adopted
+adopted_by epoch adoption =
+    if nat_lt epoch LAST_NUMBER && nat_le adoption.books MAX_BOOKS
+    then Some (record { changed = adoption.changed; epoch = epoch_after adoption.changed epoch })
+    else None

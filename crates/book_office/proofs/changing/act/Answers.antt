@@ -1,0 +1,33 @@
+use Rattle.std.proofs.lemmas.Result.{on_ok_weaker, on_err_weaker}
+use Rattle.book_office.specs.Edits.{put_card, remove_card}
+use Rattle.book_values.proofs.NameMapLaws.{at_some}
+use Rattle.book_office.proofs.OfficeEdits.{edited, kept}
+use Rattle.book_office.proofs.changing.act.Goals as goal
+
+pub returns-in-Some-clause-ok : goal.returns-in-Some-clause-ok
+returns-in-Some-clause-ok c = rw c.in-PutCard.is (on_ok_weaker c.put_card.result
+    (edited c.args.office.now c.in-PutCard.book (put_card c.in-PutCard.card c.in-PutCard.owner c.in-PutCard.text)
+    c.in-Some.book.now c.put_card.new.book (c.get_mut.follows.lender c.put_card.new.book) c.in-Some.ensures.value
+    (at_some c.get_mut.result _ c.in-Some.is (c.get_mut.follows.holds c.put_card.new.book)))
+    c.put_card.ensures.ok)
+
+pub returns-in-Some-clause-err : goal.returns-in-Some-clause-err
+returns-in-Some-clause-err c = on_err_weaker c.put_card.result
+    (kept c.args.office.now c.in-PutCard.book
+    c.in-Some.book.now c.put_card.new.book (c.get_mut.follows.lender c.put_card.new.book) c.in-Some.ensures.value
+    (at_some c.get_mut.result _ c.in-Some.is (c.get_mut.follows.holds c.put_card.new.book)))
+    c.put_card.ensures.err
+
+pub returns-in-Some-get_mut-clause-ok : goal.returns-in-Some-get_mut-clause-ok
+returns-in-Some-get_mut-clause-ok c = rw c.in-RemoveCard.is (on_ok_weaker c.remove_card.result
+    (edited c.args.office.now c.in-RemoveCard.book (remove_card c.in-RemoveCard.card)
+    c.in-Some-get_mut.book.now c.remove_card.new.book (c.get_mut-in-RemoveCard.follows.lender c.remove_card.new.book) c.in-Some-get_mut.ensures.value
+    (at_some c.get_mut-in-RemoveCard.result _ c.in-Some-get_mut.is (c.get_mut-in-RemoveCard.follows.holds c.remove_card.new.book)))
+    c.remove_card.ensures.ok)
+
+pub returns-in-Some-get_mut-clause-err : goal.returns-in-Some-get_mut-clause-err
+returns-in-Some-get_mut-clause-err c = on_err_weaker c.remove_card.result
+    (kept c.args.office.now c.in-RemoveCard.book
+    c.in-Some-get_mut.book.now c.remove_card.new.book (c.get_mut-in-RemoveCard.follows.lender c.remove_card.new.book) c.in-Some-get_mut.ensures.value
+    (at_some c.get_mut-in-RemoveCard.result _ c.in-Some-get_mut.is (c.get_mut-in-RemoveCard.follows.holds c.remove_card.new.book)))
+    c.remove_card.ensures.err

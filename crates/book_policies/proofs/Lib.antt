@@ -1,0 +1,6 @@
+pub mod Folds
+pub mod Faults
+pub mod Lists
+pub mod Members
+pub mod Names
+pub mod Paths

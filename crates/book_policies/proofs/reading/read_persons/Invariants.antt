@@ -1,0 +1,14 @@
+use Rattle.std.proofs.Common.{◌≡◌, length, map}
+use Rattle.std.specs.Vec.Iter.{into_iter_items, into_iter_len}
+use Rattle.book_policies.specs.Policies.{added, named_person}
+use Rattle.book_policies.specs.Reading.{PersonsFit}
+use Rattle.book_policies.proofs.reading.read_persons.Given as goal
+
+-- the parts to come fit after those so far exactly where all fit, and the map with those to come is that of all
+abbrev pub invariant-loop-part : goal.invariant-loop-part
+invariant-loop-part l = record {
+  fits : PersonsFit l.persons (into_iter_items l.part-iterator) → PersonsFit l.initial.persons (into_iter_items l.initial.part-iterator);
+  fit : PersonsFit l.initial.persons (into_iter_items l.initial.part-iterator) → PersonsFit l.persons (into_iter_items l.part-iterator);
+  parts : added l.persons (map named_person (into_iter_items l.part-iterator)) ≡ added l.initial.persons (map named_person (into_iter_items l.initial.part-iterator));
+  count : into_iter_len l.part-iterator ≡ length (into_iter_items l.part-iterator);
+}

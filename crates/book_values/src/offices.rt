@@ -1,0 +1,98 @@
+//! The Office: everything that is kept, by kind of resource.
+
+ghost use Rattle.std.specs.Prelude.{◌≡◌};
+ghost use Rattle.book_values.specs.Fresh.{empty_place};
+
+use crate::changes::Changes;
+use crate::items::Items;
+use crate::name_maps::NameMap;
+use crate::texts::Text;
+use book_lists::{Entry, Pairs, Principal};
+use std::alloc::Global;
+
+/// The most bytes of a card's text (own profile).
+pub const MAX_CARD_BYTES: usize = 65_536;
+
+/// The most cards of a book (own profile).
+pub const MAX_CARDS: usize = 10_000;
+
+/// The most books of an Office (own profile).
+pub const MAX_BOOKS: usize = 1_000;
+
+/// The last change number and the last epoch: 2^53 - 1, the greatest whole number that every JSON reader keeps.
+pub const LAST_NUMBER: u64 = 9_007_199_254_740_991;
+
+/// A resource other than a card: its owner, if it has one, its label (`displayname`, RFC 4918, section 15.2), and its
+/// protected and own lists of entries (RFC 3744, section 5.5), each in stored order.
+#[derive(Debug, Drop)]
+pub struct Place {
+    /// The person or group that owns it.
+    pub owner: Option<Principal>,
+    /// At most 256 bytes.
+    pub label: Text,
+    /// The entries that a policy protects, at most 64.
+    pub protected: Items<Entry>,
+    /// The entries that an ACL request replaces, at most 64.
+    pub own: Items<Entry>,
+}
+
+impl Place {
+    /// A place with an empty label and empty lists. Takes no memory.
+    pub fn empty(alloc: Global, owner: Option<Principal>) -> Place
+        ensures { result ≡ empty_place owner }
+    {
+        Place {
+            owner,
+            label: Text::from_string(String::new(alloc)),
+            protected: Items::new(alloc),
+            own: Items::new(alloc),
+        }
+    }
+}
+
+/// A card: it has a text, and no protected entries.
+#[derive(Debug, Drop)]
+pub struct Card {
+    /// The person or group that owns it.
+    pub owner: Option<Principal>,
+    /// At most 256 bytes.
+    pub label: Text,
+    /// The entries that an ACL request replaces, at most 64.
+    pub own: Items<Entry>,
+    /// At most 65,536 bytes, kept as they were sent.
+    pub text: Text,
+}
+
+/// A book: its cards by name, and the numbers of their last changes.
+#[derive(Debug, Drop)]
+pub struct Book {
+    /// The book's owner, label and lists.
+    pub place: Place,
+    /// At most 10,000.
+    pub cards: NameMap<Card>,
+    /// The last change of each name that was ever there. A removed name is one with a last change and no card.
+    pub changes: Changes,
+}
+
+/// Everything that is kept.
+#[derive(Debug, Drop)]
+pub struct Office {
+    /// `/`.
+    pub root: Place,
+    /// `/people`.
+    pub people: Place,
+    /// `/groups`.
+    pub groups_home: Place,
+    /// `/books`.
+    pub books_home: Place,
+    /// `/people/N`, by name.
+    pub persons: NameMap<Place>,
+    /// `/groups/N`, by name.
+    pub groups: NameMap<Place>,
+    /// `/books/B`, by name, at most 1,000.
+    pub books: NameMap<Book>,
+    /// The direct members of the groups (RFC 3744, section 4.3).
+    pub pairs: Pairs,
+    /// The access epoch: how often access changed (own profile). A sync token (RFC 6578) of an earlier epoch is no longer valid.
+    pub epoch: u64,
+}
