@@ -11,11 +11,7 @@
 .PHONY: build demo test bench clean
 
 build:
-	@rt=$$(tools/find-rt) && \
-	echo "Proving and linking book_desk: a few minutes the first time, then seconds." && \
-	cd crates/book_desk && "$$rt" run -- --help > /dev/null && \
-	mkdir -p ../../build && cp out/book_desk ../../build/book_desk && \
-	echo "Built build/book_desk."
+	@tools/build
 
 demo: build
 	@tools/demo build/book_desk

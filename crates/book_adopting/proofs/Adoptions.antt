@@ -16,7 +16,7 @@ use Rattle.book_policies.specs.declared.parts.PolicyTables.{PolicyTables}
 use Rattle.book_values.proofs.NameMapLaws.{names_apart}
 use Rattle.book_values.specs.declared.offices.Book.{Book}
 use Rattle.book_values.specs.declared.offices.Office.{Office}
-use Rattle.book_values.specs.declared.offices.Place.{Place}
+use Rattle.book_values.specs.declared.offices.Properties.{Properties}
 use Rattle.book_adopting.specs.Adopting.{labelled, owned, or_else, is_group_of, adopted_pairs, taken_over, raised, adopt}
 use Rattle.book_adopting.specs.Laws.{AdoptingTwiceIsOnce, AdoptingMayChangeNothing, AdoptingRaisesTheEpoch}
 use Rattle.book_adopting.specs.TakingOver.{listed, listed_book}
@@ -29,29 +29,29 @@ or_else_twice [] old = refl
 or_else_twice (e ∷ es) old = refl
 
 module _ (t : PolicyTables) where
-  pub listed_twice : (at : List ℕ) (place : Place) → listed t at (listed t at place) ≡ listed t at place
-  listed_twice at place =
-      let same = or_else_twice (entries_at false at t.entries) place.own in
-      λ i. record (listed t at place) { own = same i }
+  pub listed_twice : (at : List ℕ) (properties : Properties) → listed t at (listed t at properties) ≡ listed t at properties
+  listed_twice at properties =
+      let same = or_else_twice (entries_at false at t.entries) properties.own in
+      λ i. record (listed t at properties) { own = same i }
 
   -- what stands at a name afterwards
-  abbrev pub person_after : List ℕ → Option (List ℕ) → Option Place → Option Place
+  abbrev pub person_after : List ℕ → Option (List ℕ) → Option Properties → Option Properties
   person_after at label old = option_map (listed t at) (made_of labelled label old)
 
   abbrev pub book_after : List ℕ → Option PolicyBook → Option Book → Option Book
   book_after at named old = option_map (listed_book t at) (made_of owned named old)
 
-  person_twice : (at : List ℕ) (label : Option (List ℕ)) (old : Option Place) → person_after at label (person_after at label old) ≡ person_after at label old
+  person_twice : (at : List ℕ) (label : Option (List ℕ)) (old : Option Properties) → person_after at label (person_after at label old) ≡ person_after at label old
   person_twice at None None = refl
-  person_twice at None (Some place) = ap Some (listed_twice at place)
+  person_twice at None (Some properties) = ap Some (listed_twice at properties)
   person_twice at (Some label) None = ap Some (listed_twice at (labelled label None))
-  person_twice at (Some label) (Some place) = ap Some (listed_twice at (labelled label (Some place)))
+  person_twice at (Some label) (Some properties) = ap Some (listed_twice at (labelled label (Some properties)))
 
   book_twice : (at : List ℕ) (named : Option PolicyBook) (old : Option Book) → book_after at named (book_after at named old) ≡ book_after at named old
   book_twice at None None = refl
-  book_twice at None (Some book) = ap (λ p. Some (record book { place = p })) (listed_twice at book.place)
-  book_twice at (Some named) None = ap (λ p. Some (record (owned named None) { place = p })) (listed_twice at (owned named None).place)
-  book_twice at (Some named) (Some book) = ap (λ p. Some (record (owned named (Some book)) { place = p })) (listed_twice at (owned named (Some book)).place)
+  book_twice at None (Some book) = ap (λ p. Some (record book { properties = p })) (listed_twice at book.properties)
+  book_twice at (Some named) None = ap (λ p. Some (record (owned named None) { properties = p })) (listed_twice at (owned named None).properties)
+  book_twice at (Some named) (Some book) = ap (λ p. Some (record (owned named (Some book)) { properties = p })) (listed_twice at (owned named (Some book)).properties)
 
   two_maps : {A B C : Type 0} (f : B → C) (g : A → B) (r : Option A) → option_map f (option_map g r) ≡ option_map (λ x. f (g x)) r
   two_maps f g None = refl

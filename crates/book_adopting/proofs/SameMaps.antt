@@ -7,7 +7,7 @@ use Rattle.book_values.specs.Names.{NamesTo}
 use Rattle.book_values.proofs.Members.{Mem, mem_get, get_mem}
 use Rattle.book_values.proofs.NameMapLaws.{names_apart}
 use Rattle.book_values.specs.declared.offices.Book.{Book}
-use Rattle.book_values.specs.declared.offices.Place.{Place}
+use Rattle.book_values.specs.declared.offices.Properties.{Properties}
 use Rattle.book_adopting.specs.TakingOver.{emptied, bare_books}
 use Rattle.book_adopting.proofs.Merges.{get_mapped}
 use Rattle.book_values.proofs.OneName.{some_apart, same_some, by_option}
@@ -23,48 +23,48 @@ mem_all P (y ∷ ys) h = (h y (inl refl), mem_all P ys (λ x m. h x (inr m)))
 
 -- ---- places
 
-abbrev Stand : NamesTo Place → NamesTo Place → Type 0
+abbrev Stand : NamesTo Properties → NamesTo Properties → Type 0
 Stand m n = AllByRecursion (λ e. get n e.0 ≡ Some e.1) (entries m)
 
-there : (m n : NamesTo Place) → Stand m n → (q : List ℕ) (v : Place) → get m q ≡ Some v → get n q ≡ Some v
+there : (m n : NamesTo Properties) → Stand m n → (q : List ℕ) (v : Properties) → get m q ≡ Some v → get n q ≡ Some v
 there m n all q v e = all_mem _ (entries m) all (q, v) (get_mem nat_list_cmp_total names_apart m q v e)
 
-pub same_places_are : (m n : NamesTo Place) → Stand m n → Stand n m → m ≡ n
-same_places_are m n f g = same_map nat_list_cmp_total names_apart m n (λ q. by_option (get m q)
+pub same_principals_are : (m n : NamesTo Properties) → Stand m n → Stand n m → m ≡ n
+same_principals_are m n f g = same_map nat_list_cmp_total names_apart m n (λ q. by_option (get m q)
     (λ none. by_option (get n q) (λ e. none ∙ sym e) (λ v e. some_apart (sym (there n m g q v e) ∙ none)))
     (λ v e. e ∙ sym (there m n f q v e)))
 
-pub same_places_stand : (m n : NamesTo Place) → m ≡ n → Stand m n
-same_places_stand m n same = mem_all _ (entries m) (λ x h. subst (λ k. get k x.0 ≡ Some x.1) same (mem_get nat_list_cmp_total names_apart m x.0 x.1 h))
+pub same_principals_stand : (m n : NamesTo Properties) → m ≡ n → Stand m n
+same_principals_stand m n same = mem_all _ (entries m) (λ x h. subst (λ k. get k x.0 ≡ Some x.1) same (mem_get nat_list_cmp_total names_apart m x.0 x.1 h))
 
 -- ---- books, but for their cards and changes
 
-abbrev place_of : Book → Place
-place_of book = book.place
+abbrev properties_of : Book → Properties
+properties_of book = book.properties
 
 abbrev BooksStand : NamesTo Book → NamesTo Book → Type 0
-BooksStand m n = AllByRecursion (λ e. option_map (λ (book : Book). book.place) (get n e.0) ≡ Some e.1.place) (entries m)
+BooksStand m n = AllByRecursion (λ e. option_map (λ (book : Book). book.properties) (get n e.0) ≡ Some e.1.properties) (entries m)
 
-book_there : (m n : NamesTo Book) → BooksStand m n → (q : List ℕ) (v : Book) → get m q ≡ Some v → option_map place_of (get n q) ≡ Some v.place
+book_there : (m n : NamesTo Book) → BooksStand m n → (q : List ℕ) (v : Book) → get m q ≡ Some v → option_map properties_of (get n q) ≡ Some v.properties
 book_there m n all q v e = all_mem _ (entries m) all (q, v) (get_mem nat_list_cmp_total names_apart m q v e)
 
-bare_by_place : (r : Option Book) (v : Book) → option_map place_of r ≡ Some v.place → option_map emptied r ≡ Some (emptied v)
-bare_by_place None v e = some_apart (sym e)
-bare_by_place (Some w) v e = ap (λ p. Some (emptied (record v { place = p }))) (same_some w.place v.place e)
+bare_by_properties : (r : Option Book) (v : Book) → option_map properties_of r ≡ Some v.properties → option_map emptied r ≡ Some (emptied v)
+bare_by_properties None v e = some_apart (sym e)
+bare_by_properties (Some w) v e = ap (λ p. Some (emptied (record v { properties = p }))) (same_some w.properties v.properties e)
 
-place_by_bare : (r : Option Book) (v : Book) → option_map emptied r ≡ Some (emptied v) → option_map place_of r ≡ Some v.place
-place_by_bare None v e = some_apart (sym e)
-place_by_bare (Some w) v e = ap (λ (b : Book). Some b.place) (same_some (emptied w) (emptied v) e)
+properties_by_bare : (r : Option Book) (v : Book) → option_map emptied r ≡ Some (emptied v) → option_map properties_of r ≡ Some v.properties
+properties_by_bare None v e = some_apart (sym e)
+properties_by_bare (Some w) v e = ap (λ (b : Book). Some b.properties) (same_some (emptied w) (emptied v) e)
 
 pub same_books_are : (m n : NamesTo Book) → BooksStand m n → BooksStand n m → bare_books m ≡ bare_books n
 same_books_are m n f g = same_map nat_list_cmp_total names_apart (bare_books m) (bare_books n) (λ q.
     get_mapped _ m q ∙ by_option (get m q)
     (λ none. by_option (get n q) (λ e. ap (option_map emptied) (none ∙ sym e))
-    (λ v e. some_apart (sym (book_there n m g q v e) ∙ ap (option_map place_of) none)))
-    (λ v e. ap (option_map emptied) e ∙ sym (bare_by_place (get n q) v (book_there m n f q v e)))
+    (λ v e. some_apart (sym (book_there n m g q v e) ∙ ap (option_map properties_of) none)))
+    (λ v e. ap (option_map emptied) e ∙ sym (bare_by_properties (get n q) v (book_there m n f q v e)))
     ∙ sym (get_mapped _ n q))
 
 pub same_books_stand : (m n : NamesTo Book) → bare_books m ≡ bare_books n → BooksStand m n
 same_books_stand m n same = mem_all _ (entries m) (λ x h.
-    place_by_bare (get n x.0) x.1
+    properties_by_bare (get n x.0) x.1
     (sym (get_mapped _ n x.0) ∙ ap (λ k. get k x.0) (sym same) ∙ get_mapped _ m x.0 ∙ ap (option_map emptied) (mem_get nat_list_cmp_total names_apart m x.0 x.1 h)))

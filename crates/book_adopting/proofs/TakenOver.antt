@@ -15,11 +15,11 @@ use Rattle.book_policies.specs.declared.parts.PolicyBook.{PolicyBook}
 use Rattle.book_policies.specs.declared.parts.PolicyTables.{PolicyTables}
 use Rattle.book_values.specs.declared.offices.Book.{Book}
 use Rattle.book_values.specs.declared.offices.Office.{Office}
-use Rattle.book_values.specs.declared.offices.Place.{Place}
+use Rattle.book_values.specs.declared.offices.Properties.{Properties}
 use Rattle.book_adopting.specs.Adopting.{labelled, owned, taken_over, adopt}
 use Rattle.book_values.specs.Names.{changed_at}
 use Rattle.book_adopting.specs.Sameness.{same_office}
-use Rattle.book_adopting.specs.TakingOver.{listed, listed_book, placed, new_place, old_place, relabelled, fresh_book, bare_book, reowned, emptied, bare_books, bare, with_contents, moved}
+use Rattle.book_adopting.specs.TakingOver.{listed, listed_book, placed, new_properties, old_properties, relabelled, fresh_book, bare_book, reowned, emptied, bare_books, bare, with_contents, moved}
 use Rattle.book_adopting.proofs.Adoptions.{person_after, book_after, person_there, group_there, book_there, adopting_nothing, adopting_something}
 use Rattle.book_adopting.proofs.Merges.{made_of, get_mapped}
 use Rattle.book_values.proofs.OneName.{some_apart, same_some, changed_here, changed_elsewhere, len_changed}
@@ -108,16 +108,16 @@ bare_twice m = same_map nat_list_cmp_total names_apart _ _ (λ q.
 -- ---- an Office that takes over a policy
 
 module _ (t : PolicyTables) where
-  place_made : (at : List ℕ) (label : Option (List ℕ)) (old : Option Place)
-      → made_of (λ (place : Place) (_ : Option Place). listed t at (relabelled label place)) old (made_of (λ (l : List ℕ) (_ : Option Place). listed t at (labelled l None)) label None)
+  properties_made : (at : List ℕ) (label : Option (List ℕ)) (old : Option Properties)
+      → made_of (λ (properties : Properties) (_ : Option Properties). listed t at (relabelled label properties)) old (made_of (λ (l : List ℕ) (_ : Option Properties). listed t at (labelled l None)) label None)
       ≡ person_after t at label old
-  place_made at None None = refl
-  place_made at None (Some place) = refl
-  place_made at (Some label) None = refl
-  place_made at (Some label) (Some place) = refl
+  properties_made at None None = refl
+  properties_made at None (Some properties) = refl
+  properties_made at (Some label) None = refl
+  properties_made at (Some label) (Some properties) = refl
 
   book_made : (at : List ℕ) (named : Option PolicyBook) (old : Option Book)
-      → made_of (λ (book : Book) (_ : Option Book). emptied (record book { place = listed t at (reowned named book.place) })) old
+      → made_of (λ (book : Book) (_ : Option Book). emptied (record book { properties = listed t at (reowned named book.properties) })) old
       (made_of (λ (n : PolicyBook) (_ : Option Book). listed_book t at (owned n None)) named None)
       ≡ option_map emptied (book_after t at named old)
   book_made at None None = refl
@@ -136,22 +136,22 @@ module _ (t : PolicyTables) where
   book_stays : (at : List ℕ) (named : Option PolicyBook) (old : Option Book)
       → option_map emptied (book_after t at named old) ≡ option_map emptied old → book_after t at named old ≡ old
   book_stays at None None e = refl
-  book_stays at None (Some book) e = ap (λ (b : Book). Some (record book { place = b.place })) (same_some _ _ e)
+  book_stays at None (Some book) e = ap (λ (b : Book). Some (record book { properties = b.properties })) (same_some _ _ e)
   book_stays at (Some named) None e = some_apart e
-  book_stays at (Some named) (Some book) e = ap (λ (b : Book). Some (record book { place = b.place })) (same_some _ _ e)
+  book_stays at (Some named) (Some book) e = ap (λ (b : Book). Some (record book { properties = b.properties })) (same_some _ _ e)
 
   module _ (o : Office) where
-    pub persons_made : placed (old_place t (codes "/people/") t.persons) (placed (new_place t (codes "/people/")) empty (entries t.persons)) (entries o.persons)
+    pub persons_made : placed (old_properties t (codes "/people/") t.persons) (placed (new_properties t (codes "/people/")) empty (entries t.persons)) (entries o.persons)
         ≡ (taken_over t o).persons
     persons_made = same_map nat_list_cmp_total names_apart _ _ (λ q.
         get_placed _ _ o.persons q ∙ ap (made_of _ (get o.persons q)) (get_placed _ empty t.persons q ∙ ap (made_of _ (get t.persons q)) (get-empty name_cmp q))
-        ∙ place_made (person_path q) (get t.persons q) (get o.persons q) ∙ sym (person_there t o q))
+        ∙ properties_made (person_path q) (get t.persons q) (get o.persons q) ∙ sym (person_there t o q))
 
-    pub groups_made : placed (old_place t (codes "/groups/") t.groups) (placed (new_place t (codes "/groups/")) empty (entries t.groups)) (entries o.groups)
+    pub groups_made : placed (old_properties t (codes "/groups/") t.groups) (placed (new_properties t (codes "/groups/")) empty (entries t.groups)) (entries o.groups)
         ≡ (taken_over t o).groups
     groups_made = same_map nat_list_cmp_total names_apart _ _ (λ q.
         get_placed _ _ o.groups q ∙ ap (made_of _ (get o.groups q)) (get_placed _ empty t.groups q ∙ ap (made_of _ (get t.groups q)) (get-empty name_cmp q))
-        ∙ place_made (group_path q) (get t.groups q) (get o.groups q) ∙ sym (group_there t o q))
+        ∙ properties_made (group_path q) (get t.groups q) (get o.groups q) ∙ sym (group_there t o q))
 
     pub books_made : placed (bare_book t) (placed (fresh_book t) empty (entries t.books)) (entries o.books) ≡ bare_books (taken_over t o).books
     books_made = same_map nat_list_cmp_total names_apart _ _ (λ q.

@@ -16,8 +16,8 @@ use Rattle.book_policies.specs.declared.parts.PolicyTables.{PolicyTables}
 use Rattle.book_adopting.specs.declared.adopting.Adoption.{Adoption}
 use Rattle.book_values.specs.declared.offices.Book.{Book}
 use Rattle.book_values.specs.declared.offices.Office.{Office}
-use Rattle.book_values.specs.declared.offices.Place.{Place}
-use Rattle.book_values.specs.Fresh.{empty_place, new_book}
+use Rattle.book_values.specs.declared.offices.Properties.{Properties}
+use Rattle.book_values.specs.Fresh.{empty_properties, new_book}
 use Rattle.book_adopting.specs.Sameness.{same_office}
 
 -- a map where each name of another map gets a value made of what the other map has for it and what stood there
@@ -34,8 +34,8 @@ mapped change m = from_entries (map (λ e. (e.0, change e.0 e.1)) (entries m))
 
 -- ---- 1. persons and groups that are not there are added with no owner and empty lists; the labels of all are set
 
-abbrev pub labelled : List ℕ → Option Place → Place
-labelled label place = record (unwrap_or place (empty_place None)) { label = label }
+abbrev pub labelled : List ℕ → Option Properties → Properties
+labelled label properties = record (unwrap_or properties (empty_properties None)) { label = label }
 
 abbrev pub with_principals : PolicyTables → Office → Office
 with_principals t o = record o { persons = merged labelled t.persons o.persons; groups = merged labelled t.groups o.groups }
@@ -56,28 +56,28 @@ with_members t o = record o { pairs = adopted_pairs t o.pairs }
 abbrev pub owned : PolicyBook → Option Book → Book
 owned named old =
     let book = unwrap_or old (new_book None) in
-    record book { place = record book.place { owner = named.owner; label = named.label } }
+    record book { properties = record book.properties { owner = named.owner; label = named.label } }
 
 abbrev pub with_books : PolicyTables → Office → Office
 with_books t o = record o { books = merged owned t.books o.books }
 
 -- ---- every place of an Office changed, by the text of its path
 
-abbrev pub each_place : (List ℕ → Place → Place) → Office → Office
-each_place change o = record o {
+abbrev pub each_properties : (List ℕ → Properties → Properties) → Office → Office
+each_properties change o = record o {
   root = change (codes "/") o.root;
   people = change (codes "/people") o.people;
   groups_home = change (codes "/groups") o.groups_home;
   books_home = change (codes "/books") o.books_home;
-  persons = mapped (λ name place. change (person_path name) place) o.persons;
-  groups = mapped (λ name place. change (group_path name) place) o.groups;
-  books = mapped (λ name book. record book { place = change (book_path name) book.place }) o.books;
+  persons = mapped (λ name properties. change (person_path name) properties) o.persons;
+  groups = mapped (λ name properties. change (group_path name) properties) o.groups;
+  books = mapped (λ name book. record book { properties = change (book_path name) book.properties }) o.books;
 }
 
 -- ---- 4. the protected list of each place becomes the policy's protected entries at it, in order
 
 abbrev pub with_protected : PolicyTables → Office → Office
-with_protected t = each_place (λ at place. record place { protected = entries_at true at t.entries })
+with_protected t = each_properties (λ at properties. record properties { protected = entries_at true at t.entries })
 
 -- ---- 5. the own list of each place at which the policy has unprotected entries becomes those, in order
 
@@ -86,7 +86,7 @@ or_else [] old = old
 or_else (e ∷ es) old = e ∷ es
 
 abbrev pub with_own : PolicyTables → Office → Office
-with_own t = each_place (λ at place. record place { own = or_else (entries_at false at t.entries) place.own })
+with_own t = each_properties (λ at properties. record properties { own = or_else (entries_at false at t.entries) properties.own })
 
 -- ---- 6. where the Office differs from before, the epoch rises by one
 

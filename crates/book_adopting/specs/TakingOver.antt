@@ -11,19 +11,19 @@ use Rattle.book_policies.specs.declared.parts.PolicyBook.{PolicyBook}
 use Rattle.book_policies.specs.declared.parts.PolicyTables.{PolicyTables}
 use Rattle.book_values.specs.declared.offices.Book.{Book}
 use Rattle.book_values.specs.declared.offices.Office.{Office}
-use Rattle.book_values.specs.declared.offices.Place.{Place}
+use Rattle.book_values.specs.declared.offices.Properties.{Properties}
 use Rattle.book_adopting.specs.Adopting.{labelled, owned, or_else, is_group_of, mapped}
 use Rattle.book_values.specs.Names.{changed_at}
 
 -- a place with its lists taken over
-abbrev pub listed : PolicyTables → List ℕ → Place → Place
-listed t at place = record place {
+abbrev pub listed : PolicyTables → List ℕ → Properties → Properties
+listed t at properties = record properties {
   protected = entries_at true at t.entries;
-  own = or_else (entries_at false at t.entries) place.own;
+  own = or_else (entries_at false at t.entries) properties.own;
 }
 
 abbrev pub listed_book : PolicyTables → List ℕ → Book → Book
-listed_book t at book = record book { place = listed t at book.place }
+listed_book t at book = record book { properties = listed t at book.properties }
 
 -- entries put into a map, in turn
 abbrev pub placed : {X V : Type 0} → (List ℕ → X → V) → NamesTo V → List (List ℕ × X) → NamesTo V
@@ -31,34 +31,34 @@ placed make m [] = m
 placed make m (e ∷ es) = placed make (insert m e.0 (make e.0 e.1)) es
 
 -- persons and groups that the policy names, and those that are there
-abbrev pub new_place : PolicyTables → List ℕ → List ℕ → List ℕ → Place
-new_place t home name label = listed t (home ++ name) (labelled label None)
+abbrev pub new_properties : PolicyTables → List ℕ → List ℕ → List ℕ → Properties
+new_properties t home name label = listed t (home ++ name) (labelled label None)
 
-abbrev pub relabelled : Option (List ℕ) → Place → Place
-relabelled None place = place
-relabelled (Some label) place = record place { label = label }
+abbrev pub relabelled : Option (List ℕ) → Properties → Properties
+relabelled None properties = properties
+relabelled (Some label) properties = record properties { label = label }
 
-abbrev pub old_place : PolicyTables → List ℕ → NamesTo (List ℕ) → List ℕ → Place → Place
-old_place t home labels name place = listed t (home ++ name) (relabelled (get labels name) place)
+abbrev pub old_properties : PolicyTables → List ℕ → NamesTo (List ℕ) → List ℕ → Properties → Properties
+old_properties t home labels name properties = listed t (home ++ name) (relabelled (get labels name) properties)
 
 -- books that the policy names, and those that are there, without their cards
 abbrev pub fresh_book : PolicyTables → List ℕ → PolicyBook → Book
 fresh_book t name named = listed_book t (book_path name) (owned named None)
 
-abbrev pub reowned : Option PolicyBook → Place → Place
-reowned None place = place
-reowned (Some named) place = record place { owner = named.owner; label = named.label }
+abbrev pub reowned : Option PolicyBook → Properties → Properties
+reowned None properties = properties
+reowned (Some named) properties = record properties { owner = named.owner; label = named.label }
 
 abbrev pub bare_book : PolicyTables → List ℕ → Book → Book
 bare_book t name book = record {
-  place = listed t (book_path name) (reowned (get t.books name) book.place);
+  properties = listed t (book_path name) (reowned (get t.books name) book.properties);
   cards = empty;
   changes = record { number = 0; last = empty };
 }
 
 -- an Office without cards and their changes
 abbrev pub emptied : Book → Book
-emptied book = record { place = book.place; cards = empty; changes = record { number = 0; last = empty } }
+emptied book = record { properties = book.properties; cards = empty; changes = record { number = 0; last = empty } }
 
 abbrev pub bare_books : NamesTo Book → NamesTo Book
 bare_books = mapped (λ name book. emptied book)

@@ -1,16 +1,16 @@
 //! The adopting of a policy in memory: what the Office becomes is made aside, and then put in its place.
 
-ghost use Rattle.std.specs.Prelude.{◌≡◌, ◌≢◌, ◌++◌, ℕ, List, [], is_some, unwrap_or, codes, IfOk, IfSome, IfNone, OnOk, OnErr};
+ghost use Rattle.std.specs.Prelude.{◌≡◌, ◌≢◌, ◌++◌, ℕ, ◌+◌, ◌^◌, ◌<◌, List, [], is_some, unwrap_or, codes, IfOk, IfSome, IfNone, OnOk, OnErr};
 ghost use Rattle.std.specs.FinMap.{empty, get, entries};
 ghost use Rattle.std.specs.Option.{option_copied};
 ghost use Rattle.book_adopting.specs.Adopting.{adopt, adopted_pairs, adoption_of, is_group_of, or_else, taken_over};
 ghost use Rattle.book_values.specs.Names.{changed_at};
-ghost use Rattle.book_adopting.specs.TakingOver.{bare, bare_book, bare_books, fresh_book, kept_pairs, listed, moved, new_place, old_place, placed, relabelled, reowned, with_contents};
+ghost use Rattle.book_adopting.specs.TakingOver.{bare, bare_book, bare_books, fresh_book, kept_pairs, listed, moved, new_properties, old_properties, placed, relabelled, reowned, with_contents};
 
 use crate::comparing::same_but_cards;
 use book_lists::{Entry, Membership, Name, Pairs, Principal};
 use book_policies::{Policy, PolicyBook};
-use book_values::{Book, Changes, Items, NameMap, Office, Place, Text};
+use book_values::{Book, Changes, Items, NameMap, Office, Properties, Text};
 use std::alloc::{AllocError, Global};
 use std::mem;
 
@@ -26,10 +26,10 @@ pub struct Adoption {
 /// The root and the homes.
 #[derive(Drop)]
 struct Homes {
-    root: Place,
-    people: Place,
-    groups_home: Place,
-    books_home: Place,
+    root: Properties,
+    people: Properties,
+    groups_home: Properties,
+    books_home: Properties,
 }
 
 /// The text of a member's path.
@@ -58,20 +58,20 @@ fn list_or(list: Option<&Items<Entry>>, old: &Items<Entry>) -> Result<Items<Entr
 }
 
 /// A place with this owner, this label, and the lists that an old one has under the policy.
-fn listed_place(
+fn listed_principal(
     alloc: Global,
     policy: &Policy,
     at: &Text,
     owner: Option<Principal>,
     label: Text,
-    old: &Place,
-) -> Result<Place, AllocError>
-    ensures { IfOk result (λ place. place ≡ listed policy.now at.now (record old.now { owner = owner; label = label })) }
+    old: &Properties,
+) -> Result<Properties, AllocError>
+    ensures { IfOk result (λ properties. properties ≡ listed policy.now at.now (record old.now { owner = owner; label = label })) }
 {
     let none: Items<Entry> = Items::new(alloc);
     let protected = list_or(policy.protected_at(at), &none)?;
     let own = list_or(policy.own_at(at), &old.own)?;
-    Ok(Place {
+    Ok(Properties {
         owner,
         label,
         protected,
@@ -80,75 +80,75 @@ fn listed_place(
 }
 
 /// The label that a place has under the policy.
-fn label_of(place: &Place, label: Option<&Text>) -> Result<Text, AllocError>
-    ensures { IfOk result (λ text. text ≡ (relabelled (option_copied label.entry) place.now).label) }
+fn label_of(properties: &Properties, label: Option<&Text>) -> Result<Text, AllocError>
+    ensures { IfOk result (λ text. text ≡ (relabelled (option_copied label.entry) properties.now).label) }
 {
     match label {
         Some(label) => label.clone(),
-        None => place.label.clone(),
+        None => properties.label.clone(),
     }
 }
 
 /// The persons or groups that the policy names, as new ones.
-fn new_places(
+fn new_principals(
     alloc: Global,
     policy: &Policy,
     home: &str,
     labels: &NameMap<Text>,
-) -> Result<NameMap<Place>, AllocError>
-    ensures { IfOk result (λ places. places ≡ placed (new_place policy.now home.now) empty (entries labels.now)) }
+) -> Result<NameMap<Properties>, AllocError>
+    ensures { IfOk result (λ principals. principals ≡ placed (new_properties policy.now home.now) empty (entries labels.now)) }
 {
-    let mut places = NameMap::new(alloc);
-    let new = Place::empty(alloc, None);
+    let mut principals = NameMap::new(alloc);
+    let new = Properties::empty(alloc, None);
     for (name, label) in labels.iter() {
         let at = member_text(alloc, home, name)?;
-        let place = listed_place(alloc, policy, &at, None, label.clone()?, &new)?;
-        places.insert(name.clone()?, place)?;
+        let properties = listed_principal(alloc, policy, &at, None, label.clone()?, &new)?;
+        principals.insert(name.clone()?, properties)?;
     }
-    Ok(places)
+    Ok(principals)
 }
 
 /// What a person or a group that is there becomes.
-fn old_place_of(
+fn old_properties_of(
     alloc: Global,
     policy: &Policy,
     home: &str,
     labels: &NameMap<Text>,
     name: &Name,
-    place: &Place,
-) -> Result<Place, AllocError>
-    ensures { IfOk result (λ new. new ≡ old_place policy.now home.now labels.now name.now place.now) }
+    properties: &Properties,
+) -> Result<Properties, AllocError>
+    ensures { IfOk result (λ new. new ≡ old_properties policy.now home.now labels.now name.now properties.now) }
 {
     let at = member_text(alloc, home, name)?;
-    let label = label_of(place, labels.get(name))?;
-    let owner = place.owner.clone()?;
-    listed_place(alloc, policy, &at, owner, label, place)
+    let label = label_of(properties, labels.get(name))?;
+    let owner = properties.owner.clone()?;
+    listed_principal(alloc, policy, &at, owner, label, properties)
 }
 
 /// Puts the persons or groups that are there in the places of new ones.
-fn put_places(
+fn put_principals(
     alloc: Global,
     policy: &Policy,
     home: &str,
     labels: &NameMap<Text>,
-    places: &mut NameMap<Place>,
-    old: &NameMap<Place>,
+    principals: &mut NameMap<Properties>,
+    old: &NameMap<Properties>,
 ) -> Result<(), AllocError>
-    ensures { OnOk result (places.new ≡ placed (old_place policy.now home.now labels.now) places.old (entries old.now)) }
+    ensures { OnOk result (principals.new ≡ placed (old_properties policy.now home.now labels.now) principals.old (entries old.now)) }
 {
-    for (name, place) in old.iter() {
-        let place = old_place_of(alloc, policy, home, labels, name, place)?;
-        places.insert(name.clone()?, place)?;
+    for (name, properties) in old.iter() {
+        let properties = old_properties_of(alloc, policy, home, labels, name, properties)?;
+        principals.insert(name.clone()?, properties)?;
     }
     Ok(())
 }
 
 /// A book with this place, and no cards.
-fn bare(alloc: Global, place: Place) -> Book
-    ensures { result ≡ record { place = place; cards = empty; changes = record { number = 0; last = empty } } }
+fn bare(alloc: Global, properties: Properties) -> Book
+    ensures { result ≡ record { properties = properties; cards = empty; changes = record { number = 0; last = empty } } }
 {
     Book {
-        place,
+        properties,
         cards: NameMap::new(alloc),
         changes: Changes::new(alloc),
     }
@@ -166,9 +166,9 @@ fn fresh_book_of(
     let at = member_text(alloc, "/books/", name)?;
     let owner = named.owner.clone()?;
     let label = named.label.clone()?;
-    let new = Place::empty(alloc, None);
-    let place = listed_place(alloc, policy, &at, owner, label, &new)?;
-    Ok(bare(alloc, place))
+    let new = Properties::empty(alloc, None);
+    let properties = listed_principal(alloc, policy, &at, owner, label, &new)?;
+    Ok(bare(alloc, properties))
 }
 
 /// The books that the policy names, as new ones.
@@ -188,22 +188,25 @@ fn new_books(
 }
 
 /// The owner that a place has under the policy.
-fn owner_of(place: &Place, named: Option<&PolicyBook>) -> Result<Option<Principal>, AllocError>
-    ensures { IfOk result (λ owner. owner ≡ (reowned (option_copied named.entry) place.now).owner) }
+fn owner_of(
+    properties: &Properties,
+    named: Option<&PolicyBook>,
+) -> Result<Option<Principal>, AllocError>
+    ensures { IfOk result (λ owner. owner ≡ (reowned (option_copied named.entry) properties.now).owner) }
 {
     match named {
         Some(named) => named.owner.clone(),
-        None => place.owner.clone(),
+        None => properties.owner.clone(),
     }
 }
 
 /// The label that a book has under the policy.
-fn book_label_of(place: &Place, named: Option<&PolicyBook>) -> Result<Text, AllocError>
-    ensures { IfOk result (λ label. label ≡ (reowned (option_copied named.entry) place.now).label) }
+fn book_label_of(properties: &Properties, named: Option<&PolicyBook>) -> Result<Text, AllocError>
+    ensures { IfOk result (λ label. label ≡ (reowned (option_copied named.entry) properties.now).label) }
 {
     match named {
         Some(named) => named.label.clone(),
-        None => place.label.clone(),
+        None => properties.label.clone(),
     }
 }
 
@@ -219,10 +222,10 @@ fn bare_book_of(
     ensures { IfOk result (λ new. new ≡ bare_book policy.now name.now book.now) }
 {
     let at = member_text(alloc, "/books/", name)?;
-    let owner = owner_of(&book.place, named.get(name))?;
-    let label = book_label_of(&book.place, named.get(name))?;
-    let place = listed_place(alloc, policy, &at, owner, label, &book.place)?;
-    Ok(bare(alloc, place))
+    let owner = owner_of(&book.properties, named.get(name))?;
+    let label = book_label_of(&book.properties, named.get(name))?;
+    let properties = listed_principal(alloc, policy, &at, owner, label, &book.properties)?;
+    Ok(bare(alloc, properties))
 }
 
 /// Puts the books that are there in the places of new ones, without their cards.
@@ -248,7 +251,7 @@ fn give_contents(books: &mut NameMap<Book>, name: &Name, old: Book)
     ensures { books.new ≡ changed_at (with_contents old) books.old name.now }
 {
     let Book {
-        place: _,
+        properties: _,
         cards,
         changes,
     } = old;
@@ -324,13 +327,18 @@ fn pairs_under(alloc: Global, policy: &Policy, old: &Pairs) -> Result<Pairs, All
 }
 
 /// The root or a home under the policy.
-fn home_under(alloc: Global, policy: &Policy, at: &str, place: &Place) -> Result<Place, AllocError>
-    ensures { IfOk result (λ new. new ≡ listed policy.now at.now place.now) }
+fn home_under(
+    alloc: Global,
+    policy: &Policy,
+    at: &str,
+    properties: &Properties,
+) -> Result<Properties, AllocError>
+    ensures { IfOk result (λ new. new ≡ listed policy.now at.now properties.now) }
 {
     let at = Text::copy_of(alloc, at)?;
-    let owner = place.owner.clone()?;
-    let label = place.label.clone()?;
-    listed_place(alloc, policy, &at, owner, label, place)
+    let owner = properties.owner.clone()?;
+    let label = properties.label.clone()?;
+    listed_principal(alloc, policy, &at, owner, label, properties)
 }
 
 /// The root and the homes under the policy.
@@ -355,12 +363,12 @@ fn persons_under(
     alloc: Global,
     policy: &Policy,
     office: &Office,
-) -> Result<NameMap<Place>, AllocError>
+) -> Result<NameMap<Properties>, AllocError>
     ensures { IfOk result (λ persons. persons ≡ (taken_over policy.now office.now).persons) }
 {
     let labels = &policy.tables().persons;
-    let mut persons = new_places(alloc, policy, "/people/", labels)?;
-    put_places(
+    let mut persons = new_principals(alloc, policy, "/people/", labels)?;
+    put_principals(
         alloc,
         policy,
         "/people/",
@@ -376,12 +384,12 @@ fn groups_under(
     alloc: Global,
     policy: &Policy,
     office: &Office,
-) -> Result<NameMap<Place>, AllocError>
+) -> Result<NameMap<Properties>, AllocError>
     ensures { IfOk result (λ groups. groups ≡ (taken_over policy.now office.now).groups) }
 {
     let labels = &policy.tables().groups;
-    let mut groups = new_places(alloc, policy, "/groups/", labels)?;
-    put_places(
+    let mut groups = new_principals(alloc, policy, "/groups/", labels)?;
+    put_principals(
         alloc,
         policy,
         "/groups/",
@@ -450,10 +458,12 @@ fn replace(office: &mut Office, new: Office, epoch: u64)
     office.epoch = epoch;
 }
 
-/// Adopts a policy. An error is want of memory, or that there is no further epoch; the Office is then as it was.
+/// Adopts a policy. An error is want of memory; the Office is then as it was. The epoch of an Office that keeps the limits
+/// is at most 2^53 - 1, and can rise.
 ///
 /// It takes as many steps as `adoption_of`. No card is visited.
 pub fn adopt(alloc: Global, office: &mut Office, policy: &Policy) -> Result<(), AllocError>
+    requires { office.old.epoch + 1 < 2 ^ 64 }
     ensures ok { OnOk result (office.new ≡ adopt policy.now office.old) }
     ensures err { OnErr result (office.new ≡ office.old) }
 {
@@ -461,7 +471,7 @@ pub fn adopt(alloc: Global, office: &mut Office, policy: &Policy) -> Result<(), 
     if same_but_cards(office, &new)? {
         return Ok(());
     }
-    let epoch = office.epoch.checked_add(1).ok_or(AllocError)?;
+    let epoch = office.epoch + 1;
     replace(office, new, epoch);
     Ok(())
 }

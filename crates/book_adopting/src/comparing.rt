@@ -10,7 +10,7 @@ ghost use Rattle.book_values.specs.declared.offices.Book.{Book as BookValue};
 ghost use Rattle.book_adopting.specs.TakingOver.{bare, bare_books};
 
 use book_lists::{Entry, Membership, Pairs, Principal, Who};
-use book_values::{Book, Items, NameMap, Office, Place, Text};
+use book_values::{Book, Items, NameMap, Office, Properties, Text};
 use std::alloc::AllocError;
 
 /// Whether two forms are equal.
@@ -62,13 +62,13 @@ fn same_text(text: &Text, other: &Text) -> bool
 }
 
 /// Whether two places are equal.
-fn same_place(place: &Place, other: &Place) -> bool
-    ensures { IsTrue result ↔ (place.now ≡ other.now) }
+fn same_properties(properties: &Properties, other: &Properties) -> bool
+    ensures { IsTrue result ↔ (properties.now ≡ other.now) }
 {
-    same_owner(&place.owner, &other.owner)
-        && same_text(&place.label, &other.label)
-        && same_list(&place.protected, &other.protected)
-        && same_list(&place.own, &other.own)
+    same_owner(&properties.owner, &other.owner)
+        && same_text(&properties.label, &other.label)
+        && same_list(&properties.protected, &other.protected)
+        && same_list(&properties.own, &other.own)
 }
 
 /// Whether each pair of a list is there.
@@ -94,31 +94,31 @@ fn same_pairs(pairs: &Pairs, other: &Pairs) -> Result<bool, AllocError>
 }
 
 /// Whether a place is the other, if there is one.
-fn place_stands(place: &Place, other: Option<&Place>) -> bool
-    ensures { IsTrue result ↔ (option_copied other.entry ≡ Some place.now) }
+fn properties_stands(properties: &Properties, other: Option<&Properties>) -> bool
+    ensures { IsTrue result ↔ (option_copied other.entry ≡ Some properties.now) }
 {
     match other {
-        Some(other) => same_place(other, place),
+        Some(other) => same_properties(other, properties),
         None => false,
     }
 }
 
 /// Whether the place of a book is that of the other, if there is one.
 fn book_stands(book: &Book, other: Option<&Book>) -> bool
-    ensures { IsTrue result ↔ (option_map (λ (b : BookValue). b.place) (option_copied other.entry) ≡ Some book.now.place) }
+    ensures { IsTrue result ↔ (option_map (λ (b : BookValue). b.properties) (option_copied other.entry) ≡ Some book.now.properties) }
 {
     match other {
-        Some(other) => same_place(&other.place, &book.place),
+        Some(other) => same_properties(&other.properties, &book.properties),
         None => false,
     }
 }
 
 /// Whether each place of a map stands in another.
-fn places_stand(places: &NameMap<Place>, other: &NameMap<Place>) -> bool
-    ensures { IsTrue result ↔ AllByRecursion (λ e. get other.now e.0 ≡ Some e.1) (entries places.now) }
+fn principals_stand(principals: &NameMap<Properties>, other: &NameMap<Properties>) -> bool
+    ensures { IsTrue result ↔ AllByRecursion (λ e. get other.now e.0 ≡ Some e.1) (entries principals.now) }
 {
-    for (name, place) in places.iter() {
-        if !place_stands(place, other.get(name)) {
+    for (name, properties) in principals.iter() {
+        if !properties_stands(properties, other.get(name)) {
             return false;
         }
     }
@@ -127,7 +127,7 @@ fn places_stand(places: &NameMap<Place>, other: &NameMap<Place>) -> bool
 
 /// Whether the place of each book of a map stands in another.
 fn books_stand(books: &NameMap<Book>, other: &NameMap<Book>) -> bool
-    ensures { IsTrue result ↔ AllByRecursion (λ e. option_map (λ (book : BookValue). book.place) (get other.now e.0) ≡ Some e.1.place) (entries books.now) }
+    ensures { IsTrue result ↔ AllByRecursion (λ e. option_map (λ (book : BookValue). book.properties) (get other.now e.0) ≡ Some e.1.properties) (entries books.now) }
 {
     for (name, book) in books.iter() {
         if !book_stands(book, other.get(name)) {
@@ -138,10 +138,10 @@ fn books_stand(books: &NameMap<Book>, other: &NameMap<Book>) -> bool
 }
 
 /// Whether two maps have the same places.
-fn same_places(places: &NameMap<Place>, other: &NameMap<Place>) -> bool
-    ensures { IsTrue result ↔ (places.now ≡ other.now) }
+fn same_principals(principals: &NameMap<Properties>, other: &NameMap<Properties>) -> bool
+    ensures { IsTrue result ↔ (principals.now ≡ other.now) }
 {
-    places_stand(places, other) && places_stand(other, places)
+    principals_stand(principals, other) && principals_stand(other, principals)
 }
 
 /// Whether two maps have the same books, but for their cards and changes.
@@ -156,10 +156,10 @@ fn same_homes(office: &Office, other: &Office) -> bool
     ensures { IsTrue result ↔ ((office.now.root ≡ other.now.root) × (office.now.people ≡ other.now.people)
         × (office.now.groups_home ≡ other.now.groups_home) × (office.now.books_home ≡ other.now.books_home)) }
 {
-    same_place(&office.root, &other.root)
-        && same_place(&office.people, &other.people)
-        && same_place(&office.groups_home, &other.groups_home)
-        && same_place(&office.books_home, &other.books_home)
+    same_properties(&office.root, &other.root)
+        && same_properties(&office.people, &other.people)
+        && same_properties(&office.groups_home, &other.groups_home)
+        && same_properties(&office.books_home, &other.books_home)
 }
 
 /// Whether two Offices have the same persons, groups and books, but for cards and changes.
@@ -167,8 +167,8 @@ fn same_maps(office: &Office, other: &Office) -> bool
     ensures { IsTrue result ↔ ((office.now.persons ≡ other.now.persons) × (office.now.groups ≡ other.now.groups)
         × (bare_books office.now.books ≡ bare_books other.now.books)) }
 {
-    same_places(&office.persons, &other.persons)
-        && same_places(&office.groups, &other.groups)
+    same_principals(&office.persons, &other.persons)
+        && same_principals(&office.groups, &other.groups)
         && same_books(&office.books, &other.books)
 }
 

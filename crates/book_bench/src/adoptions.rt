@@ -1,13 +1,11 @@
 //! Policies that a machine over a keeper in memory adopts in turn.
 
 use crate::measures::{Bench, print_times};
-use crate::puts::{THOUSAND, add_book, put_cards};
 use anyhow::{Context, Result, ensure};
 use book_lists::{Entry, Who};
 use book_machine::Machine;
 use book_office::{
-    BookPart, EntryPart, GroupPart, Items, MAX_CARDS, MAX_NAMED, MemoryKeeper, PersonPart, Policy,
-    Text,
+    BookPart, EntryPart, GroupPart, Items, MAX_NAMED, MemoryKeeper, PersonPart, Policy, Text,
 };
 use book_rights::LeafSet;
 use std::alloc::Global;
@@ -17,14 +15,6 @@ const TURNS: usize = 10;
 
 /// Two a turn.
 const ADOPTIONS: u32 = 20;
-
-/// How many persons the policies have, each of whom belongs to one group and has a book with one entry, and how many cards
-/// there are in another book.
-#[derive(Clone, Copy)]
-struct Setting {
-    persons: usize,
-    cards: usize,
-}
 
 #[derive(Drop)]
 struct Parts {
@@ -166,7 +156,7 @@ fn time_of_turns(
     Ok(time / ADOPTIONS)
 }
 
-fn time_after(
+fn time_over(
     rt: &impl Bench,
     machine: &mut Machine<MemoryKeeper>,
     one: &Policy,
@@ -176,35 +166,27 @@ fn time_after(
     time_of_turns(rt, machine, one, &other)
 }
 
-fn time_over(
+fn time_of(
     rt: &impl Bench,
     machine: &mut Machine<MemoryKeeper>,
-    setting: Setting,
+    persons: usize,
 ) -> Result<Duration> {
-    let alloc = rt.alloc();
-    add_book(alloc, &mut machine.keeper)?;
-    put_cards(alloc, &mut machine.keeper, setting.cards)?;
-    let one = policy(alloc, setting.persons, "one")?;
-    time_after(rt, machine, &one, setting.persons)
+    let one = policy(rt.alloc(), persons, "one")?;
+    time_over(rt, machine, &one, persons)
 }
 
-fn time_in(rt: &impl Bench, setting: Setting) -> Result<Duration> {
+/// The time of adopting a policy of so many persons, each of whom belongs to one group and has a book with one entry.
+fn time_in(rt: &impl Bench, persons: usize) -> Result<Duration> {
     let mut machine = Machine::new(MemoryKeeper::new(rt.alloc()));
-    time_over(rt, &mut machine, setting)
+    time_of(rt, &mut machine, persons)
 }
 
-/// Prints the time of adopting a large policy, and of adopting a small one over a book of many cards.
+/// Prints the time of adopting a large policy, and of one of half its size.
 pub fn adoption_figures(rt: &impl Bench) -> Result<()> {
     let persons = MAX_NAMED - 1;
     let half = persons / 2;
-    let large_time = time_in(rt, Setting { persons, cards: 0 })?;
-    let half_time = time_in(
-        rt,
-        Setting {
-            persons: half,
-            cards: 0,
-        },
-    )?;
+    let large_time = time_in(rt, persons)?;
+    let half_time = time_in(rt, half)?;
     print_times(
         rt,
         "adopt a policy, persons",
@@ -212,23 +194,5 @@ pub fn adoption_figures(rt: &impl Bench) -> Result<()> {
         large_time,
         half,
         half_time,
-    )?;
-    let small = Setting {
-        persons: 10,
-        cards: THOUSAND,
-    };
-    let full = Setting {
-        cards: MAX_CARDS,
-        ..small
-    };
-    let small_time = time_in(rt, small)?;
-    let full_time = time_in(rt, full)?;
-    print_times(
-        rt,
-        "adopt a policy over a book, cards",
-        MAX_CARDS,
-        full_time,
-        THOUSAND,
-        small_time,
     )
 }

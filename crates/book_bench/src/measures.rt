@@ -78,27 +78,6 @@ pub fn print_times(
     Ok(())
 }
 
-/// Prints the time of the work on so many bytes, and how often a second has room for it, beside the time of the work on
-/// twice as many.
-pub fn print_rate(
-    rt: &impl Bench,
-    name: &str,
-    bytes: usize,
-    once: &impl Work,
-    twice: &impl Work,
-) -> Result<()> {
-    let twice_bytes = bytes.saturating_mul(2);
-    let once_time = time_of(rt, once)?;
-    let twice_time = time_of(rt, twice)?;
-    let ratio = twice_time.div_duration_f64(once_time);
-    let rate = Duration::from_secs(1).div_duration_f64(once_time);
-    let (shown_once, shown_twice) = (Shown(once_time), Shown(twice_time));
-    println!(rt;
-        "{name}, bytes {bytes}: {shown_once}, {rate:.0} a second ({twice_bytes}: {shown_twice}, ratio {ratio:.1})"
-    )?;
-    Ok(())
-}
-
 /// Prints the time of one step at the beginning and at the end of so many.
 pub fn print_growth(
     rt: &impl Bench,

@@ -18,18 +18,18 @@ pub fn name(alloc: Global, text: &str) -> Result<Name> {
     Name::parse(alloc, text)?.context("no name")
 }
 
-/// The name of the card at this place, in an order that is not the byte order.
-pub fn card_name(alloc: Global, place: usize) -> Result<Name> {
-    let number = place.wrapping_mul(7919) % MAX_CARDS;
+/// The name of the card at this index, in an order that is not the byte order.
+pub fn card_name(alloc: Global, index: usize) -> Result<Name> {
+    let number = index.wrapping_mul(7919) % MAX_CARDS;
     let card = format!(in alloc; "{number:05}.vcf")?;
     name(alloc, card.as_str())
 }
 
-/// The put at this place.
-fn put(alloc: Global, place: usize) -> Result<Edit> {
+/// The put at this index.
+fn put(alloc: Global, index: usize) -> Result<Edit> {
     Ok(Edit::PutCard {
         book: name(alloc, "sales")?,
-        card: card_name(alloc, place)?,
+        card: card_name(alloc, index)?,
         owner: None,
         text: Text::copy_of(alloc, CARD)?,
     })
@@ -49,22 +49,22 @@ pub fn add_book(alloc: Global, keeper: &mut MemoryKeeper) -> Result<()> {
     make(alloc, keeper, &book)
 }
 
-fn put_card(alloc: Global, keeper: &mut MemoryKeeper, place: usize) -> Result<()> {
-    let put = put(alloc, place)?;
+fn put_card(alloc: Global, keeper: &mut MemoryKeeper, index: usize) -> Result<()> {
+    let put = put(alloc, index)?;
     make(alloc, keeper, &put)
 }
 
 /// Puts so many cards into the book.
 pub fn put_cards(alloc: Global, keeper: &mut MemoryKeeper, cards: usize) -> Result<()> {
-    for place in 0..cards {
-        put_card(alloc, keeper, place)?;
+    for index in 0..cards {
+        put_card(alloc, keeper, index)?;
     }
     Ok(())
 }
 
 fn add_puts(alloc: Global, puts: &mut Vec<Edit>, from: usize) -> Result<()> {
-    for place in from..from.saturating_add(THOUSAND) {
-        puts.push(put(alloc, place)?)?;
+    for index in from..from.saturating_add(THOUSAND) {
+        puts.push(put(alloc, index)?)?;
     }
     Ok(())
 }
@@ -89,10 +89,11 @@ fn time_of_thousand(rt: &impl Bench, keeper: &mut MemoryKeeper, from: usize) -> 
     time_of_puts(rt, keeper, &mut puts, from)
 }
 
+/// Whether the book's number is that of so many puts.
 fn has_all_cards(alloc: Global, keeper: &mut MemoryKeeper) -> Result<bool> {
     let book = Path::Book(name(alloc, "sales")?);
     Ok(match keeper.find(alloc, &book) {
-        Ok(Some(node)) => node.members == MAX_CARDS,
+        Ok(Some(node)) => node.number == MAX_CARDS as u64,
         _ => false,
     })
 }

@@ -6,7 +6,7 @@ use crate::workloads::{add_chain, add_entries};
 use anyhow::{Result, ensure};
 use book_lists::Pairs;
 use book_machine::{Body, Depth, Flag, Machine, Request};
-use book_office::{MAX_CARDS, MemoryKeeper, NameMap, Office, Path, Place, Text};
+use book_office::{MAX_CARDS, MemoryKeeper, NameMap, Office, Path, Properties, Text};
 use book_rights::Method;
 use std::alloc::Global;
 use std::time::Duration;
@@ -19,22 +19,19 @@ const TURNS: usize = 100;
 /// A thousand a turn.
 const CALLS: u32 = 100_000;
 
-/// What is asked, and of what: the cards of the book, the entries at the home of the books, of which the last grants
-/// everything, and how many nested groups the caller is in.
+/// What is asked, and how many cards the book has.
 #[derive(Clone, Copy)]
 struct Setting {
     method: Method,
     cards: usize,
-    entries: usize,
-    groups: usize,
 }
 
 fn empty_office(alloc: Global) -> Office {
     Office {
-        root: Place::empty(alloc, None),
-        people: Place::empty(alloc, None),
-        groups_home: Place::empty(alloc, None),
-        books_home: Place::empty(alloc, None),
+        root: Properties::empty(alloc, None),
+        people: Properties::empty(alloc, None),
+        groups_home: Properties::empty(alloc, None),
+        books_home: Properties::empty(alloc, None),
         persons: NameMap::new(alloc),
         groups: NameMap::new(alloc),
         books: NameMap::new(alloc),
@@ -43,26 +40,21 @@ fn empty_office(alloc: Global) -> Office {
     }
 }
 
-fn add_caller(alloc: Global, persons: &mut NameMap<Place>) -> Result<()> {
-    persons.insert(name(alloc, CALLER)?, Place::empty(alloc, None))?;
+fn add_caller(alloc: Global, persons: &mut NameMap<Properties>) -> Result<()> {
+    persons.insert(name(alloc, CALLER)?, Properties::empty(alloc, None))?;
     Ok(())
 }
 
-/// Adds the caller, the groups and the entries.
-fn furnish(alloc: Global, office: &mut Office, setting: Setting) -> Result<()> {
+/// Adds the caller within 16 nested groups, and 16 entries at the home of the books, of which the last grants everything.
+fn furnish(alloc: Global, office: &mut Office) -> Result<()> {
     add_caller(alloc, &mut office.persons)?;
-    add_chain(alloc, &mut office.pairs, setting.groups)?;
-    add_entries(
-        alloc,
-        &mut office.books_home.own,
-        setting.entries,
-        setting.groups,
-    )
+    add_chain(alloc, &mut office.pairs, 16)?;
+    add_entries(alloc, &mut office.books_home.own, 16, 16)
 }
 
-fn machine(alloc: Global, setting: Setting) -> Result<Machine<MemoryKeeper>> {
+fn machine(alloc: Global) -> Result<Machine<MemoryKeeper>> {
     let mut office = empty_office(alloc);
-    furnish(alloc, &mut office, setting)?;
+    furnish(alloc, &mut office)?;
     Ok(Machine::new(MemoryKeeper::from_office(office)))
 }
 
@@ -73,9 +65,9 @@ fn body(alloc: Global, method: Method) -> Result<Body> {
     })
 }
 
-/// The request for the card at this place.
-fn request(alloc: Global, method: Method, place: usize) -> Result<Request> {
-    let card = card_name(alloc, place)?;
+/// The request for the card at this index.
+fn request(alloc: Global, method: Method, index: usize) -> Result<Request> {
+    let card = card_name(alloc, index)?;
     let path = Path::Card(name(alloc, "sales")?, card);
     let body = body(alloc, method)?;
     Ok(Request {
@@ -90,9 +82,9 @@ fn request(alloc: Global, method: Method, place: usize) -> Result<Request> {
 
 /// Adds a thousand requests for cards that are there, spread over the book.
 fn add_requests(alloc: Global, requests: &mut Vec<Request>, setting: Setting) -> Result<()> {
-    for place in 0..THOUSAND {
-        let place = place.wrapping_mul(37) % setting.cards.max(1);
-        requests.push(request(alloc, setting.method, place)?)?;
+    for index in 0..THOUSAND {
+        let index = index.wrapping_mul(37) % setting.cards.max(1);
+        requests.push(request(alloc, setting.method, index)?)?;
     }
     Ok(())
 }
@@ -139,7 +131,7 @@ fn time_of_requests(
 
 /// The time of one request.
 fn time_in(rt: &impl Bench, setting: Setting) -> Result<Duration> {
-    let mut machine = machine(rt.alloc(), setting)?;
+    let mut machine = machine(rt.alloc())?;
     let mut requests = Vec::new(rt.alloc());
     time_of_requests(rt, &mut machine, &mut requests, setting)
 }
@@ -149,42 +141,18 @@ fn card_figures(rt: &impl Bench, words: &str, method: Method) -> Result<()> {
     let small = Setting {
         method,
         cards: THOUSAND,
-        entries: 1,
-        groups: 1,
     };
     let large = Setting {
+        method,
         cards: MAX_CARDS,
-        ..small
     };
     let small_time = time_in(rt, small)?;
     let large_time = time_in(rt, large)?;
     print_times(rt, words, MAX_CARDS, large_time, THOUSAND, small_time)
 }
 
-/// Prints the time of a GET under 64 entries, beside that under half of them.
-fn entry_figures(rt: &impl Bench) -> Result<()> {
-    let few = Setting {
-        method: Method::Get,
-        cards: THOUSAND,
-        entries: 32,
-        groups: 16,
-    };
-    let many = Setting { entries: 64, ..few };
-    let few_time = time_in(rt, few)?;
-    let many_time = time_in(rt, many)?;
-    print_times(
-        rt,
-        "GET within 16 nested groups, entries",
-        many.entries,
-        many_time,
-        few.entries,
-        few_time,
-    )
-}
-
-/// Prints the time of a GET and of a PUT in a full book, and of a GET under the most entries.
+/// Prints the time of a GET and of a PUT over a card in a full book.
 pub fn request_figures(rt: &impl Bench) -> Result<()> {
     card_figures(rt, "GET in a book, cards", Method::Get)?;
-    card_figures(rt, "PUT over a card in a book, cards", Method::Put)?;
-    entry_figures(rt)
+    card_figures(rt, "PUT over a card in a book, cards", Method::Put)
 }

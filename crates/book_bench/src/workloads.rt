@@ -1,10 +1,8 @@
 //! What is measured, with its input.
 
 use anyhow::{Context, Result};
-use book_cards::{read_card, unfold};
-use book_lists::{
-    Caller, Circle, Entry, Here, Outcome, Pairs, Principal, Who, decide, expand, explain,
-};
+use book_cards::read_card;
+use book_lists::{Caller, Entry, Here, Outcome, Pairs, Principal, Who, decide, expand};
 use book_office::Items;
 use book_rights::{Leaf, LeafSet};
 use std::alloc::{AllocError, Global};
@@ -29,78 +27,29 @@ fn person(alloc: Global) -> Result<Principal> {
     principal(alloc, "people", 0)
 }
 
-/// The pair at this place of a chain: the person is a member of the first group, and each group of the next.
-fn add_link(alloc: Global, pairs: &mut Pairs, place: usize) -> Result<()> {
-    let member = match place {
+/// The pair at this index of a chain: the person is a member of the first group, and each group of the next.
+fn add_link(alloc: Global, pairs: &mut Pairs, index: usize) -> Result<()> {
+    let member = match index {
         0 => person(alloc)?,
-        _ => group(alloc, place - 1)?,
+        _ => group(alloc, index - 1)?,
     };
-    pairs.add(group(alloc, place)?, member)?;
+    pairs.add(group(alloc, index)?, member)?;
     Ok(())
 }
 
-/// The expansion of a caller, who belongs to the group.
-#[derive(Drop)]
-pub struct Expansion {
-    pairs: Pairs,
-    caller: Caller,
-    group: Principal,
-}
-
-impl Expansion {
-    fn of(alloc: Global, pairs: Pairs, size: usize) -> Result<Expansion> {
-        Ok(Expansion {
-            pairs,
-            caller: Caller::Known(person(alloc)?),
-            group: group(alloc, size.saturating_sub(1))?,
-        })
-    }
-
-    /// A chain of so many pairs, the outermost first.
-    pub fn of_outward_chain(alloc: Global, size: usize) -> Result<Expansion> {
-        let mut pairs = Pairs::new(alloc);
-        for place in (0..size).rev() {
-            add_link(alloc, &mut pairs, place)?;
-        }
-        Expansion::of(alloc, pairs, size)
-    }
-
-    /// The same chain, the innermost pair first.
-    pub fn of_inward_chain(alloc: Global, size: usize) -> Result<Expansion> {
-        let mut pairs = Pairs::new(alloc);
-        add_chain(alloc, &mut pairs, size)?;
-        Expansion::of(alloc, pairs, size)
-    }
-
-    /// So many groups, each with the caller as its member.
-    pub fn of_many_groups(alloc: Global, size: usize) -> Result<Expansion> {
-        let mut pairs = Pairs::new(alloc);
-        for number in 0..size {
-            pairs.add(group(alloc, number)?, person(alloc)?)?;
-        }
-        Expansion::of(alloc, pairs, size)
-    }
-}
-
-impl Work for Expansion {
-    fn once(&self, alloc: Global, _turn: u32) -> Result<bool, AllocError> {
-        let circle = expand(alloc, &self.pairs, &self.caller)?;
-        Ok(circle.has(&self.group))
-    }
-}
-
-/// The decision of seven leaves, which the last entry grants and no other applies to.
+/// The expansion of a caller, and the decision of seven leaves, which the last entry grants and no other applies to.
 #[derive(Drop)]
 pub struct Decision {
+    pairs: Pairs,
+    caller: Caller,
     entries: Items<Entry>,
-    circle: Circle,
     here: Here,
 }
 
 /// Adds the pairs of a chain of so many groups, the innermost first.
 pub fn add_chain(alloc: Global, pairs: &mut Pairs, groups: usize) -> Result<()> {
-    for place in 0..groups {
-        add_link(alloc, pairs, place)?;
+    for index in 0..groups {
+        add_link(alloc, pairs, index)?;
     }
     Ok(())
 }
@@ -129,14 +78,16 @@ pub fn add_entries(
 }
 
 impl Decision {
-    /// So many entries, for a caller within so many nested groups.
-    pub fn of_entries(alloc: Global, size: usize, groups: usize) -> Result<Decision> {
-        let expansion = Expansion::of_inward_chain(alloc, groups)?;
+    /// So many entries, for a caller within as many nested groups.
+    pub fn of_entries(alloc: Global, size: usize) -> Result<Decision> {
+        let mut pairs = Pairs::new(alloc);
+        add_chain(alloc, &mut pairs, size)?;
         let mut entries = Items::new(alloc);
-        add_entries(alloc, &mut entries, size, groups)?;
+        add_entries(alloc, &mut entries, size, size)?;
         Ok(Decision {
+            pairs,
+            caller: Caller::Known(person(alloc)?),
             entries,
-            circle: expand(alloc, &expansion.pairs, &expansion.caller)?,
             here: Here {
                 owner: None,
                 principal: None,
@@ -146,61 +97,11 @@ impl Decision {
 }
 
 impl Work for Decision {
-    fn once(&self, _alloc: Global, turn: u32) -> Result<bool, AllocError> {
+    fn once(&self, alloc: Global, turn: u32) -> Result<bool, AllocError> {
         let spared = Leaf::ALL[(turn % 8) as usize];
         let need = LeafSet::all().minus(LeafSet::empty().with(spared));
-        Ok(decide(self.entries.as_slice(), &self.circle, &self.here, need) == Outcome::Allowed)
-    }
-}
-
-/// The explanation of a text.
-#[derive(Drop)]
-pub struct Explanation {
-    text: String,
-    answer: &'static str,
-}
-
-const QUESTION: &str = "caller /people/0000\nneed read\ngrant /people/0000 read\n";
-
-impl Explanation {
-    /// So many member lines, a chain from the caller, the outermost first; the last group is denied.
-    pub fn of_chain(alloc: Global, size: usize) -> Result<Explanation> {
-        let mut text = String::new(alloc);
-        let last = size.saturating_sub(1);
-        for place in (1..size).rev() {
-            let inner = place - 1;
-            write!(text, "member /groups/{place:04} /groups/{inner:04}\n")?;
-        }
-        write!(
-            text,
-            "member /groups/0000 /people/0000\ndeny /groups/{last:04} read\n{QUESTION}"
-        )?;
-        Ok(Explanation {
-            text,
-            answer: "denied read by 1\ngranted: -\n",
-        })
-    }
-
-    /// So many member lines, none of a group of the caller.
-    pub fn of_others(alloc: Global, size: usize) -> Result<Explanation> {
-        let mut text = String::new(alloc);
-        for number in 0..size {
-            write!(text, "member /groups/{number:04} /people/other\n")?;
-        }
-        text.push_str(QUESTION)?;
-        Ok(Explanation {
-            text,
-            answer: "allowed\ngranted: read\n",
-        })
-    }
-}
-
-impl Work for Explanation {
-    fn once(&self, alloc: Global, _turn: u32) -> Result<bool, AllocError> {
-        match explain(alloc, self.text.as_str()) {
-            Ok(answer) => Ok(answer.as_str() == self.answer),
-            Err(_) => Ok(false),
-        }
+        let circle = expand(alloc, &self.pairs, &self.caller)?;
+        Ok(decide(self.entries.as_slice(), &circle, &self.here, need) == Outcome::Allowed)
     }
 }
 
@@ -254,15 +155,5 @@ impl CardReading {
 impl Work for CardReading {
     fn once(&self, alloc: Global, _turn: u32) -> Result<bool, AllocError> {
         Ok(read_card(alloc, self.text.as_str()).is_ok())
-    }
-}
-
-/// The unfolding of a card's text alone.
-#[derive(Drop)]
-pub struct Unfolding(pub CardReading);
-
-impl Work for Unfolding {
-    fn once(&self, alloc: Global, _turn: u32) -> Result<bool, AllocError> {
-        Ok(unfold(alloc, self.0.text.as_str())?.ends_with(END))
     }
 }

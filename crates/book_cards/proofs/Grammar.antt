@@ -4,8 +4,8 @@ use Rattle.std.specs.Prelude.{◌⊎◌, IfSome}
 use lib.Dec.{eqb}
 use Rattle.std.specs.Option.{option_map, option_and_then}
 use Rattle.std.specs.List.{AllByRecursion, join_with_byte, concat}
-use Rattle.book_cards.specs.declared.line.Place.{Place}
-use Rattle.book_cards.specs.declared.line.Place.TheVariants.{Start, NameStart, Name, ValueStart, Bare, Quoted, AfterQuote}
+use Rattle.book_cards.specs.declared.line.Position.{Position}
+use Rattle.book_cards.specs.declared.line.Position.TheVariants.{Start, NameStart, Name, ValueStart, Bare, Quoted, AfterQuote}
 use Rattle.book_cards.specs.ContentLine.{Fields, is_name_byte, is_bare_byte, IsName, IsBareValue, IsQuotedValue, AreValues, IsParam, AreParams, group_text, IsContentLine}
 use Rattle.book_cards.specs.Reading.{may_end, after_value, next, colon_from, name_length, name_at, after_name, is_empty, with_value, fields_with, grouped, fields_of}
 use Rattle.book_cards.proofs.Folds.{eqb_is}
@@ -28,8 +28,8 @@ ValuesThen t = (values params : List ℕ) × AreValues values × AreParams param
 abbrev pub AfterValue : List ℕ → Type 0
 AfterValue t = AreParams t ⊎ ((rest : List ℕ) × ValuesThen rest × (t ≡ 44 ∷ rest))
 
--- what may stand between a place and the colon
-abbrev pub Tail : Place → List ℕ → Type 0
+-- what may stand between a position and the colon
+abbrev pub Tail : Position → List ℕ → Type 0
 Tail Start t = AreParams t
 Tail NameStart t = (name rest : List ℕ) × IsName name × ValuesThen rest × (t ≡ name ++ 61 ∷ rest)
 Tail Name t = (name rest : List ℕ) × AllNames name × ValuesThen rest × (t ≡ name ++ 61 ∷ rest)
@@ -89,17 +89,17 @@ then_param b t (((p ∷ ps)), ((name, values, is, are, spelled), all), e) =
 
 -- Where a byte leads
 
-abbrev Leads : Place → ℕ → List ℕ → Type 0
-Leads place b t = (q : Place) × (next place b ≡ Some q) × Tail q t
+abbrev Leads : Position → ℕ → List ℕ → Type 0
+Leads position b t = (q : Position) × (next position b ≡ Some q) × Tail q t
 
 some_is : {A : Type 0} (x y : A) → Some x ≡ Some y → x ≡ y
 some_is x y e = cc
 
-to_tail : (q p : Place) (t : List ℕ) → Some p ≡ Some q → Tail q t → Tail p t
-to_tail q p t e h = subst (λ (r : Place). Tail r t) (sym (some_is p q e)) h
+to_tail : (q p : Position) (t : List ℕ) → Some p ≡ Some q → Tail q t → Tail p t
+to_tail q p t e h = subst (λ (r : Position). Tail r t) (sym (some_is p q e)) h
 
 -- after a value
-value_back : (b : ℕ) (q : Place) (t : List ℕ) (other : Option Place) → after_value b other ≡ Some q → Tail q t
+value_back : (b : ℕ) (q : Position) (t : List ℕ) (other : Option Position) → after_value b other ≡ Some q → Tail q t
     → AfterValue (b ∷ t) ⊎ ((eqb b 44 ≡ false) × (eqb b 59 ≡ false) × (other ≡ Some q))
 value_back b q t other e h = comma (eqb b 44) refl e
   where
@@ -113,8 +113,8 @@ value_back b q t other e h = comma (eqb b 44) refl e
     comma true s g = inl (inr (t, to_tail q ValueStart t g h, ap (λ c. c ∷ t) (eqb_is b 44 s)))
     comma false s g = semicolon (eqb b 59) refl s g
 
-value_forth : (b : ℕ) (t : List ℕ) (other : Option Place) → AfterValue (b ∷ t)
-    → (q : Place) × (after_value b other ≡ Some q) × Tail q t × (eqb b 34 ≡ false) × (eqb b 58 ≡ false)
+value_forth : (b : ℕ) (t : List ℕ) (other : Option Position) → AfterValue (b ∷ t)
+    → (q : Position) × (after_value b other ≡ Some q) × Tail q t × (eqb b 34 ≡ false) × (eqb b 58 ≡ false)
 value_forth b t other (inl params) =
     let first = then_param b t params in
     (NameStart, ap (λ (c : ℕ). after_value c other) first.0, first.1, ap (λ (c : ℕ). eqb c 34) first.0, ap (λ (c : ℕ). eqb c 58) first.0)
@@ -132,7 +132,7 @@ name_byte : (b : ℕ) → is_name_byte b ≡ true → (eqb b 58 ≡ false) × (e
 name_byte b e = (grind arith, grind arith, grind arith)
 
 -- A byte that leads on stands before what follows it.
-back : (place : Place) (b : ℕ) (q : Place) (t : List ℕ) → eqb b 58 && may_end place ≡ false → next place b ≡ Some q → Tail q t → Tail place (b ∷ t)
+back : (position : Position) (b : ℕ) (q : Position) (t : List ℕ) → eqb b 58 && may_end position ≡ false → next position b ≡ Some q → Tail q t → Tail position (b ∷ t)
 back Start b q t colon e h = here (eqb b 59) refl e
   where
     here : (s : Bool) → eqb b 59 ≡ s → cond s (Some NameStart) None ≡ Some q → AreParams (b ∷ t)
@@ -196,7 +196,7 @@ back AfterQuote b q t colon e h = here (value_back b q t None e h)
     here (inl after) = after
     here (inr (m, s, g)) = cc
 
--- What may stand at a place begins with a byte that leads on.
+-- What may stand at a position begins with a byte that leads on.
 and_false : (c d : Bool) → c ≡ false → c && d ≡ false
 and_false c d e = ap (λ x. x && d) e
 
@@ -209,7 +209,7 @@ after_bare b e =
     let parts = bare_byte b e in
     ap (λ c. cond c (Some ValueStart) (cond (eqb b 59) (Some NameStart) (Some Bare))) parts.3 ∙ ap (λ c. cond c (Some NameStart) (Some Bare)) parts.1
 
-forth : (place : Place) (b : ℕ) (t : List ℕ) → Tail place (b ∷ t) → (eqb b 58 && may_end place ≡ false) × Leads place b t
+forth : (position : Position) (b : ℕ) (t : List ℕ) → Tail position (b ∷ t) → (eqb b 58 && may_end position ≡ false) × Leads position b t
 forth Start b t h =
     let first = then_param b t h in
     (ap (λ (c : ℕ). eqb c 58 && true) first.0, (NameStart, ap (λ (c : ℕ). next Start c) first.0, first.1))
@@ -269,7 +269,7 @@ no_end : (xs : List ℕ) (y : ℕ) (ys : List ℕ) → [] ≢ xs ++ y ∷ ys
 no_end [] y ys e = cc
 no_end (x ∷ xs) y ys e = cc
 
-nothing : (place : Place) → Tail place [] → may_end place ≡ true
+nothing : (position : Position) → Tail position [] → may_end position ≡ true
 nothing Start h = refl
 nothing NameStart (name, rest, is, values, e) = absurd (no_end name 61 rest e)
 nothing Name (name, rest, is, values, e) = absurd (no_end name 61 rest e)
@@ -280,15 +280,15 @@ nothing AfterQuote h = refl
 
 -- The colon that ends the parameters
 
-pub sound : (place : Place) (bs : List ℕ) (n : ℕ) → colon_from place bs ≡ Some n → Tail place (take n bs)
-sound place [] n e = cc
-sound place (b ∷ bs) n e = here (eqb b 58 && may_end place) refl (λ q m k. sound q bs m k) e
+pub sound : (position : Position) (bs : List ℕ) (n : ℕ) → colon_from position bs ≡ Some n → Tail position (take n bs)
+sound position [] n e = cc
+sound position (b ∷ bs) n e = here (eqb b 58 && may_end position) refl (λ q m k. sound q bs m k) e
   where
     and_right : (c d : Bool) → (c && d) ≡ true → d ≡ true
     and_right true d k = k
     and_right false d k = cc
 
-    empty : (p : Place) → may_end p ≡ true → Tail p []
+    empty : (p : Position) → may_end p ≡ true → Tail p []
     empty Start k = params_nil
     empty NameStart k = cc
     empty Name k = cc
@@ -297,30 +297,30 @@ sound place (b ∷ bs) n e = here (eqb b 58 && may_end place) refl (λ q m k. so
     empty Quoted k = cc
     empty AfterQuote k = inl params_nil
 
-    after : (q : Place) → ((m : ℕ) → colon_from q bs ≡ Some m → Tail q (take m bs)) → (r : Option ℕ) → r ≡ colon_from q bs → option_map (λ m. m + 1) r ≡ Some n
+    after : (q : Position) → ((m : ℕ) → colon_from q bs ≡ Some m → Tail q (take m bs)) → (r : Option ℕ) → r ≡ colon_from q bs → option_map (λ m. m + 1) r ≡ Some n
         → (m : ℕ) × (suc m ≡ n) × Tail q (take m bs)
     after q later None is f = cc
     after q later (Some m) is f = (m, grind arith, later m (sym is))
 
-    past : eqb b 58 && may_end place ≡ false → ((q : Place) (m : ℕ) → colon_from q bs ≡ Some m → Tail q (take m bs)) → (o : Option Place) → next place b ≡ o
-        → option_and_then (λ q. option_map (λ m. m + 1) (colon_from q bs)) o ≡ Some n → Tail place (take n (b ∷ bs))
+    past : eqb b 58 && may_end position ≡ false → ((q : Position) (m : ℕ) → colon_from q bs ≡ Some m → Tail q (take m bs)) → (o : Option Position) → next position b ≡ o
+        → option_and_then (λ q. option_map (λ m. m + 1) (colon_from q bs)) o ≡ Some n → Tail position (take n (b ∷ bs))
     past colon later None is f = cc
     past colon later (Some q) is f =
         let found = after q (later q) (colon_from q bs) refl f in
-        subst (λ (k : ℕ). Tail place (take k (b ∷ bs))) found.1 (back place b q (take found.0 bs) colon is found.2)
+        subst (λ (k : ℕ). Tail position (take k (b ∷ bs))) found.1 (back position b q (take found.0 bs) colon is found.2)
 
-    here : (t : Bool) → (eqb b 58 && may_end place) ≡ t → ((q : Place) (m : ℕ) → colon_from q bs ≡ Some m → Tail q (take m bs))
-        → cond t (Some 0) (option_and_then (λ q. option_map (λ m. m + 1) (colon_from q bs)) (next place b)) ≡ Some n → Tail place (take n (b ∷ bs))
+    here : (t : Bool) → (eqb b 58 && may_end position) ≡ t → ((q : Position) (m : ℕ) → colon_from q bs ≡ Some m → Tail q (take m bs))
+        → cond t (Some 0) (option_and_then (λ q. option_map (λ m. m + 1) (colon_from q bs)) (next position b)) ≡ Some n → Tail position (take n (b ∷ bs))
     here true is later f =
         let none : 0 ≡ n = grind arith in
-        subst (λ (k : ℕ). Tail place (take k (b ∷ bs))) none (empty place (and_right (eqb b 58) (may_end place) is))
-    here false is later f = past is later (next place b) refl f
+        subst (λ (k : ℕ). Tail position (take k (b ∷ bs))) none (empty position (and_right (eqb b 58) (may_end position) is))
+    here false is later f = past is later (next position b) refl f
 
-pub complete : (place : Place) (t value : List ℕ) → Tail place t → colon_from place (t ++ 58 ∷ value) ≡ Some (length t)
-complete place [] value h = ap (λ c. cond c (Some 0) (option_and_then (λ q. option_map (λ m. m + 1) (colon_from q value)) (next place 58))) (nothing place h)
-complete place (b ∷ t) value h =
-    let leads = forth place b t h in
-    ap (λ c. cond c (Some 0) (option_and_then (λ q. option_map (λ m. m + 1) (colon_from q (t ++ 58 ∷ value))) (next place b))) leads.0
+pub complete : (position : Position) (t value : List ℕ) → Tail position t → colon_from position (t ++ 58 ∷ value) ≡ Some (length t)
+complete position [] value h = ap (λ c. cond c (Some 0) (option_and_then (λ q. option_map (λ m. m + 1) (colon_from q value)) (next position 58))) (nothing position h)
+complete position (b ∷ t) value h =
+    let leads = forth position b t h in
+    ap (λ c. cond c (Some 0) (option_and_then (λ q. option_map (λ m. m + 1) (colon_from q (t ++ 58 ∷ value))) (next position b))) leads.0
     ∙ ap (λ o. option_and_then (λ q. option_map (λ m. m + 1) (colon_from q (t ++ 58 ∷ value))) o) leads.1.1
     ∙ ap (λ o. option_map (λ m. m + 1) o) (complete leads.1.0 t value leads.1.2) ∙ ap (λ (k : ℕ). Some k) (add-one (length t))
 
@@ -394,10 +394,10 @@ with_sound group name rest f e = empty (is_empty name) refl e
         → (0 < length name) × (group ≡ f.group) × (name ≡ f.name) × AreParams f.params × (rest ≡ f.params ++ 58 ∷ f.value)
     colon None is n h = cc
     colon (Some k) is n h =
-        let place = at_colon Start rest k is in
+        let position = at_colon Start rest k is in
         subst (λ (g : Fields). (0 < length name) × (group ≡ g.group) × (name ≡ g.name) × AreParams g.params × (rest ≡ g.params ++ 58 ∷ g.value))
         (some_is (record { group = group; name = name; params = take k rest; value = drop (k + 1) rest }) f h)
-        (not_empty name n, refl, refl, sound Start rest k is, at_cut rest k place.0 place.1)
+        (not_empty name n, refl, refl, sound Start rest k is, at_cut rest k position.0 position.1)
 
     empty : (t : Bool) → is_empty name ≡ t → cond t None (with_value group name rest (colon_from Start rest)) ≡ Some f
         → (0 < length name) × (group ≡ f.group) × (name ≡ f.name) × AreParams f.params × (rest ≡ f.params ++ 58 ∷ f.value)

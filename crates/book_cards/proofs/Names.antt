@@ -5,7 +5,7 @@ use Rattle.std.specs.Option.{option_map, option_and_then}
 use Rattle.std.specs.Str.{IsUtf8, IsCharBoundary}
 use Rattle.std.proofs.lemmas.Str.{IsCharBoundary-start, IsCharBoundary-after_ascii}
 use Rattle.std.proofs.lemmas.List.Sums.{fails_before_first}
-use Rattle.book_cards.specs.declared.line.Place.{Place}
+use Rattle.book_cards.specs.declared.line.Position.{Position}
 use Rattle.book_cards.specs.ContentLine.{Fields, is_name_byte}
 use Rattle.book_cards.specs.Reading.{name_length, name_at, after_name, may_end, next, colon_from, grouped, fields_with, fields_of}
 use Rattle.book_cards.proofs.Folds.{eqb_is}
@@ -36,27 +36,27 @@ and_left true q e = refl
 and_left false q e = cc
 
 -- a colon stands where one was found
-pub at_colon : (place : Place) (bs : List ℕ) (n : ℕ) → colon_from place bs ≡ Some n → (n < length bs) × (get_or bs n 0 ≡ 58)
-at_colon place [] n e = cc
-at_colon place (b ∷ bs) n e = here (λ q m h. at_colon q bs m h) (eqb b 58 && may_end place) refl e
+pub at_colon : (position : Position) (bs : List ℕ) (n : ℕ) → colon_from position bs ≡ Some n → (n < length bs) × (get_or bs n 0 ≡ 58)
+at_colon position [] n e = cc
+at_colon position (b ∷ bs) n e = here (λ q m h. at_colon q bs m h) (eqb b 58 && may_end position) refl e
   where
-    after : ((q : Place) (m : ℕ) → colon_from q bs ≡ Some m → (m < length bs) × (get_or bs m 0 ≡ 58)) → (q : Place) (r : Option ℕ) → r ≡ colon_from q bs → option_map (λ m. m + 1) r ≡ Some n → (n < length (b ∷ bs)) × (get_or (b ∷ bs) n 0 ≡ 58)
+    after : ((q : Position) (m : ℕ) → colon_from q bs ≡ Some m → (m < length bs) × (get_or bs m 0 ≡ 58)) → (q : Position) (r : Option ℕ) → r ≡ colon_from q bs → option_map (λ m. m + 1) r ≡ Some n → (n < length (b ∷ bs)) × (get_or (b ∷ bs) n 0 ≡ 58)
     after later q None is f = cc
     after later q (Some m) is f =
         let found = later q m (sym is) in
-        let next_place : suc m ≡ n = grind arith in
-        subst (λ (k : ℕ). (k < length (b ∷ bs)) × (get_or (b ∷ bs) k 0 ≡ 58)) next_place (omega (arith, found.0), found.1)
+        let next_position : suc m ≡ n = grind arith in
+        subst (λ (k : ℕ). (k < length (b ∷ bs)) × (get_or (b ∷ bs) k 0 ≡ 58)) next_position (omega (arith, found.0), found.1)
 
-    past : ((q : Place) (m : ℕ) → colon_from q bs ≡ Some m → (m < length bs) × (get_or bs m 0 ≡ 58)) → (o : Option Place) → option_and_then (λ q. option_map (λ m. m + 1) (colon_from q bs)) o ≡ Some n → (n < length (b ∷ bs)) × (get_or (b ∷ bs) n 0 ≡ 58)
+    past : ((q : Position) (m : ℕ) → colon_from q bs ≡ Some m → (m < length bs) × (get_or bs m 0 ≡ 58)) → (o : Option Position) → option_and_then (λ q. option_map (λ m. m + 1) (colon_from q bs)) o ≡ Some n → (n < length (b ∷ bs)) × (get_or (b ∷ bs) n 0 ≡ 58)
     past later None f = cc
     past later (Some q) f = after later q (colon_from q bs) refl f
 
-    here : ((q : Place) (m : ℕ) → colon_from q bs ≡ Some m → (m < length bs) × (get_or bs m 0 ≡ 58)) → (t : Bool) → (eqb b 58 && may_end place) ≡ t → cond t (Some 0) (option_and_then (λ q. option_map (λ m. m + 1) (colon_from q bs)) (next place b)) ≡ Some n
+    here : ((q : Position) (m : ℕ) → colon_from q bs ≡ Some m → (m < length bs) × (get_or bs m 0 ≡ 58)) → (t : Bool) → (eqb b 58 && may_end position) ≡ t → cond t (Some 0) (option_and_then (λ q. option_map (λ m. m + 1) (colon_from q bs)) (next position b)) ≡ Some n
         → (n < length (b ∷ bs)) × (get_or (b ∷ bs) n 0 ≡ 58)
     here later true is f =
         let none : 0 ≡ n = grind arith in
-        subst (λ (k : ℕ). (k < length (b ∷ bs)) × (get_or (b ∷ bs) k 0 ≡ 58)) none (omega arith, eqb_is b 58 (and_left (eqb b 58) (may_end place) is))
-    here later false is f = past later (next place b) f
+        subst (λ (k : ℕ). (k < length (b ∷ bs)) × (get_or (b ∷ bs) k 0 ≡ 58)) none (omega arith, eqb_is b 58 (and_left (eqb b 58) (may_end position) is))
+    here later false is f = past later (next position b) f
 
 no_dot : (rest : List ℕ) → ((more : List ℕ) → rest ≢ 46 ∷ more) → eqb (get_or rest 0 0) 46 ≡ false
 no_dot [] h = refl

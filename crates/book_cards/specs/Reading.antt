@@ -3,8 +3,8 @@
 use Rattle.std.specs.Prelude.{ℕ, ◌+◌, Bool, true, false, not, ◌&&◌, List, [], ◌∷◌, length, take, drop, slice_index, ◌==◌, if◌then◌else◌, Option, Some, None}
 use Rattle.std.specs.Option.{option_map, option_and_then}
 use Rattle.std.specs.List.{position_or_len}
-use Rattle.book_cards.specs.declared.line.Place.{Place}
-use Rattle.book_cards.specs.declared.line.Place.TheVariants.{Start, NameStart, Name, ValueStart, Bare, Quoted, AfterQuote}
+use Rattle.book_cards.specs.declared.line.Position.{Position}
+use Rattle.book_cards.specs.declared.line.Position.TheVariants.{Start, NameStart, Name, ValueStart, Bare, Quoted, AfterQuote}
 use Rattle.book_cards.specs.ContentLine.{Fields, is_name_byte}
 
 abbrev pub is_empty : List ℕ → Bool
@@ -21,7 +21,7 @@ abbrev pub after_name : List ℕ → List ℕ
 after_name text = drop (name_length text) text
 
 -- whether a colon here ends the parameters
-abbrev pub may_end : Place → Bool
+abbrev pub may_end : Position → Bool
 may_end Start = true
 may_end NameStart = false
 may_end Name = false
@@ -30,11 +30,11 @@ may_end Bare = true
 may_end Quoted = false
 may_end AfterQuote = true
 
-abbrev pub after_value : ℕ → Option Place → Option Place
+abbrev pub after_value : ℕ → Option Position → Option Position
 after_value b other = if b == 44 then Some ValueStart else if b == 59 then Some NameStart else other
 
 -- where a byte leads, if it may stand there
-abbrev pub next : Place → ℕ → Option Place
+abbrev pub next : Position → ℕ → Option Position
 next Start b = if b == 59 then Some NameStart else None
 next NameStart b = if is_name_byte b then Some Name else None
 next Name b = if is_name_byte b then Some Name else if b == 61 then Some ValueStart else None
@@ -43,12 +43,12 @@ next Bare b = if b == 34 then None else after_value b (Some Bare)
 next Quoted b = if b == 34 then Some AfterQuote else Some Quoted
 next AfterQuote b = after_value b None
 
--- the place of the colon that ends the parameters
-abbrev pub colon_from : Place → List ℕ → Option ℕ
-colon_from place [] = None
-colon_from place (b ∷ bs) =
-    if b == 58 && may_end place then Some 0
-    else option_and_then (λ q. option_map (λ n. n + 1) (colon_from q bs)) (next place b)
+-- the index of the colon that ends the parameters
+abbrev pub colon_from : Position → List ℕ → Option ℕ
+colon_from position [] = None
+colon_from position (b ∷ bs) =
+    if b == 58 && may_end position then Some 0
+    else option_and_then (λ q. option_map (λ n. n + 1) (colon_from q bs)) (next position b)
 
 abbrev pub with_value : Option (List ℕ) → List ℕ → List ℕ → Option ℕ → Option Fields
 with_value group name rest None = None

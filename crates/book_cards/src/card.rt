@@ -21,7 +21,7 @@ use std::alloc::Global;
 use std::marker::Model;
 
 /// The most bytes that a card may have (own profile).
-const MAX_LEN: usize = 65_536;
+pub const MAX_CARD_BYTES: usize = 65_536;
 
 /// A vCard of version 4.0 (RFC 6350). A contract sees its unfolded text, whose lines have no fault.
 ///
@@ -60,7 +60,7 @@ pub fn read_card(alloc: Global, text: &str) -> Result<Card, CardFault>
     ensures card { IfOk result (λ card. IsCard text.now × (card ≡ unfolded text.now)) }
     ensures fault { IfErr result (λ fault. (fault ≡ out_of_memory) ⊎ (card_fault text.now ≡ Some fault)) }
 {
-    if text.len() > MAX_LEN {
+    if text.len() > MAX_CARD_BYTES {
         return Err(CardFault {
             kind: CardFaultKind::TooLong,
             line: 0,
@@ -87,7 +87,7 @@ fn find_value(text: &str, wanted: Property) -> Option<&str>
     None
 }
 
-/// The line at this place, from 0, where it is a content line.
+/// The line at this index, from 0, where it is a content line.
 fn find_line(text: &str, index: usize) -> Option<Line<'_>>
     ensures { option_map view result ≡ option_and_then fields_of (slice_get (lines text.now) index) }
 {

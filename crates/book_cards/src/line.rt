@@ -25,7 +25,7 @@ pub struct Line<'a> {
 
 /// Where among the parameters of a line a byte stands.
 #[derive(Clone, Copy)]
-enum Place {
+enum Position {
     /// Before the parameters.
     Start,
     /// At the first byte of a parameter's name.
@@ -49,48 +49,52 @@ pub(crate) fn is_name_byte(byte: u8) -> bool
     byte.is_ascii_alphanumeric() || byte == b'-'
 }
 
-impl Place {
+impl Position {
     /// Whether a colon here ends the parameters.
     fn ends(self) -> bool
         ensures { result ≡ may_end self }
     {
         match self {
-            Place::Start | Place::ValueStart | Place::Bare | Place::AfterQuote => true,
-            Place::NameStart | Place::Name | Place::Quoted => false,
+            Position::Start | Position::ValueStart | Position::Bare | Position::AfterQuote => true,
+            Position::NameStart | Position::Name | Position::Quoted => false,
         }
     }
 
     /// Where a byte leads, if it may stand here.
-    fn after(self, byte: u8) -> Option<Place>
+    fn after(self, byte: u8) -> Option<Position>
         ensures { result ≡ next self byte }
     {
         match (self, byte) {
-            (Place::NameStart | Place::Name, _) if is_name_byte(byte) => Some(Place::Name),
-            (Place::Name, b'=') => Some(Place::ValueStart),
-            (Place::Quoted, b'"') => Some(Place::AfterQuote),
-            (Place::Quoted, _) => Some(Place::Quoted),
-            (Place::ValueStart, b'"') => Some(Place::Quoted),
-            (Place::Bare, b'"') => None,
-            (Place::ValueStart | Place::Bare | Place::AfterQuote, b',') => Some(Place::ValueStart),
-            (Place::ValueStart | Place::Bare | Place::AfterQuote | Place::Start, b';') => {
-                Some(Place::NameStart)
-            }
-            (Place::ValueStart | Place::Bare, _) => Some(Place::Bare),
-            (Place::Start | Place::NameStart | Place::Name | Place::AfterQuote, _) => None,
+            (Position::NameStart | Position::Name, _) if is_name_byte(byte) => Some(Position::Name),
+            (Position::Name, b'=') => Some(Position::ValueStart),
+            (Position::Quoted, b'"') => Some(Position::AfterQuote),
+            (Position::Quoted, _) => Some(Position::Quoted),
+            (Position::ValueStart, b'"') => Some(Position::Quoted),
+            (Position::Bare, b'"') => None,
+            (Position::ValueStart | Position::Bare | Position::AfterQuote, b',') => Some(
+                Position::ValueStart,
+            ),
+            (
+                Position::ValueStart | Position::Bare | Position::AfterQuote | Position::Start,
+                b';',
+            ) => { Some(Position::NameStart) }
+            (Position::ValueStart | Position::Bare, _) => Some(Position::Bare),
+            (Position::Start | Position::NameStart | Position::Name | Position::AfterQuote, _) =>
+                None,
         }
     }
 }
 
-/// The place of the colon that ends the parameters at the front of this text.
+/// The index of the colon that ends the parameters at the front of this text.
 fn find_colon(text: &str) -> Option<usize>
-    ensures { result ≡ colon_from Place.Start text.now }
+    ensures { result ≡ colon_from Position.Start text.now }
 {
-    let mut place = Place::Start;
+    let mut position = Position::Start;
     for (i, byte) in text.as_bytes().iter().enumerate() {
-        if *byte == b':' && place.ends() {
+        if *byte == b':' && position.ends() {
             return Some(i);
         }
-        place = place.after(*byte)?;
+        position = position.after(*byte)?;
     }
     None
 }

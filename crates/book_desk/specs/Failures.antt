@@ -2,9 +2,9 @@
 use Rattle.std.specs.Prelude.{ℕ, List, codes}
 use Rattle.book_desk.specs.declared.failures.Failure.{Failure}
 use Rattle.book_desk.specs.declared.failures.Failure.TheVariants.{Input, NotUtf8, Output, Explain, Card}
-use Rattle.book_lists.specs.FaultTexts.{fault_text}
-use Rattle.book_lists.specs.declared.faults.ExplainFaultKind.{ExplainFaultKind}
-use Rattle.book_lists.specs.declared.faults.ExplainFaultKind.TheVariants as explain_kinds
+use Rattle.book_explain.specs.FaultTexts.{fault_text}
+use Rattle.book_explain.specs.declared.faults.ExplainFaultKind.{ExplainFaultKind}
+use Rattle.book_explain.specs.declared.faults.ExplainFaultKind.TheVariants as explain_kinds
 use Rattle.book_cards.specs.FaultTexts as cards
 use Rattle.book_cards.specs.declared.fault.CardFaultKind.{CardFaultKind}
 use Rattle.book_cards.specs.declared.fault.CardFaultKind.TheVariants as card_kinds

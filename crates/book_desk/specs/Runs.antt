@@ -8,7 +8,7 @@ use Rattle.book_desk.specs.declared.failures.Failure.{Failure}
 use Rattle.book_desk.specs.declared.failures.Failure.TheVariants as failures
 use Rattle.book_desk.specs.Failures.{failure_status}
 use Rattle.book_desk.specs.CardSummaries.{summary_text}
-use Rattle.book_lists.specs.Explanations.{AnswersText, IsFault}
+use Rattle.book_explain.specs.Explanations.{AnswersText, IsFault}
 use Rattle.book_cards.specs.CardText.{card_fault, out_of_memory}
 use Rattle.book_cards.specs.Folding.{unfolded}
 use Rattle.book_cards.specs.Valid.{IsCard}

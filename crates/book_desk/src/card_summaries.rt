@@ -1,6 +1,6 @@
 //! The command `card`, over any reader and writer.
 
-ghost use Rattle.std.specs.Prelude.{◌≡◌, ◌≢◌, ◌⊎◌, ◌++◌, IfOk, IfErr, IfSome, OnOk, Some, string_bytes};
+ghost use Rattle.std.specs.Prelude.{◌≡◌, ◌≢◌, ◌<◌, ◌⊎◌, ◌++◌, List, ℕ, length, IfOk, IfErr, IfSome, OnOk, Some, string_bytes};
 ghost use Rattle.std.specs.Io.KnownBytes.{Keeps};
 ghost use Rattle.book_cards.specs.CardText.{card_fault, out_of_memory};
 ghost use Rattle.book_cards.specs.Folding.{unfolded};
@@ -11,8 +11,9 @@ ghost use Rattle.book_desk.specs.declared.commands.Command.TheVariants as comman
 ghost use Rattle.book_desk.specs.declared.failures.Failure.TheVariants.{Output};
 
 use crate::failures::Failure;
-use crate::streams::{print, read_text};
-use book_cards::{Card, CardFault, read_card};
+use crate::short_texts::read_short_text;
+use crate::streams::print;
+use book_cards::{Card, CardFault, CardFaultKind, MAX_CARD_BYTES, read_card};
 use std::alloc::{AllocError, Global};
 use std::io::{Read, Write};
 
@@ -49,7 +50,18 @@ fn summarize(alloc: Global, text: &str) -> Result<String, CardFault>
     Ok(summary_text(alloc, &card)?)
 }
 
-/// Reads the card, and writes what is told of it. Nothing is written where the input is refused.
+/// The fault of a text that has too many bytes.
+fn too_long() -> CardFault
+    ensures { (text : List ℕ) → 65536 < length text → card_fault text ≡ Some result }
+{
+    CardFault {
+        kind: CardFaultKind::TooLong,
+        line: 0,
+    }
+}
+
+/// Reads the card, and writes what is told of it. Nothing is written where the input is refused. Of an input that is
+/// too long no more than its bound and one byte is kept; the rest is read, since it may not be UTF-8.
 pub fn summarize_input<R: Read + Drop, W: Write>(
     alloc: Global,
     reader: R,
@@ -59,7 +71,10 @@ pub fn summarize_input<R: Read + Drop, W: Write>(
     ensures refused { IfErr result (λ failure. IfSome (R.remaining reader) (λ input. Refuses commands.Card input failure)) }
     ensures unwritten { IfErr result (λ failure. failure ≢ Output → Keeps (W.contents writer.old) (W.contents writer.new)) }
 {
-    let text = read_text(alloc, reader)?;
+    let found = read_short_text(alloc, MAX_CARD_BYTES, reader)?;
+    let Some(text) = found else {
+        return Err(Failure::Card(too_long()));
+    };
     match summarize(alloc, text.as_str()) {
         Ok(told) => print(writer, told.as_str()),
         Err(fault) => Err(Failure::Card(fault)),

@@ -11,10 +11,13 @@ use std::fmt;
 const ABOUT: &str =
     "Shared contact books of an office: WebDAV access lists (RFC 3744) and vCards (RFC 6350)";
 
+const VERSION: &str = "0.1.0";
+
 const EXPLAIN: &str = "Reads a question from standard input and prints its decision";
 
 const QUESTION: &str = "\
-Input, a line for each (words are separated by one space; empty lines and lines that begin with # are skipped):
+Input, a line for each. Words are separated by one space, lines end with LF alone, and empty lines and lines that begin
+with # are skipped. A file is given by <, as in: book_desk explain < question.txt
   member GROUP MEMBER      a direct membership; at most 1,000
   caller PERSON            who asks; or caller - for nobody; once
   need NAME ..             the privileges that are needed; once
@@ -45,7 +48,8 @@ Status: 0 answered, 1 refused input, 2 usage, 3 memory, or a failed read or writ
 const CARD: &str = "Reads a card from standard input and prints what it says, or why it is refused";
 
 const CARD_TEXT: &str = "\
-Input: one vCard of version 4.0 in UTF-8, of at most 65,536 bytes. Its lines end with CRLF or LF:
+Input: one vCard of version 4.0 in UTF-8, of at most 65,536 bytes, whose lines end with CRLF or LF. A file is given by
+<, as in: book_desk card < person.vcf
   BEGIN:VCARD
   VERSION:4.0
   [GROUP.]NAME[;PARAMETER=VALUE,..]:VALUE   a content line; any number of them
@@ -86,7 +90,7 @@ pub enum Command {
     Explain,
     /// Tell what the card on standard input says.
     Card,
-    /// Print this help, which the words ask for.
+    /// Print this text, which the words ask for: help, or the name and the version.
     Help(String),
 }
 
@@ -146,6 +150,7 @@ fn program<'a>(alloc: Global) -> Result<clap::Command<'a>, AllocError> {
         .after_help(CARD_TEXT);
     clap::Command::new(alloc, "book_desk")
         .about(ABOUT)
+        .version(VERSION)
         .bin_name("book_desk")?
         .no_binary_name(true)
         .subcommand_required(true)
@@ -153,11 +158,13 @@ fn program<'a>(alloc: Global) -> Result<clap::Command<'a>, AllocError> {
         .subcommand(card)
 }
 
-/// What clap says in place of a command: help that was asked for, or what is wrong.
+/// What clap says in place of a command: help or the version, which were asked for, or what is wrong.
 fn answer_of(alloc: Global, error: &clap::Error) -> Result<Command, WordsFault> {
     match error.kind() {
         ErrorKind::OutOfMemory => Err(WordsFault::Memory),
-        ErrorKind::DisplayHelp => Ok(Command::Help(format!(in alloc; "{error}")?)),
+        ErrorKind::DisplayHelp | ErrorKind::DisplayVersion => {
+            Ok(Command::Help(format!(in alloc; "{error}")?))
+        }
         _ => Err(WordsFault::Usage(format!(in alloc; "{error}")?)),
     }
 }
@@ -181,7 +188,7 @@ pub fn words_not_text(alloc: Global) -> WordsFault {
     usage(alloc, "invalid UTF-8 was detected in one or more arguments")
 }
 
-/// Reads the words after the program's name. Help that they ask for is a command of its own.
+/// Reads the words after the program's name. Help or the version that they ask for is a command of its own.
 ///
 /// It answers `Usage` where they name no command, and `Memory` where memory was refused.
 pub fn command_of(alloc: Global, words: &[String]) -> Result<Command, WordsFault> {

@@ -8,7 +8,7 @@ ghost use Rattle.book_desk.specs.declared.failures.Failure.TheVariants.{Output};
 
 use crate::failures::Failure;
 use crate::streams::{print, read_text};
-use book_lists::explain;
+use book_explain::explain;
 use std::alloc::Global;
 use std::io::{Read, Write};
 

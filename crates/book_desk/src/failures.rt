@@ -4,7 +4,7 @@ ghost use Rattle.std.specs.Prelude.{◌≡◌};
 ghost use Rattle.book_desk.specs.Failures.{failure_status, explain_status, card_status};
 
 use book_cards::{CardFault, CardFaultKind};
-use book_lists::{ExplainFault, ExplainFaultKind};
+use book_explain::{ExplainFault, ExplainFaultKind};
 use std::error::Error;
 use std::fmt;
 

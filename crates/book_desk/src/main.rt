@@ -11,6 +11,7 @@ mod commands;
 mod dispatch;
 mod explaining;
 mod failures;
+mod short_texts;
 mod streams;
 #[cfg(test)]
 mod tests;

@@ -29,226 +29,85 @@ fn run_over<R: Read + Drop>(rt: &impl Abort, alloc: Global, command: &Command, r
     }
 }
 
-fn explained(rt: &impl Abort, alloc: Global, input: &str) -> Told {
-    run_over(rt, alloc, &Command::Explain, input.as_bytes())
-}
-
-#[test]
-fn answers_questions(rt: HostRuntime) {
-    let cases = [
-        // an empty list grants nothing
-        (
-            "caller /people/ann\nneed read\n",
-            "denied read, none granted\ngranted: -\n",
-        ),
-        // the first entry that applies decides each leaf, and the denial is named
-        (
-            "caller /people/ann\nneed read write-content\ngrant all read\ndeny all all\ngrant all write\n",
-            "denied write-content by 2\ngranted: read\n",
-        ),
-        // a grant before a denial stands
-        (
-            "caller /people/ann\nneed all\ngrant all all\ndeny all all\n",
-            "allowed\ngranted: all\n",
-        ),
-        // an inverted entry applies to nobody, who belongs to nothing
-        (
-            "caller -\nneed read\ndeny not /groups/staff read\ngrant all read\n",
-            "denied read by 1\ngranted: -\n",
-        ),
-        // groups within each other
-        (
-            "member /groups/a /groups/b\nmember /groups/b /groups/a\nmember /groups/b /people/cem\n\
-             caller /people/cem\nneed bind\ngrant /groups/a write\n",
-            "allowed\ngranted: write\n",
-        ),
-        // comments, empty lines, no line end at the last line, a slash at the end of a path
-        (
-            "# a question\n\ncaller /people/ann/\n#\n\nneed read-acl\ngrant /people/ann read-acl bind",
-            "allowed\ngranted: bind read-acl\n",
-        ),
-        // the owner and the resource itself
-        (
-            "caller /people/ann\nneed read\nowner /groups/staff\nhere /people/ann\n\
-             deny owner read\ngrant self read unbind\n",
-            "allowed\ngranted: read unbind\n",
-        ),
-    ];
-    for (input, answer) in cases {
-        let told = explained(&rt, rt.alloc(), input);
-        assert!(rt; told.is(0, answer, ""), "{input:?}: {told:?}");
-    }
-}
-
-#[test]
-fn names_the_first_fault(rt: HostRuntime) {
-    let cases = [
-        // no form
-        ("caller -\nfrob /people/ann\n", "line 2: bad-line\n"),
-        ("member /groups/a\n", "line 1: bad-line\n"),
-        ("need\n", "line 1: bad-line\n"),
-        ("grant all\n", "line 1: bad-line\n"),
-        ("grant not not read\n", "line 1: bad-line\n"),
-        // words are separated by exactly one space, and a line by LF alone
-        ("# \n\nneed  read\n", "line 3: bad-line\n"),
-        ("need read \n", "line 1: bad-line\n"),
-        (" # note\n", "line 1: bad-line\n"),
-        ("caller -\n\r\n", "line 2: bad-line\n"),
-        ("caller -\nneed read\r\n", "line 2: unknown-privilege\n"),
-        // no principal, no group, no person
-        ("caller -\nowner /books/law\n", "line 2: bad-name\n"),
-        ("grant everyone read\n", "line 1: bad-name\n"),
-        ("member /people/ann /people/bob\n", "line 1: bad-name\n"),
-        ("caller /groups/staff\n", "line 1: bad-name\n"),
-        ("need read unlock\n", "line 1: unknown-privilege\n"),
-        ("caller -\ndeny all lock\n", "line 2: unknown-privilege\n"),
-        // what may stand once
-        ("caller -\ncaller -\n", "line 2: twice\n"),
-        ("need read\n\nneed read\n", "line 3: twice\n"),
-        ("owner /people/ann\nowner /people/ann\n", "line 2: twice\n"),
-        ("here /groups/a\nhere /groups/b\n", "line 2: twice\n"),
-        // what must stand
-        ("", "line 0: missing\n"),
-        ("need read\n", "line 0: missing\n"),
-        ("caller -\ngrant all all\n", "line 0: missing\n"),
-        // of one line the least fault
-        ("grant everyone unlock\n", "line 1: bad-name\n"),
-        ("caller -\ncaller nobody\n", "line 2: bad-name\n"),
-        ("need read\nneed unlock\n", "line 2: unknown-privilege\n"),
-        // of several lines the first
-        ("need unlock\nfrob\n", "line 1: unknown-privilege\n"),
-        ("here /groups/a\nhere /groups/a\nfrob\n", "line 2: twice\n"),
-        ("need read\nfrob\n", "line 2: bad-line\n"),
-    ];
-    for (input, fault) in cases {
-        let told = explained(&rt, rt.alloc(), input);
-        assert!(rt; told.is(1, "", fault), "{input:?}: {told:?}");
-    }
-}
-
-/// The line so many times, and then the rest.
-fn repeated(rt: &impl Abort, alloc: Global, line: &str, times: usize, rest: &str) -> String {
-    let mut text = String::new(alloc);
-    for _ in 0..times {
-        text.push_str(line).expect(rt, "memory");
-    }
-    text.push_str(rest).expect(rt, "memory");
-    text
-}
-
-#[test]
-fn counts_members_and_entries(rt: HostRuntime) {
-    let asked = "caller /people/ann\nneed read\n";
-    let allowed = "allowed\ngranted: read\n";
-    let cases = [
-        (
-            "member /groups/a /people/ann\n",
-            1000,
-            "grant all read\n",
-            0,
-            allowed,
-            "",
-        ),
-        (
-            "member /groups/a /people/ann\n",
-            1001,
-            "",
-            1,
-            "",
-            "line 1003: too-many\n",
-        ),
-        (
-            "member /groups/a /people/ann\n",
-            1000,
-            "member a b\n",
-            1,
-            "",
-            "line 1003: bad-name\n",
-        ),
-        ("grant all read\n", 64, "", 0, allowed, ""),
-        ("grant all read\n", 65, "", 1, "", "line 67: too-many\n"),
-        (
-            "grant all read\n",
-            64,
-            "grant all lock\n",
-            1,
-            "",
-            "line 67: unknown-privilege\n",
-        ),
-    ];
-    for (line, times, rest, status, output, errors) in cases {
-        let lines = repeated(&rt, rt.alloc(), line, times, rest);
-        let input = format!(in rt.alloc(); "{asked}{lines}").expect(&rt, "memory");
-        let told = explained(&rt, rt.alloc(), input.as_str());
-        assert!(rt;
-            told.is(status, output, errors),
-            "{times} times {line:?}: {told:?}"
-        );
-    }
-}
-
 const FOLDED: &str = "BEGIN:VCARD\nVERSION:4.0\nFN:An\n n Bell\nEND:VCARD";
 
-fn told_of(rt: &impl Abort, alloc: Global, card: &str) -> Told {
-    run_over(rt, alloc, &Command::Card, card.as_bytes())
-}
-
+/// One answer and one fault of each kind of text; `book_lists` and `book_cards` have the others.
 #[test]
-fn tells_what_cards_say(rt: HostRuntime) {
-    let cases = [
-        (FOLDED, "valid\nkind: individual\nuid: -\nfn: Ann Bell\n"),
+fn tells_answers_and_faults(rt: HostRuntime) {
+    let cases: [(Command, &str, u8, &str, &str); 8] = [
         (
-            "BEGIN:VCARD\r\nVERSION:4.0\r\nUID:urn:uuid:p\r\nFN:P\r\nEND:VCARD\r\n",
-            "valid\nkind: individual\nuid: urn:uuid:p\nfn: P\n",
+            Command::Explain,
+            "caller /people/ann\nneed read write-content\ngrant all read\ndeny all all\ngrant all write\n",
+            0,
+            "denied write-content by 2\ngranted: read\n",
+            "",
         ),
         (
-            "BEGIN:VCARD\r\nVERSION:4.0\r\nKIND:group\r\nFN:G\r\nMEMBER:urn:uuid:p\r\n\
+            Command::Explain,
+            "# \n\nneed  read\n",
+            1,
+            "",
+            "line 3: bad-line\n",
+        ),
+        (Command::Explain, "", 1, "", "line 0: missing\n"),
+        (
+            Command::Card,
+            FOLDED,
+            0,
+            "valid\nkind: individual\nuid: -\nfn: Ann Bell\n",
+            "",
+        ),
+        (
+            Command::Card,
+            "BEGIN:VCARD\r\nVERSION:4.0\r\nKIND:group\r\nFN:G\r\nUID:urn:uuid:g\r\nMEMBER:urn:uuid:p\r\n\
              MEMBER:urn:uuid:q\r\nEND:VCARD\r\n",
-            "valid\nkind: group\nuid: -\nfn: G\nmember: urn:uuid:p\nmember: urn:uuid:q\n",
+            0,
+            "valid\nkind: group\nuid: urn:uuid:g\nfn: G\nmember: urn:uuid:p\nmember: urn:uuid:q\n",
+            "",
         ),
         // values as written, of any case and with their escapes; of two FN the first
         (
+            Command::Card,
             "begin:vcard\nversion:4.0\nx.fn;language=en:Bell\\, Ann: \nFN:Ann\nKind:ORG\nUid:\nend:vcard\n",
+            0,
             "valid\nkind: ORG\nuid: \nfn: Bell\\, Ann: \n",
+            "",
         ),
+        (
+            Command::Card,
+            "BEGIN:VCARD\nVERSION:4.0\nFN:A\nMEMBER:urn:uuid:1\nEND:VCARD\n",
+            1,
+            "",
+            "line 4: member-without-group\n",
+        ),
+        (Command::Card, "", 1, "", "line 1: no-begin\n"),
     ];
-    for (input, output) in cases {
-        let told = told_of(&rt, rt.alloc(), input);
-        assert!(rt; told.is(0, output, ""), "{input:?}: {told:?}");
+    for (command, input, status, output, errors) in cases {
+        let told = run_over(&rt, rt.alloc(), &command, input.as_bytes());
+        assert!(rt; told.is(status, output, errors), "{input:?}: {told:?}");
     }
 }
 
-#[test]
-fn tells_why_cards_are_refused(rt: HostRuntime) {
-    let cases = [
-        ("", "line 1: no-begin\n"),
-        ("FN:A\n", "line 2: no-version\n"),
-        ("VERSION:3.0\nFN:A\n", "line 2: other-version\n"),
-        ("VERSION:4.0\nFN:A\nTEL 1\n", "line 4: bad-line\n"),
-        ("VERSION:4.0\nUID:a\nUID:b\nFN:A\n", "line 4: twice\n"),
-        (
-            "VERSION:4.0\nFN:A\nEND:VCARD\nFN:B\n",
-            "line 5: after-end\n",
-        ),
-        ("VERSION:4.0\nN:A\n", "line 4: no-fn\n"),
-        (
-            "VERSION:4.0\nFN:A\nMEMBER:urn:uuid:1\n",
-            "line 4: member-without-group\n",
-        ),
-    ];
-    for (lines, fault) in cases {
-        let input = match lines {
-            "" => String::new(rt.alloc()),
-            _ => format!(in rt.alloc(); "BEGIN:VCARD\n{lines}END:VCARD\n").expect(&rt, "memory"),
-        };
-        let told = told_of(&rt, rt.alloc(), input.as_str());
-        assert!(rt; told.is(1, "", fault), "{input:?}: {told:?}");
+/// So many letters.
+fn letters(rt: &impl Abort, alloc: Global, count: usize) -> String {
+    let mut text = String::new(alloc);
+    for _ in 0..count {
+        text.push('A').expect(rt, "memory");
     }
-    let open = told_of(&rt, rt.alloc(), "BEGIN:VCARD\nVERSION:4.0\nFN:A\n");
-    assert!(rt; open.is(1, "", "line 4: no-end\n"), "{open:?}");
-    let long = repeated(&rt, rt.alloc(), "A", 65_537, "");
-    let long = told_of(&rt, rt.alloc(), long.as_str());
-    assert!(rt; long.is(1, "", "line 0: too-long\n"), "{long:?}");
+    text
+}
+
+/// A text of more than 65,536 bytes is no card.
+#[test]
+fn tells_that_a_card_is_too_long(rt: HostRuntime) {
+    for (count, errors) in [
+        (65_536, "line 1: no-begin\n"),
+        (65_537, "line 0: too-long\n"),
+    ] {
+        let text = letters(&rt, rt.alloc(), count);
+        let told = run_over(&rt, rt.alloc(), &Command::Card, text.as_bytes());
+        assert!(rt; told.is(1, "", errors), "{told:?}");
+    }
 }
 
 /// Gives its bytes one by one, and then fails.

@@ -1,16 +1,34 @@
-//! Worked examples of the crates below, and nothing else: a crate with tests is proved twice, so they stand here, once,
-//! and those crates have few or none.
+//! Worked examples of keepers, policies and requests, and nothing else: a crate with tests is proved twice, so they
+//! stand here, and the crates below have none.
 //!
-//! `keepers` asks each question of a keeper and makes each edit, through the trait `Keeper`, on a keeper in memory;
-//! `adoptions` adopts the policies of `policies`, and `requests` serves the requests of several callers under them. The
-//! wanted answers are those of the rules (RFC 3744, RFC 4918 and own profile).
+//! An example is a table of lines, as `scripts` reads them, with the wanted answers: those of the rules (RFC 3744,
+//! RFC 4918 and own profile), worked out by hand. `offices` has the Office on which most of them stand, and
+//! `policies` the policies.
 #![tactic(auto)]
 
 #[cfg(test)]
 mod adoptions;
 #[cfg(test)]
+mod asking;
+#[cfg(test)]
+mod denials;
+#[cfg(test)]
+mod edits;
+#[cfg(test)]
+mod failing;
+#[cfg(test)]
 mod keepers;
+#[cfg(test)]
+mod limits;
+#[cfg(test)]
+mod offices;
 #[cfg(test)]
 mod policies;
 #[cfg(test)]
 mod requests;
+#[cfg(test)]
+mod scripts;
+#[cfg(test)]
+mod serving;
+#[cfg(test)]
+mod words;

@@ -1,238 +1,421 @@
-//! The policies of the examples: three persons, one group and two books of one owner.
+//! The policies of the examples, and adopting them.
 
-use book_lists::{Entry, Principal, Who};
-use book_machine::{Adopted, Machine};
-use book_office::{
-    BookPart, EntryPart, GroupPart, Items, Keeper, MemoryKeeper, PersonPart, Policy, Text,
-};
-use book_rights::{LeafSet, Privilege};
+use crate::words::{entry, number, text, word};
+use book_machine::{AdoptFault, Machine};
+use book_office::{BookPart, EntryPart, GroupPart, Items, Keeper, PersonPart, Policy, Text};
 use std::alloc::Global;
 use std::process::Abort;
 
-/// An entry that grants privileges to a principal, or to the owner, at a place.
-#[derive(Clone, Copy)]
-pub(crate) struct Grant {
-    at: &'static str,
-    who: &'static str,
-    privileges: &'static [&'static str],
-    protected: bool,
-}
-
-/// Who belongs to the staff.
-pub(crate) const STAFF: &[&str] = &["/people/ann", "/people/bob"];
-
-/// The books, with their labels.
-pub(crate) const BOOKS: &[(&str, &str)] = &[("sales", "Sales"), ("law", "")];
-
-/// Ann may do everything in the book of sales.
-const ANN_OWNS_SALES: Grant = Grant {
-    at: "/books/sales",
-    who: "/people/ann",
-    privileges: &["all"],
-    protected: true,
-};
-
-/// The staff may read it, and add cards.
-const STAFF_USE_SALES: Grant = Grant {
-    at: "/books/sales",
-    who: "/groups/staff",
-    privileges: &["read", "bind"],
-    protected: false,
-};
-
-/// The owner of the book of law may do everything there.
-const OWNERS_OF_LAW: Grant = Grant {
-    at: "/books/law",
-    who: "owner",
-    privileges: &["all"],
-    protected: true,
-};
-
-/// Bob may read it, and remove cards.
-const BOB_USES_LAW: Grant = Grant {
-    at: "/books/law",
-    who: "/people/bob",
-    privileges: &["read", "unbind"],
-    protected: false,
-};
-
-/// Ann may read groups, and change their members.
-const ANN_KEEPS_GROUPS: Grant = Grant {
-    at: "/groups",
-    who: "/people/ann",
-    privileges: &["read", "write-properties"],
-    protected: true,
-};
-
-/// Ann may make and remove books.
-const ANN_KEEPS_BOOKS: Grant = Grant {
-    at: "/books",
-    who: "/people/ann",
-    privileges: &["bind", "unbind"],
-    protected: false,
-};
-
-/// The entries of the policy.
-pub(crate) const POLICY: &[Grant] = &[
-    ANN_OWNS_SALES,
-    STAFF_USE_SALES,
-    OWNERS_OF_LAW,
-    BOB_USES_LAW,
-    ANN_KEEPS_GROUPS,
+/// Three persons, one group and two books of one owner. A line is `person NAME LABEL`, `group NAME LABEL MEMBER ..`,
+/// `book NAME OWNER LABEL`, `protected PATH grant WHO NAME ..` or `own PATH grant WHO NAME ..`; a dash is no owner,
+/// and an empty label.
+pub(crate) const OFFICE_POLICY: &[&str] = &[
+    "person ann",
+    "person bob",
+    "person gus",
+    "group staff - /people/ann /people/bob",
+    "book sales /people/ann Sales",
+    "book law /people/ann",
+    "protected /books/sales grant /people/ann all",
+    "own /books/sales grant /groups/staff read bind",
+    "protected /books/law grant owner all",
+    "own /books/law grant /people/bob read unbind",
+    "protected /groups grant /people/ann read write-properties",
 ];
 
-/// The same and one more.
-pub(crate) const WIDER_POLICY: &[Grant] = &[
-    ANN_OWNS_SALES,
-    STAFF_USE_SALES,
-    OWNERS_OF_LAW,
-    BOB_USES_LAW,
-    ANN_KEEPS_GROUPS,
-    ANN_KEEPS_BOOKS,
+/// The same and one more: ann may make and remove books.
+const WIDER_POLICY: &[&str] = &[
+    "person ann",
+    "person bob",
+    "person gus",
+    "group staff - /people/ann /people/bob",
+    "book sales /people/ann Sales",
+    "book law /people/ann",
+    "protected /books/sales grant /people/ann all",
+    "own /books/sales grant /groups/staff read bind",
+    "protected /books/law grant owner all",
+    "own /books/law grant /people/bob read unbind",
+    "protected /groups grant /people/ann read write-properties",
+    "own /books grant /people/ann bind unbind",
 ];
 
-fn text(rt: &impl Abort, alloc: Global, text: &str) -> Text {
-    Text::copy_of(alloc, text).expect(rt, "memory")
-}
+/// Other labels, another owner, another member, and other entries, of which two stand at one book.
+const OTHER_POLICY: &[&str] = &[
+    "person ann Ann",
+    "person gus Gus",
+    "person zoe",
+    "group staff Staff /people/gus",
+    "group crew - /groups/staff",
+    "book sales /groups/staff Sold",
+    "book parts - Parts",
+    "own /books/sales deny not /groups/crew read write",
+    "own /books/sales grant /people/gus all",
+    "protected /people grant self read",
+    "protected / grant authenticated read-acl",
+];
 
-fn who(rt: &impl Abort, alloc: Global, text: &str) -> Who {
-    if text == "owner" {
-        return Who::Owner;
+/// Nothing but the persons, the group without members, and the book of sales without owner and label.
+const BARE_POLICY: &[&str] = &["person ann", "person bob", "group staff", "book sales"];
+
+/// A thousand books.
+const THOUSAND_BOOKS: &[&str] = &["person ann", "books 1000"];
+
+fn lines_of(name: &str) -> &'static [&'static str] {
+    match name {
+        "office" => OFFICE_POLICY,
+        "wider" => WIDER_POLICY,
+        "other" => OTHER_POLICY,
+        "bare" => BARE_POLICY,
+        _ => THOUSAND_BOOKS,
     }
-    let principal = Principal::parse(alloc, text).expect(rt, "memory");
-    Who::Href(principal.expect(rt, "a principal"))
 }
 
-fn leaves(rt: &impl Abort, names: &[&str]) -> LeafSet {
-    let mut set = LeafSet::empty();
-    for name in names {
-        let privilege = Privilege::from_name(name).expect(rt, "a privilege");
-        set = set.union(privilege.leaves());
+/// The parts of a policy.
+#[derive(Drop)]
+struct Parts {
+    persons: Items<PersonPart>,
+    groups: Items<GroupPart>,
+    books: Items<BookPart>,
+    entries: Items<EntryPart>,
+}
+
+fn no_parts(alloc: Global) -> Parts {
+    Parts {
+        persons: Items::new(alloc),
+        groups: Items::new(alloc),
+        books: Items::new(alloc),
+        entries: Items::new(alloc),
     }
-    set
 }
 
-fn persons(rt: &impl Abort, alloc: Global) -> Items<PersonPart> {
-    let mut persons = Items::new(alloc);
-    for name in ["ann", "bob", "gus"] {
-        let person = PersonPart {
-            name: text(rt, alloc, name),
-            label: text(rt, alloc, ""),
-        };
-        persons.push(person).expect(rt, "memory");
+/// The label; empty at a dash.
+fn label(rt: &impl Abort, alloc: Global, word: &str) -> Text {
+    match word {
+        "-" => text(rt, alloc, ""),
+        _ => text(rt, alloc, word),
     }
-    persons
 }
 
-fn texts(rt: &impl Abort, alloc: Global, members: &[&str]) -> Items<Text> {
-    let mut texts = Items::new(alloc);
-    for member in members {
-        texts.push(text(rt, alloc, member)).expect(rt, "memory");
-    }
-    texts
-}
-
-fn groups(rt: &impl Abort, alloc: Global, staff: &[&str]) -> Items<GroupPart> {
-    let mut groups = Items::new(alloc);
-    let group = GroupPart {
-        name: text(rt, alloc, "staff"),
-        label: text(rt, alloc, ""),
-        members: texts(rt, alloc, staff),
-    };
-    groups.push(group).expect(rt, "memory");
-    groups
-}
-
-/// A book of ann's.
-pub(crate) fn book(rt: &impl Abort, alloc: Global, name: &str, label: &str) -> BookPart {
-    BookPart {
+fn person(rt: &impl Abort, alloc: Global, name: &str, label: Text) -> PersonPart {
+    PersonPart {
         name: text(rt, alloc, name),
-        label: text(rt, alloc, label),
-        owner: Some(text(rt, alloc, "/people/ann")),
+        label,
     }
 }
 
-fn books(rt: &impl Abort, alloc: Global) -> Items<BookPart> {
-    let mut books = Items::new(alloc);
-    for (name, label) in BOOKS {
-        books
-            .push(book(rt, alloc, name, label))
+/// The words of the line after the third.
+fn members(rt: &impl Abort, alloc: Global, line: &str) -> Items<Text> {
+    let mut members = Items::new(alloc);
+    for member in line.split(' ').skip(3) {
+        members.push(text(rt, alloc, member)).expect(rt, "memory");
+    }
+    members
+}
+
+fn group(rt: &impl Abort, alloc: Global, line: &str) -> GroupPart {
+    GroupPart {
+        name: text(rt, alloc, word(line, 1)),
+        label: label(rt, alloc, word(line, 2)),
+        members: members(rt, alloc, line),
+    }
+}
+
+fn book_owner(rt: &impl Abort, alloc: Global, word: &str) -> Option<Text> {
+    match word {
+        "-" | "" => None,
+        _ => Some(text(rt, alloc, word)),
+    }
+}
+
+fn book(rt: &impl Abort, alloc: Global, line: &str) -> BookPart {
+    BookPart {
+        name: text(rt, alloc, word(line, 1)),
+        label: label(rt, alloc, word(line, 3)),
+        owner: book_owner(rt, alloc, word(line, 2)),
+    }
+}
+
+fn entry_part(rt: &impl Abort, alloc: Global, line: &str) -> EntryPart {
+    EntryPart {
+        at: text(rt, alloc, word(line, 1)),
+        protected: word(line, 0) == "protected",
+        entry: entry(rt, alloc, line),
+    }
+}
+
+/// A person whose label has so many bytes.
+fn add_labelled(rt: &impl Abort, alloc: Global, parts: &mut Parts, bytes: u64) {
+    let mut label = String::new(alloc);
+    for _ in 0..bytes {
+        label.push('x').expect(rt, "memory");
+    }
+    let part = person(rt, alloc, "zed", Text::from_string(label));
+    parts.persons.push(part).expect(rt, "memory");
+}
+
+/// So many persons.
+fn add_persons(rt: &impl Abort, alloc: Global, parts: &mut Parts, count: u64) {
+    for number in 0..count {
+        let name = format!(in alloc; "p{number}").expect(rt, "memory");
+        let part = person(rt, alloc, name.as_str(), text(rt, alloc, ""));
+        parts.persons.push(part).expect(rt, "memory");
+    }
+}
+
+/// So many groups.
+fn add_groups(rt: &impl Abort, alloc: Global, parts: &mut Parts, count: u64) {
+    for number in 0..count {
+        let line = format!(in alloc; "group g{number}").expect(rt, "memory");
+        let part = group(rt, alloc, line.as_str());
+        parts.groups.push(part).expect(rt, "memory");
+    }
+}
+
+/// So many books.
+fn add_books(rt: &impl Abort, alloc: Global, parts: &mut Parts, count: u64) {
+    for number in 0..count {
+        let line = format!(in alloc; "book b{number}").expect(rt, "memory");
+        let part = book(rt, alloc, line.as_str());
+        parts.books.push(part).expect(rt, "memory");
+    }
+}
+
+/// A group of so many persons, and of one member more.
+fn add_large_group(rt: &impl Abort, alloc: Global, parts: &mut Parts, count: u64, one_more: &str) {
+    let mut part = group(rt, alloc, "group many");
+    for number in 0..count {
+        let path = format!(in alloc; "/people/p{number}").expect(rt, "memory");
+        part.members
+            .push(Text::from_string(path))
             .expect(rt, "memory");
     }
-    books
+    part.members
+        .push(text(rt, alloc, one_more))
+        .expect(rt, "memory");
+    parts.groups.push(part).expect(rt, "memory");
 }
 
-fn entry(rt: &impl Abort, alloc: Global, grant: Grant) -> EntryPart {
-    EntryPart {
-        at: text(rt, alloc, grant.at),
-        protected: grant.protected,
-        entry: Entry {
-            who: who(rt, alloc, grant.who),
-            invert: false,
-            deny: false,
-            set: leaves(rt, grant.privileges),
-        },
+/// So many entries of one list.
+fn add_entries(rt: &impl Abort, alloc: Global, parts: &mut Parts, count: u64, line: &str) {
+    for _ in 0..count {
+        let part = entry_part(rt, alloc, line);
+        parts.entries.push(part).expect(rt, "memory");
     }
 }
 
-fn entries(rt: &impl Abort, alloc: Global, grants: &[Grant]) -> Items<EntryPart> {
-    let mut entries = Items::new(alloc);
-    for grant in grants {
-        entries.push(entry(rt, alloc, *grant)).expect(rt, "memory");
+fn add(rt: &impl Abort, alloc: Global, parts: &mut Parts, line: &str) {
+    match word(line, 0) {
+        "person" => {
+            let label = label(rt, alloc, word(line, 2));
+            let part = person(rt, alloc, word(line, 1), label);
+            parts.persons.push(part).expect(rt, "memory");
+        }
+        "group" => {
+            let part = group(rt, alloc, line);
+            parts.groups.push(part).expect(rt, "memory");
+        }
+        "book" => {
+            let part = book(rt, alloc, line);
+            parts.books.push(part).expect(rt, "memory");
+        }
+        "label" => add_labelled(rt, alloc, parts, number(rt, word(line, 1))),
+        "persons" => add_persons(rt, alloc, parts, number(rt, word(line, 1))),
+        "groups" => add_groups(rt, alloc, parts, number(rt, word(line, 1))),
+        "books" => add_books(rt, alloc, parts, number(rt, word(line, 1))),
+        "many" => {
+            let count = number(rt, word(line, 1));
+            add_large_group(rt, alloc, parts, count, word(line, 2));
+        }
+        "entries" => {
+            let count = number(rt, word(line, 1));
+            add_entries(rt, alloc, parts, count, "own /groups grant owner bind");
+        }
+        "protecteds" => {
+            let count = number(rt, word(line, 1));
+            add_entries(
+                rt,
+                alloc,
+                parts,
+                count,
+                "protected /groups grant owner bind",
+            );
+        }
+        _ => {
+            let part = entry_part(rt, alloc, line);
+            parts.entries.push(part).expect(rt, "memory");
+        }
     }
-    entries
 }
 
-/// The policy with these books, this staff and these entries.
+fn all_parts(rt: &impl Abort, alloc: Global, lines: &[&str], more: &[&str]) -> Parts {
+    let mut parts = no_parts(alloc);
+    for line in lines {
+        add(rt, alloc, &mut parts, line);
+    }
+    for line in more {
+        add(rt, alloc, &mut parts, line);
+    }
+    parts
+}
+
+/// The policy that the lines say, if they say one.
 pub(crate) fn policy_of(
     rt: &impl Abort,
     alloc: Global,
-    books: Items<BookPart>,
-    staff: &[&str],
-    grants: &[Grant],
-) -> Policy {
-    let persons = persons(rt, alloc);
-    let groups = groups(rt, alloc, staff);
-    let entries = entries(rt, alloc, grants);
-    let policy = Policy::new(alloc, persons, groups, books, entries);
-    policy.expect(rt, "memory").expect(rt, "no fault")
+    lines: &[&str],
+    more: &[&str],
+) -> Option<Policy> {
+    let Parts {
+        persons,
+        groups,
+        books,
+        entries,
+    } = all_parts(rt, alloc, lines, more);
+    Policy::new(alloc, persons, groups, books, entries).expect(rt, "memory")
 }
 
-/// The policy of the two books with this staff and these entries.
-pub(crate) fn policy(rt: &impl Abort, alloc: Global, staff: &[&str], grants: &[Grant]) -> Policy {
-    policy_of(rt, alloc, books(rt, alloc), staff, grants)
+/// The policy of this name.
+pub(crate) fn policy(rt: &impl Abort, alloc: Global, name: &str) -> Policy {
+    policy_of(rt, alloc, lines_of(name), &[]).expect(rt, "a policy")
 }
 
-/// Adopts a policy, of which this is told.
-pub(crate) fn adopt_policy<K: Keeper>(
+/// Adopts a policy, and tells what came of it.
+pub(crate) fn adopted<K: Keeper>(
     rt: &impl Abort,
     alloc: Global,
     machine: &mut Machine<K>,
     policy: &Policy,
-    changed: bool,
-    epoch: u64,
-) {
-    let adopted = machine.adopt(alloc, policy).expect(rt, "room");
-    assert_eq!(rt; adopted, Adopted { changed, epoch });
+) -> String {
+    match machine.adopt(alloc, policy) {
+        Ok(adopted) => {
+            let what = if adopted.changed {
+                "changed"
+            } else {
+                "unchanged"
+            };
+            let epoch = adopted.epoch;
+            format!(in alloc; "{what}, epoch {epoch}").expect(rt, "memory")
+        }
+        Err(AdoptFault::Full) => String::from_str(alloc, "full").expect(rt, "memory"),
+        Err(AdoptFault::Unavailable) => {
+            String::from_str(alloc, "unavailable").expect(rt, "memory")
+        }
+    }
 }
 
-/// Adopts the policy with this staff and these entries.
-pub(crate) fn adopt<K: Keeper>(
-    rt: &impl Abort,
-    alloc: Global,
-    machine: &mut Machine<K>,
-    staff: &[&str],
-    grants: &[Grant],
-    changed: bool,
-    epoch: u64,
-) {
-    let policy = policy(rt, alloc, staff, grants);
-    adopt_policy(rt, alloc, machine, &policy, changed, epoch);
+/// What makes parts no policy: to the parts of the office's policy such a line is added, or several.
+const FAULTS: &[&[&str]] = &[
+    &["label 257"],
+    &["person .zed"],
+    &["person "],
+    &["person ann"],
+    &["person ann Other"],
+    &["group staff"],
+    &["book sales"],
+    &["group more - /people/zoe"],
+    &["group more - /books/sales"],
+    &["group more - owner"],
+    &["book more /groups/none"],
+    &["book more /people/zoe"],
+    &["book more /books/sales"],
+    &["book more self"],
+    &["own / grant /people/zoe read"],
+    &["own / grant /groups/none read"],
+    &["own / grant all"],
+    &["own /books/none grant all read"],
+    &["own /people/zoe grant all read"],
+    &["own /books/sales/a.vcf grant all read"],
+    &["own // grant all read"],
+    &["own  grant all read"],
+    &["persons 998"],
+    &["groups 1000"],
+    &["books 999"],
+    &["protecteds 64"],
+    &["entries 65"],
+    &["persons 997", "many 997 /people/ann", "many 1 /people/p0"],
+    &["persons 997", "many 997 /people/zoe"],
+];
+
+/// What may be added to a policy. Names of persons, groups and books are apart; repeated members count once.
+const FINE: &[&[&str]] = &[
+    &["label 256"],
+    &["person staff", "person sales", "group ann", "book ann"],
+    &["group more - /groups/staff /groups/more /people/ann/"],
+    &["book more /groups/staff/"],
+    &["own / grant self read"],
+    &["own /groups/staff deny not self all"],
+    &["own /people/ann/ grant unauthenticated bind"],
+    &["persons 997"],
+    &["groups 999"],
+    &["books 998"],
+    &["protecteds 63", "entries 64"],
+    &["persons 997", "many 997 /people/p0"],
+];
+
+fn is_policy(rt: &impl Abort, alloc: Global, more: &[&str]) -> bool {
+    policy_of(rt, alloc, OFFICE_POLICY, more).is_some()
 }
 
-/// A machine over memory that has adopted the policy with these entries.
-pub(crate) fn machine(rt: &impl Abort, alloc: Global, grants: &[Grant]) -> Machine<MemoryKeeper> {
-    let mut machine = Machine::new(MemoryKeeper::new(alloc));
-    adopt(rt, alloc, &mut machine, STAFF, grants, true, 1);
-    machine
+#[test]
+fn faulty_parts_make_no_policy(rt: HostRuntime) {
+    for more in FAULTS {
+        assert!(rt; !is_policy(&rt, rt.alloc(), more), "{more:?}");
+    }
+}
+
+#[test]
+fn parts_within_the_limits_make_a_policy(rt: HostRuntime) {
+    for more in FINE {
+        assert!(rt; is_policy(&rt, rt.alloc(), more), "{more:?}");
+    }
+}
+
+/// A group may have 1,000 direct members: 999 persons and one more, however often it is named, and not two more.
+const MEMBERS: &[(&[&str], bool)] = &[
+    (&["persons 1000", "many 1000 /people/p0"], true),
+    (&["persons 999", "many 999 /groups/many"], true),
+    (&["persons 1000", "many 1000 /groups/many"], false),
+    (&["persons 1001"], false),
+];
+
+#[test]
+fn a_group_may_have_1000_members(rt: HostRuntime) {
+    for (lines, is_one) in MEMBERS {
+        let policy = policy_of(&rt, rt.alloc(), lines, &[]);
+        assert_eq!(rt; policy.is_some(), *is_one, "{lines:?}");
+    }
+}
+
+/// What a policy says: a line for each person's and each group's label, each book's label and owner, and the counts
+/// of the members and entries.
+fn tell_tables(rt: &impl Abort, answer: &mut String, policy: &Policy) {
+    let tables = policy.tables();
+    for (name, label) in tables.persons.iter() {
+        let (name, label) = (name.text(), label.as_str());
+        write!(answer, "{name} [{label}], ").expect(rt, "memory");
+    }
+    for (name, book) in tables.books.iter() {
+        let owner = book.owner.as_ref().map_or("-", |owner| owner.text());
+        let (name, label) = (name.text(), book.label.as_str());
+        write!(answer, "{name} of {owner} [{label}], ").expect(rt, "memory");
+    }
+    let (members, entries) = (tables.members.len(), tables.entries.len());
+    write!(answer, "{members} members, {entries} entries").expect(rt, "memory");
+}
+
+#[test]
+fn policies_say_what_their_parts_say(rt: HostRuntime) {
+    let alloc = rt.alloc();
+    let policy = policy(&rt, alloc, "other");
+    let mut answer = String::new(alloc);
+    tell_tables(&rt, &mut answer, &policy);
+    assert_eq!(rt;
+        answer.as_str(),
+        "ann [Ann], gus [Gus], zoe [], parts of - [Parts], sales of /groups/staff [Sold], 2 members, 4 entries"
+    );
+    let sales = text(&rt, alloc, "/books/sales");
+    let root = text(&rt, alloc, "/");
+    assert_eq!(rt; policy.own_at(&sales).map(|list| list.len()), Some(2));
+    assert_eq!(rt; policy.protected_at(&root).map(|list| list.len()), Some(1));
+    assert!(rt; policy.own_at(&root).is_none());
 }

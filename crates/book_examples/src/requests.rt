@@ -1,463 +1,290 @@
-//! Requests of several callers, and their replies. Each test is a table of calls with the wanted replies.
+//! Requests of several callers, and their replies.
 
-use crate::policies::{POLICY, STAFF, WIDER_POLICY, adopt, machine};
-use book_cards::CardFault;
+use crate::scripts::{Step, follow, run_on, run_on_new};
+use crate::serving::{caller, request, tell};
 use book_machine::{
-    Body, Content, Denial, Depth, Flag, Machine, Refusal, Reply, Request, refusals_change_nothing,
-    requests_act_where_granted, requests_are_full_at_limits, requests_have_one_step,
+    Machine, Reply, Request, refusals_change_nothing, requests_act_where_granted,
+    requests_are_full_at_limits, requests_have_one_step, runs_lead_on, unread_contents_stay_unseen,
 };
-use book_office::{Keeper, Path, Text};
-use book_rights::Method;
+use book_office::MemoryKeeper;
 use std::alloc::Global;
 use std::process::Abort;
 
-/// 44 bytes.
-const BO: &str = "BEGIN:VCARD\r\nVERSION:4.0\r\nFN:Bo\r\nEND:VCARD\r\n";
-
-/// 47 bytes, with a folded line and no line end at its end.
-const BELL: &str = "BEGIN:VCARD\nVERSION:4.0\nFN:An\n n Bell\nEND:VCARD";
-
-/// What a request brings.
-#[derive(Clone, Copy)]
-enum Sent {
-    Nothing,
-    Text(&'static str),
-    Unread,
-}
-
-/// A call: the caller, the method, the path, the body, and the wanted reply.
-#[derive(Clone, Copy)]
-struct Call(
-    Option<&'static str>,
-    Method,
-    &'static str,
-    Sent,
-    &'static str,
-);
-
-const ANN: Option<&str> = Some("ann");
-
-const BOB: Option<&str> = Some("bob");
-
-const GUS: Option<&str> = Some("gus");
-
 /// A card may be bound by who may not write it; a card that is not there is told before any privilege.
-const BOUND_CARDS: &[Call] = &[
-    Call(
-        BOB,
-        Method::Put,
-        "/books/sales/b.vcf",
-        Sent::Text(BO),
-        "201",
-    ),
-    Call(
-        BOB,
-        Method::Put,
-        "/books/sales/b.vcf",
-        Sent::Text(BO),
+const BOUND_CARDS: &[Step] = &[
+    ("bob PUT /books/sales/b.vcf BO", "201"),
+    (
+        "bob PUT /books/sales/b.vcf BO",
         "403 need-privileges write-content /books/sales/b.vcf null",
     ),
-    Call(
-        GUS,
-        Method::Get,
-        "/books/sales/none.vcf",
-        Sent::Nothing,
-        "404 not-found",
-    ),
-    Call(
-        GUS,
-        Method::Get,
-        "/books/sales/b.vcf",
-        Sent::Nothing,
+    ("gus GET /books/sales/none.vcf", "404 not-found"),
+    (
+        "gus GET /books/sales/b.vcf",
         "403 need-privileges read /books/sales/b.vcf null",
     ),
-    Call(
-        BOB,
-        Method::Get,
-        "/books/sales/b.vcf",
-        Sent::Nothing,
+    (
+        "bob GET /books/sales/b.vcf",
         "200 BEGIN:VCARD\r\nVERSION:4.0\r\nFN:Bo\r\nEND:VCARD\r\n",
     ),
-    Call(
-        ANN,
-        Method::Put,
-        "/books/sales/b.vcf",
-        Sent::Text(BELL),
-        "204",
-    ),
+    ("ann PUT /books/sales/b.vcf BELL", "204"),
 ];
 
 /// A card is kept byte for byte; a text that is none is refused with its fault and line.
-const CARDS: &[Call] = &[
-    Call(
-        ANN,
-        Method::Put,
-        "/books/sales/f.vcf",
-        Sent::Text(BELL),
-        "201",
-    ),
-    Call(
-        ANN,
-        Method::Get,
-        "/books/sales/f.vcf",
-        Sent::Nothing,
+const CARDS: &[Step] = &[
+    ("adopt office", "changed, epoch 1"),
+    ("ann PUT /books/sales/f.vcf BELL", "201"),
+    (
+        "ann GET /books/sales/f.vcf",
         "200 BEGIN:VCARD\nVERSION:4.0\nFN:An\n n Bell\nEND:VCARD",
     ),
-    Call(
-        ANN,
-        Method::Head,
-        "/books/sales/f.vcf",
-        Sent::Nothing,
+    (
+        "ann HEAD /books/sales/f.vcf",
         "200 BEGIN:VCARD\nVERSION:4.0\nFN:An\n n Bell\nEND:VCARD",
     ),
-    Call(
-        ANN,
-        Method::Put,
-        "/books/sales/x.vcf",
-        Sent::Text("BEGIN:VCARD\r\nVERSION:3.0\r\nFN:A\r\nEND:VCARD\r\n"),
+    (
+        "ann PUT /books/sales/x.vcf OTHER_VERSION",
         "400 bad-card other-version 2",
     ),
-    Call(
-        ANN,
-        Method::Put,
-        "/books/sales/x.vcf",
-        Sent::Text("BEGIN:VCARD\r\nVERSION:4.0\r\nFN:A\r\nMEMBER:urn:uuid:1\r\nEND:VCARD\r\n"),
+    (
+        "ann PUT /books/sales/x.vcf MEMBER_WITHOUT_GROUP",
         "400 bad-card member-without-group 4",
     ),
-    Call(
-        ANN,
-        Method::Put,
-        "/books/sales/x.vcf",
-        Sent::Text("BEGIN:VCARD\r\nVERSION:4.0\r\nUID:a\r\nUID:b\r\nFN:A\r\nEND:VCARD\r\n"),
+    (
+        "ann PUT /books/sales/x.vcf TWO_UIDS",
         "400 bad-card twice 4",
     ),
-    Call(
-        ANN,
-        Method::Put,
-        "/books/sales/x.vcf",
-        Sent::Nothing,
-        "400 bad-card no-begin 1",
-    ),
-    Call(
-        ANN,
-        Method::Put,
-        "/books/sales/x.vcf",
-        Sent::Unread,
-        "400 bad-request",
-    ),
-    Call(
-        ANN,
-        Method::Get,
-        "/books/sales/x.vcf",
-        Sent::Nothing,
-        "404 not-found",
-    ),
-    Call(
-        ANN,
-        Method::Delete,
-        "/books/sales/f.vcf",
-        Sent::Nothing,
-        "204",
-    ),
-    Call(
-        ANN,
-        Method::Get,
-        "/books/sales/f.vcf",
-        Sent::Nothing,
-        "404 not-found",
-    ),
+    ("ann PUT /books/sales/x.vcf", "400 bad-card no-begin 1"),
+    ("ann PUT /books/sales/x.vcf unread", "400 bad-request"),
+    ("ann GET /books/sales/x.vcf", "404 not-found"),
+    ("ann DELETE /books/sales/f.vcf", "204"),
+    ("ann GET /books/sales/f.vcf", "404 not-found"),
+    ("changes sales 0", "2 f.vcf removed\n"),
+    ("failures", "0"),
 ];
-
-/// Each refusal of a new book, a path or a caller.
-const REFUSALS: &[Call] = &[
-    Call(
-        GUS,
-        Method::Mkcol,
-        "/books/new",
-        Sent::Nothing,
-        "403 need-privileges bind /books null",
-    ),
-    Call(
-        GUS,
-        Method::Mkcol,
-        "/books/sales",
-        Sent::Nothing,
-        "405 not-allowed ACL, DELETE, OPTIONS, PROPFIND, PROPPATCH, REPORT",
-    ),
-    Call(
-        GUS,
-        Method::Mkcol,
-        "/books/sales/new.vcf",
-        Sent::Nothing,
-        "405 not-allowed PUT",
-    ),
-    Call(
-        GUS,
-        Method::Mkcol,
-        "/books/none/new.vcf",
-        Sent::Nothing,
-        "409 no-parent",
-    ),
-    Call(
-        GUS,
-        Method::Mkcol,
-        "/people/zoe",
-        Sent::Nothing,
-        "404 not-found",
-    ),
-    Call(
-        ANN,
-        Method::Mkcol,
-        "/books/new",
-        Sent::Text("x"),
-        "415 body-on-mkcol",
-    ),
-    Call(
-        GUS,
-        Method::Put,
-        "/books/none/x.vcf",
-        Sent::Text(BO),
-        "409 no-parent",
-    ),
-    Call(
-        GUS,
-        Method::Put,
-        "/books/new",
-        Sent::Text(BO),
-        "405 not-allowed MKCOL",
-    ),
-    Call(
-        GUS,
-        Method::Put,
-        "/groups/none",
-        Sent::Text(BO),
-        "404 not-found",
-    ),
-    Call(
-        GUS,
-        Method::Get,
-        "/books",
-        Sent::Nothing,
-        "405 not-allowed ACL, OPTIONS, PROPFIND, REPORT",
-    ),
-    Call(
-        GUS,
-        Method::Delete,
-        "/people/ann",
-        Sent::Nothing,
-        "405 not-allowed ACL, OPTIONS, PROPFIND, PROPPATCH, REPORT",
-    ),
-    Call(GUS, Method::Get, "/cellar", Sent::Nothing, "404 not-found"),
-    Call(
-        Some("zoe"),
-        Method::Get,
-        "/books/sales/b.vcf",
-        Sent::Nothing,
-        "400 unknown-caller",
-    ),
-    Call(
-        Some("no/name"),
-        Method::Get,
-        "/books/sales/b.vcf",
-        Sent::Nothing,
-        "400 unknown-caller",
-    ),
-    Call(
-        None,
-        Method::Options,
-        "/",
-        Sent::Nothing,
-        "403 need-privileges read / null",
-    ),
-    Call(
-        BOB,
-        Method::Options,
-        "/books/sales",
-        Sent::Nothing,
-        "200 allow ACL, DELETE, OPTIONS, PROPFIND, PROPPATCH, REPORT",
-    ),
-    Call(
-        BOB,
-        Method::Options,
-        "/books/law",
-        Sent::Unread,
-        "200 allow ACL, DELETE, OPTIONS, PROPFIND, PROPPATCH, REPORT",
-    ),
-];
-
-/// Nobody may remove a book.
-const BOOKS_ARE_KEPT: &[Call] = &[Call(
-    ANN,
-    Method::Delete,
-    "/books/sales",
-    Sent::Nothing,
-    "403 need-privileges unbind /books null",
-)];
-
-/// Owning a book grants nothing by itself. A book that is removed and made again begins anew.
-const BOOK_MADE_AGAIN: &[Call] = &[
-    Call(ANN, Method::Mkcol, "/books/new", Sent::Nothing, "201"),
-    Call(ANN, Method::Put, "/books/new/a.vcf", Sent::Text(BO), "201"),
-    Call(
-        ANN,
-        Method::Get,
-        "/books/new/a.vcf",
-        Sent::Nothing,
-        "403 need-privileges read /books/new/a.vcf null",
-    ),
-    Call(ANN, Method::Delete, "/books/new", Sent::Nothing, "204"),
-    Call(
-        ANN,
-        Method::Get,
-        "/books/new/a.vcf",
-        Sent::Nothing,
-        "404 not-found",
-    ),
-    Call(ANN, Method::Mkcol, "/books/new", Sent::Nothing, "201"),
-    Call(
-        ANN,
-        Method::Mkcol,
-        "/books/new",
-        Sent::Nothing,
-        "405 not-allowed ACL, DELETE, OPTIONS, PROPFIND, PROPPATCH, REPORT",
-    ),
-];
-
-fn body(rt: &impl Abort, alloc: Global, sent: Sent) -> Body {
-    match sent {
-        Sent::Nothing => Body::Empty,
-        Sent::Text(text) => Body::Text(Text::copy_of(alloc, text).expect(rt, "memory")),
-        Sent::Unread => Body::Unread,
-    }
-}
-
-fn request(rt: &impl Abort, alloc: Global, call: Call) -> Request {
-    let Call(_, method, path, sent, _) = call;
-    Request {
-        method,
-        path: Path::parse(alloc, path).ok(),
-        destination: None,
-        overwrite: Flag::Yes,
-        depth: Depth::Zero,
-        body: body(rt, alloc, sent),
-    }
-}
-
-/// The privilege, the resource, and the entry: where it stands, and its number.
-fn tell_denial(rt: &impl Abort, alloc: Global, denial: &Denial) -> String {
-    let privilege = denial.privilege.name();
-    let resource = denial.resource.text(alloc).expect(rt, "memory");
-    match &denial.entry {
-        Some(entry) => {
-            let from = entry.from.text(alloc).expect(rt, "memory");
-            let number = entry.number;
-            format!(in alloc; " {privilege} {resource} {from} {number}").expect(rt, "memory")
-        }
-        None => format!(in alloc; " {privilege} {resource} null").expect(rt, "memory"),
-    }
-}
-
-fn tell_fault(rt: &impl Abort, alloc: Global, fault: CardFault) -> String {
-    let kind = fault.kind;
-    let line = fault.line;
-    format!(in alloc; " {kind} {line}").expect(rt, "memory")
-}
-
-fn tell_details(rt: &impl Abort, alloc: Global, refusal: &Refusal) -> String {
-    match refusal {
-        Refusal::BadCard(fault) => tell_fault(rt, alloc, *fault),
-        Refusal::NotAllowed(methods) => {
-            let methods = methods.text();
-            format!(in alloc; " {methods}").expect(rt, "memory")
-        }
-        Refusal::NeedPrivileges(denial) => tell_denial(rt, alloc, denial),
-        _ => String::new(alloc),
-    }
-}
-
-fn tell_refusal(rt: &impl Abort, alloc: Global, refusal: &Refusal) -> String {
-    let name = refusal.name();
-    let details = tell_details(rt, alloc, refusal);
-    format!(in alloc; " {name}{details}").expect(rt, "memory")
-}
-
-fn tell_content(rt: &impl Abort, alloc: Global, content: &Content) -> String {
-    match content {
-        Content::Empty => String::new(alloc),
-        Content::Card(text) => {
-            let text = text.as_str();
-            format!(in alloc; " {text}").expect(rt, "memory")
-        }
-        Content::Allow(methods) => {
-            let methods = methods.text();
-            format!(in alloc; " allow {methods}").expect(rt, "memory")
-        }
-        Content::Refusal(refusal) => tell_refusal(rt, alloc, refusal),
-    }
-}
-
-/// The status, and what the reply carries.
-fn tell(rt: &impl Abort, alloc: Global, reply: &Reply) -> String {
-    let status = reply.status;
-    let content = tell_content(rt, alloc, &reply.content);
-    format!(in alloc; "{status}{content}").expect(rt, "memory")
-}
-
-/// Serves a call, whose reply is the wanted one.
-fn check<K: Keeper>(rt: &impl Abort, alloc: Global, machine: &mut Machine<K>, call: Call) {
-    let request = request(rt, alloc, call);
-    let reply = machine.serve(alloc, call.0, &request);
-    assert_eq!(rt; tell(rt, alloc, &reply).as_str(), call.4);
-}
-
-/// The machine answers the calls, one after the other, and its store never fails.
-fn check_all<K: Keeper>(rt: &impl Abort, alloc: Global, machine: &mut Machine<K>, calls: &[Call]) {
-    for call in calls {
-        check(rt, alloc, machine, *call);
-    }
-    assert_eq!(rt; machine.keeper.failures(), 0);
-}
-
-#[test]
-fn cards_are_bound_and_written_apart(rt: HostRuntime) {
-    let mut machine = machine(&rt, rt.alloc(), POLICY);
-    check_all(&rt, rt.alloc(), &mut machine, BOUND_CARDS);
-}
 
 #[test]
 fn cards_are_kept_byte_for_byte(rt: HostRuntime) {
-    let mut machine = machine(&rt, rt.alloc(), POLICY);
-    check_all(&rt, rt.alloc(), &mut machine, CARDS);
+    run_on_new(&rt, rt.alloc(), CARDS);
 }
 
-#[test]
-fn refusals_name_their_cause(rt: HostRuntime) {
-    let mut machine = machine(&rt, rt.alloc(), POLICY);
-    check_all(&rt, rt.alloc(), &mut machine, REFUSALS);
-}
-
-/// The number of the new book.
-fn number_of_the_book<K: Keeper>(rt: &impl Abort, alloc: Global, keeper: &mut K) -> u64 {
-    let path = Path::parse(alloc, "/books/new").expect(rt, "a path");
-    let node = keeper.find(alloc, &path).expect(rt, "memory");
-    node.expect(rt, "a book").number
-}
+/// Owning a book grants nothing by itself. A book that is removed and made again begins anew.
+const BOOKS: &[Step] = &[
+    ("adopt office", "changed, epoch 1"),
+    (
+        "ann DELETE /books/sales",
+        "403 need-privileges unbind /books null",
+    ),
+    ("adopt wider", "changed, epoch 2"),
+    ("ann MKCOL /books/new", "201"),
+    ("ann PUT /books/new/a.vcf BO", "201"),
+    (
+        "ann GET /books/new/a.vcf",
+        "403 need-privileges read /books/new/a.vcf null",
+    ),
+    ("ann DELETE /books/new", "204"),
+    ("ann GET /books/new/a.vcf", "404 not-found"),
+    ("epoch", "3"),
+    ("ann MKCOL /books/new", "201"),
+    (
+        "ann MKCOL /books/new",
+        "405 not-allowed ACL, DELETE, OPTIONS, PROPFIND, PROPPATCH, REPORT",
+    ),
+    ("node /books/new", "Book 0 of /people/ann []"),
+    ("changes new 0", ""),
+    ("epoch", "3"),
+];
 
 #[test]
 fn a_book_made_again_begins_anew(rt: HostRuntime) {
-    let alloc = rt.alloc();
-    let mut machine = machine(&rt, alloc, POLICY);
-    check_all(&rt, alloc, &mut machine, BOOKS_ARE_KEPT);
-    adopt(&rt, alloc, &mut machine, STAFF, WIDER_POLICY, true, 2);
-    check_all(&rt, alloc, &mut machine, BOOK_MADE_AGAIN);
-    let mut keeper = machine.release();
-    assert_eq!(rt; keeper.epoch().expect(&rt, "the epoch"), 3);
-    assert_eq!(rt; number_of_the_book(&rt, alloc, &mut keeper), 0);
+    run_on_new(&rt, rt.alloc(), BOOKS);
 }
 
-fn call_of(rt: &impl Abort, alloc: Global, call: Call) -> (Option<String>, Request) {
-    let request = request(rt, alloc, call);
-    match call.0 {
+/// Everything is granted to staff and to nobody, in books and at their home.
+const OPEN: &[&str] = &[
+    "own /books grant /groups/staff all",
+    "own /books grant unauthenticated all",
+    "own /books/sales/b.vcf grant /people/gus read",
+];
+
+/// PUT makes a card of the caller with an empty label and an empty own list, and MKCOL such a book; nobody owns what
+/// nobody makes. Of a card that is there the text alone is replaced: its owner, its label and its own list stay.
+const MADE: &[Step] = &[
+    (
+        "node /books/sales/b.vcf",
+        "Card 2 of /people/bob [B] 47 bytes",
+    ),
+    ("ann PUT /books/sales/b.vcf BO", "204"),
+    (
+        "node /books/sales/b.vcf",
+        "Card 3 of /people/bob [B] 44 bytes",
+    ),
+    ("- PUT /books/sales/a.vcf BELL", "204"),
+    (
+        "node /books/sales/a.vcf",
+        "Card 4 of /people/ann [A] 47 bytes",
+    ),
+    ("bob PUT /books/sales/c.vcf BELL", "201"),
+    (
+        "node /books/sales/c.vcf",
+        "Card 5 of /people/bob [] 47 bytes",
+    ),
+    ("- PUT /books/sales/d.vcf BO", "201"),
+    ("node /books/sales/d.vcf", "Card 6 of nobody [] 44 bytes"),
+    (
+        "children /books/sales",
+        "a.vcf: Card 4 of /people/ann [A]\n\
+         b.vcf: Card 3 of /people/bob [B]\n\
+         b.vcf own grant /people/gus read\n\
+         c.vcf: Card 5 of /people/bob []\n\
+         d.vcf: Card 6 of nobody []\n",
+    ),
+    ("node /books/sales", "Book 6 of /people/ann [Sales]"),
+    ("bob MKCOL /books/new", "201"),
+    ("- MKCOL /books/other", "201"),
+    (
+        "children /books",
+        "law: Book 0 of nobody []\n\
+         new: Book 0 of /people/bob []\n\
+         other: Book 0 of nobody []\n\
+         sales: Book 6 of /people/ann [Sales]\n",
+    ),
+    ("bob DELETE /books/sales/b.vcf", "204"),
+    ("gus GET /books/sales/b.vcf", "404 not-found"),
+    ("ann PUT /books/sales/b.vcf BO", "201"),
+    (
+        "node /books/sales/b.vcf",
+        "Card 8 of /people/ann [] 44 bytes",
+    ),
+    (
+        "lists /books/sales/b.vcf",
+        "/books own grant /groups/staff all\n/books own grant unauthenticated all\n",
+    ),
+    ("epoch", "0"),
+];
+
+#[test]
+fn what_is_made_is_the_callers(rt: HostRuntime) {
+    run_on(&rt, rt.alloc(), OPEN, MADE);
+}
+
+/// Each kind allows its methods; so does a path at which nothing is mapped.
+const ALLOWED: &[Step] = &[
+    ("gus OPTIONS /", "200 allow ACL, OPTIONS, PROPFIND, REPORT"),
+    (
+        "gus OPTIONS /people",
+        "200 allow ACL, OPTIONS, PROPFIND, REPORT",
+    ),
+    (
+        "gus OPTIONS /groups/",
+        "200 allow ACL, OPTIONS, PROPFIND, REPORT",
+    ),
+    (
+        "gus OPTIONS /books",
+        "200 allow ACL, OPTIONS, PROPFIND, REPORT",
+    ),
+    (
+        "gus OPTIONS /people/ann",
+        "200 allow ACL, OPTIONS, PROPFIND, PROPPATCH, REPORT",
+    ),
+    (
+        "gus OPTIONS /groups/staff",
+        "200 allow ACL, OPTIONS, PROPFIND, PROPPATCH, REPORT",
+    ),
+    (
+        "gus OPTIONS /books/law unread",
+        "200 allow ACL, DELETE, OPTIONS, PROPFIND, PROPPATCH, REPORT",
+    ),
+    (
+        "gus OPTIONS /books/sales/a.vcf",
+        "200 allow ACL, COPY, DELETE, GET, HEAD, MOVE, OPTIONS, PROPFIND, PROPPATCH, PUT, REPORT",
+    ),
+    (
+        "gus GET /books",
+        "405 not-allowed ACL, OPTIONS, PROPFIND, REPORT",
+    ),
+    (
+        "gus HEAD /books/sales",
+        "405 not-allowed ACL, DELETE, OPTIONS, PROPFIND, PROPPATCH, REPORT",
+    ),
+    (
+        "gus DELETE /people/ann",
+        "405 not-allowed ACL, OPTIONS, PROPFIND, PROPPATCH, REPORT",
+    ),
+    (
+        "gus DELETE /",
+        "405 not-allowed ACL, OPTIONS, PROPFIND, REPORT",
+    ),
+    (
+        "gus PUT /groups/staff BO",
+        "405 not-allowed ACL, OPTIONS, PROPFIND, PROPPATCH, REPORT",
+    ),
+    (
+        "gus MKCOL /books/sales/a.vcf",
+        "405 not-allowed ACL, COPY, DELETE, GET, HEAD, MOVE, OPTIONS, PROPFIND, PROPPATCH, PUT, REPORT",
+    ),
+    (
+        "gus MKCOL /books/sales/",
+        "405 not-allowed ACL, DELETE, OPTIONS, PROPFIND, PROPPATCH, REPORT",
+    ),
+    ("gus MKCOL /books/sales/new.vcf", "405 not-allowed PUT"),
+    ("gus MKCOL /books/none/new.vcf", "409 no-parent"),
+    ("gus MKCOL /people/zoe", "404 not-found"),
+    ("gus PUT /books/new BO", "405 not-allowed MKCOL"),
+    ("gus PUT /books/none/x.vcf BO", "409 no-parent"),
+    ("gus PUT /groups/none BO", "404 not-found"),
+    ("gus OPTIONS /books/new", "404 not-found"),
+    ("gus GET /cellar", "404 not-found"),
+];
+
+#[test]
+fn each_kind_allows_its_methods(rt: HostRuntime) {
+    run_on(&rt, rt.alloc(), &["own / grant all read"], ALLOWED);
+}
+
+/// Of several refusals the first in this order is told: the caller, the shape, the path, the needs, the body, the
+/// limits.
+const IN_ORDER: &[Step] = &[
+    ("zoe MKCOL /cellar x", "400 unknown-caller"),
+    ("no/name GET /books/sales/b.vcf", "400 unknown-caller"),
+    ("crew GET /books/sales/b.vcf", "400 unknown-caller"),
+    ("gus PUT /cellar unread", "400 bad-request"),
+    ("gus MKCOL /cellar x", "415 body-on-mkcol"),
+    ("gus MKCOL /books/sales unread", "415 body-on-mkcol"),
+    (
+        "gus DELETE /books x",
+        "405 not-allowed ACL, OPTIONS, PROPFIND, REPORT",
+    ),
+    ("gus DELETE /books/none", "404 not-found"),
+    (
+        "gus PUT /books/sales/b.vcf TWO_UIDS",
+        "403 need-privileges write-content /books/sales/b.vcf null",
+    ),
+    (
+        "gus DELETE /books/sales",
+        "403 need-privileges unbind /books null",
+    ),
+    (
+        "bob PUT /books/sales/b.vcf TWO_UIDS",
+        "400 bad-card twice 4",
+    ),
+    ("bob DELETE /books/sales", "507 full"),
+    ("epoch", "9007199254740991"),
+];
+
+/// The epoch is at its last value.
+const LAST: &[&str] = &[
+    "own /books grant /groups/staff all",
+    "epoch 9007199254740991",
+];
+
+#[test]
+fn the_first_refusal_is_told(rt: HostRuntime) {
+    run_on(&rt, rt.alloc(), LAST, IN_ORDER);
+}
+
+fn call(rt: &impl Abort, alloc: Global, line: &str) -> (Option<String>, Request) {
+    let request = request(rt, alloc, line);
+    match caller(line) {
         Some(name) => {
             let name = String::from_str(alloc, name).expect(rt, "memory");
             (Some(name), request)
@@ -466,29 +293,41 @@ fn call_of(rt: &impl Abort, alloc: Global, call: Call) -> (Option<String>, Reque
     }
 }
 
-fn calls_of(rt: &impl Abort, alloc: Global, calls: &[Call]) -> Vec<(Option<String>, Request)> {
-    let mut all = Vec::new(alloc);
-    for call in calls {
-        all.push(call_of(rt, alloc, *call)).expect(rt, "memory");
+fn calls(rt: &impl Abort, alloc: Global, steps: &[Step]) -> Vec<(Option<String>, Request)> {
+    let mut calls = Vec::new(alloc);
+    for (line, _) in steps {
+        calls.push(call(rt, alloc, line)).expect(rt, "memory");
     }
-    all
+    calls
 }
 
-fn check_replies(rt: &impl Abort, alloc: Global, replies: &[Reply], calls: &[Call]) {
-    assert_eq!(rt; replies.len(), calls.len());
-    for (reply, call) in replies.iter().zip(calls) {
-        assert_eq!(rt; tell(rt, alloc, reply).as_str(), call.4);
+fn check_replies(rt: &impl Abort, alloc: Global, replies: &[Reply], steps: &[Step]) {
+    assert_eq!(rt; replies.len(), steps.len());
+    for (reply, (line, wanted)) in replies.iter().zip(steps) {
+        assert_eq!(rt; tell(rt, alloc, reply).as_str(), *wanted, "{line}");
     }
+}
+
+/// The machine under the policy of the office answers the calls of the steps in one call.
+fn check_all(rt: &impl Abort, alloc: Global, machine: &mut Machine<MemoryKeeper>, steps: &[Step]) {
+    follow(rt, alloc, machine, &[("adopt office", "changed, epoch 1")]);
+    let calls = calls(rt, alloc, steps);
+    let replies = machine.serve_all(alloc, calls.as_slice());
+    let replies = replies.expect(rt, "memory");
+    check_replies(rt, alloc, replies.as_slice(), steps);
 }
 
 #[test]
 fn calls_are_served_in_order(rt: HostRuntime) {
-    let alloc = rt.alloc();
-    let calls = calls_of(&rt, alloc, BOUND_CARDS);
-    let mut machine = machine(&rt, alloc, POLICY);
-    let replies = machine.serve_all(alloc, calls.as_slice());
-    let replies = replies.expect(&rt, "memory");
-    check_replies(&rt, alloc, replies.as_slice(), BOUND_CARDS);
+    let mut machine = Machine::new(MemoryKeeper::new(rt.alloc()));
+    check_all(&rt, rt.alloc(), &mut machine, BOUND_CARDS);
+    let mut machine = Machine::new(machine.release());
+    follow(
+        &rt,
+        rt.alloc(),
+        &mut machine,
+        &[("changes sales 0", "2 b.vcf [] 47 bytes\n")],
+    );
 }
 
 #[test]
@@ -497,4 +336,6 @@ fn laws_are_called() {
     requests_act_where_granted();
     requests_are_full_at_limits();
     refusals_change_nothing();
+    unread_contents_stay_unseen();
+    runs_lead_on();
 }

@@ -6,12 +6,4 @@ pub mod Pairing
 pub mod GroupLists
 pub mod Searches
 pub mod PathEnds
-pub mod Shorts
-pub mod Places
-pub mod LineFaults
-pub mod Taken
-pub mod Readings
-pub mod OneMeaning
-pub mod OneReading
-pub mod OneAnswer
-pub mod OneExplanation
+pub mod OneOutcome

@@ -7,15 +7,15 @@ use Rattle.book_lists.specs.Circles.{CircleOf}
 use Rattle.book_lists.specs.Decisions.{Decides, Denies, Grants}
 
 module _ (entries : List Entry) (circle : CircleOf) (here : Here) where
-  pub one_place : (leaf : Leaf) (i j : ℕ) (e f : Entry) → Decides entries circle here i leaf e → Decides entries circle here j leaf f → i ≡ j
-  one_place leaf i j e f a b =
+  pub one_index : (leaf : Leaf) (i j : ℕ) (e f : Entry) → Decides entries circle here i leaf e → Decides entries circle here j leaf f → i ≡ j
+  one_index leaf i j e f a b =
       let not_before : i < j → ⊥ = λ lt. let h = b.first i e lt a.there in cc (h, a.bearing) in
       let not_after : j < i → ⊥ = λ lt. let h = a.first j f lt b.there in cc (h, b.bearing) in
       omega (arith, not_before, not_after)
 
   pub one_entry : (leaf : Leaf) (i j : ℕ) (e f : Entry) → Decides entries circle here i leaf e → Decides entries circle here j leaf f → e ≡ f
   one_entry leaf i j e f a b =
-      let same : i ≡ j = one_place leaf i j e f a b in
+      let same : i ≡ j = one_index leaf i j e f a b in
       cc (same, a.there, b.there)
 
   -- a leaf is not both denied and granted

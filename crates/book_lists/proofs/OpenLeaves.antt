@@ -44,18 +44,18 @@ module _ (circle : CircleOf) (here : Here) (entry : Entry) (left : Leaf → Bool
   idle_elsewhere elsewhere leaf still = and_left _ _ elsewhere
 
 module _ (entries : List Entry) (circle : CircleOf) (here : Here) where
-  -- no entry before place i applies and holds a leaf that is left
+  -- no entry before index i applies and holds a leaf that is left
   abbrev pub LeftOpen : ℕ → (Leaf → Bool) → Type 0
   LeftOpen i left =
       (leaf : Leaf) → left leaf ≡ true → (k : ℕ) (earlier : Entry) → k < i → slice_get entries k ≡ Some earlier → bears circle here leaf earlier ≡ false
 
-  -- what a scan for a need knows at place i
+  -- what a scan for a need knows at index i
   pub record Scanned (need : Leaf → Bool) (i : ℕ) (left : Leaf → Bool) : Type 0 where
     pub needed : (leaf : Leaf) → left leaf ≡ true → need leaf ≡ true
     pub unborne : LeftOpen i left
     pub closed : (leaf : Leaf) → need leaf ≡ true → left leaf ≡ false → Grants entries circle here leaf
 
-  -- what a scan for all that is granted knows at place i
+  -- what a scan for all that is granted knows at index i
   pub record Collected (i : ℕ) (left set : Leaf → Bool) : Type 0 where
     pub unborne : LeftOpen i left
     pub grants : (leaf : Leaf) → set leaf ≡ true → Grants entries circle here leaf
@@ -82,7 +82,7 @@ module _ (entries : List Entry) (circle : CircleOf) (here : Here) where
       both_ways _ (before leaf still k entry (omega arith) d.there) d.bearing
 
   -- a need with a denial is not allowed
-  pub denied_not_allowed : (need : Leaf → Bool) (leaf : Leaf) (place : Option ℕ) → IsDenial entries circle here need leaf place → IsAllowed entries circle here need → ⊥
+  pub denied_not_allowed : (need : Leaf → Bool) (leaf : Leaf) (index : Option ℕ) → IsDenial entries circle here need leaf index → IsAllowed entries circle here need → ⊥
   denied_not_allowed need leaf None d allowed = let g = allowed leaf d.0 in d.1 g.0 g.1 g.2
   denied_not_allowed need leaf (Some i) d allowed = denied_not_granted entries circle here leaf i d.1 (allowed leaf d.0)
 

@@ -1,7 +1,8 @@
 -- Memberships as the keys of a set, and their paths.
-use Rattle.std.proofs.Common.{◌≡◌, ℕ, Bool, true, false, ◌&&◌, List, [], ◌∷◌, ◌++◌, refl, sym, ap, ◌∙◌}
+use Rattle.std.proofs.Common.{◌≡◌, ℕ, Bool, true, false, ◌&&◌, List, [], ◌∷◌, ◌++◌, Vec, Result, Ok, Err, IfOk, refl, sym, ap, ◌∙◌}
 use Rattle.std.specs.Cmp.{IsTotalOrder}
-use Rattle.std.specs.FinSet.{insert, from_list_push, IsAntisymmetric}
+use Rattle.std.specs.FinSet.{insert, contains-from_list, from_list_push, same_set, IsAntisymmetric}
+use Rattle.std.specs.List.{list_any}
 use Rattle.std.specs.Ordering.{nat_cmp, is_eq, eq_by_cmp, ordering_then}
 use Rattle.std.specs.Str.{bytes_eq}
 use Rattle.std.specs.declared.cmp.Ordering.{Ordering}
@@ -50,3 +51,15 @@ memberships_exact x y e =
 
 pub push_is_insert : (es : List Membership) (e : Membership) → set_of (es ++ e ∷ []) ≡ insert (set_of es) e
 push_is_insert es e = from_list_push memberships_total memberships_exact es e
+
+-- lists with the same members have the same pairs
+pub collected : (es fs : List Membership) → ((q : Membership) → list_any (eq_by_cmp membership_cmp q) fs ≡ list_any (eq_by_cmp membership_cmp q) es) → set_of fs ≡ set_of es
+collected es fs same = same_set memberships_total memberships_exact _ _ (λ q.
+    contains-from_list memberships_total fs q ∙ same q ∙ sym (contains-from_list memberships_total es q))
+
+-- a vector that was collected from such a list
+pub collected_in : {Z E : Type 0} (r : Result (Vec Membership Z) E) (es fs : List Membership)
+    → ((q : Membership) → list_any (eq_by_cmp membership_cmp q) fs ≡ list_any (eq_by_cmp membership_cmp q) es)
+    → IfOk r (λ v. v.items ≡ fs) → IfOk r (λ v. set_of v.items ≡ set_of es)
+collected_in (Ok v) es fs same is = ap set_of is ∙ collected es fs same
+collected_in (Err e) es fs same is = tt

@@ -14,7 +14,7 @@ abbrev pub bears : CircleOf → Here → Leaf → Entry → Bool
 bears circle here leaf entry = applies entry circle here && entry.set leaf
 
 module _ (entries : List Entry) (circle : CircleOf) (here : Here) where
-  -- the entry at place i decides the leaf: it applies and holds it, and none at an earlier place does both
+  -- the entry at index i decides the leaf: it applies and holds it, and none at an earlier index does both
   pub record Decides (i : ℕ) (leaf : Leaf) (entry : Entry) : Type 0 where
     pub there : slice_get entries i ≡ Some entry
     pub bearing : bears circle here leaf entry ≡ true

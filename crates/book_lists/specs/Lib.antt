@@ -7,9 +7,3 @@ pub mod Decisions
 pub mod Memberships
 pub mod GroupEntries
 pub mod Callers
-pub mod ShortNames
-pub mod Answers
-pub mod Lines
-pub mod Questions
-pub mod Explanations
-pub mod FaultTexts

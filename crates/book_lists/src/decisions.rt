@@ -13,7 +13,7 @@ use book_rights::{Leaf, LeafSet};
 pub enum Outcome {
     /// Every leaf of the need is granted.
     Allowed,
-    /// The leaf that is denied, and the place of the entry that denies it, from 0; none where no entry does.
+    /// The leaf that is denied, and the index of the entry that denies it, from 0; none where no entry does.
     Denied { leaf: Leaf, entry: Option<usize> },
 }
 
@@ -33,7 +33,7 @@ pub fn decide(entries: &[Entry], circle: &Circle, here: &Here, need: LeafSet) ->
     ensures denied { IfDenied result (IsDenial entries.now circle.now here.now need) }
 {
     let mut open = need;
-    for (place, entry) in entries.iter().enumerate() {
+    for (index, entry) in entries.iter().enumerate() {
         let Some(leaf) = intersection(open, entry.set).least() else {
             continue;
         };
@@ -43,7 +43,7 @@ pub fn decide(entries: &[Entry], circle: &Circle, here: &Here, need: LeafSet) ->
         if entry.deny {
             return Outcome::Denied {
                 leaf,
-                entry: Some(place),
+                entry: Some(index),
             };
         }
         open = open.minus(entry.set);

@@ -1,21 +1,22 @@
 //! Direct memberships of groups, and the principals to which a principal belongs by chains of them.
 
-ghost use Rattle.std.specs.Prelude.{◌≡◌, ◌==◌, ◌++◌, ℕ, List, IfOk, OnOk, OnErr, map};
+ghost use Rattle.std.specs.Prelude.{◌≡◌, ◌==◌, ◌++◌, ◌^◌, ◌-◌, min, ℕ, List, IfOk, OnOk, OnErr, map};
 ghost use Rattle.std.specs.FinSet as set;
 ghost use Rattle.std.specs.BTreeMap.{IsOrdered};
 ghost use Rattle.book_lists.specs.GroupEntries.{pairs_in, groups_at};
-ghost use Rattle.book_lists.specs.Memberships.{set_of};
+ghost use Rattle.std.specs.List.Sorted.{IsStrictlySortedBy};
+ghost use Rattle.book_lists.specs.Memberships.{membership_cmp, set_of};
 ghost use Rattle.book_lists.specs.PrincipalSets.{ListsAll, IsClosure};
 ghost use Rattle.book_lists.specs.Principals.{path_cmp};
 
 use crate::principal_sets::PrincipalSet;
 use crate::principals::Principal;
 use std::alloc::{AllocError, Global};
-use std::collections::BTreeMap;
+use std::collections::{BTreeMap, BTreeSet};
 use std::marker::Model;
 
-/// One direct membership: a group, and a member of it.
-#[derive(Debug, Drop, PartialEq, Eq)]
+/// One direct membership: a group, and a member of it; they are ordered by the group, and then by the member.
+#[derive(Debug, Drop, PartialEq, Eq, PartialOrd, Ord)]
 pub struct Membership {
     /// The group.
     pub group: Principal,
@@ -46,7 +47,7 @@ pub struct Pairs {
 }
 
 impl Model for Pairs {
-    ghost use Rattle.std.specs.Prelude.{◌≡◌};
+    ghost use Rattle.std.specs.Prelude.{◌≡◌, ◌^◌, ◌-◌, min};
     ghost use Rattle.std.specs.FinSet as set;
     ghost use Rattle.std.specs.BTreeMap.{IsOrdered};
     ghost use Rattle.book_lists.specs.Principals.{path_cmp};
@@ -59,7 +60,8 @@ impl Model for Pairs {
 
     ghost view = { λ p. pairs_in p.groups.entries };
 
-    ghost invariant = { λ p. IsOrdered path_cmp p.groups × (p.len ≡ set.len (pairs_in p.groups.entries)) };
+    ghost invariant = { λ p. IsOrdered path_cmp p.groups
+        × (p.len ≡ min (set.len (pairs_in p.groups.entries)) (2 ^ 64 - 1)) };
 }
 
 /// A copy equals its source. An error is want of memory.
@@ -97,9 +99,9 @@ impl Pairs {
         }
     }
 
-    /// How many pairs there are. Takes no memory.
+    /// How many pairs there are; 2^64 - 1 also where there are more. Takes no memory.
     pub fn len(&self) -> usize
-        ensures { result ≡ set.len self.now }
+        ensures { result ≡ min (set.len self.now) (2 ^ 64 - 1) }
     {
         self.len
     }
@@ -111,8 +113,7 @@ impl Pairs {
         self.len == 0
     }
 
-    /// Adds a pair, if it is not there. An error is want of memory, or that there are 2^64 - 1 pairs; the pairs then stay
-    /// as they were.
+    /// Adds a pair, if it is not there. An error is want of memory; the pairs then stay as they were.
     pub fn add(&mut self, group: Principal, member: Principal) -> Result<(), AllocError>
         ensures ok { OnOk result (self.new ≡ set.insert self.old (record { group = group; member = member })) }
         ensures err { OnErr result (self.new ≡ self.old) }
@@ -120,21 +121,21 @@ impl Pairs {
         if self.has(&group, &member) {
             return Ok(());
         }
-        let more = self.len.checked_add(1).ok_or(AllocError)?;
         add_group(self.alloc, &mut self.groups, group, member)?;
-        self.len = more;
+        self.len = self.len.saturating_add(1);
         Ok(())
     }
 
-    /// A list of the pairs. An error is want of memory.
+    /// The pairs, each once, ordered by the group and then by the member. An error is want of memory.
     pub fn list(&self) -> Result<Vec<Membership>, AllocError>
-        ensures { IfOk result (λ list. set_of list.items ≡ self.now) }
+        ensures pairs { IfOk result (λ list. set_of list.items ≡ self.now) }
+        ensures in_order { IfOk result (λ list. IsStrictlySortedBy membership_cmp list.items) }
     {
         let mut list = Vec::new(self.alloc);
         for (member, groups) in self.groups.iter() {
             groups.append_memberships(member, &mut list)?;
         }
-        Ok(list)
+        in_order(self.alloc, list)
     }
 
     /// The principal, and each group to which a chain of these memberships leads from it.
@@ -143,6 +144,15 @@ impl Pairs {
     {
         search(self.alloc, &self.groups, principal)
     }
+}
+
+/// The pairs of a list, each once and in order.
+fn in_order(alloc: Global, list: Vec<Membership>) -> Result<Vec<Membership>, AllocError>
+    ensures pairs { IfOk result (λ ordered. set_of ordered.items ≡ set_of list.items) }
+    ensures in_order { IfOk result (λ ordered. IsStrictlySortedBy membership_cmp ordered.items) }
+{
+    let pairs: BTreeSet<Membership> = list.into_iter().collect(alloc)?;
+    pairs.into_iter().collect(alloc)
 }
 
 /// Adds a group to those of a member. Without memory for it the groups stay as they were.

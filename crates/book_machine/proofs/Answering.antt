@@ -1,10 +1,11 @@
 -- A request is answered by its plan, and then by the edit of it.
-use Rattle.std.proofs.Common.{◌≡◌, inl, inr, ℕ, List, Option, Some, None, Ok, Err, refl, sym, ap, ◌∙◌}
+use Rattle.std.proofs.Common.{◌≡◌, ◌⊎◌, inl, inr, ℕ, List, Option, Some, None, Ok, Err, refl, sym, ap, ◌∙◌}
 use Rattle.book_office.specs.declared.edits.Edit.{Edit}
 use Rattle.book_office.specs.declared.keepers.StoreFault.{StoreFault}
+use Rattle.book_office.specs.declared.keepers.StoreFault.TheVariants.{Memory, Store}
 use Rattle.book_values.specs.declared.offices.Office.{Office}
 use Rattle.book_office.specs.Edits.{apply}
-use Rattle.book_office.specs.Keeping.{Standing, Edits, whole, broken}
+use Rattle.book_office.specs.Keeping.{Standing, Edits, whole, one_more, failures_after_fault}
 use Rattle.book_office.specs.Sound.{Fits}
 use Rattle.book_machine.proofs.FittingPlans.{plan_fits}
 use Rattle.book_machine.proofs.OnePlan.{one_plan}
@@ -13,20 +14,19 @@ use Rattle.book_machine.specs.declared.messages.Request.{Request}
 use Rattle.book_machine.specs.declared.plans.Plan.{Plan}
 use Rattle.book_machine.specs.declared.refusals.Refusal.{Refusal}
 use Rattle.book_machine.specs.declared.refusals.Refusal.TheVariants.{Unavailable}
-use Rattle.book_machine.specs.Asking.{Asks, MeetsPlan, HasPath, IsPlanned, Answers}
+use Rattle.book_machine.specs.Asking.{Asks, MeetsPlan, HasPaths, IsPlanned}
+use Rattle.book_machine.specs.Promises.{ServePromise}
 use Rattle.book_machine.specs.Refusals.{refused}
 use Rattle.book_machine.specs.Steps.{apply_any, settled}
 
-module _ (old new : Standing) (name : Option (List ℕ)) (request : Request) where
-  -- a stop leaves no broken rows that it could not leave before
-  pub never_broken : (reply : Reply) → Answers old new name request reply → new.honest → (o : Office) → old.stands o → new.left broken → old.left broken
-  never_broken reply answers h o stands left = elim (answers.left h o stands broken left) [ inl before ↦ before | inr made ↦ absurd (not_whole made.0 made.2) ]
-    where
-      not_whole : (edit : Edit) → broken ≡ whole (apply o edit) → ⊥
-      not_whole edit same = absurd cc
+-- an edit that the keeper gave up failed once, or not at all
+pub failed_once : (fault : StoreFault) (before after : ℕ) → after ≡ failures_after_fault fault before → (after ≡ before) ⊎ (after ≡ one_more before)
+failed_once Memory before after is = inl is
+failed_once Store before after is = inr is
 
+module _ (old new : Standing) (name : Option (List ℕ)) (request : Request) where
   -- the plan was refused
-  pub answers_refusal : (refusal : Refusal) → Asks old new (Err refusal) (λ o r. MeetsPlan o name request r) → Answers old new name request (refused refusal)
+  pub answers_refusal : (refusal : Refusal) → Asks old new (Err refusal) (λ o r. MeetsPlan o name request r) → ServePromise old new name request (refused refusal)
   answers_refusal refusal asked = record {
     was_honest = asked.was_honest;
     served = λ h o stands. (
@@ -37,29 +37,33 @@ module _ (old new : Standing) (name : Option (List ℕ)) (request : Request) whe
         | inr is ↦ inl (Err refusal, is, refl)
       ],
     );
-    left = λ h o stands x left. inl (asked.left h x left);
-    left_made = λ h o stands served edit planned. elim (asked.tells h o stands) [
-      | inl unavailable ↦ absurd (served (ap refused unavailable))
-      | inr is ↦ let same = one_plan o request name (Err refusal) (Ok planned.0) is planned.1 in absurd (cc (same))
-    ];
-    quiet = elim asked.quiet [ inl unavailable ↦ inl (ap refused unavailable) | inr same ↦ inr same ];
+    left = λ h o stands x left. (
+      inl (asked.left h x left),
+      λ served edit planned. elim (asked.tells h o stands) [
+        | inl unavailable ↦ absurd (served (ap refused unavailable))
+        | inr is ↦ let same = one_plan o request name (Err refusal) (Ok planned.0) is planned.1 in absurd (cc (same))
+      ],
+    );
+    counted = elim asked.counted [ inl same ↦ inl same | inr failed ↦ inr (ap refused failed.0, failed.1) ];
   }
 
   -- the plan has no edit
-  pub answers_read : (p : Plan) → Asks old new (Ok p) (λ o r. MeetsPlan o name request r) → p.edit ≡ None → Answers old new name request p.reply
+  pub answers_read : (p : Plan) → Asks old new (Ok p) (λ o r. MeetsPlan o name request r) → p.edit ≡ None → ServePromise old new name request p.reply
   answers_read p asked no_edit = record {
     was_honest = asked.was_honest;
     served = λ h o stands. (o, asked.kept h o stands, inl (Ok p, asked.tells h o stands, ap (λ e. (p.reply, apply_any o e)) (sym no_edit)));
-    left = λ h o stands x left. inl (asked.left h x left);
-    left_made = λ h o stands served edit planned.
-        let same = one_plan o request name (Ok p) (Ok planned.0) (asked.tells h o stands) planned.1 in
-        let plans : p ≡ planned.0 = cc (same) in
-        let none : None ≡ Some edit = sym no_edit ∙ ap (λ (q : Plan). q.edit) plans ∙ planned.2 in
-        absurd (cc (none));
-    quiet = inr asked.quiet;
+    left = λ h o stands x left. (
+      inl (asked.left h x left),
+      λ served edit planned.
+          let same = one_plan o request name (Ok p) (Ok planned.0) (asked.tells h o stands) planned.1 in
+          let plans : p ≡ planned.0 = cc (same) in
+          let none : None ≡ Some edit = sym no_edit ∙ ap (λ (q : Plan). q.edit) plans ∙ planned.2 in
+          absurd (cc (none)),
+    );
+    counted = inl asked.counted;
   }
 
-  module _ (mid : Standing) (p : Plan) (edit : Edit) (named : HasPath request.path) (asked : Asks old mid (Ok p) (λ o r. MeetsPlan o name request r)) (has_edit : p.edit ≡ Some edit) where
+  module _ (mid : Standing) (p : Plan) (edit : Edit) (named : HasPaths request) (asked : Asks old mid (Ok p) (λ o r. MeetsPlan o name request r)) (has_edit : p.edit ≡ Some edit) where
     stepped : (o : Office) → (p.reply, apply o edit) ≡ settled o (Ok p)
     stepped o = ap (λ e. (p.reply, apply_any o e)) (sym has_edit)
 
@@ -70,7 +74,7 @@ module _ (old new : Standing) (name : Option (List ℕ)) (request : Request) whe
     is_planned was o stands = (p, asked.tells was o stands, has_edit)
 
     -- the edit was made
-    pub answers_edit : (u : Unit {0}) → Edits mid new (Ok u) edit → Answers old new name request p.reply
+    pub answers_edit : (u : Unit {0}) → Edits mid new (Ok u) edit → ServePromise old new name request p.reply
     answers_edit u edits = record {
       was_honest = λ h. asked.was_honest (edits.was_honest h);
       served = λ h o stands.
@@ -78,27 +82,32 @@ module _ (old new : Standing) (name : Option (List ℕ)) (request : Request) whe
           (apply o edit, edits.made h o (asked.kept was o stands) (fits was o stands), inl (Ok p, asked.tells was o stands, stepped o));
       left = λ h o stands x left.
           let was = edits.was_honest h in
-          inr (edit, is_planned was o stands, edits.left_made h o (asked.kept was o stands) (fits was o stands) x left);
-      left_made = λ h o stands served other planned x left.
-          let was = edits.was_honest h in
-          let same = one_plan o request name (Ok p) (Ok planned.0) (asked.tells was o stands) planned.1 in
-          let plans : p ≡ planned.0 = cc (same) in
-          let edits_same : Some edit ≡ Some other = sym has_edit ∙ ap (λ (q : Plan). q.edit) plans ∙ planned.2 in
-          edits.left_made h o (asked.kept was o stands) (fits was o stands) x left ∙ ap (λ e. whole (apply o e)) (cc (edits_same));
-      quiet = inr (edits.counted ∙ asked.quiet);
+          let made = edits.left_made h o (asked.kept was o stands) (fits was o stands) x left in (
+            inr (edit, is_planned was o stands, made),
+            λ served other planned.
+                let same = one_plan o request name (Ok p) (Ok planned.0) (asked.tells was o stands) planned.1 in
+                let plans : p ≡ planned.0 = cc (same) in
+                let edits_same : Some edit ≡ Some other = sym has_edit ∙ ap (λ (q : Plan). q.edit) plans ∙ planned.2 in
+                made ∙ ap (λ e. whole (apply o e)) (cc (edits_same)),
+          );
+      counted = inl (edits.counted ∙ asked.counted);
     }
 
     -- the keeper gave up
-    pub answers_fault : (fault : StoreFault) → Edits mid new (Err fault) edit → Answers old new name request (refused Unavailable)
+    pub answers_fault : (fault : StoreFault) → Edits mid new (Err fault) edit → ServePromise old new name request (refused Unavailable)
     answers_fault fault edits = record {
       was_honest = λ h. asked.was_honest (edits.was_honest h);
       served = λ h o stands. (o, edits.kept h o (asked.kept (edits.was_honest h) o stands), inr (refl, refl));
       left = λ h o stands x left.
-          let was = edits.was_honest h in
-          elim (edits.left_kept h o (asked.kept was o stands) (fits was o stands) x left) [
-            | inl before ↦ inl (asked.left was x before)
-            | inr made ↦ inr (edit, is_planned was o stands, made)
-          ];
-      left_made = λ h o stands served. absurd (served refl);
-      quiet = inl refl;
+          let was = edits.was_honest h in (
+            elim (edits.left_kept h o (asked.kept was o stands) (fits was o stands) x left) [
+              | inl before ↦ inl (asked.left was x before)
+              | inr made ↦ inr (edit, is_planned was o stands, made)
+            ],
+            λ served. absurd (served refl),
+          );
+      counted = elim (failed_once fault mid.failures new.failures edits.counted) [
+        | inl same ↦ inl (same ∙ asked.counted)
+        | inr failed ↦ inr (refl, failed ∙ ap one_more asked.counted)
+      ];
     }

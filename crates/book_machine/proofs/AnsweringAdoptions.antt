@@ -1,5 +1,5 @@
 -- Adopting a policy is answered by what it would do, and then by the edit.
-use Rattle.std.proofs.Common.{◌≡◌, ◌≢◌, ◌↔◌, inl, inr, ℕ, ◌+◌, ◌<◌, ◌≤◌, Bool, true, false, not, ◌&&◌, cond, nat_lt, IsTrue, Option, Some, None, Result, Ok, Err, IsErrAnd, refl, sym, ap, ◌∙◌, subst, arith}
+use Rattle.std.proofs.Common.{◌≡◌, ◌≢◌, ◌⊎◌, ◌↔◌, inl, inr, ℕ, ◌+◌, ◌<◌, ◌≤◌, Bool, true, false, not, ◌&&◌, cond, nat_lt, IsTrue, Option, Some, None, Result, Ok, Err, IsErrAnd, refl, sym, ap, ◌∙◌, subst, arith}
 use Rattle.std.proofs.lemmas.Bool.{false≢true, lt-ltb, le-leb, ltb-true, leb-true}
 use Rattle.std.specs.FinMap.{len}
 use Rattle.std.specs.Prelude.{if◌then◌else◌, nat_le}
@@ -8,14 +8,16 @@ use Rattle.book_policies.specs.declared.parts.PolicyTables.{PolicyTables}
 use Rattle.book_adopting.proofs.Samenesses.{same_office_is}
 use Rattle.book_office.proofs.SoundAdoptions.{adopt_fits}
 use Rattle.book_adopting.specs.Adopting.{adopt, adoption_of, taken_over}
-use Rattle.book_office.specs.Keeping.{Standing, Reads, Edits}
+use Rattle.book_office.specs.Keeping.{Standing, Reads, Edits, one_more, failures_after}
 use Rattle.book_adopting.specs.Sameness.{same_office}
 use Rattle.book_office.specs.Sound.{IsSound, Fits}
 use Rattle.book_office.specs.declared.edits.Edit.TheVariants.{Adopt}
 use Rattle.book_office.specs.declared.keepers.StoreFault.{StoreFault}
 use Rattle.book_values.specs.declared.offices.Office.{Office}
 use Rattle.book_values.specs.declared.offices.TheConstants.{MAX_BOOKS, LAST_NUMBER}
-use Rattle.book_machine.specs.Adoptions.{Adopts, AnswersAdoption, HasRoomFor, adopted_by, epoch_after}
+use Rattle.book_machine.proofs.Answering.{failed_once}
+use Rattle.book_machine.specs.Adoptions.{Adopts, HasRoomFor, adopted_by, epoch_after}
+use Rattle.book_machine.specs.Promises.{AdoptPromise}
 use Rattle.book_machine.specs.declared.adoptions.AdoptFault.{AdoptFault}
 use Rattle.book_machine.specs.declared.adoptions.AdoptFault.TheVariants.{Full, Unavailable}
 use Rattle.book_machine.specs.declared.adoptions.Adopted.{Adopted}
@@ -34,12 +36,12 @@ module _ (t : PolicyTables) (o : Office) where
   told_epoch true = refl
   told_epoch false = refl
 
-  one_more : (n : ℕ) → n + 1 ≡ n → ⊥
-  one_more n e = omega arith
+  no_fixed : (n : ℕ) → n + 1 ≡ n → ⊥
+  no_fixed n e = omega arith
 
   told_change : (same : Bool) → same_office o (taken_over t o) ≡ same → IsTrue (not same) ↔ (after_all same ≢ o)
   told_change true e = (λ is. absurd (false≢true is), λ other. absurd (other (sym (same_office_is o (taken_over t o) e))))
-  told_change false e = (λ _ is. one_more o.epoch (ap (λ (p : Office). p.epoch) is), λ _. refl)
+  told_change false e = (λ _ is. no_fixed o.epoch (ap (λ (p : Office). p.epoch) is), λ _. refl)
 
   abbrev answer : Bool → Option Adopted
   answer room = if room then Some (record { changed = (adoption_of t o).changed; epoch = epoch_after (adoption_of t o).changed o.epoch }) else None
@@ -67,7 +69,7 @@ module _ (t : PolicyTables) (o : Office) where
       (has, refl, epoch, changed)
 
   pub fits : HasRoomFor t o → Fits o (Adopt t)
-  fits has = record { place = tt; sound = has.0 }
+  fits has = record { possible = tt; sound = has.0 }
 
   -- ---- there is none
 
@@ -81,33 +83,42 @@ module _ (t : PolicyTables) (o : Office) where
       let books : nat_le (len (taken_over t o).books) MAX_BOOKS ≡ true = le-leb _ _ few in
       not_none (e ∙ (λ i. answer (epochs i && books i)))
 
+abbrev answered_by : AdoptFault → Result Adopted AdoptFault
+answered_by e = Err e
+
+-- a read failed once, and the answer is unavailable, or not at all
+counted_told : {A : Type 0} (r : Result A StoreFault) (before after : ℕ) → after ≡ failures_after r before
+    → (after ≡ before) ⊎ ((answered_by Unavailable ≡ Err Unavailable) × (after ≡ one_more before))
+counted_told (Ok x) before after is = inl is
+counted_told (Err fault) before after is = elim (failed_once fault before after is) [ inl same ↦ inl same | inr failed ↦ inr (refl, failed) ]
+
 module _ (old new : Standing) (t : PolicyTables) where
   abbrev Tells : Office → Option Adopted → Type 0
   Tells o answer = answer ≡ adopted_by o.epoch (adoption_of t o)
 
   -- an error that is told as unavailable
-  pub unavailable_on : (r : Result Adopted AdoptFault) → IsErrAnd r (λ e. e ≡ Unavailable) → AnswersAdoption old new t (Err Unavailable) → AnswersAdoption old new t r
+  pub unavailable_on : (r : Result Adopted AdoptFault) → IsErrAnd r (λ e. e ≡ Unavailable) → AdoptPromise old new t (Err Unavailable) → AdoptPromise old new t r
   unavailable_on (Ok x) is p = absurd is
-  unavailable_on (Err e) is p = subst (λ x. AnswersAdoption old new t (Err x)) (sym is) p
+  unavailable_on (Err e) is p = subst (λ x. AdoptPromise old new t (Err x)) (sym is) p
 
   -- the keeper gave up, or memory was refused, before the edit
-  pub answers_asked : (r : Result (Option Adopted) StoreFault) → Reads old new r Tells → AnswersAdoption old new t (Err Unavailable)
+  pub answers_asked : (r : Result (Option Adopted) StoreFault) → Reads old new r Tells → AdoptPromise old new t (Err Unavailable)
   answers_asked r reads = record {
     was_honest = reads.was_honest;
     adopted = λ h o stands. (o, reads.kept h o stands, refl);
     left = λ h o stands x left. inl (reads.left h x left);
     left_made = λ h. tt;
-    quiet = inl refl;
+    counted = counted_told r old.failures new.failures reads.counted;
   }
 
   -- there is no room
-  pub answers_full : (answer : Option Adopted) → answer ≡ None → Reads old new (Ok answer) Tells → AnswersAdoption old new t (Err Full)
+  pub answers_full : (answer : Option Adopted) → answer ≡ None → Reads old new (Ok answer) Tells → AdoptPromise old new t (Err Full)
   answers_full answer is reads = record {
     was_honest = reads.was_honest;
     adopted = λ h o stands. (o, reads.kept h o stands, (no_room t o (sym is ∙ reads.value h o stands), refl));
     left = λ h o stands x left. inl (reads.left h x left);
     left_made = λ h. tt;
-    quiet = inr reads.counted;
+    counted = inl reads.counted;
   }
 
   module _ (mid : Standing) (known : IsPolicy t) (answer : Option Adopted) (adopted : Adopted) (is : answer ≡ Some adopted) (reads : Reads old mid (Ok answer) Tells) (p : PolicyTables) (copied : p ≡ t) where
@@ -115,7 +126,7 @@ module _ (old new : Standing) (t : PolicyTables) where
     has_room was o stands = room t o adopted known (old.sound o stands) (sym is ∙ reads.value was o stands)
 
     -- the policy was adopted
-    pub answers_made : (u : Unit {0}) → Edits mid new (Ok u) (Adopt p) → AnswersAdoption old new t (Ok adopted)
+    pub answers_made : (u : Unit {0}) → Edits mid new (Ok u) (Adopt p) → AdoptPromise old new t (Ok adopted)
     answers_made u made =
         let edits : Edits mid new (Ok u) (Adopt t) = subst (λ q. Edits mid new (Ok u) (Adopt q)) copied made in record {
           was_honest = λ h. reads.was_honest (edits.was_honest h);
@@ -130,11 +141,11 @@ module _ (old new : Standing) (t : PolicyTables) where
           left_made = λ h o stands x left.
               let was = edits.was_honest h in
               edits.left_made h o (reads.kept was o stands) (fits t o (has_room was o stands)) x left;
-          quiet = inr (edits.counted ∙ reads.counted);
+          counted = inl (edits.counted ∙ reads.counted);
         }
 
     -- the keeper gave up
-    pub answers_fault : (fault : StoreFault) → Edits mid new (Err fault) (Adopt p) → AnswersAdoption old new t (Err Unavailable)
+    pub answers_fault : (fault : StoreFault) → Edits mid new (Err fault) (Adopt p) → AdoptPromise old new t (Err Unavailable)
     answers_fault fault made =
         let edits : Edits mid new (Err fault) (Adopt t) = subst (λ q. Edits mid new (Err fault) (Adopt q)) copied made in record {
           was_honest = λ h. reads.was_honest (edits.was_honest h);
@@ -147,5 +158,8 @@ module _ (old new : Standing) (t : PolicyTables) where
                 | inr made ↦ inr (has, made)
               ];
           left_made = λ h. tt;
-          quiet = inl refl;
+          counted = elim (failed_once fault mid.failures new.failures edits.counted) [
+            | inl same ↦ inl (same ∙ reads.counted)
+            | inr failed ↦ inr (refl, failed ∙ ap one_more reads.counted)
+          ];
         }

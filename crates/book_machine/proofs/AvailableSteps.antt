@@ -1,8 +1,10 @@
 -- No stage refuses a request as unavailable.
-use Rattle.std.proofs.Common.{◌≡◌, ℕ, List, Bool, true, false, Option, Some, None, Result, Ok, Err, inl, inr, sym, ap, is_some}
+use Rattle.std.proofs.Common.{◌≡◌, ℕ, List, Bool, true, false, Option, Some, None, Result, Ok, Err, inl, inr, sym, ap, ◌∙◌, is_some}
 use Rattle.std.specs.Prelude.{if◌then◌else◌}
 use Rattle.std.specs.FinMap.{get}
 use Rattle.book_lists.specs.Principals.{person_path}
+use Rattle.book_lists.specs.Circles.{CircleOf}
+use Rattle.book_lists.specs.declared.circles.Caller.{Caller}
 use Rattle.book_lists.specs.declared.circles.Caller.TheVariants.{Known}
 use Rattle.book_rights.specs.declared.methods.Method.{Method}
 use Rattle.book_rights.specs.declared.methods.Method.TheVariants.{Get, Head, Options, Put, Propfind, Proppatch, Acl, Copy, Move, Delete, Mkcol, Report}
@@ -14,18 +16,22 @@ use Rattle.book_values.specs.declared.offices.Office.{Office}
 use Rattle.book_machine.proofs.StepLaws.{granted_answer, done, bad, full, not_success, planned_succeeds, same_refusal}
 use Rattle.book_machine.specs.Laws.{StepsAreAvailable}
 use Rattle.book_machine.specs.Refusals.{refused}
-use Rattle.book_machine.specs.Stages.{◌>>=◌, check, caller_of, shape_of, put_text, no_body, target_of, at_node, at_unmapped, new_card, new_book_at, goes_on, ready_of, granted_plan}
-use Rattle.book_machine.specs.AllowedMethods.{allowed_of}
+use Rattle.book_machine.specs.AllowedMethods.{allowed_of, goes_on}
+use Rattle.book_machine.specs.Asked.{asked_of, is_empty, put_asked, mkcol_asked}
+use Rattle.book_machine.specs.Stages.{◌>>=◌, check, caller_of, target_of, at_node, at_unmapped, new_card, new_book_at, ready_of, text_told, text_of, put_edit, delete_edit, mkcol_edit, success_of, granted_plan}
 use Rattle.book_machine.specs.Steps.{IsPlannedFrom, IsPlan, settled}
 use Rattle.book_machine.specs.declared.allowed_methods.AllowedMethods.TheVariants.{OfNewCard}
+use Rattle.book_machine.specs.declared.asked.Asked.{Asked}
+use Rattle.book_machine.specs.declared.asked.Asked.TheVariants as asked
 use Rattle.book_machine.specs.declared.messages.Body.{Body}
 use Rattle.book_machine.specs.declared.messages.Body.TheVariants as body
 use Rattle.book_machine.specs.declared.messages.Reply.{Reply}
 use Rattle.book_machine.specs.declared.messages.Request.{Request}
 use Rattle.book_machine.specs.declared.plans.Plan.{Plan}
 use Rattle.book_machine.specs.declared.plans.Ready.{Ready}
+use Rattle.book_machine.specs.declared.plans.Target.{Target}
 use Rattle.book_machine.specs.declared.refusals.Refusal.{Refusal}
-use Rattle.book_machine.specs.declared.refusals.Refusal.TheVariants.{UnknownCaller, NotAllowed, NoParent, Unavailable}
+use Rattle.book_machine.specs.declared.refusals.Refusal.TheVariants.{BodyOnMkcol, UnknownCaller, NotAllowed, NoParent, Unavailable}
 
 -- a stage that tells some other refusal
 abbrev IsAvailable : {A : Type 0} → Result A Refusal → Type 0
@@ -53,29 +59,41 @@ caller_available o (Some name) e =
       | false ↦ λ h. absurd (cc (h))
     ] e
 
-put_available : (b : Body) → IsAvailable (put_text b)
+put_available : (b : Body) → IsAvailable (put_asked b)
 put_available body.Empty e = absurd (cc (e))
 put_available (body.Text text) e = absurd (cc (e))
+put_available (body.Find properties) e = absurd (cc (e))
+put_available (body.Patch patch) e = absurd (cc (e))
+put_available (body.List list) e = absurd (cc (e))
+put_available (body.Report report) e = absurd (cc (e))
 put_available body.Unread e = absurd (cc (e))
 
-mkcol_available : (b : Body) → IsAvailable (no_body b)
+text_available : (empty : Bool) → IsAvailable (if empty then Ok asked.Mkcol else Err BodyOnMkcol)
+text_available true e = absurd (cc (e))
+text_available false e = absurd (cc (e))
+
+mkcol_available : (b : Body) → IsAvailable (mkcol_asked b)
 mkcol_available body.Empty e = absurd (cc (e))
-mkcol_available (body.Text text) e = absurd (cc (e))
+mkcol_available (body.Text text) e = text_available (is_empty text) e
+mkcol_available (body.Find properties) e = absurd (cc (e))
+mkcol_available (body.Patch patch) e = absurd (cc (e))
+mkcol_available (body.List list) e = absurd (cc (e))
+mkcol_available (body.Report report) e = absurd (cc (e))
 mkcol_available body.Unread e = absurd (cc (e))
 
-shape_available : (m : Method) (b : Body) → IsAvailable (shape_of m b)
-shape_available Get b e = absurd (cc (e))
-shape_available Head b e = absurd (cc (e))
-shape_available Options b e = absurd (cc (e))
-shape_available Put b e = put_available b e
-shape_available Propfind b e = absurd (cc (e))
-shape_available Proppatch b e = absurd (cc (e))
-shape_available Acl b e = absurd (cc (e))
-shape_available Copy b e = absurd (cc (e))
-shape_available Move b e = absurd (cc (e))
-shape_available Delete b e = absurd (cc (e))
-shape_available Mkcol b e = mkcol_available b e
-shape_available Report b e = absurd (cc (e))
+asked_available : (m : Method) (b : Body) → IsAvailable (asked_of m b)
+asked_available Get b e = absurd (cc (e))
+asked_available Head b e = absurd (cc (e))
+asked_available Options b e = absurd (cc (e))
+asked_available Put b e = put_available b e
+asked_available Propfind b e = absurd (cc (e))
+asked_available Proppatch b e = absurd (cc (e))
+asked_available Acl b e = absurd (cc (e))
+asked_available Copy b e = absurd (cc (e))
+asked_available Move b e = absurd (cc (e))
+asked_available Delete b e = absurd (cc (e))
+asked_available Mkcol b e = mkcol_available b e
+asked_available Report b e = absurd (cc (e))
 
 card_available : (o : Office) (p : Path) → IsAvailable (new_card o p)
 card_available o path.Root e = absurd (cc (e))
@@ -122,22 +140,74 @@ target_available : (o : Office) (m : Method) (p : Option Path) → IsAvailable (
 target_available o m None e = absurd (cc (e))
 target_available o m (Some p) e = node_available o m p (node_at o p) e
 
+text_of_available : (node : Option Node) → IsAvailable (text_of node)
+text_of_available None e = absurd (cc (e))
+text_of_available (Some node) e = told node.text e
+  where
+    told : (text : Option (List ℕ)) → IsAvailable (text_told text)
+    told None e = absurd (cc (e))
+    told (Some text) e = absurd (cc (e))
+
+put_edit_available : (caller : Caller) (text : List ℕ) (p : Path) → IsAvailable (put_edit caller text p)
+put_edit_available caller text path.Root e = absurd (cc (e))
+put_edit_available caller text path.People e = absurd (cc (e))
+put_edit_available caller text path.Groups e = absurd (cc (e))
+put_edit_available caller text path.Books e = absurd (cc (e))
+put_edit_available caller text (path.Person n) e = absurd (cc (e))
+put_edit_available caller text (path.Group n) e = absurd (cc (e))
+put_edit_available caller text (path.Book b) e = absurd (cc (e))
+put_edit_available caller text (path.Card b c) e = absurd (cc (e))
+
+delete_edit_available : (p : Path) → IsAvailable (delete_edit p)
+delete_edit_available path.Root e = absurd (cc (e))
+delete_edit_available path.People e = absurd (cc (e))
+delete_edit_available path.Groups e = absurd (cc (e))
+delete_edit_available path.Books e = absurd (cc (e))
+delete_edit_available (path.Person n) e = absurd (cc (e))
+delete_edit_available (path.Group n) e = absurd (cc (e))
+delete_edit_available (path.Book b) e = absurd (cc (e))
+delete_edit_available (path.Card b c) e = absurd (cc (e))
+
+mkcol_edit_available : (caller : Caller) (p : Path) → IsAvailable (mkcol_edit caller p)
+mkcol_edit_available caller path.Root e = absurd (cc (e))
+mkcol_edit_available caller path.People e = absurd (cc (e))
+mkcol_edit_available caller path.Groups e = absurd (cc (e))
+mkcol_edit_available caller path.Books e = absurd (cc (e))
+mkcol_edit_available caller (path.Person n) e = absurd (cc (e))
+mkcol_edit_available caller (path.Group n) e = absurd (cc (e))
+mkcol_edit_available caller (path.Book b) e = absurd (cc (e))
+mkcol_edit_available caller (path.Card b c) e = absurd (cc (e))
+
+success_available : (what : Asked) (caller : Caller) (target : Target) → IsAvailable (success_of what caller target)
+success_available asked.Get caller target = both (text_of target.node) _ (text_of_available target.node) (λ text. value _)
+success_available asked.Head caller target = both (text_of target.node) _ (text_of_available target.node) (λ text. value _)
+success_available asked.Options caller target = value _
+success_available (asked.Put text) caller target = both (put_edit caller text target.path) _ (put_edit_available caller text target.path) (λ edit. value _)
+success_available asked.Propfind caller target = λ e. absurd (cc (e))
+success_available asked.Proppatch caller target = λ e. absurd (cc (e))
+success_available asked.Acl caller target = λ e. absurd (cc (e))
+success_available asked.Copy caller target = λ e. absurd (cc (e))
+success_available asked.Move caller target = λ e. absurd (cc (e))
+success_available asked.Delete caller target = both (delete_edit target.path) _ (delete_edit_available target.path) (λ edit. value _)
+success_available asked.Mkcol caller target = both (mkcol_edit caller target.path) _ (mkcol_edit_available caller target.path) (λ edit. value _)
+success_available asked.Report caller target = λ e. absurd (cc (e))
+
 module _ (o : Office) (request : Request) where
   ready_available : (name : Option (List ℕ)) → IsAvailable (ready_of o name request)
   ready_available name = both (caller_of o name) _ (caller_available o name) (λ caller.
-      both (shape_of request.method request.body) _ (shape_available request.method request.body) (λ text.
+      both (asked_of request.method request.body) _ (asked_available request.method request.body) (λ what.
       both (target_of o request.method request.path) _ (target_available o request.method request.path) (λ target. value _)))
 
-  granted_available : (ready : Ready) → IsAvailable (granted_plan o request.method ready)
-  granted_available ready e = elim (granted_answer o request.method ready) [
-    | done is ↦ absurd (cc (is, e))
+  granted_available : (circle : CircleOf) (ready : Ready) → IsAvailable (granted_plan o circle ready)
+  granted_available circle ready e = elim (granted_answer o circle ready) [
+    | done is ↦ absurd (success_available ready.asked ready.caller ready.target (sym is ∙ e))
     | bad fault is ↦ absurd (cc (is, e))
     | full is ↦ absurd (cc (is, e))
   ]
 
   plan_available : (ready : Result Ready Refusal) → IsAvailable ready → IsPlannedFrom o request ready (Err Unavailable) → ⊥
   plan_available (Err refusal) available is = let same : refusal ≡ Unavailable = cc (is) in available (ap Err same)
-  plan_available (Ok ready) available (inl granted) = granted_available ready (sym granted.1)
+  plan_available (Ok ready) available (inl granted) = granted_available granted.0.circle ready (sym granted.1)
   plan_available (Ok ready) available (inr denied) = let h = denied.2 in absurd (cc (h))
 
 pub steps_are_available : StepsAreAvailable

@@ -5,10 +5,13 @@ use Rattle.std.specs.FinMap.{get, len}
 use Rattle.std.specs.Prelude.{if◌then◌else◌}
 use Rattle.book_cards.specs.CardText.{card_fault}
 use Rattle.book_cards.specs.declared.fault.CardFault.{CardFault}
+use Rattle.book_lists.specs.Circles.{CircleOf}
 use Rattle.book_lists.specs.Names.{IsName}
 use Rattle.book_lists.specs.Principals.{person_path}
 use Rattle.book_lists.specs.declared.circles.Caller.{Caller}
 use Rattle.book_lists.specs.declared.circles.Caller.TheVariants.{Nobody, Known}
+use Rattle.book_values.specs.declared.paths.Kind.{Kind}
+use Rattle.book_values.specs.declared.paths.Kind.TheVariants as kind
 use Rattle.book_values.specs.declared.paths.Path.{Path}
 use Rattle.book_values.specs.declared.paths.Path.TheVariants as path
 use Rattle.book_office.proofs.FittingEdits.{put_card_fits, remove_card_fits, add_book_fits, remove_book_fits}
@@ -19,24 +22,31 @@ use Rattle.book_values.specs.declared.offices.Book.{Book}
 use Rattle.book_values.specs.declared.offices.Office.{Office}
 use Rattle.book_values.specs.declared.offices.TheConstants.{MAX_CARDS, MAX_CARD_BYTES, LAST_NUMBER}
 use Rattle.book_office.specs.Fitting.{HasRoom}
-use Rattle.book_office.specs.Resources.{node_of, node_at, members_at, book_resource, card_resource, card_in, number_of}
+use Rattle.book_office.specs.Resources.{node_of, node_at, count_at, book_resource, card_resource, card_in, number_of}
 use Rattle.book_office.specs.Sound.{IsSound, IsOwner, Fits}
 use Rattle.book_rights.specs.declared.methods.Method.{Method}
 use Rattle.book_rights.specs.declared.methods.Method.TheVariants.{Get, Head, Options, Put, Propfind, Proppatch, Acl, Copy, Move, Delete, Mkcol, Report}
-use Rattle.book_machine.specs.Asking.{HasPath}
-use Rattle.book_machine.specs.Stages.{◌>>=◌, check, caller_of, shape_of, target_of, at_node, at_unmapped, goes_on, ready_of, bad_card, body_of, has_room, limits_of, owner_of, success, granted_plan}
+use Rattle.book_machine.specs.AllowedMethods.{goes_on}
+use Rattle.book_machine.specs.Asked.{asked_of, put_asked, mkcol_asked, is_empty, method_of}
+use Rattle.book_machine.specs.Asking.{HasPath, HasPaths}
+use Rattle.book_machine.specs.Stages.{◌>>=◌, check, caller_of, target_of, at_node, at_unmapped, ready_of, bad_card, body_of, can_change, limits_of, owner_of, replied, text_of, success, success_of, granted_plan}
 use Rattle.book_machine.specs.Steps.{IsPlannedFrom, IsPlan}
 use Rattle.book_machine.specs.Verdicts.{IsTarget}
+use Rattle.book_machine.specs.declared.asked.Asked.{Asked}
+use Rattle.book_machine.specs.declared.asked.Asked.TheVariants as asked
+use Rattle.book_machine.specs.declared.messages.Body.{Body}
+use Rattle.book_machine.specs.declared.messages.Body.TheVariants as body
+use Rattle.book_machine.specs.declared.messages.Content.{Content}
 use Rattle.book_machine.specs.declared.messages.Request.{Request}
 use Rattle.book_machine.specs.declared.plans.Plan.{Plan}
 use Rattle.book_machine.specs.declared.plans.Ready.{Ready}
 use Rattle.book_machine.specs.declared.plans.Target.{Target}
 use Rattle.book_machine.specs.declared.refusals.Refusal.{Refusal}
-use Rattle.book_machine.specs.declared.refusals.Refusal.TheVariants.{Full, UnknownCaller}
+use Rattle.book_machine.specs.declared.refusals.Refusal.TheVariants.{BadRequest, BodyOnMkcol, Full, UnknownCaller}
 
 -- ---- stages
 -- where two stages answer a value, so does the first
-bind_ok : {A B : Type 0} (m : Result A Refusal) (f : A → Result B Refusal) (y : B) → (m >>= f) ≡ Ok y → (x : A) × (m ≡ Ok x) × (f x ≡ Ok y)
+pub bind_ok : {A B : Type 0} (m : Result A Refusal) (f : A → Result B Refusal) (y : B) → (m >>= f) ≡ Ok y → (x : A) × (m ≡ Ok x) × (f x ≡ Ok y)
 bind_ok (Ok x) f y e = (x, refl, e)
 bind_ok (Err r) f y e = absurd cc
 
@@ -58,10 +68,10 @@ below a b e = grind (arith, nat_tests)
 pub same_Some : {A : Type 0} (x y : A) → Some x ≡ Some y → x ≡ y
 same_Some x y e = cc
 
-abbrev answered : {A : Type 0} → A → Result A Refusal
+abbrev pub answered : {A : Type 0} → A → Result A Refusal
 answered x = Ok x
 
-same_Ok : {A : Type 0} (x y : A) → answered x ≡ answered y → x ≡ y
+pub same_Ok : {A : Type 0} (x y : A) → answered x ≡ answered y → x ≡ y
 same_Ok x y e = cc
 
 some_not_none : {A : Type 0} (o : Option A) → is_some o ≡ true → o ≢ None
@@ -93,25 +103,23 @@ gone_on o m p (Some node) t e =
     record { is = sym (same_Ok _ t answered.2); free = λ none. absurd cc; there = λ n same. cc (check_true _ _ answered.0 answered.1, same) }
 
 -- ---- books and cards
--- a book with room
-book_room : (found : Option Book) (members : ℕ) (mapped : Bool) → has_room (option_map (node_of members) (option_map book_resource found)) mapped ≡ true
-    → (book : Book) × (found ≡ Some book) × (book.changes.number < LAST_NUMBER) × ((mapped ≡ true) ⊎ (members < MAX_CARDS))
-book_room None members mapped e = absurd cc
-book_room (Some book) members mapped e =
-    let both = both_true _ _ e in
-    (book, refl, below _ _ both.0, elim (either_true mapped _ both.1) [ inl h ↦ inl h | inr h ↦ inr (below _ _ h) ])
+-- a book whose number can rise
+book_changes : (found : Option Book) → can_change (option_map node_of (option_map book_resource found)) ≡ true
+    → (book : Book) × (found ≡ Some book) × (book.changes.number < LAST_NUMBER)
+book_changes None e = absurd cc
+book_changes (Some book) e = (book, refl, below _ _ e)
 
-pub members_of_book : (o : Office) (b : List ℕ) (book : Book) → get o.books b ≡ Some book → members_at o (path.Book b) ≡ len book.cards
-members_of_book o b book found = ap (λ x. unwrap_or (option_map (λ (book : Book). len book.cards) x) 0) found
+pub count_of_book : (o : Office) (b : List ℕ) (book : Book) → get o.books b ≡ Some book → count_at o (path.Book b) ≡ len book.cards
+count_of_book o b book found = ap (λ x. unwrap_or (option_map (λ (book : Book). len book.cards) x) 0) found
 
 pub node_of_card : (o : Office) (b c : List ℕ) (book : Book) → get o.books b ≡ Some book
-    → node_at o (path.Card b c) ≡ option_map (node_of 0) (option_map (card_resource (number_of book c)) (get book.cards c))
-node_of_card o b c book found = ap (λ x. option_map (node_of 0) (option_and_then (λ (book : Book). card_in book c) x)) found
+    → node_at o (path.Card b c) ≡ option_map node_of (option_map (card_resource (number_of book c)) (get book.cards c))
+node_of_card o b c book found = ap (λ x. option_map node_of (option_and_then (λ (book : Book). card_in book c) x)) found
 
 mapped_card : (o : Office) (b c : List ℕ) (book : Book) → get o.books b ≡ Some book → is_some (node_at o (path.Card b c)) ≡ true → get book.cards c ≢ None
 mapped_card o b c book found there none =
     let gone : is_some (node_at o (path.Card b c)) ≡ false =
-    ap is_some (node_of_card o b c book found ∙ ap (λ x. option_map (node_of 0) (option_map (card_resource (number_of book c)) x)) none) in
+    ap is_some (node_of_card o b c book found ∙ ap (λ x. option_map node_of (option_map (card_resource (number_of book c)) x)) none) in
     absurd (cc (sym there ∙ gone))
 
 -- ---- the body
@@ -122,36 +130,42 @@ faultless : (fault : Option CardFault) (u : Unit {0}) → bad_card fault ≡ Ok 
 faultless None u e = refl
 faultless (Some fault) u e = absurd cc
 
-short_text : (text : List ℕ) (u : Unit {0}) → body_of Put text ≡ Ok u → length text ≤ MAX_CARD_BYTES
+short_text : (text : List ℕ) (u : Unit {0}) → body_of (asked.Put text) ≡ Ok u → length text ≤ MAX_CARD_BYTES
 short_text text u e = short (length text) _ _ (faultless (card_fault text) u e)
 
 -- ---- each edit
+-- limits that are kept
+kept : (test : Bool) (u : Unit {0}) → check test Full ≡ Ok u → test ≡ true
+kept test u e = check_true test Full u e
+
 module _ (o : Office) (sound : IsSound o) where
   put_fits : (b c : List ℕ) (owner : Option (List ℕ)) (text : List ℕ) (u v : Unit {0}) → IsName c → IsOwner o owner
-      → body_of Put text ≡ Ok u → check (has_room (node_at o (path.Book b)) (is_some (node_at o (path.Card b c)))) Full ≡ Ok v
+      → body_of (asked.Put text) ≡ Ok u
+      → check (can_change (node_at o (path.Book b)) && (is_some (node_at o (path.Card b c)) || nat_lt (count_at o (path.Book b)) MAX_CARDS)) Full ≡ Ok v
       → Fits o (PutCard b c owner text)
   put_fits b c owner text u v named owned body limits =
-      let room = book_room (get o.books b) (members_at o (path.Book b)) (is_some (node_at o (path.Card b c))) (check_true _ _ v limits) in
-      let free : HasRoom room.0 c = elim room.3 [
-        | inl there ↦ inl (mapped_card o b c room.0 room.1 there)
-        | inr few ↦ inr (subst (λ n. n < MAX_CARDS) (members_of_book o b room.0 room.1) few)
+      let both = both_true _ _ (kept _ v limits) in
+      let changes = book_changes (get o.books b) both.0 in
+      let free : HasRoom changes.0 c = elim (either_true (is_some (node_at o (path.Card b c))) _ both.1) [
+        | inl there ↦ inl (mapped_card o b c changes.0 changes.1 there)
+        | inr few ↦ inr (subst (λ n. n < MAX_CARDS) (count_of_book o b changes.0 changes.1) (below _ _ few))
       ] in
-      put_card_fits o b c owner text room.0 sound room.1 named owned room.2 free (short_text text u body)
+      put_card_fits o b c owner text changes.0 sound changes.1 named owned changes.2 free (short_text text u body)
 
   remove_fits : (b c : List ℕ) (v : Unit {0}) → is_some (node_at o (path.Card b c)) ≡ true
-      → check (has_room (node_at o (path.Book b)) true) Full ≡ Ok v → Fits o (RemoveCard b c)
+      → check (can_change (node_at o (path.Book b))) Full ≡ Ok v → Fits o (RemoveCard b c)
   remove_fits b c v there limits =
-      let room = book_room (get o.books b) (members_at o (path.Book b)) true (check_true _ _ v limits) in
-      remove_card_fits o b c room.0 sound room.1 (mapped_card o b c room.0 room.1 there) room.2
+      let changes = book_changes (get o.books b) (kept _ v limits) in
+      remove_card_fits o b c changes.0 sound changes.1 (mapped_card o b c changes.0 changes.1 there) changes.2
 
 mapped_book : (o : Office) (b : List ℕ) → is_some (node_at o (path.Book b)) ≡ true → get o.books b ≢ None
 mapped_book o b there none =
-    let gone : is_some (node_at o (path.Book b)) ≡ false = ap (λ x. is_some (option_map (node_of (members_at o (path.Book b))) (option_map book_resource x))) none in
+    let gone : is_some (node_at o (path.Book b)) ≡ false = ap (λ x. is_some (option_map node_of (option_map book_resource x))) none in
     absurd (cc (sym there ∙ gone))
 
-pub no_book : (node : Option Book) (members : ℕ) → option_map (node_of members) (option_map book_resource node) ≡ None → node ≡ None
-no_book None members e = refl
-no_book (Some book) members e = absurd cc
+pub no_book : (node : Option Book) → option_map node_of (option_map book_resource node) ≡ None → node ≡ None
+no_book None e = refl
+no_book (Some book) e = absurd cc
 
 is_there : {A : Type 0} (node : Option A) → (node ≡ None → ⊥) → is_some node ≡ true
 is_there None there = absurd (there refl)
@@ -162,34 +176,59 @@ is_free None free = refl
 is_free (Some n) free = absurd (free n refl)
 
 -- what has passed the path stage at a path
-abbrev pub ready_at : Office → Path → Caller → List ℕ → Ready
-ready_at o p caller text = record { caller = caller; text = text; target = record { path = p; node = node_at o p } }
+abbrev pub ready_at : Office → Path → Caller → Asked → Ready
+ready_at o p caller what = record { caller = caller; asked = what; target = record { path = p; node = node_at o p } }
 
-pub record Passed (o : Office) (m : Method) (ready : Ready) : Type 0 where
+pub record Passed (o : Office) (request : Request) (ready : Ready) : Type 0 where
   pub caller : Caller
   pub owned : IsOwner o (owner_of caller)
-  pub text : List ℕ
+  pub what : Asked
   pub at : Path
-  pub named : HasPath (Some at)
-  pub free : node_at o at ≡ None → at_unmapped o m at ≡ Ok tt
-  pub there : (n : Node) → node_at o at ≡ Some n → goes_on m n.kind ≡ true
-  pub is : ready ≡ ready_at o at caller text
+  pub named : HasPath request.path → HasPath (Some at)
+  pub free : node_at o at ≡ None → at_unmapped o (method_of what) at ≡ Ok tt
+  pub there : (n : Node) → node_at o at ≡ Some n → goes_on (method_of what) n.kind ≡ true
+  pub is : ready ≡ ready_at o at caller what
 
-module _ (o : Office) (sound : IsSound o) (caller : Caller) (owned : IsOwner o (owner_of caller)) (text : List ℕ) (u v : Unit {0}) (edit : Edit) where
-  put_plan_fits : (p : Path) → HasPath (Some p) → body_of Put text ≡ Ok u → limits_of o Put (ready_at o p caller text).target ≡ Ok v
-      → (success Put (ready_at o p caller text)).edit ≡ Some edit → Fits o edit
-  put_plan_fits path.Root named body limits is = absurd cc
-  put_plan_fits path.People named body limits is = absurd cc
-  put_plan_fits path.Groups named body limits is = absurd cc
-  put_plan_fits path.Books named body limits is = absurd cc
-  put_plan_fits (path.Person n) named body limits is = absurd cc
-  put_plan_fits (path.Group n) named body limits is = absurd cc
-  put_plan_fits (path.Book b) named body limits is = absurd cc
-  put_plan_fits (path.Card b c) named body limits is =
-      subst (Fits o) (same_Some _ _ is) (put_fits o sound b c (owner_of caller) text u v named.1 owned body limits)
+-- the edit of a plan that is told at once
+pub edit_told : (status : ℕ) (what : Content) (made : Option Edit) (plan : Plan) (edit : Edit)
+    → answered (replied status what made) ≡ Ok plan → plan.edit ≡ Some edit → made ≡ Some edit
+edit_told status what made plan edit is has = ap (λ (x : Plan). x.edit) (same_Ok _ plan is) ∙ has
 
-  delete_plan_fits : (p : Path) → (node_at o p ≡ None → at_unmapped o Delete p ≡ Ok tt) → limits_of o Delete (ready_at o p caller text).target ≡ Ok v
-      → (success Delete (ready_at o p caller text)).edit ≡ Some edit → Fits o edit
+-- a text that is told makes no edit
+text_makes_none : (r : Result (List ℕ) Refusal) (status : ℕ) (what : List ℕ → Content) (plan : Plan) (edit : Edit)
+    → (r >>= λ text. Ok (replied status (what text) None)) ≡ Ok plan → plan.edit ≡ Some edit → ⊥
+text_makes_none (Ok text) status what plan edit is has = let h = edit_told status (what text) None plan edit is has in absurd (cc (h))
+text_makes_none (Err e) status what plan edit is has = absurd (cc (is))
+
+-- MKCOL does not go on at a book that is there
+mkcol_at_book : (k : Kind) → k ≡ kind.Book → goes_on Mkcol k ≡ true → ⊥
+mkcol_at_book k is goes = let h : goes_on Mkcol kind.Book ≡ true = subst (λ x. goes_on Mkcol x ≡ true) is goes in absurd (cc (h))
+
+book_kind : (found : Option Book) (n : Node) → option_map node_of (option_map book_resource found) ≡ Some n → n.kind ≡ kind.Book
+book_kind None n e = absurd (cc (e))
+book_kind (Some book) n e = sym (ap (λ (x : Node). x.kind) (same_Some _ n e))
+
+pub no_mkcol_at : (o : Office) (b : List ℕ) (n : Node) → node_at o (path.Book b) ≡ Some n → goes_on Mkcol n.kind ≡ true → ⊥
+no_mkcol_at o b n some goes = mkcol_at_book n.kind (book_kind (get o.books b) n some) goes
+
+module _ (o : Office) (sound : IsSound o) (caller : Caller) (owned : IsOwner o (owner_of caller)) (u v : Unit {0}) (plan : Plan) (edit : Edit) (has : plan.edit ≡ Some edit) where
+  abbrev Succeeds : Asked → Path → Type 0
+  Succeeds what p = success (ready_at o p caller what) ≡ Ok plan
+
+  put_plan_fits : (text : List ℕ) (p : Path) → HasPath (Some p) → body_of (asked.Put text) ≡ Ok u
+      → limits_of o (asked.Put text) (ready_at o p caller (asked.Put text)).target ≡ Ok v → Succeeds (asked.Put text) p → Fits o edit
+  put_plan_fits text path.Root named body limits is = absurd cc
+  put_plan_fits text path.People named body limits is = absurd cc
+  put_plan_fits text path.Groups named body limits is = absurd cc
+  put_plan_fits text path.Books named body limits is = absurd cc
+  put_plan_fits text (path.Person n) named body limits is = absurd cc
+  put_plan_fits text (path.Group n) named body limits is = absurd cc
+  put_plan_fits text (path.Book b) named body limits is = absurd cc
+  put_plan_fits text (path.Card b c) named body limits is =
+      subst (Fits o) (same_Some _ _ (edit_told _ _ _ plan edit is has)) (put_fits o sound b c (owner_of caller) text u v named.1 owned body limits)
+
+  delete_plan_fits : (p : Path) → (node_at o p ≡ None → at_unmapped o Delete p ≡ Ok tt)
+      → limits_of o asked.Delete (ready_at o p caller asked.Delete).target ≡ Ok v → Succeeds asked.Delete p → Fits o edit
   delete_plan_fits path.Root free limits is = absurd cc
   delete_plan_fits path.People free limits is = absurd cc
   delete_plan_fits path.Groups free limits is = absurd cc
@@ -198,14 +237,13 @@ module _ (o : Office) (sound : IsSound o) (caller : Caller) (owned : IsOwner o (
   delete_plan_fits (path.Group n) free limits is = absurd cc
   delete_plan_fits (path.Book b) free limits is =
       let there = is_there (node_at o (path.Book b)) (λ none. let h = free none in absurd cc) in
-      subst (Fits o) (same_Some _ _ is) (remove_book_fits o b sound (mapped_book o b there) (below _ _ (check_true _ _ v limits)))
+      subst (Fits o) (same_Some _ _ (edit_told _ _ _ plan edit is has)) (remove_book_fits o b sound (mapped_book o b there) (below _ _ (kept _ v limits)))
   delete_plan_fits (path.Card b c) free limits is =
       let there = is_there (node_at o (path.Card b c)) (λ none. let h = free none in absurd cc) in
-      subst (Fits o) (same_Some _ _ is) (remove_fits o sound b c v there limits)
+      subst (Fits o) (same_Some _ _ (edit_told _ _ _ plan edit is has)) (remove_fits o sound b c v there limits)
 
   mkcol_plan_fits : (p : Path) → HasPath (Some p) → ((n : Node) → node_at o p ≡ Some n → goes_on Mkcol n.kind ≡ true)
-      → limits_of o Mkcol (ready_at o p caller text).target ≡ Ok v
-      → (success Mkcol (ready_at o p caller text)).edit ≡ Some edit → Fits o edit
+      → limits_of o asked.Mkcol (ready_at o p caller asked.Mkcol).target ≡ Ok v → Succeeds asked.Mkcol p → Fits o edit
   mkcol_plan_fits path.Root named there limits is = absurd cc
   mkcol_plan_fits path.People named there limits is = absurd cc
   mkcol_plan_fits path.Groups named there limits is = absurd cc
@@ -214,98 +252,142 @@ module _ (o : Office) (sound : IsSound o) (caller : Caller) (owned : IsOwner o (
   mkcol_plan_fits (path.Group n) named there limits is = absurd cc
   mkcol_plan_fits (path.Card b c) named there limits is = absurd cc
   mkcol_plan_fits (path.Book b) named there limits is =
-      let none = no_book (get o.books b) _ (is_free (node_at o (path.Book b)) (λ n some. let h = there n some in absurd cc)) in
-      subst (Fits o) (same_Some _ _ is) (add_book_fits o b (owner_of caller) sound none named owned (below _ _ (check_true _ _ v limits)))
+      let none = no_book (get o.books b) (is_free (node_at o (path.Book b)) (λ n some. no_mkcol_at o b n some (there n some))) in
+      subst (Fits o) (same_Some _ _ (edit_told _ _ _ plan edit is has)) (add_book_fits o b (owner_of caller) sound none named owned (below _ _ (kept _ v limits)))
 
-  pub plan_at_fits : (m : Method) (p : Path) → HasPath (Some p) → (node_at o p ≡ None → at_unmapped o m p ≡ Ok tt)
-      → ((n : Node) → node_at o p ≡ Some n → goes_on m n.kind ≡ true)
-      → body_of m text ≡ Ok u → limits_of o m (ready_at o p caller text).target ≡ Ok v
-      → (success m (ready_at o p caller text)).edit ≡ Some edit → Fits o edit
-  plan_at_fits Get p named free there body limits is = absurd cc
-  plan_at_fits Head p named free there body limits is = absurd cc
-  plan_at_fits Options p named free there body limits is = absurd cc
-  plan_at_fits Put p named free there body limits is = put_plan_fits p named body limits is
-  plan_at_fits Propfind p named free there body limits is = absurd cc
-  plan_at_fits Proppatch p named free there body limits is = absurd cc
-  plan_at_fits Acl p named free there body limits is = absurd cc
-  plan_at_fits Copy p named free there body limits is = absurd cc
-  plan_at_fits Move p named free there body limits is = absurd cc
-  plan_at_fits Delete p named free there body limits is = delete_plan_fits p free limits is
-  plan_at_fits Mkcol p named free there body limits is = mkcol_plan_fits p named there limits is
-  plan_at_fits Report p named free there body limits is = absurd cc
+  pub plan_at_fits : (what : Asked) (p : Path) → HasPath (Some p) → (node_at o p ≡ None → at_unmapped o (method_of what) p ≡ Ok tt)
+      → ((n : Node) → node_at o p ≡ Some n → goes_on (method_of what) n.kind ≡ true)
+      → body_of what ≡ Ok u → limits_of o what (ready_at o p caller what).target ≡ Ok v → Succeeds what p → Fits o edit
+  plan_at_fits asked.Get p named free there body limits is = absurd (text_makes_none (text_of (node_at o p)) _ _ plan edit is has)
+  plan_at_fits asked.Head p named free there body limits is = absurd (text_makes_none (text_of (node_at o p)) _ _ plan edit is has)
+  plan_at_fits asked.Options p named free there body limits is = let h = edit_told _ _ None plan edit is has in absurd (cc (h))
+  plan_at_fits (asked.Put text) p named free there body limits is = put_plan_fits text p named body limits is
+  plan_at_fits asked.Propfind p named free there body limits is = absurd (cc (is))
+  plan_at_fits asked.Proppatch p named free there body limits is = absurd (cc (is))
+  plan_at_fits asked.Acl p named free there body limits is = absurd (cc (is))
+  plan_at_fits asked.Copy p named free there body limits is = absurd (cc (is))
+  plan_at_fits asked.Move p named free there body limits is = absurd (cc (is))
+  plan_at_fits asked.Delete p named free there body limits is = delete_plan_fits p free limits is
+  plan_at_fits asked.Mkcol p named free there body limits is = mkcol_plan_fits p named there limits is
+  plan_at_fits asked.Report p named free there body limits is = absurd (cc (is))
 
 -- ---- the whole plan
 -- what the path stage lets through has a path
-at_path : (o : Office) (m : Method) (p : Option Path) (t : Target) → HasPath p → target_of o m p ≡ Ok t → (q : Path) × HasPath (Some q) × GoesOn o m q (node_at o q) t
-at_path o m None t named e = absurd cc
-at_path o m (Some p) t named e = (p, named, gone_on o m p (node_at o p) t e)
+at_path : (o : Office) (m : Method) (p : Option Path) (t : Target) → target_of o m p ≡ Ok t → (q : Path) × (HasPath p → HasPath (Some q)) × GoesOn o m q (node_at o q) t
+at_path o m None t e = absurd cc
+at_path o m (Some p) t e = (p, λ named. named, gone_on o m p (node_at o p) t e)
 
 target_is : (o : Office) (m : Method) (p : Option Path) (t : Target) → target_of o m p ≡ Ok t → IsTarget o t
 target_is o m None t e = absurd cc
 target_is o m (Some p) t e = let going = gone_on o m p (node_at o p) t e in subst (IsTarget o) (sym going.is) refl
 
 planned_ready : (o : Office) (request : Request) (r : Result Ready Refusal) (p : Plan) → IsPlannedFrom o request r (Ok p)
-    → (ready : Ready) × (r ≡ Ok ready) × (granted_plan o request.method ready ≡ Ok p)
+    → (ready : Ready) × (circle : CircleOf) × (r ≡ Ok ready) × (granted_plan o circle ready ≡ Ok p)
 planned_ready o request (Err refusal) p is = absurd cc
-planned_ready o request (Ok ready) p (inl granted) = (ready, refl, sym granted.1)
+planned_ready o request (Ok ready) p (inl granted) = (ready, granted.0.circle, refl, sym granted.1)
 planned_ready o request (Ok ready) p (inr denied) = let h = denied.2 in absurd (cc (h))
 
+-- what is asked is asked by the request's method
+pub asked_by : (m : Method) (b : Body) (what : Asked) → asked_of m b ≡ Ok what → method_of what ≡ m
+asked_by Get b what e = sym (ap method_of (same_Ok _ what e))
+asked_by Head b what e = sym (ap method_of (same_Ok _ what e))
+asked_by Options b what e = sym (ap method_of (same_Ok _ what e))
+asked_by Put b what e = by_put b e
+  where
+    by_put : (b : Body) → put_asked b ≡ Ok what → method_of what ≡ Put
+    by_put body.Empty e = sym (ap method_of (same_Ok _ what e))
+    by_put (body.Text text) e = sym (ap method_of (same_Ok _ what e))
+    by_put (body.Find properties) e = absurd (cc (e))
+    by_put (body.Patch patch) e = absurd (cc (e))
+    by_put (body.List list) e = absurd (cc (e))
+    by_put (body.Report report) e = absurd (cc (e))
+    by_put body.Unread e = absurd (cc (e))
+asked_by Propfind b what e = sym (ap method_of (same_Ok _ what e))
+asked_by Proppatch b what e = sym (ap method_of (same_Ok _ what e))
+asked_by Acl b what e = sym (ap method_of (same_Ok _ what e))
+asked_by Copy b what e = sym (ap method_of (same_Ok _ what e))
+asked_by Move b what e = sym (ap method_of (same_Ok _ what e))
+asked_by Delete b what e = sym (ap method_of (same_Ok _ what e))
+asked_by Mkcol b what e = by_mkcol b e
+  where
+    by_text : (empty : Bool) → (if empty then Ok asked.Mkcol else Err BodyOnMkcol) ≡ Ok what → method_of what ≡ Mkcol
+    by_text true e = sym (ap method_of (same_Ok _ what e))
+    by_text false e = absurd (cc (e))
+
+    by_mkcol : (b : Body) → mkcol_asked b ≡ Ok what → method_of what ≡ Mkcol
+    by_mkcol body.Empty e = sym (ap method_of (same_Ok _ what e))
+    by_mkcol (body.Text text) e = by_text (is_empty text) e
+    by_mkcol (body.Find properties) e = absurd (cc (e))
+    by_mkcol (body.Patch patch) e = absurd (cc (e))
+    by_mkcol (body.List list) e = absurd (cc (e))
+    by_mkcol (body.Report report) e = absurd (cc (e))
+    by_mkcol body.Unread e = absurd (cc (e))
+asked_by Report b what e = sym (ap method_of (same_Ok _ what e))
+
 module _ (o : Office) (request : Request) where
-  abbrev to_ready : Caller → List ℕ → Target → Result Ready Refusal
-  to_ready caller text target = Ok (record { caller = caller; text = text; target = target })
+  abbrev to_ready : Caller → Asked → Target → Result Ready Refusal
+  to_ready caller what target = Ok (record { caller = caller; asked = what; target = target })
 
-  abbrev to_target : Caller → List ℕ → Result Ready Refusal
-  to_target caller text = target_of o request.method request.path >>= to_ready caller text
+  abbrev to_target : Caller → Asked → Result Ready Refusal
+  to_target caller what = target_of o request.method request.path >>= to_ready caller what
 
-  abbrev to_shape : Caller → Result Ready Refusal
-  to_shape caller = shape_of request.method request.body >>= to_target caller
+  abbrev to_asked : Caller → Result Ready Refusal
+  to_asked caller = asked_of request.method request.body >>= to_target caller
 
   abbrev to_success : Ready → Unit {0} → Result Plan Refusal
-  to_success ready _ = Ok (success request.method ready)
+  to_success ready _ = success ready
 
   abbrev to_limits : Ready → Unit {0} → Result Plan Refusal
-  to_limits ready _ = limits_of o request.method ready.target >>= to_success ready
+  to_limits ready _ = limits_of o ready.asked ready.target >>= to_success ready
 
   -- what has passed the stages before the verdict
-  pub passed : (name : Option (List ℕ)) (ready : Ready) → HasPath request.path → ready_of o name request ≡ Ok ready → Passed o request.method ready
-  passed name ready named is =
-      let a = bind_ok (caller_of o name) to_shape ready is in
-      let b = bind_ok (shape_of request.method request.body) (to_target a.0) ready a.2 in
+  pub passed : (name : Option (List ℕ)) (ready : Ready) → ready_of o name request ≡ Ok ready → Passed o request ready
+  passed name ready is =
+      let a = bind_ok (caller_of o name) to_asked ready is in
+      let b = bind_ok (asked_of request.method request.body) (to_target a.0) ready a.2 in
       let c = bind_ok (target_of o request.method request.path) (to_ready a.0 b.0) ready b.2 in
-      let at = at_path o request.method request.path c.0 named c.1 in
+      let at = at_path o request.method request.path c.0 c.1 in
+      let by = asked_by request.method request.body b.0 b.1 in
       record {
         caller = a.0;
         owned = caller_is_owner o name a.0 a.1;
-        text = b.0;
+        what = b.0;
         at = at.0;
         named = at.1;
-        free = at.2.free;
-        there = at.2.there;
-        is = sym (same_Ok _ _ c.2) ∙ ap (λ t. record { caller = a.0; text = b.0; target = t }) at.2.is;
+        free = λ none. ap (λ m. at_unmapped o m at.0) by ∙ at.2.free none;
+        there = λ n some. ap (λ m. goes_on m n.kind) by ∙ at.2.there n some;
+        is = sym (same_Ok _ _ c.2) ∙ ap (λ t. record { caller = a.0; asked = b.0; target = t }) at.2.is;
       }
 
+  -- a request that has passed is asked by its method
+  pub asked_by_request : (name : Option (List ℕ)) (ready : Ready) → ready_of o name request ≡ Ok ready → method_of ready.asked ≡ request.method
+  asked_by_request name ready is =
+      let a = bind_ok (caller_of o name) to_asked ready is in
+      let b = bind_ok (asked_of request.method request.body) (to_target a.0) ready a.2 in
+      let c = bind_ok (target_of o request.method request.path) (to_ready a.0 b.0) ready b.2 in
+      ap (λ (x : Ready). method_of x.asked) (sym (same_Ok _ ready c.2)) ∙ asked_by request.method request.body b.0 b.1
+
   -- the edit of a success fits where body and limits have passed
-  pub success_fits : (ready : Ready) (edit : Edit) (u v : Unit {0}) → IsSound o → Passed o request.method ready
-      → body_of request.method ready.text ≡ Ok u → limits_of o request.method ready.target ≡ Ok v → (success request.method ready).edit ≡ Some edit → Fits o edit
-  success_fits ready edit u v sound past body limits is =
-      plan_at_fits o sound past.caller past.owned past.text u v edit request.method past.at past.named past.free past.there
-      (subst (λ (x : Ready). body_of request.method x.text ≡ Ok u) past.is body)
-      (subst (λ (x : Ready). limits_of o request.method x.target ≡ Ok v) past.is limits)
-      (subst (λ (x : Ready). (success request.method x).edit ≡ Some edit) past.is is)
+  pub success_fits : (ready : Ready) (plan : Plan) (edit : Edit) (u v : Unit {0}) → IsSound o → HasPath request.path → Passed o request ready
+      → body_of ready.asked ≡ Ok u → limits_of o ready.asked ready.target ≡ Ok v → success ready ≡ Ok plan → plan.edit ≡ Some edit → Fits o edit
+  success_fits ready plan edit u v sound named past body limits is has =
+      plan_at_fits o sound past.caller past.owned u v plan edit has past.what past.at (past.named named) past.free past.there
+      (subst (λ (x : Ready). body_of x.asked ≡ Ok u) past.is body)
+      (subst (λ (x : Ready). limits_of o x.asked x.target ≡ Ok v) past.is limits)
+      (subst (λ (x : Ready). success x ≡ Ok plan) past.is is)
 
   -- the edit of a plan fits
-  pub plan_fits : (name : Option (List ℕ)) (p : Plan) (edit : Edit) → IsSound o → HasPath request.path → IsPlan o name request (Ok p) → p.edit ≡ Some edit → Fits o edit
+  pub plan_fits : (name : Option (List ℕ)) (p : Plan) (edit : Edit) → IsSound o → HasPaths request → IsPlan o name request (Ok p) → p.edit ≡ Some edit → Fits o edit
   plan_fits name p edit sound named planned is =
       let r = planned_ready o request (ready_of o name request) p planned in
-      let d = bind_ok (body_of request.method r.0.text) (to_limits r.0) p r.2 in
-      let e = bind_ok (limits_of o request.method r.0.target) (to_success r.0) p d.2 in
-      let plan : success request.method r.0 ≡ p = same_Ok _ _ e.2 in
-      success_fits r.0 edit d.0 e.0 sound (passed name r.0 named r.1) d.1 e.1 (ap (λ (x : Plan). x.edit) plan ∙ is)
+      let d = bind_ok (body_of r.0.asked) (to_limits r.0) p r.3 in
+      let e = bind_ok (limits_of o r.0.asked r.0.target) (to_success r.0) p d.2 in
+      success_fits r.0 p edit d.0 e.0 sound named.path (passed name r.0 r.2) d.1 e.1 e.2 is
 
   -- the target of a request that has passed the path stage is told with what is mapped there
   pub ready_is_target : (name : Option (List ℕ)) (ready : Ready) → ready_of o name request ≡ Ok ready → IsTarget o ready.target
   ready_is_target name ready is =
-      let a = bind_ok (caller_of o name) to_shape ready is in
-      let b = bind_ok (shape_of request.method request.body) (to_target a.0) ready a.2 in
+      let a = bind_ok (caller_of o name) to_asked ready is in
+      let b = bind_ok (asked_of request.method request.body) (to_target a.0) ready a.2 in
       let c = bind_ok (target_of o request.method request.path) (to_ready a.0 b.0) ready b.2 in
       subst (λ (x : Ready). IsTarget o x.target) (same_Ok _ _ c.2) (target_is o request.method request.path c.0 c.1)

@@ -7,7 +7,7 @@ use Rattle.book_lists.specs.Circles.{CircleOf}
 use Rattle.book_lists.specs.declared.entries.Here.{Here}
 use Rattle.book_values.specs.declared.paths.Path.{Path}
 use Rattle.book_office.specs.Levels.{effective_at}
-use Rattle.book_office.specs.Resources.{Resource, resource_at, node_of, members_at}
+use Rattle.book_office.specs.Resources.{Resource, resource_at, node_of}
 use Rattle.book_office.specs.declared.nodes.EffectiveEntry.{EffectiveEntry}
 use Rattle.book_office.specs.declared.nodes.Node.{Node}
 use Rattle.book_values.specs.declared.offices.Office.{Office}
@@ -22,14 +22,14 @@ pub judged_at : (o : Office) (circle : CircleOf) (p : Path) (set : Leaf → Bool
 judged_at o circle p set r list here same_list same_here judged =
     subst (λ h. Judges (effective_at o p) circle h p set r) same_here (subst (λ l. Judges l circle here p set r) same_list judged)
 
-owner_of_node : (found : Option Resource) (members : ℕ)
-    → option_and_then (λ (n : Node). n.owner) (option_map (node_of members) found) ≡ option_and_then (λ (r : Resource). r.owner) found
-owner_of_node None members = refl
-owner_of_node (Some r) members = refl
+owner_of_node : (found : Option Resource)
+    → option_and_then (λ (n : Node). n.owner) (option_map node_of found) ≡ option_and_then (λ (r : Resource). r.owner) found
+owner_of_node None = refl
+owner_of_node (Some r) = refl
 
 -- the owner of what is mapped at the target
 pub owner_of_target : (o : Office) (target : Target) → IsTarget o target → option_and_then (λ (n : Node). n.owner) target.node ≡ owner_at o target.path
-owner_of_target o target is = ap (option_and_then (λ (n : Node). n.owner)) is ∙ owner_of_node (resource_at o target.path) (members_at o target.path)
+owner_of_target o target is = ap (option_and_then (λ (n : Node). n.owner)) is ∙ owner_of_node (resource_at o target.path)
 
 module _ (o : Office) (circle : CircleOf) (request : Request) (target : Path) where
   -- a need that is granted, and then others
@@ -39,21 +39,3 @@ module _ (o : Office) (circle : CircleOf) (request : Request) (target : Path) wh
   then_needs need rest u (Ok v) granted others = (granted, others)
   then_needs need rest u (Err e) granted (inl unavailable) = inl unavailable
   then_needs need rest u (Err e) granted (inr denied) = inr (denied.0, denied.1, inr (granted, denied.2))
-
-  -- a need, if there is one, that is granted, and then others
-  pub then_others : (need : Option Need) (rest : List Need) (u : Unit {0}) (r : Result (Unit {0}) Refusal)
-      → JudgesNeeds o circle request target (listed_too need []) (Ok u)
-      → JudgesNeeds o circle request target rest r → JudgesNeeds o circle request target (listed_too need rest) r
-  then_others None rest u r granted others = others
-  then_others (Some need) rest u r granted others = then_needs need rest u r granted.0 others
-
-  -- a need, if there is one, that is not granted
-  pub refused_others : (need : Option Need) (rest : List Need) (e : Refusal)
-      → JudgesNeeds o circle request target (listed_too need []) (Err e) → JudgesNeeds o circle request target (listed_too need rest) (Err e)
-  refused_others None rest e (inl unavailable) = inl unavailable
-  refused_others None rest e (inr denied) = absurd denied.2
-  refused_others (Some need) rest e (inl unavailable) = inl unavailable
-  refused_others (Some need) rest e (inr denied) = elim denied.2 [
-    | inl here ↦ inr (denied.0, denied.1, inl here)
-    | inr later ↦ absurd later.1
-  ]

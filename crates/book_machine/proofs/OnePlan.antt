@@ -8,7 +8,7 @@ use Rattle.book_lists.specs.declared.decisions.Outcome.{Outcome}
 use Rattle.book_lists.specs.declared.decisions.Outcome.TheVariants.{Allowed, Denied}
 use Rattle.book_lists.specs.Circles.{CircleOf}
 use Rattle.book_lists.specs.Decisions.{IsAllowed, IsDenial}
-use Rattle.book_lists.proofs.OneAnswer.{one_circle, one_outcome}
+use Rattle.book_lists.proofs.OneOutcome.{one_circle, one_outcome}
 use Rattle.book_lists.proofs.OneLeaf.{denied_not_granted}
 use Rattle.book_office.specs.Levels.{effective_at}
 use Rattle.book_values.specs.declared.offices.Office.{Office}
@@ -19,13 +19,13 @@ use Rattle.book_machine.specs.declared.plans.Ready.{Ready}
 use Rattle.book_machine.specs.declared.refusals.Denial.{Denial}
 use Rattle.book_machine.specs.declared.refusals.Refusal.{Refusal}
 use Rattle.book_machine.specs.declared.refusals.Refusal.TheVariants.{NeedPrivileges}
-use Rattle.book_machine.specs.Stages.{ready_of}
+use Rattle.book_machine.specs.Stages.{ready_of, granted_plan}
 use Rattle.book_machine.specs.Steps.{IsDecided, IsPlannedFrom, IsPlan}
-use Rattle.book_machine.specs.Verdicts.{entries_of, paths_of, here_of, entry_place, place_path, needs_at, IsGrantedAt, IsDeniedAt, AreGranted, IsFirstDenial, IsGranted, IsDenied}
+use Rattle.book_machine.specs.Verdicts.{entries_of, paths_of, here_of, deciding_entry, place_path, needs_at, IsGrantedAt, IsDeniedAt, AreGranted, IsFirstDenial, IsGranted, IsDenied}
 
 -- a set that is allowed is not denied
-allowed_not_denied : (entries : List Entry) (circle : CircleOf) (here : Here) (set : Leaf → Bool) (leaf : Leaf) (place : Option ℕ)
-    → IsAllowed entries circle here set → IsDenial entries circle here set leaf place → ⊥
+allowed_not_denied : (entries : List Entry) (circle : CircleOf) (here : Here) (set : Leaf → Bool) (leaf : Leaf) (index : Option ℕ)
+    → IsAllowed entries circle here set → IsDenial entries circle here set leaf index → ⊥
 allowed_not_denied entries circle here set leaf None allowed denial =
     let grant = allowed leaf denial.0 in
     denial.1 grant.0 grant.1 grant.2
@@ -34,26 +34,26 @@ allowed_not_denied entries circle here set leaf (Some i) allowed denial =
 
 abbrev leaf_or : Leaf → Outcome → Leaf
 leaf_or other Allowed = other
-leaf_or other (Denied leaf place) = leaf
+leaf_or other (Denied leaf index) = leaf
 
-abbrev place_or_none : Outcome → Option ℕ
-place_or_none Allowed = None
-place_or_none (Denied leaf place) = place
+abbrev index_or_none : Outcome → Option ℕ
+index_or_none Allowed = None
+index_or_none (Denied leaf index) = index
 
 module _ (o : Office) (circle : CircleOf) where
   granted_not_denied : (p : Path) (set : Leaf → Bool) (denial : Denial) → IsGrantedAt o circle p set → IsDeniedAt o circle p set denial → ⊥
   granted_not_denied p set denial granted denied =
-      allowed_not_denied (entries_of (effective_at o p)) circle (here_of o p) set denial.privilege denied.place granted denied.decided
+      allowed_not_denied (entries_of (effective_at o p)) circle (here_of o p) set denial.privilege denied.index granted denied.decided
 
   one_denial_at : (p : Path) (set : Leaf → Bool) (a b : Denial) → IsDeniedAt o circle p set a → IsDeniedAt o circle p set b → a ≡ b
   one_denial_at p set a b x y =
-      let same : Denied a.privilege x.place ≡ Denied b.privilege y.place =
-      one_outcome (entries_of (effective_at o p)) circle (here_of o p) set (Denied a.privilege x.place) (Denied b.privilege y.place)
+      let same : Denied a.privilege x.index ≡ Denied b.privilege y.index =
+      one_outcome (entries_of (effective_at o p)) circle (here_of o p) set (Denied a.privilege x.index) (Denied b.privilege y.index)
       ((λ e. absurd cc), (λ allowed. absurd (granted_not_denied p set a allowed x))) x.decided
       ((λ e. absurd cc), (λ allowed. absurd (granted_not_denied p set b allowed y))) y.decided in
       let resource : a.resource ≡ b.resource = x.resource ∙ sym y.resource in
       let privilege : a.privilege ≡ b.privilege = ap (leaf_or a.privilege) same in
-      let entry : a.entry ≡ b.entry = x.entry ∙ ap (λ outcome. entry_place (paths_of (effective_at o p)) (place_or_none outcome)) same ∙ sym y.entry in
+      let entry : a.entry ≡ b.entry = x.entry ∙ ap (λ outcome. deciding_entry (paths_of (effective_at o p)) (index_or_none outcome)) same ∙ sym y.entry in
       λ k. record { resource = resource k; privilege = privilege k; entry = entry k }
 
   module _ (request : Request) (target : Path) where
@@ -73,17 +73,19 @@ module _ (o : Office) (request : Request) where
   pub verdicts_exclude : (ready : Ready) (denial : Denial) → IsGranted o request ready → IsDenied o request ready denial → ⊥
   verdicts_exclude ready denial granted denied =
       let same = one_circle o.pairs ready.caller denied.circle granted.circle denied.is_circle granted.is_circle in
-      first_denial_not_granted o granted.circle request ready.target.path (needs_at request ready) denial granted.granted
-      (subst (λ c. IsFirstDenial o c request ready.target.path (needs_at request ready) denial) same denied.denied)
+      first_denial_not_granted o granted.circle request ready.target.path (needs_at ready) denial granted.granted
+      (subst (λ c. IsFirstDenial o c request ready.target.path (needs_at ready) denial) same denied.denied)
 
   pub one_denial : (ready : Ready) (a b : Denial) → IsDenied o request ready a → IsDenied o request ready b → a ≡ b
   one_denial ready a b x y =
       let same = one_circle o.pairs ready.caller x.circle y.circle x.is_circle y.is_circle in
-      one_first_denial o y.circle request ready.target.path (needs_at request ready) a b
-      (subst (λ c. IsFirstDenial o c request ready.target.path (needs_at request ready) a) same x.denied) y.denied
+      one_first_denial o y.circle request ready.target.path (needs_at ready) a b
+      (subst (λ c. IsFirstDenial o c request ready.target.path (needs_at ready) a) same x.denied) y.denied
 
   one_decided : (ready : Ready) (a b : Result Plan Refusal) → IsDecided o request ready a → IsDecided o request ready b → a ≡ b
-  one_decided ready a b (inl x) (inl y) = x.1 ∙ sym y.1
+  one_decided ready a b (inl x) (inl y) =
+      let same = one_circle o.pairs ready.caller x.0.circle y.0.circle x.0.is_circle y.0.is_circle in
+      x.1 ∙ ap (λ circle. granted_plan o circle ready) same ∙ sym y.1
   one_decided ready a b (inl x) (inr y) = absurd (verdicts_exclude ready y.0 x.0 y.1)
   one_decided ready a b (inr x) (inl y) = absurd (verdicts_exclude ready x.0 y.0 x.1)
   one_decided ready a b (inr x) (inr y) = x.2 ∙ ap (λ denial. Err (NeedPrivileges denial)) (one_denial ready x.0 y.0 x.1 y.1) ∙ sym y.2

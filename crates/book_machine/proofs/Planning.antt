@@ -36,14 +36,14 @@ module _ (o : Office) (name : Option (List ℕ)) (request : Request) where
     decided r how = subst (λ x. IsPlannedFrom o request x r) (sym is) how
 
     -- a request that is denied
-    pub refused_by_needs : (e : Refusal) → JudgesNeeds o circle request ready.target.path (needs_at request ready) (Err e) → MeetsPlan o name request (Err e)
+    pub refused_by_needs : (e : Refusal) → JudgesNeeds o circle request ready.target.path (needs_at ready) (Err e) → MeetsPlan o name request (Err e)
     refused_by_needs e (inl unavailable) = inl unavailable
     refused_by_needs e (inr denied) =
         inr (decided (Err e) (inr (denied.0, record { circle = circle; is_circle = is_circle; denied = denied.2 }, ap Err denied.1)))
 
     -- a request that is granted
-    pub planned : (u : Unit {0}) (r : Result Plan Refusal) → JudgesNeeds o circle request ready.target.path (needs_at request ready) (Ok u)
-        → Meets r (granted_plan o request.method ready) → MeetsPlan o name request r
+    pub planned : (u : Unit {0}) (r : Result Plan Refusal) → JudgesNeeds o circle request ready.target.path (needs_at ready) (Ok u)
+        → Meets r (granted_plan o circle ready) → MeetsPlan o name request r
     planned u (Ok plan) granted meets =
         decided (Ok plan) (inl (record { circle = circle; is_circle = is_circle; granted = granted }, sym meets))
     planned u (Err e) granted (inl unavailable) = inl unavailable

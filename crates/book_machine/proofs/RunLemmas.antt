@@ -1,32 +1,61 @@
 -- A run goes on by one step.
-use Rattle.std.proofs.Common.{List, [], ◌∷◌, ◌++◌, refl, subst}
+use Rattle.std.proofs.Common.{◌≡◌, List, [], ◌∷◌, ◌++◌, refl, ap, inl, inr}
 use Rattle.book_values.specs.declared.offices.Office.{Office}
-use Rattle.book_office.specs.Keeping.{Standing}
-use Rattle.book_machine.proofs.Answering.{never_broken}
+use Rattle.book_office.specs.Keeping.{Standing, Leftover}
+use Rattle.book_machine.proofs.UnseenRuns.{runs_alike}
 use Rattle.book_machine.specs.declared.messages.Reply.{Reply}
-use Rattle.book_machine.specs.Asking.{Answers}
-use Rattle.book_machine.specs.Runs.{Call, name_of, Run, Runs}
+use Rattle.book_machine.specs.Promises.{ServePromise, ServeAllPromise}
+use Rattle.book_machine.specs.Runs.{Call, Run, last_office, MayLeave, MayLeaveAfter}
 use Rattle.book_machine.specs.Steps.{Serves}
+use Rattle.book_machine.specs.Unseen.{RunsAlike}
 
-run_more : (o mid after : Office) (calls : List Call) (replies : List Reply) (call : Call) (reply : Reply)
-    → Run o calls replies mid → Serves mid (name_of call.0) call.1 reply after → Run o (calls ++ call ∷ []) (replies ++ reply ∷ []) after
-run_more o mid after [] [] call reply run step = (after, subst (λ x. Serves x (name_of call.0) call.1 reply after) run step, refl)
-run_more o mid after (c ∷ calls) (r ∷ replies) call reply run step = (run.0, run.1, run_more run.0 mid after calls replies call reply run.2 step)
-run_more o mid after [] (r ∷ replies) call reply run step = absurd run
-run_more o mid after (c ∷ calls) [] call reply run step = absurd run
+run_more : (o after : Office) (calls : List Call) (replies : List Reply) (offices : List Office) (call : Call) (reply : Reply)
+    → Run o calls replies offices → Serves (last_office o offices) call.0 call.1 reply after → Run o (calls ++ call ∷ []) (replies ++ reply ∷ []) (offices ++ after ∷ [])
+run_more o after [] [] [] call reply run step = (step, tt)
+run_more o after [] [] (x ∷ offices) call reply run step = absurd run
+run_more o after [] (r ∷ replies) offices call reply run step = absurd run
+run_more o after (c ∷ calls) [] offices call reply run step = absurd run
+run_more o after (c ∷ calls) (r ∷ replies) [] call reply run step = absurd run
+run_more o after (c ∷ calls) (r ∷ replies) (x ∷ offices) call reply run step = (run.0, run_more x after calls replies offices call reply run.1 step)
 
-pub no_calls : (old : Standing) → Runs old old [] []
-no_calls old = record { was_honest = λ h. h; run = λ h o stands. (o, stands, refl); unbroken = λ h o stands left. left }
+last_more : (o after : Office) (offices : List Office) → last_office o (offices ++ after ∷ []) ≡ after
+last_more o after [] = refl
+last_more o after (x ∷ offices) = last_more x after offices
+
+-- what may be left grows with what could be left before
+leave_more : (before new : Leftover → Type 0) (o after : Office) (calls : List Call) (replies : List Reply) (offices : List Office) (call : Call) (reply : Reply)
+    → Run o calls replies offices
+    → ((x : Leftover) → new x → MayLeave (MayLeaveAfter before o calls replies offices) (last_office o offices) call reply x)
+    → (x : Leftover) → new x → MayLeaveAfter before o (calls ++ call ∷ []) (replies ++ reply ∷ []) (offices ++ after ∷ []) x
+leave_more before new o after [] [] [] call reply run more x left = more x left
+leave_more before new o after [] [] (y ∷ offices) call reply run more x left = absurd run
+leave_more before new o after [] (r ∷ replies) offices call reply run more x left = absurd run
+leave_more before new o after (c ∷ calls) [] offices call reply run more x left = absurd run
+leave_more before new o after (c ∷ calls) (r ∷ replies) [] call reply run more x left = absurd run
+leave_more before new o after (c ∷ calls) (r ∷ replies) (y ∷ offices) call reply run more x left =
+    leave_more (MayLeave before o c r) new y after calls replies offices call reply run.1 more x left
+
+pub no_calls : (old : Standing) → ServeAllPromise old old [] []
+no_calls old = record {
+  was_honest = λ h. h;
+  run = λ h o stands. ([], stands, tt, λ x left. left, runs_alike o [] [] [] tt);
+}
 
 pub one_more_call : (old mid new : Standing) (calls : List Call) (replies : List Reply) (call : Call) (reply : Reply)
-    → Runs old mid calls replies → Answers mid new (name_of call.0) call.1 reply → Runs old new (calls ++ call ∷ []) (replies ++ reply ∷ [])
-one_more_call old mid new calls replies call reply runs answers = record {
-  was_honest = λ h. runs.was_honest (answers.was_honest h);
+    → ServeAllPromise old mid calls replies → ServePromise mid new call.0 call.1 reply → ServeAllPromise old new (calls ++ call ∷ []) (replies ++ reply ∷ [])
+one_more_call old mid new calls replies call reply runs serve = record {
+  was_honest = λ h. runs.was_honest (serve.was_honest h);
   run = λ h o stands.
-      let so_far = runs.run (answers.was_honest h) o stands in
-      let next = answers.served h so_far.0 so_far.1 in
-      (next.0, next.1, run_more o so_far.0 next.0 calls replies call reply so_far.2 next.2);
-  unbroken = λ h o stands left.
-      let so_far = runs.run (answers.was_honest h) o stands in
-      runs.unbroken (answers.was_honest h) o stands (never_broken mid new (name_of call.0) call.1 reply answers h so_far.0 so_far.1 left);
+      let so_far = runs.run (serve.was_honest h) o stands in
+      let offices = so_far.0 in
+      let next = serve.served h (last_office o offices) so_far.1 in
+      let run = run_more o next.0 calls replies offices call reply so_far.2 next.2 in (
+        offices ++ next.0 ∷ [],
+        rw (last_more o next.0 offices) next.1,
+        run,
+        leave_more old.left new.left o next.0 calls replies offices call reply so_far.2
+            (λ x left. let may = serve.left h (last_office o offices) so_far.1 x left in
+            (elim may.0 [ inl before ↦ inl (so_far.3 x before) | inr made ↦ inr made ], may.1)),
+        runs_alike o (calls ++ call ∷ []) (replies ++ reply ∷ []) (offices ++ next.0 ∷ []) run,
+      );
 }

@@ -2,23 +2,26 @@
 use Rattle.std.proofs.Common.{◌≡◌, ◌⊎◌, ℕ, ◌<◌, ◌≤◌, List, Bool, true, false, Option, Some, None, Result, Ok, Err, inl, inr, refl, sym, ap, ◌∙◌, subst, is_some, arith}
 use Rattle.book_cards.specs.CardText.{card_fault}
 use Rattle.book_cards.specs.declared.fault.CardFault.{CardFault}
-use Rattle.book_rights.specs.declared.methods.Method.{Method}
-use Rattle.book_rights.specs.declared.methods.Method.TheVariants.{Get, Head, Options, Put, Propfind, Proppatch, Acl, Copy, Move, Delete, Mkcol, Report}
-use Rattle.book_values.specs.declared.paths.Path.{Path}
-use Rattle.book_values.specs.declared.paths.Path.TheVariants as path
-use Rattle.book_office.specs.Resources.{node_at}
-use Rattle.book_office.specs.declared.nodes.Node.{Node}
+use Rattle.book_lists.specs.Circles.{CircleOf}
+use Rattle.book_office.specs.declared.edits.Edit.{Edit}
 use Rattle.book_values.specs.declared.offices.Office.{Office}
+use Rattle.book_machine.proofs.FittingPlans.{answered, bind_ok, passed, same_Ok}
+use Rattle.book_machine.proofs.ServedPlans.{Served, served, success_low}
 use Rattle.book_machine.proofs.OnePlan.{one_plan, one_denial, verdicts_exclude}
-use Rattle.book_machine.specs.Laws.{RequestsHaveOneStep, IsPastVerdict, RequestsActWhereGranted, DenialsAreTold, RefusalsChangeNothing}
+use Rattle.book_machine.specs.Laws.{RequestsHaveOneStep, IsPastVerdict, RequestsActWhereGranted, DenialsAreTold, RefusalsChangeNothing, TellingRepliesChangeNothing}
 use Rattle.book_machine.specs.Refusals.{refused, status_of}
-use Rattle.book_machine.specs.Stages.{◌>>=◌, check, ready_of, bad_card, body_of, limits_at, limits_of, has_room, has_room_for_a_book, put_status, success, granted_plan}
-use Rattle.book_machine.specs.Steps.{IsDecided, IsPlannedFrom, IsPlan, settled}
+use Rattle.book_machine.specs.Stages.{◌>>=◌, check, ready_of, bad_card, body_of, keeps_limits, limits_of, replied, text_of, put_edit, delete_edit, mkcol_edit, success, success_of, granted_plan}
+use Rattle.book_machine.specs.Steps.{IsDecided, IsPlannedFrom, IsPlan, apply_any, settled}
 use Rattle.book_machine.specs.Verdicts.{IsDenied}
+use Rattle.book_machine.specs.declared.asked.Asked.{Asked}
+use Rattle.book_machine.specs.declared.asked.Asked.TheVariants as asked
+use Rattle.book_machine.specs.declared.messages.Content.{Content}
+use Rattle.book_machine.specs.declared.messages.Content.TheVariants as content
 use Rattle.book_machine.specs.declared.messages.Reply.{Reply}
 use Rattle.book_machine.specs.declared.messages.Request.{Request}
 use Rattle.book_machine.specs.declared.plans.Plan.{Plan}
 use Rattle.book_machine.specs.declared.plans.Ready.{Ready}
+use Rattle.book_machine.specs.declared.plans.Target.{Target}
 use Rattle.book_machine.specs.declared.refusals.Denial.{Denial}
 use Rattle.book_machine.specs.declared.refusals.Refusal.{Refusal}
 use Rattle.book_machine.specs.declared.refusals.Refusal.TheVariants.{BadRequest, UnknownCaller, BadCard, NeedPrivileges, NoProtectedAceConflict, NoInheritedAceConflict, LimitedNumberOfAces, NotSupportedPrivilege, RecognizedPrincipal, ValidSyncToken, NotFound, NotAllowed, NoParent, Overwrite, BodyOnMkcol, Full, Unavailable}
@@ -28,111 +31,60 @@ card_answers : (fault : Option CardFault) → (bad_card fault ≡ Ok tt) ⊎ ((f
 card_answers None = inl refl
 card_answers (Some f) = inr (f, refl)
 
-body_answers : (m : Method) (text : List ℕ) → (body_of m text ≡ Ok tt) ⊎ ((f : CardFault) × (body_of m text ≡ Err (BadCard f)))
-body_answers Get text = inl refl
-body_answers Head text = inl refl
-body_answers Options text = inl refl
-body_answers Put text = card_answers (card_fault text)
-body_answers Propfind text = inl refl
-body_answers Proppatch text = inl refl
-body_answers Acl text = inl refl
-body_answers Copy text = inl refl
-body_answers Move text = inl refl
-body_answers Delete text = inl refl
-body_answers Mkcol text = inl refl
-body_answers Report text = inl refl
+body_answers : (what : Asked) → (body_of what ≡ Ok tt) ⊎ ((f : CardFault) × (body_of what ≡ Err (BadCard f)))
+body_answers asked.Get = inl refl
+body_answers asked.Head = inl refl
+body_answers asked.Options = inl refl
+body_answers (asked.Put text) = card_answers (card_fault text)
+body_answers asked.Propfind = inl refl
+body_answers asked.Proppatch = inl refl
+body_answers asked.Acl = inl refl
+body_answers asked.Copy = inl refl
+body_answers asked.Move = inl refl
+body_answers asked.Delete = inl refl
+body_answers asked.Mkcol = inl refl
+body_answers asked.Report = inl refl
 
 check_answers : (b : Bool) → (check b Full ≡ Ok tt) ⊎ (check b Full ≡ Err Full)
 check_answers true = inl refl
 check_answers false = inr refl
 
-abbrev AnswersLimits : Office → Method → Path → Bool → Type 0
-AnswersLimits o m p mapped = (limits_at o m p mapped ≡ Ok tt) ⊎ (limits_at o m p mapped ≡ Err Full)
-
-put_limits : (o : Office) (p : Path) (mapped : Bool) → AnswersLimits o Put p mapped
-put_limits o path.Root mapped = inl refl
-put_limits o path.People mapped = inl refl
-put_limits o path.Groups mapped = inl refl
-put_limits o path.Books mapped = inl refl
-put_limits o (path.Person n) mapped = inl refl
-put_limits o (path.Group n) mapped = inl refl
-put_limits o (path.Book b) mapped = inl refl
-put_limits o (path.Card b c) mapped = check_answers (has_room (node_at o (path.Book b)) mapped)
-
-delete_limits : (o : Office) (p : Path) (mapped : Bool) → AnswersLimits o Delete p mapped
-delete_limits o path.Root mapped = inl refl
-delete_limits o path.People mapped = inl refl
-delete_limits o path.Groups mapped = inl refl
-delete_limits o path.Books mapped = inl refl
-delete_limits o (path.Person n) mapped = inl refl
-delete_limits o (path.Group n) mapped = inl refl
-delete_limits o (path.Book b) mapped = check_answers _
-delete_limits o (path.Card b c) mapped = check_answers (has_room (node_at o (path.Book b)) true)
-
-pub limits_answers : (o : Office) (m : Method) (p : Path) (mapped : Bool) → AnswersLimits o m p mapped
-limits_answers o Get p mapped = inl refl
-limits_answers o Head p mapped = inl refl
-limits_answers o Options p mapped = inl refl
-limits_answers o Put p mapped = put_limits o p mapped
-limits_answers o Propfind p mapped = inl refl
-limits_answers o Proppatch p mapped = inl refl
-limits_answers o Acl p mapped = inl refl
-limits_answers o Copy p mapped = inl refl
-limits_answers o Move p mapped = inl refl
-limits_answers o Delete p mapped = delete_limits o p mapped
-limits_answers o Mkcol p mapped = check_answers (has_room_for_a_book (node_at o path.Books))
-limits_answers o Report p mapped = inl refl
-
-put_succeeds : (node : Option Node) → put_status node < 300
-put_succeeds None = omega arith
-put_succeeds (Some node) = omega arith
-
-pub succeeds : (m : Method) (ready : Ready) → (success m ready).reply.status < 300
-succeeds Get ready = omega arith
-succeeds Head ready = omega arith
-succeeds Options ready = omega arith
-succeeds Put ready = put_succeeds ready.target.node
-succeeds Propfind ready = omega arith
-succeeds Proppatch ready = omega arith
-succeeds Acl ready = omega arith
-succeeds Copy ready = omega arith
-succeeds Move ready = omega arith
-succeeds Delete ready = omega arith
-succeeds Mkcol ready = omega arith
-succeeds Report ready = omega arith
+pub limits_answers : (o : Office) (what : Asked) (target : Target) → (limits_of o what target ≡ Ok tt) ⊎ (limits_of o what target ≡ Err Full)
+limits_answers o what target = check_answers (keeps_limits o what target.path (is_some target.node))
 
 -- what follows a verdict that grants
-pub data GrantedAnswer (o : Office) (m : Method) (ready : Ready) : Type 0 where
-  done : granted_plan o m ready ≡ Ok (success m ready) → GrantedAnswer o m ready
-  bad : (fault : CardFault) → granted_plan o m ready ≡ Err (BadCard fault) → GrantedAnswer o m ready
-  full : granted_plan o m ready ≡ Err Full → GrantedAnswer o m ready
+pub data GrantedAnswer (o : Office) (circle : CircleOf) (ready : Ready) : Type 0 where
+  done : granted_plan o circle ready ≡ success ready → GrantedAnswer o circle ready
+  bad : (fault : CardFault) → granted_plan o circle ready ≡ Err (BadCard fault) → GrantedAnswer o circle ready
+  full : granted_plan o circle ready ≡ Err Full → GrantedAnswer o circle ready
 
-module _ (o : Office) (m : Method) (ready : Ready) where
+module _ (o : Office) (circle : CircleOf) (ready : Ready) where
   abbrev to_success : Unit {0} → Result Plan Refusal
-  to_success _ = Ok (success m ready)
+  to_success _ = success ready
 
   abbrev to_limits : Unit {0} → Result Plan Refusal
-  to_limits _ = limits_of o m ready.target >>= to_success
+  to_limits _ = limits_of o ready.asked ready.target >>= to_success
 
-  pub granted_answer : GrantedAnswer o m ready
-  granted_answer = elim (body_answers m ready.text) [
-    | inl fine ↦ elim (limits_answers o m ready.target.path (is_some ready.target.node)) [
+  pub granted_answer : GrantedAnswer o circle ready
+  granted_answer = elim (body_answers ready.asked) [
+    | inl fine ↦ elim (limits_answers o ready.asked ready.target) [
       | inl room ↦ done (ap (λ r. r >>= to_limits) fine ∙ ap (λ r. r >>= to_success) room)
       | inr none ↦ full (ap (λ r. r >>= to_limits) fine ∙ ap (λ r. r >>= to_success) none)
     ]
     | inr fault ↦ bad fault.0 (ap (λ r. r >>= to_limits) fault.1)
   ]
 
-  past_verdict : IsPastVerdict (settled o (granted_plan o m ready)).0
-  past_verdict = elim granted_answer [
-    | done is ↦ subst (λ (r : Result Plan Refusal). IsPastVerdict (settled o r).0) (sym is) (inl (succeeds m ready))
+  past_verdict : Served ready → IsPastVerdict (settled o (granted_plan o circle ready)).0
+  past_verdict serves = elim granted_answer [
+    | done is ↦ subst (λ (r : Result Plan Refusal). IsPastVerdict (settled o r).0) (sym (is ∙ serves.is)) (inl serves.low)
     | bad fault is ↦ subst (λ (r : Result Plan Refusal). IsPastVerdict (settled o r).0) (sym is) (inr (inl (fault, refl)))
     | full is ↦ subst (λ (r : Result Plan Refusal). IsPastVerdict (settled o r).0) (sym is) (inr (inr refl))
   ]
 
-  plan_succeeds : (plan : Plan) → granted_plan o m ready ≡ Ok plan → plan.reply.status < 300
-  plan_succeeds plan is = elim granted_answer [
-    | done answer ↦ let same : success m ready ≡ plan = cc (answer, is) in subst (λ (p : Plan). p.reply.status < 300) same (succeeds m ready)
+  -- a plan is that of a success
+  pub plan_of_success : (plan : Plan) → granted_plan o circle ready ≡ Ok plan → success ready ≡ Ok plan
+  plan_of_success plan is = elim granted_answer [
+    | done answer ↦ sym answer ∙ is
     | bad fault answer ↦ absurd (cc (answer, is))
     | full answer ↦ absurd (cc (answer, is))
   ]
@@ -188,7 +140,7 @@ acts_where_granted o name request ready reply after is step =
     let told : reply ≡ (settled o step.0).0 = ap (λ (x : Reply × Office). x.0) step.2 in
     elim (decided o name request ready step.0 is step.1) [
       | inl granted ↦ (
-        λ _. subst IsPastVerdict (sym (told ∙ ap (λ r. (settled o r).0) granted.1)) (past_verdict o request.method ready),
+        λ _. subst IsPastVerdict (sym (told ∙ ap (λ r. (settled o r).0) granted.1)) (past_verdict o granted.0.circle ready (served o request ready (passed o request name ready is))),
         λ _. granted.0,
       )
       | inr denied ↦
@@ -205,7 +157,7 @@ denials_are_told o name request ready reply after denial is step =
       | inl granted ↦ (
         λ denied. absurd (verdicts_exclude o request ready denial granted.0 denied),
         λ refusal. absurd (denial_not_past denial
-            (subst IsPastVerdict (sym (told ∙ ap (λ r. (settled o r).0) granted.1) ∙ refusal) (past_verdict o request.method ready))),
+            (subst IsPastVerdict (sym (told ∙ ap (λ r. (settled o r).0) granted.1) ∙ refusal) (past_verdict o granted.0.circle ready (served o request ready (passed o request name ready is))))),
       )
       | inr denied ↦
           let denial_told : reply ≡ refused (NeedPrivileges denied.0) = told ∙ ap (λ r. (settled o r).0) denied.2 in (
@@ -220,7 +172,8 @@ denials_are_told o name request ready reply after denial is step =
 -- a plan is not a refusal
 pub planned_succeeds : (o : Office) (request : Request) (ready : Result Ready Refusal) (plan : Plan) → IsPlannedFrom o request ready (Ok plan) → plan.reply.status < 300
 planned_succeeds o request (Err refusal) plan is = absurd (cc (is))
-planned_succeeds o request (Ok ready) plan (inl granted) = plan_succeeds o request.method ready plan (sym granted.1)
+planned_succeeds o request (Ok ready) plan (inl granted) =
+    success_low ready.asked ready plan (plan_of_success o granted.0.circle ready plan (sym granted.1))
 planned_succeeds o request (Ok ready) plan (inr denied) = let h = denied.2 in absurd (cc (h))
 
 pub refusals_change_nothing : RefusalsChangeNothing
@@ -229,4 +182,43 @@ refusals_change_nothing o name request refusal after step = go step.0 step.1 ste
     go : (result : Result Plan Refusal) → IsPlan o name request result → (refused refusal, after) ≡ settled o result → after ≡ o
     go (Ok plan) planned settles =
         absurd (not_success plan.reply refusal (sym (ap (λ (x : Reply × Office). x.0) settles)) (planned_succeeds o request (ready_of o name request) plan planned))
+    go (Err e) planned settles = ap (λ (x : Reply × Office). x.1) settles
+
+-- a reply with a content changed nothing
+no_edit : (o : Office) (what : Content) (plan : Plan) (status : ℕ) → answered (replied status what None) ≡ Ok plan → apply_any o plan.edit ≡ o
+no_edit o what plan status is = ap (λ (p : Plan). apply_any o p.edit) (sym (same_Ok _ plan is))
+
+empty_content : (edit : Option Edit) (plan : Plan) (status : ℕ) → answered (replied status content.Empty edit) ≡ Ok plan → plan.reply.content ≡ content.Empty
+empty_content edit plan status is = ap (λ (p : Plan). p.reply.content) (sym (same_Ok _ plan is))
+
+success_tells : (o : Office) (what : Asked) (ready : Ready) (plan : Plan) → success_of what ready.caller ready.target ≡ Ok plan
+    → (plan.reply.content ≡ content.Empty) ⊎ (apply_any o plan.edit ≡ o)
+success_tells o asked.Get ready plan is = let told = bind_ok (text_of ready.target.node) _ plan is in inr (no_edit o _ plan _ told.2)
+success_tells o asked.Head ready plan is = let told = bind_ok (text_of ready.target.node) _ plan is in inr (no_edit o _ plan _ told.2)
+success_tells o asked.Options ready plan is = inr (no_edit o _ plan _ is)
+success_tells o (asked.Put text) ready plan is = let told = bind_ok (put_edit ready.caller text ready.target.path) _ plan is in inl (empty_content _ plan _ told.2)
+success_tells o asked.Propfind ready plan is = absurd (cc (is))
+success_tells o asked.Proppatch ready plan is = absurd (cc (is))
+success_tells o asked.Acl ready plan is = absurd (cc (is))
+success_tells o asked.Copy ready plan is = absurd (cc (is))
+success_tells o asked.Move ready plan is = absurd (cc (is))
+success_tells o asked.Delete ready plan is = let told = bind_ok (delete_edit ready.target.path) _ plan is in inl (empty_content _ plan _ told.2)
+success_tells o asked.Mkcol ready plan is = let told = bind_ok (mkcol_edit ready.caller ready.target.path) _ plan is in inl (empty_content _ plan _ told.2)
+success_tells o asked.Report ready plan is = absurd (cc (is))
+
+planned_tells : (o : Office) (request : Request) (ready : Result Ready Refusal) (plan : Plan) → IsPlannedFrom o request ready (Ok plan)
+    → (plan.reply.content ≡ content.Empty) ⊎ (apply_any o plan.edit ≡ o)
+planned_tells o request (Err refusal) plan is = absurd (cc (is))
+planned_tells o request (Ok ready) plan (inl granted) =
+    success_tells o ready.asked ready plan (plan_of_success o granted.0.circle ready plan (sym granted.1))
+planned_tells o request (Ok ready) plan (inr denied) = let h = denied.2 in absurd (cc (h))
+
+pub telling_replies_change_nothing : TellingRepliesChangeNothing
+telling_replies_change_nothing o name request reply after step tells = go step.0 step.1 step.2
+  where
+    go : (result : Result Plan Refusal) → IsPlan o name request result → (reply, after) ≡ settled o result → after ≡ o
+    go (Ok plan) planned settles = elim (planned_tells o request (ready_of o name request) plan planned) [
+      | inl empty ↦ absurd (tells (ap (λ (x : Reply × Office). x.0.content) settles ∙ empty))
+      | inr still ↦ ap (λ (x : Reply × Office). x.1) settles ∙ still
+    ]
     go (Err e) planned settles = ap (λ (x : Reply × Office). x.1) settles

@@ -21,15 +21,6 @@ Adopts o t (Ok adopted) after = HasRoomFor t o × (after ≡ adopt t o) × (adop
 Adopts o t (Err Full) after = (HasRoomFor t o → ⊥) × (after ≡ o)
 Adopts o t (Err Unavailable) after = after ≡ o
 
--- adopting a policy, with what a stop may leave
-pub record AnswersAdoption (old new : Standing) (t : PolicyTables) (result : Result Adopted AdoptFault) : Type 0 where
-  pub was_honest : new.honest → old.honest
-  pub adopted : new.honest → (o : Office) → old.stands o → (after : Office) × new.stands after × Adopts o t result after
-  pub left : new.honest → (o : Office) → old.stands o → (x : Leftover) → new.left x
-      → old.left x ⊎ (HasRoomFor t o × (x ≡ whole (adopt t o)))
-  pub left_made : new.honest → OnOk result ((o : Office) → old.stands o → (x : Leftover) → new.left x → x ≡ whole (adopt t o))
-  pub quiet : (result ≡ Err Unavailable) ⊎ (new.failures ≡ old.failures)
-
 -- the answer where there is room, by the epoch before and what adopting would do
 abbrev pub epoch_after : Bool → ℕ → ℕ
 epoch_after changed epoch = cond changed (epoch + 1) epoch

@@ -1,17 +1,19 @@
 -- What the definition of a step implies, in words of its own.
-use Rattle.std.specs.Prelude.{◌≡◌, ◌⊎◌, ◌↔◌, ℕ, ◌<◌, List, Option, Some, Ok}
+use Rattle.std.specs.Prelude.{◌≡◌, ◌≢◌, ◌⊎◌, ◌↔◌, ℕ, ◌<◌, List, Option, Some, Ok}
 use Rattle.book_cards.specs.declared.fault.CardFault.{CardFault}
 use Rattle.book_values.specs.declared.offices.Office.{Office}
 use Rattle.book_office.specs.Edits.{apply}
 use Rattle.book_office.specs.Sound.{IsSound}
 use Rattle.book_office.specs.declared.edits.Edit.{Edit}
-use Rattle.book_machine.specs.Asking.{HasPath}
+use Rattle.book_machine.specs.Asking.{HasPaths}
 use Rattle.book_machine.specs.Refusals.{refused}
 use Rattle.book_machine.specs.Stages.{ready_of, body_of, success}
 use Rattle.book_machine.specs.Steps.{Steps}
 use Rattle.book_machine.specs.Verdicts.{IsGranted, IsDenied}
+use Rattle.book_machine.specs.declared.messages.Content.TheVariants as content
 use Rattle.book_machine.specs.declared.messages.Reply.{Reply}
 use Rattle.book_machine.specs.declared.messages.Request.{Request}
+use Rattle.book_machine.specs.declared.plans.Plan.{Plan}
 use Rattle.book_machine.specs.declared.plans.Ready.{Ready}
 use Rattle.book_machine.specs.declared.refusals.Denial.{Denial}
 use Rattle.book_machine.specs.declared.refusals.Refusal.{Refusal}
@@ -43,6 +45,11 @@ abbrev pub RefusalsChangeNothing : Type 0
 RefusalsChangeNothing = (o : Office) (name : Option (List ℕ)) (request : Request) (refusal : Refusal) (after : Office)
     → Steps o name request (refused refusal) after → after ≡ o
 
+-- a reply with a content changed nothing
+abbrev pub TellingRepliesChangeNothing : Type 0
+TellingRepliesChangeNothing = (o : Office) (name : Option (List ℕ)) (request : Request) (reply : Reply) (after : Office)
+    → Steps o name request reply after → reply.content ≢ content.Empty → after ≡ o
+
 -- a step is never unavailable, which is told where memory was refused or the store failed, and only there
 abbrev pub StepsAreAvailable : Type 0
 StepsAreAvailable = (o : Office) (name : Option (List ℕ)) (request : Request) (after : Office) → Steps o name request (refused Unavailable) after → ⊥
@@ -50,6 +57,6 @@ StepsAreAvailable = (o : Office) (name : Option (List ℕ)) (request : Request) 
 -- a request that is granted, with a body that is accepted, is refused as full exactly where its edit would leave an Office beyond a limit
 abbrev pub RequestsAreFullAtLimits : Type 0
 RequestsAreFullAtLimits = (o : Office) (name : Option (List ℕ)) (request : Request) (ready : Ready) (edit : Edit) (reply : Reply) (after : Office)
-    → IsSound o → HasPath request.path → ready_of o name request ≡ Ok ready → IsGranted o request ready
-    → body_of request.method ready.text ≡ Ok tt → (success request.method ready).edit ≡ Some edit → Steps o name request reply after
+    → IsSound o → HasPaths request → ready_of o name request ≡ Ok ready → IsGranted o request ready
+    → body_of ready.asked ≡ Ok tt → (plan : Plan) → success ready ≡ Ok plan → plan.edit ≡ Some edit → Steps o name request reply after
     → (reply ≡ refused Full) ↔ (IsSound (apply o edit) → ⊥)

@@ -1,9 +1,14 @@
 pub mod Adoptions
+pub mod Agreement
 pub mod AllowedMethods
+pub mod Asked
 pub mod Asking
 pub mod Laws
+pub mod LeadingRuns
+pub mod Promises
 pub mod Refusals
 pub mod Runs
 pub mod Stages
 pub mod Steps
+pub mod Unseen
 pub mod Verdicts

@@ -16,7 +16,7 @@ use Rattle.book_machine.specs.declared.refusals.Refusal.TheVariants.{NeedPrivile
 
 -- where each need is granted the request goes on; else the denial is its refusal
 abbrev pub IsDecided : Office → Request → Ready → Result Plan Refusal → Type 0
-IsDecided o request ready result = (IsGranted o request ready × (result ≡ granted_plan o request.method ready))
+IsDecided o request ready result = ((granted : IsGranted o request ready) × (result ≡ granted_plan o granted.circle ready))
     ⊎ ((denial : Denial) × IsDenied o request ready denial × (result ≡ Err (NeedPrivileges denial)))
 
 -- the first stage that refuses decides

@@ -3,7 +3,8 @@
 ghost use Rattle.std.specs.Prelude.{◌≡◌};
 ghost use Rattle.book_adopting.specs.Adopting.{adoption_of};
 ghost use Rattle.book_office.specs.Keeping.{Reads};
-ghost use Rattle.book_machine.specs.Adoptions.{AnswersAdoption, adopted_by};
+ghost use Rattle.book_machine.specs.Adoptions.{adopted_by};
+ghost use Rattle.book_machine.specs.Promises.{AdoptPromise};
 ghost use Rattle.book_machine.specs.declared.adoptions.AdoptFault.TheVariants.{Unavailable};
 
 use crate::machine::Machine;
@@ -78,7 +79,7 @@ impl<K: Keeper> Machine<K> {
     /// Over memory it takes a number of comparisons that grows with the policy, the resources and the members, up to a
     /// logarithm; no card is visited.
     pub fn adopt(&mut self, alloc: Global, policy: &Policy) -> Result<Adopted, AdoptFault>
-        ensures { AnswersAdoption (K.standing self.old.keeper) (K.standing self.new.keeper) policy.now result }
+        ensures { AdoptPromise (K.standing self.old.keeper) (K.standing self.new.keeper) policy.now result }
     {
         policy.known();
         let Some(adopted) = self.adopted(alloc, policy)? else {

@@ -1,9 +1,10 @@
 //! The methods that a resource allows.
 
 ghost use Rattle.std.specs.Prelude.{◌≡◌};
-ghost use Rattle.book_machine.specs.AllowedMethods.{allowed_of, allowed_text};
+ghost use Rattle.book_machine.specs.AllowedMethods.{allowed_of, allowed_text, goes_on, is_among, methods_of, not_served};
 
 use book_office::Kind;
+use book_rights::Method;
 
 /// The methods of one kind of resource, as the field Allow lists them (RFC 9110, section 10.2.1).
 #[derive(Clone, Copy, Debug, PartialEq, Eq)]
@@ -50,4 +51,53 @@ impl AllowedMethods {
             AllowedMethods::OfNewCard => "PUT",
         }
     }
+
+    /// Whether the method is among them.
+    fn has(self, method: Method) -> bool
+        ensures { result ≡ is_among method (methods_of self) }
+    {
+        match method {
+            Method::Get | Method::Head | Method::Copy | Method::Move => {
+                self == AllowedMethods::OfCard
+            }
+            Method::Options | Method::Propfind | Method::Acl | Method::Report => {
+                self != AllowedMethods::OfNewBook && self != AllowedMethods::OfNewCard
+            }
+            Method::Put => self == AllowedMethods::OfCard || self == AllowedMethods::OfNewCard,
+            Method::Proppatch => {
+                self == AllowedMethods::OfPrincipal
+                    || self == AllowedMethods::OfBook
+                    || self == AllowedMethods::OfCard
+            }
+            Method::Delete => self == AllowedMethods::OfBook || self == AllowedMethods::OfCard,
+            Method::Mkcol => self == AllowedMethods::OfNewBook,
+        }
+    }
+}
+
+/// Whether the machine does not serve the method yet.
+fn not_served(method: Method) -> bool
+    ensures { result ≡ not_served method }
+{
+    match method {
+        Method::Get
+        | Method::Head
+        | Method::Options
+        | Method::Put
+        | Method::Delete
+        | Method::Mkcol => false,
+        Method::Propfind
+        | Method::Proppatch
+        | Method::Acl
+        | Method::Copy
+        | Method::Move
+        | Method::Report => true,
+    }
+}
+
+/// Whether the method goes on at a mapped resource of this kind: it is one of the kind's methods, and is served.
+pub(crate) fn goes_on(method: Method, kind: Kind) -> bool
+    ensures { result ≡ goes_on method kind }
+{
+    AllowedMethods::of(kind).has(method) && !not_served(method)
 }

@@ -1,9 +1,9 @@
 //! The entries in force at a resource, as a decision takes them.
 
 ghost use Rattle.std.specs.Prelude.{◌≡◌, IfOk};
-ghost use Rattle.book_machine.specs.Verdicts.{Judges, entries_of, entry_place, paths_of};
+ghost use Rattle.book_machine.specs.Verdicts.{Judges, entries_of, deciding_entry, paths_of};
 
-use crate::refusals::{Denial, EntryPlace, Refusal};
+use crate::refusals::{DecidingEntry, Denial, Refusal};
 use book_lists::{Circle, Entry, Here, Outcome, decide};
 use book_office::{EffectiveEntry, Items, Path};
 use book_rights::LeafSet;
@@ -36,20 +36,20 @@ fn split(alloc: Global, effective: Items<EffectiveEntry>) -> Result<EntriesInFor
     })
 }
 
-/// The entry at a place of the list, if there is one, as a denial names it.
+/// The entry at a index of the list, if there is one, as a denial names it.
 pub(crate) fn named_entry(
     paths: &[Path],
-    place: Option<usize>,
-) -> Result<Option<EntryPlace>, AllocError>
-    ensures { IfOk result (λ entry. entry ≡ entry_place paths.now place) }
+    index: Option<usize>,
+) -> Result<Option<DecidingEntry>, AllocError>
+    ensures { IfOk result (λ entry. entry ≡ deciding_entry paths.now index) }
 {
-    let Some(place) = place else {
+    let Some(index) = index else {
         return Ok(None);
     };
-    match paths.get(place) {
-        Some(path) => Ok(Some(EntryPlace {
+    match paths.get(index) {
+        Some(path) => Ok(Some(DecidingEntry {
             from: path.clone()?,
-            number: place + 1,
+            number: index + 1,
         })),
         None => Ok(None),
     }

@@ -1,6 +1,7 @@
 //! What the definition of a step implies, stated on public functions since only what a contract names is proved.
 
-ghost use Rattle.book_machine.specs.Laws.{DenialsAreTold, RefusalsChangeNothing, RequestsActWhereGranted, RequestsAreFullAtLimits, RequestsHaveOneStep, StepsAreAvailable};
+ghost use Rattle.book_machine.specs.Unseen.{AgreeingOfficesMayDiffer, AgreeingOfficesRunAlike, AgreeingOfficesStepAlike, AgreementIsAnEquivalence, EpochsNeverFall, RunsNeverLowerTheEpoch};
+ghost use Rattle.book_machine.specs.Laws.{DenialsAreTold, RefusalsChangeNothing, RequestsActWhereGranted, RequestsAreFullAtLimits, RequestsHaveOneStep, StepsAreAvailable, TellingRepliesChangeNothing};
 
 /// In an Office a request has one reply, and leaves one Office.
 pub fn requests_have_one_step()
@@ -21,8 +22,22 @@ pub fn requests_are_full_at_limits()
     ensures { RequestsAreFullAtLimits }
 {}
 
-/// Every refusal leaves the Office as it was. None of a step is `Unavailable`, which tells want of memory or a failed store.
+/// Every refusal, and every reply with a content, leaves the Office as it was. None of a step is `Unavailable`, which tells want of memory or a failed store.
 pub fn refusals_change_nothing()
     ensures unchanged { RefusalsChangeNothing }
+    ensures telling { TellingRepliesChangeNothing }
     ensures available { StepsAreAvailable }
+{}
+
+/// Contents that a caller may not read stay unseen (own profile). Two Offices agree for a caller where they are equal but for
+/// the labels and texts of the cards on which it is not allowed `read`. From Offices that agree for its caller a request has
+/// one reply, and it leaves Offices that agree, unless it is a MOVE or raises the epoch, which no request lowers. So a run of
+/// calls by one caller without them is a run from each Office that agrees.
+pub fn unread_contents_stay_unseen()
+    ensures agreement { AgreementIsAnEquivalence }
+    ensures steps { AgreeingOfficesStepAlike }
+    ensures differ { AgreeingOfficesMayDiffer }
+    ensures epochs { EpochsNeverFall }
+    ensures run_epochs { RunsNeverLowerTheEpoch }
+    ensures runs { AgreeingOfficesRunAlike }
 {}

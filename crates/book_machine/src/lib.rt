@@ -4,14 +4,16 @@
 //! says, or that the store is unavailable with the Office as it was; that `serve_all` is a run of such steps; and that
 //! `Machine::adopt` leaves the Office that adopts the policy, or tells why it does not.
 //!
-//! Read `messages`, `refusals` and `allowed_methods` first; then `plans`, `stages`, `entries_in_force` and `machine`; and
+//! Read `messages`, `refusals`, `allowed_methods` and `asked` first; then `plans`, `stages`, `entries_in_force` and `machine`; and
 //! `adoptions` by itself.
 #![tactic(auto)]
 
 mod adoptions;
 mod allowed_methods;
+mod asked;
 mod entries_in_force;
 mod laws;
+mod leading;
 mod machine;
 mod messages;
 mod plans;
@@ -20,11 +22,15 @@ mod stages;
 
 pub use adoptions::{AdoptFault, Adopted};
 pub use allowed_methods::AllowedMethods;
+pub use asked::Asked;
 pub use laws::{
     refusals_change_nothing, requests_act_where_granted, requests_are_full_at_limits,
-    requests_have_one_step,
+    requests_have_one_step, unread_contents_stay_unseen,
 };
+pub use leading::runs_lead_on;
 pub use machine::Machine;
-pub use messages::{Body, Content, Depth, Flag, Reply, Request};
+pub use messages::{
+    Body, Content, Depth, Flag, Patch, Property, Reply, ReportKind, Request, SyncFrom,
+};
 pub use plans::{Plan, Ready, Target};
-pub use refusals::{Denial, EntryPlace, Refusal};
+pub use refusals::{DecidingEntry, Denial, Refusal};

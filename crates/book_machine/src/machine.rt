@@ -1,30 +1,31 @@
 //! The machine: it serves one request after the other.
 
-ghost use Rattle.std.specs.Prelude.{◌≡◌, [], Ok, IfOk, OnErr, is_some, option_and_then};
+ghost use Rattle.std.specs.Prelude.{◌≡◌, [], Ok, IfOk, OnOk, OnErr, is_some, nat_lt, option_and_then};
 ghost use Rattle.std.specs.FinMap.{get};
 ghost use Rattle.std.specs.Option.{option_copied};
-ghost use Rattle.book_rights.specs.Needs.{listed_too};
+ghost use Rattle.book_rights.specs.Needs.{listed_others, listed_too};
 ghost use Rattle.book_rights.specs.declared.places.Place.TheVariants as at;
-ghost use Rattle.book_office.specs.Resources.{node_at};
+ghost use Rattle.book_office.specs.Resources.{count_at, node_at};
 ghost use Rattle.book_office.specs.declared.nodes.Node.{Node};
 ghost use Rattle.book_values.specs.declared.paths.Path.TheVariants as path;
-ghost use Rattle.book_machine.specs.Asking.{Answers, Asks, HasPath, Meets, MeetsPlan};
-ghost use Rattle.book_machine.specs.Runs.{Runs, name_of};
-ghost use Rattle.book_machine.specs.Stages.{at_node, at_unmapped, caller_of, check, granted_plan, has_room, limits_of, ready_of, target_of};
+ghost use Rattle.book_machine.specs.Asking.{Asks, HasPath, HasPaths, Meets, MeetsPlan};
+ghost use Rattle.book_machine.specs.LeadingRuns.{HavePaths};
+ghost use Rattle.book_machine.specs.Promises.{ServeAllPromise, ServeHidesUnread, ServePromise};
+ghost use Rattle.book_machine.specs.Runs.{calls_of, name_of};
+ghost use Rattle.book_machine.specs.Stages.{at_node, at_unmapped, can_change, caller_of, delete_limits, granted_plan, keeps_limits, limits_of, new_book_at, new_card, put_limits, ready_of, target_of};
 ghost use Rattle.book_machine.specs.Verdicts.{IsTarget, JudgesNeed, JudgesNeeds, needs_at, owner_at, place_path};
-ghost use Rattle.book_machine.specs.declared.refusals.Refusal.TheVariants.{Full};
 
 use crate::allowed_methods::AllowedMethods;
+use crate::asked::{Asked, asked_of};
 use crate::entries_in_force::judge;
 use crate::messages::{Reply, Request};
 use crate::plans::{Plan, Ready, Target};
 use crate::refusals::{Refusal, refused};
 use crate::stages::{
-    check, check_body, check_kind, check_shape, has_room, has_room_for_a_book, place_path,
-    principal_of, shape_at, success,
+    can_change, check_body, check_kind, copy_of, place_path, principal_of, shape_at, success,
 };
 use book_lists::{Caller, Circle, Here, Name, Principal};
-use book_office::{Keeper, LAST_NUMBER, Node, Path, effective};
+use book_office::{Keeper, LAST_NUMBER, MAX_BOOKS, MAX_CARDS, Node, Path, effective};
 use book_rights::{LeafSet, Method, Need, Needs, Place, needs};
 use std::alloc::{AllocError, Global};
 
@@ -76,22 +77,61 @@ impl<K: Keeper> Machine<K> {
         Ok(self.keeper.find(alloc, &path)?.is_some())
     }
 
+    /// A PUT at a path where nothing is mapped: the path of a card whose book is there.
+    fn check_new_card(&mut self, alloc: Global, path: &Path) -> Result<(), Refusal>
+        ensures { Asks (K.standing self.old.keeper) (K.standing self.new.keeper) result (λ o r. Meets r (new_card o path.now)) }
+    {
+        match path {
+            Path::Card(book, _) => match self.has_book(alloc, book)? {
+                true => Ok(()),
+                false => Err(Refusal::NoParent),
+            },
+            Path::Book(_) => Err(Refusal::NotAllowed(AllowedMethods::OfNewBook)),
+            Path::Root
+            | Path::People
+            | Path::Groups
+            | Path::Books
+            | Path::Person(_)
+            | Path::Group(_) => Err(Refusal::NotFound),
+        }
+    }
+
+    /// A MKCOL at a path where nothing is mapped: the path of a book.
+    fn check_new_book(&mut self, alloc: Global, path: &Path) -> Result<(), Refusal>
+        ensures { Asks (K.standing self.old.keeper) (K.standing self.new.keeper) result (λ o r. Meets r (new_book_at o path.now)) }
+    {
+        match path {
+            Path::Book(_) => Ok(()),
+            Path::Card(book, _) => match self.has_book(alloc, book)? {
+                true => Err(Refusal::NotAllowed(AllowedMethods::OfNewCard)),
+                false => Err(Refusal::NoParent),
+            },
+            Path::Root
+            | Path::People
+            | Path::Groups
+            | Path::Books
+            | Path::Person(_)
+            | Path::Group(_) => Err(Refusal::NotFound),
+        }
+    }
+
     /// The path of a request at which nothing is mapped.
     fn check_unmapped(&mut self, alloc: Global, method: Method, path: &Path) -> Result<(), Refusal>
         ensures { Asks (K.standing self.old.keeper) (K.standing self.new.keeper) result (λ o r. Meets r (at_unmapped o method path.now)) }
     {
-        match (method, path) {
-            (Method::Put, Path::Book(_)) => Err(Refusal::NotAllowed(AllowedMethods::OfNewBook)),
-            (Method::Put, Path::Card(book, _)) => match self.has_book(alloc, book)? {
-                true => Ok(()),
-                false => Err(Refusal::NoParent),
-            },
-            (Method::Mkcol, Path::Book(_)) => Ok(()),
-            (Method::Mkcol, Path::Card(book, _)) => match self.has_book(alloc, book)? {
-                true => Err(Refusal::NotAllowed(AllowedMethods::OfNewCard)),
-                false => Err(Refusal::NoParent),
-            },
-            _ => Err(Refusal::NotFound),
+        match method {
+            Method::Put => self.check_new_card(alloc, path),
+            Method::Mkcol => self.check_new_book(alloc, path),
+            Method::Get
+            | Method::Head
+            | Method::Options
+            | Method::Propfind
+            | Method::Proppatch
+            | Method::Acl
+            | Method::Copy
+            | Method::Move
+            | Method::Delete
+            | Method::Report => Err(Refusal::NotFound),
         }
     }
 
@@ -128,7 +168,7 @@ impl<K: Keeper> Machine<K> {
         let Some(path) = &request.path else {
             return Err(Refusal::NotFound);
         };
-        let path = path.clone()?;
+        let path = copy_of(path)?;
         let node = self.keeper.find(alloc, &path)?;
         self.target_at(alloc, request.method, path, node)
     }
@@ -144,11 +184,11 @@ impl<K: Keeper> Machine<K> {
             (λ o r. Meets r (ready_of o (option_copied name.entry) request.now)) }
     {
         let caller = self.caller(alloc, name)?;
-        let text = check_shape(alloc, request.method, &request.body)?;
+        let asked = asked_of(alloc, request.method, &request.body)?;
         let target = self.target(alloc, request)?;
         Ok(Ready {
             caller,
-            text,
+            asked,
             target,
         })
     }
@@ -239,6 +279,25 @@ impl<K: Keeper> Machine<K> {
         }
     }
 
+    /// The verdict on the needs after the first.
+    fn check_others(
+        &mut self,
+        alloc: Global,
+        circle: &Circle,
+        request: &Request,
+        target: &Target,
+        others: Option<(Need, Option<Need>)>,
+    ) -> Result<(), Refusal>
+        ensures { Asks (K.standing self.old.keeper) (K.standing self.new.keeper) result
+            (λ o r. IsTarget o target.now → JudgesNeeds o circle.now request.now target.now.path (listed_others others) r) }
+    {
+        let Some((second, third)) = others else {
+            return Ok(());
+        };
+        self.check_need(alloc, circle, request, target, second)?;
+        self.check_any(alloc, circle, request, target, third)
+    }
+
     /// The verdict: each need of the request in turn.
     fn check_needs(
         &mut self,
@@ -248,64 +307,118 @@ impl<K: Keeper> Machine<K> {
         ready: &Ready,
     ) -> Result<(), Refusal>
         ensures { Asks (K.standing self.old.keeper) (K.standing self.new.keeper) result
-            (λ o r. IsTarget o ready.now.target → JudgesNeeds o circle.now request.now ready.now.target.path (needs_at request.now ready.now) r) }
+            (λ o r. IsTarget o ready.now.target → JudgesNeeds o circle.now request.now ready.now.target.path (needs_at ready.now) r) }
     {
-        let Needs {
-            first,
-            second,
-            third,
-        } = needs(request.method, shape_at(ready));
+        let Needs { first, others } = needs(ready.asked.method(), shape_at(ready));
         self.check_need(alloc, circle, request, &ready.target, first)?;
-        self.check_any(alloc, circle, request, &ready.target, second)?;
-        self.check_any(alloc, circle, request, &ready.target, third)
+        self.check_others(alloc, circle, request, &ready.target, others)
     }
 
-    /// The room of a book: its number can rise, and where a card is added it has fewer than the most.
-    fn check_book(&mut self, alloc: Global, book: &Name, mapped: bool) -> Result<(), Refusal>
+    /// Whether the number of a book can rise.
+    fn can_change(&mut self, alloc: Global, book: &Name) -> Result<bool, Refusal>
         ensures { Asks (K.standing self.old.keeper) (K.standing self.new.keeper) result
-            (λ o r. Meets r (check (has_room (node_at o (path.Book book.now)) mapped) Full)) }
+            (λ o r. Meets r (Ok (can_change (node_at o (path.Book book.now))))) }
     {
         let path = Path::Book(book.clone()?);
-        let node = self.keeper.find(alloc, &path)?;
-        check(has_room(&node, mapped), Refusal::Full)?;
-        Ok(())
+        Ok(can_change(&self.keeper.find(alloc, &path)?))
+    }
+
+    /// Whether a path has fewer children than the most. They are counted only where one is to be added.
+    fn has_room(&mut self, alloc: Global, path: &Path, most: usize) -> Result<bool, Refusal>
+        ensures { Asks (K.standing self.old.keeper) (K.standing self.new.keeper) result
+            (λ o r. Meets r (Ok (nat_lt (count_at o path.now) most))) }
+    {
+        Ok(self.keeper.count(alloc, path)? < most)
+    }
+
+    /// Whether the limits are kept where a text is put.
+    fn keeps_put_limits(
+        &mut self,
+        alloc: Global,
+        path: &Path,
+        mapped: bool,
+    ) -> Result<bool, Refusal>
+        ensures { Asks (K.standing self.old.keeper) (K.standing self.new.keeper) result (λ o r. Meets r (Ok (put_limits o path.now mapped))) }
+    {
+        match path {
+            Path::Card(book, _) => {
+                if !self.can_change(alloc, book)? {
+                    return Ok(false);
+                }
+                if mapped {
+                    return Ok(true);
+                }
+                self.has_room(alloc, &Path::Book(book.clone()?), MAX_CARDS)
+            }
+            Path::Root
+            | Path::People
+            | Path::Groups
+            | Path::Books
+            | Path::Person(_)
+            | Path::Group(_)
+            | Path::Book(_) => Ok(true),
+        }
+    }
+
+    /// Whether the limits are kept where a resource is removed.
+    fn keeps_delete_limits(&mut self, alloc: Global, path: &Path) -> Result<bool, Refusal>
+        ensures { Asks (K.standing self.old.keeper) (K.standing self.new.keeper) result (λ o r. Meets r (Ok (delete_limits o path.now))) }
+    {
+        match path {
+            Path::Card(book, _) => self.can_change(alloc, book),
+            Path::Book(_) => Ok(self.keeper.epoch()? < LAST_NUMBER),
+            Path::Root
+            | Path::People
+            | Path::Groups
+            | Path::Books
+            | Path::Person(_)
+            | Path::Group(_) => Ok(true),
+        }
+    }
+
+    /// Whether the Office keeps its limits after the edit.
+    fn keeps_limits(
+        &mut self,
+        alloc: Global,
+        asked: &Asked,
+        target: &Target,
+    ) -> Result<bool, Refusal>
+        ensures { Asks (K.standing self.old.keeper) (K.standing self.new.keeper) result
+            (λ o r. Meets r (Ok (keeps_limits o asked.now target.now.path (is_some target.now.node)))) }
+    {
+        match asked {
+            Asked::Put(_) => self.keeps_put_limits(alloc, &target.path, target.node.is_some()),
+            Asked::Delete => self.keeps_delete_limits(alloc, &target.path),
+            Asked::Mkcol => self.has_room(alloc, &Path::Books, MAX_BOOKS),
+            Asked::Get
+            | Asked::Head
+            | Asked::Options
+            | Asked::Propfind
+            | Asked::Proppatch
+            | Asked::Acl
+            | Asked::Copy
+            | Asked::Move
+            | Asked::Report => Ok(true),
+        }
     }
 
     /// The limits, which the Office keeps after the edit.
-    fn check_limits(
-        &mut self,
-        alloc: Global,
-        method: Method,
-        target: &Target,
-    ) -> Result<(), Refusal>
-        ensures { Asks (K.standing self.old.keeper) (K.standing self.new.keeper) result (λ o r. Meets r (limits_of o method target.now)) }
+    fn check_limits(&mut self, alloc: Global, asked: &Asked, target: &Target) -> Result<(), Refusal>
+        ensures { Asks (K.standing self.old.keeper) (K.standing self.new.keeper) result (λ o r. Meets r (limits_of o asked.now target.now)) }
     {
-        match (method, &target.path) {
-            (Method::Put, Path::Card(book, _)) => {
-                self.check_book(alloc, book, target.node.is_some())
-            }
-            (Method::Delete, Path::Card(book, _)) => self.check_book(alloc, book, true),
-            (Method::Delete, Path::Book(_)) => {
-                let epoch = self.keeper.epoch()?;
-                check(epoch < LAST_NUMBER, Refusal::Full)?;
-                Ok(())
-            }
-            (Method::Mkcol, _) => {
-                let books = self.keeper.find(alloc, &Path::Books)?;
-                check(has_room_for_a_book(&books), Refusal::Full)?;
-                Ok(())
-            }
-            _ => Ok(()),
+        match self.keeps_limits(alloc, asked, target)? {
+            true => Ok(()),
+            false => Err(Refusal::Full),
         }
     }
 
     /// The stages after a verdict that grants.
-    fn granted(&mut self, alloc: Global, method: Method, ready: Ready) -> Result<Plan, Refusal>
-        ensures { Asks (K.standing self.old.keeper) (K.standing self.new.keeper) result (λ o r. Meets r (granted_plan o method ready)) }
+    fn granted(&mut self, alloc: Global, circle: &Circle, ready: Ready) -> Result<Plan, Refusal>
+        ensures { Asks (K.standing self.old.keeper) (K.standing self.new.keeper) result (λ o r. Meets r (granted_plan o circle.now ready)) }
     {
-        check_body(alloc, method, &ready.text)?;
-        self.check_limits(alloc, method, &ready.target)?;
-        Ok(success(method, ready))
+        check_body(alloc, &ready.asked)?;
+        self.check_limits(alloc, &ready.asked, &ready.target)?;
+        success(ready)
     }
 
     /// What is to be done for a request.
@@ -321,18 +434,21 @@ impl<K: Keeper> Machine<K> {
         let ready = self.ready(alloc, name, request)?;
         let circle = self.keeper.circle(alloc, &ready.caller)?;
         self.check_needs(alloc, &circle, request, &ready)?;
-        self.granted(alloc, request.method, ready)
+        self.granted(alloc, &circle, ready)
     }
 
     /// Serves one request.
     ///
     /// The caller is its bare name; none is nobody. The request is worked in this order: the caller, the shape, the path,
     /// the needs, the body, the limits, and then the edit. The reply is made before the edit, and nothing is allocated
-    /// between the edit and the return. Each refusal leaves the Office as it was.
+    /// between the edit and the return. Each refusal leaves the Office as it was. A reply tells nothing of the labels and texts
+    /// of cards that the caller may not read.
     pub fn serve(&mut self, alloc: Global, name: Option<&str>, request: &Request) -> Reply
-        ensures { Answers (K.standing self.old.keeper) (K.standing self.new.keeper) (option_copied name.entry) request.now result }
+        ensures served { ServePromise (K.standing self.old.keeper) (K.standing self.new.keeper) (option_copied name.entry) request.now result }
+        ensures unseen { ServeHidesUnread (K.standing self.old.keeper) (K.standing self.new.keeper) (option_copied name.entry) request.now result }
+        ensures paths { HasPaths request.now }
     {
-        has_path(request);
+        has_paths(request);
         match self.plan(alloc, name, request) {
             Err(refusal) => refused(refusal),
             Ok(Plan { reply, edit }) => match edit {
@@ -352,7 +468,8 @@ impl<K: Keeper> Machine<K> {
         alloc: Global,
         calls: &[(Option<String>, Request)],
     ) -> Result<Vec<Reply>, AllocError>
-        ensures run { IfOk result (λ replies. Runs (K.standing self.old.keeper) (K.standing self.new.keeper) calls.now replies.items) }
+        ensures served { IfOk result (λ replies. ServeAllPromise (K.standing self.old.keeper) (K.standing self.new.keeper) (calls_of calls.now) replies.items) }
+        ensures paths { OnOk result (HavePaths (calls_of calls.now)) }
         ensures err { OnErr result (self.new ≡ self.old) }
     {
         let mut replies = Vec::with_capacity(alloc, calls.len())?;
@@ -385,11 +502,19 @@ fn owner_in(node: &Option<Node>) -> Result<Option<Principal>, AllocError>
     }
 }
 
-/// Hands out that the names of the request's path are names.
-fn has_path(request: &Request)
-    ensures { HasPath request.now.path }
+/// Hands out that the names of a path are names.
+fn has_path(path: &Option<Path>)
+    ensures { HasPath path.now }
 {
-    if let Some(path) = &request.path {
+    if let Some(path) = path {
         path.known();
     }
+}
+
+/// Hands out that the names of the paths of a request are names.
+fn has_paths(request: &Request)
+    ensures { HasPaths request.now }
+{
+    has_path(&request.path);
+    has_path(&request.destination);
 }

@@ -2,8 +2,10 @@
 
 use crate::allowed_methods::AllowedMethods;
 use crate::refusals::Refusal;
-use book_office::{Path, Text};
+use book_lists::{Caller, Principal, Submitted};
+use book_office::{Items, Path, Text};
 use book_rights::Method;
+use book_sync::Token;
 
 /// The field Overwrite (RFC 4918, section 10.6), as it was read.
 #[derive(Clone, Copy, Debug, PartialEq, Eq)]
@@ -27,6 +29,56 @@ pub enum Depth {
     Unread,
 }
 
+/// A property that a request may ask for (RFC 4918, section 9.1; RFC 3744, section 5; RFC 6578, section 4).
+#[derive(Clone, Copy, Debug, PartialEq, Eq)]
+pub enum Property {
+    /// `displayname`: the label.
+    DisplayName,
+    /// `resourcetype`: the kind.
+    ResourceType,
+    /// `owner`: the person or group that owns the resource.
+    Owner,
+    /// `acl`: the effective list.
+    Acl,
+    /// `current-user-privilege-set`: what the caller is granted.
+    CurrentUserPrivilegeSet,
+    /// `group-member-set`: the direct members of a group.
+    GroupMemberSet,
+    /// `sync-token`: the token of a book's present contents.
+    SyncToken,
+}
+
+/// What a PROPPATCH sets (RFC 4918, section 9.2).
+#[derive(Debug, Drop)]
+pub enum Patch {
+    /// `displayname`: the label.
+    DisplayName(Text),
+    /// `group-member-set`: the direct members of a group.
+    GroupMembers(Items<Principal>),
+}
+
+/// From where a sync report is asked (RFC 6578, section 3.2).
+#[derive(Debug, Drop)]
+pub enum SyncFrom {
+    /// The empty token: from the start.
+    Start,
+    /// After the point in a book's history that a token names.
+    After(Token),
+    /// A text that is no token.
+    Unknown,
+}
+
+/// Which report is asked (RFC 3253, section 3.6).
+#[derive(Debug, Drop)]
+pub enum ReportKind {
+    /// `sync-collection`: what changed in a book (RFC 6578, section 3.2).
+    SyncCollection(SyncFrom),
+    /// `group-members`: the cards to which a group card leads (own profile).
+    GroupMembers,
+    /// `effective`: the entries that decide each leaf for a caller (own profile).
+    Effective(Caller),
+}
+
 /// The body of a request, as it was read.
 #[derive(Debug, Drop)]
 pub enum Body {
@@ -34,7 +86,15 @@ pub enum Body {
     Empty,
     /// The text of a card.
     Text(Text),
-    /// A body that the method does not take.
+    /// The properties that a PROPFIND asks for, in their order.
+    Find(Items<Property>),
+    /// What a PROPPATCH sets.
+    Patch(Patch),
+    /// The list that an ACL puts in place of the own list.
+    List(Items<Submitted>),
+    /// The report that is asked.
+    Report(ReportKind),
+    /// A body that could not be read.
     Unread,
 }
 

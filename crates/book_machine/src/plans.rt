@@ -1,8 +1,9 @@
 //! What is found out about a request, and what is to be done for it.
 
+use crate::asked::Asked;
 use crate::messages::Reply;
 use book_lists::Caller;
-use book_office::{Edit, Node, Path, Text};
+use book_office::{Edit, Node, Path};
 
 /// The resource that a request asks for.
 #[derive(Debug, Drop)]
@@ -13,14 +14,14 @@ pub struct Target {
     pub node: Option<Node>,
 }
 
-/// A request that has passed the stages before its verdict: caller, shape and path.
+/// A request that has passed the stages before its verdict: caller, what is asked, and path.
 #[derive(Debug, Drop)]
 pub struct Ready {
     /// Who asks.
     pub caller: Caller,
-    /// The text that is to be put; empty for other methods than PUT.
-    pub text: Text,
-    /// What is asked for.
+    /// What is asked, by method.
+    pub asked: Asked,
+    /// The resource that it is asked of.
     pub target: Target,
 }
 

@@ -13,7 +13,7 @@ use std::alloc::AllocError;
 
 /// The entry that decides a denial: where it stands, and its number in the effective list.
 #[derive(Debug, Drop)]
-pub struct EntryPlace {
+pub struct DecidingEntry {
     /// The resource at which the entry stands.
     pub from: Path,
     /// Its number in the effective list of the resource that was asked, from 1.
@@ -28,7 +28,7 @@ pub struct Denial {
     /// The privilege.
     pub privilege: Leaf,
     /// The entry that denies it; none where no entry decides it.
-    pub entry: Option<EntryPlace>,
+    pub entry: Option<DecidingEntry>,
 }
 
 /// Why a request is refused. Every refusal leaves the Office as it was.

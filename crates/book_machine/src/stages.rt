@@ -1,62 +1,31 @@
 //! The stages of a request that ask no keeper.
 
-ghost use Rattle.std.specs.Prelude.{◌≡◌, ◌⊎◌, [], IfOk};
+ghost use Rattle.std.specs.Prelude.{◌≡◌, ◌⊎◌, IfOk};
 ghost use Rattle.book_cards.specs.CardText.{card_fault};
 ghost use Rattle.book_cards.specs.declared.fault.CardFaultKind.TheVariants.{Memory};
 ghost use Rattle.book_values.specs.Paths.{parent_of};
-ghost use Rattle.book_machine.specs.AllowedMethods.{allowed_of};
+ghost use Rattle.book_machine.specs.AllowedMethods.{allowed_of, goes_on};
 ghost use Rattle.book_machine.specs.Asking.{Meets};
-ghost use Rattle.book_machine.specs.Stages.{bad_card, body_of, card_content, check, delete_edit, goes_on, has_room, has_room_for_a_book, mkcol_edit, owner_of, put_edit, replied, shape_of, success};
+ghost use Rattle.book_machine.specs.Stages.{bad_card, body_of, can_change, check, delete_edit, mkcol_edit, owner_of, put_edit, put_status, replied, success, text_of};
 ghost use Rattle.book_machine.specs.declared.refusals.Refusal.TheVariants.{BadCard, NotAllowed, Unavailable};
 ghost use Rattle.book_machine.specs.Verdicts.{or_itself, place_path, principal_of, shape_at};
 
-use crate::allowed_methods::AllowedMethods;
-use crate::messages::{Body, Content, Reply, Request};
+use crate::allowed_methods::{AllowedMethods, goes_on};
+use crate::asked::Asked;
+use crate::messages::{Content, Reply, Request};
 use crate::plans::{Plan, Ready, Target};
 use crate::refusals::Refusal;
 use book_cards::{CardFault, CardFaultKind, read_card};
 use book_lists::{Caller, Principal};
-use book_office::{Edit, Kind, LAST_NUMBER, MAX_BOOKS, MAX_CARDS, Node, Path, Text};
+use book_office::{Edit, Kind, LAST_NUMBER, Node, Path, Text};
 use book_rights::{Method, Place, Shape};
 use std::alloc::{AllocError, Global};
-
-/// The text of no bytes.
-fn no_text(alloc: Global) -> Text
-    ensures { result ≡ [] }
-{
-    Text::from_string(String::new(alloc))
-}
-
-/// The shape: the text that is to be put, and no body on MKCOL.
-pub(crate) fn check_shape(alloc: Global, method: Method, body: &Body) -> Result<Text, Refusal>
-    ensures { Meets result (shape_of method body.now) }
-{
-    match (method, body) {
-        (Method::Put, Body::Text(text)) => Ok(text.clone()?),
-        (Method::Put, Body::Unread) => Err(Refusal::BadRequest),
-        (Method::Mkcol, Body::Text(_)) => Err(Refusal::BodyOnMkcol),
-        (Method::Mkcol, Body::Unread) => Err(Refusal::BodyOnMkcol),
-        _ => Ok(no_text(alloc)),
-    }
-}
 
 /// Refuses where the test fails.
 pub(crate) fn check(test: bool, refusal: Refusal) -> Result<(), Refusal>
     ensures { result ≡ check test refusal }
 {
     if test { Ok(()) } else { Err(refusal) }
-}
-
-/// Whether the method goes on at a mapped resource of this kind.
-fn goes_on(method: Method, kind: Kind) -> bool
-    ensures { result ≡ goes_on method kind }
-{
-    match method {
-        Method::Get | Method::Head | Method::Put => kind == Kind::Card,
-        Method::Options => true,
-        Method::Delete => kind == Kind::Card || kind == Kind::Book,
-        _ => false,
-    }
 }
 
 /// The kind of a mapped resource: one at which the method goes on.
@@ -93,6 +62,13 @@ fn parent_or_itself(path: &Path) -> Result<Path, AllocError>
     }
 }
 
+/// A copy of a path.
+pub(crate) fn copy_of(path: &Path) -> Result<Path, AllocError>
+    ensures { IfOk result (λ copy. copy ≡ path.now) }
+{
+    path.clone()
+}
+
 /// The resource that a place of the request names.
 pub(crate) fn place_path(request: &Request, target: &Path, place: Place) -> Result<Path, AllocError>
     ensures { IfOk result (λ p. p ≡ place_path request.now target.now place) }
@@ -121,7 +97,8 @@ pub(crate) fn principal_of(alloc: Global, path: &Path) -> Result<Option<Principa
     match path {
         Path::Person(name) => Ok(Some(Principal::person(alloc, name)?)),
         Path::Group(name) => Ok(Some(Principal::group(alloc, name)?)),
-        _ => Ok(None),
+        Path::Root | Path::People | Path::Groups | Path::Books | Path::Book(_) | Path::Card(_, _) =>
+            Ok(None),
     }
 }
 
@@ -147,31 +124,31 @@ fn check_card(alloc: Global, text: &Text) -> Result<(), Refusal>
 }
 
 /// The body: the text of a card that is put is a card.
-pub(crate) fn check_body(alloc: Global, method: Method, text: &Text) -> Result<(), Refusal>
-    ensures { Meets result (body_of method text.now) }
+pub(crate) fn check_body(alloc: Global, asked: &Asked) -> Result<(), Refusal>
+    ensures { Meets result (body_of asked.now) }
 {
-    match method {
-        Method::Put => check_card(alloc, text),
-        _ => Ok(()),
+    match asked {
+        Asked::Put(text) => check_card(alloc, text),
+        Asked::Get
+        | Asked::Head
+        | Asked::Options
+        | Asked::Propfind
+        | Asked::Proppatch
+        | Asked::Acl
+        | Asked::Copy
+        | Asked::Move
+        | Asked::Delete
+        | Asked::Mkcol
+        | Asked::Report => Ok(()),
     }
 }
 
-/// Whether a book's number can rise, and one more card has room where one is added.
-pub(crate) fn has_room(book: &Option<Node>, mapped: bool) -> bool
-    ensures { result ≡ has_room book.now mapped }
+/// Whether the number of a book can rise.
+pub(crate) fn can_change(book: &Option<Node>) -> bool
+    ensures { result ≡ can_change book.now }
 {
     match book {
-        Some(book) => book.number < LAST_NUMBER && (mapped || book.members < MAX_CARDS),
-        None => false,
-    }
-}
-
-/// Whether the home of the books has room for one more.
-pub(crate) fn has_room_for_a_book(books: &Option<Node>) -> bool
-    ensures { result ≡ has_room_for_a_book books.now }
-{
-    match books {
-        Some(books) => books.members < MAX_BOOKS,
+        Some(book) => book.number < LAST_NUMBER,
         None => false,
     }
 }
@@ -186,38 +163,65 @@ fn owner_of(caller: Caller) -> Option<Principal>
     }
 }
 
-/// The text of the card that is asked for.
-fn card_content(node: Option<Node>) -> Content
-    ensures { result ≡ card_content node }
+/// The text of the card that is asked for. Takes no memory.
+fn text_of(node: Option<Node>) -> Result<Text, Refusal>
+    ensures { result ≡ text_of node }
 {
     match node {
         Some(Node { text, .. }) => match text {
-            Some(text) => Content::Card(text),
-            None => Content::Empty,
+            Some(text) => Ok(text),
+            None => Err(Refusal::NotFound),
         },
-        None => Content::Empty,
+        None => Err(Refusal::NotFound),
     }
 }
 
-/// The reply, and the edit that is to be made. Takes no memory.
-pub(crate) fn success(method: Method, ready: Ready) -> Plan
-    ensures { result ≡ success method ready }
+fn put_edit(caller: Caller, text: Text, path: Path) -> Result<Edit, Refusal>
+    ensures { result ≡ put_edit caller text path }
 {
-    let Ready {
-        caller,
-        text,
-        target,
-    } = ready;
-    let Target { path, node } = target;
-    match method {
-        Method::Get | Method::Head => replied(200, card_content(node), None),
-        Method::Put => {
-            let status = if node.is_some() { 204 } else { 201 };
-            replied(status, Content::Empty, put_edit(caller, text, path))
-        }
-        Method::Delete => replied(204, Content::Empty, delete_edit(path)),
-        Method::Mkcol => replied(201, Content::Empty, mkcol_edit(caller, path)),
-        _ => replied(200, Content::Allow(AllowedMethods::of(path.kind())), None),
+    match path {
+        Path::Card(book, card) => Ok(Edit::PutCard {
+            book,
+            card,
+            owner: owner_of(caller),
+            text,
+        }),
+        Path::Root
+        | Path::People
+        | Path::Groups
+        | Path::Books
+        | Path::Person(_)
+        | Path::Group(_)
+        | Path::Book(_) => Err(Refusal::NotFound),
+    }
+}
+
+fn delete_edit(path: Path) -> Result<Edit, Refusal>
+    ensures { result ≡ delete_edit path }
+{
+    match path {
+        Path::Card(book, card) => Ok(Edit::RemoveCard { book, card }),
+        Path::Book(book) => Ok(Edit::RemoveBook { book }),
+        Path::Root | Path::People | Path::Groups | Path::Books | Path::Person(_) | Path::Group(_) =>
+            Err(Refusal::NotFound),
+    }
+}
+
+fn mkcol_edit(caller: Caller, path: Path) -> Result<Edit, Refusal>
+    ensures { result ≡ mkcol_edit caller path }
+{
+    match path {
+        Path::Book(book) => Ok(Edit::AddBook {
+            book,
+            owner: owner_of(caller),
+        }),
+        Path::Root
+        | Path::People
+        | Path::Groups
+        | Path::Books
+        | Path::Person(_)
+        | Path::Group(_)
+        | Path::Card(_, _) => Err(Refusal::NotFound),
     }
 }
 
@@ -230,38 +234,38 @@ fn replied(status: u16, content: Content, edit: Option<Edit>) -> Plan
     }
 }
 
-fn put_edit(caller: Caller, text: Text, path: Path) -> Option<Edit>
-    ensures { result ≡ put_edit caller text path }
+fn put_status(node: &Option<Node>) -> u16
+    ensures { result ≡ put_status node.now }
 {
-    match path {
-        Path::Card(book, card) => Some(Edit::PutCard {
-            book,
-            card,
-            owner: owner_of(caller),
-            text,
-        }),
-        _ => None,
-    }
+    if node.is_some() { 204 } else { 201 }
 }
 
-fn delete_edit(path: Path) -> Option<Edit>
-    ensures { result ≡ delete_edit path }
+/// The reply, and the edit that is to be made. A method that is not served is refused, whatever the stages before let through.
+/// Takes no memory.
+pub(crate) fn success(ready: Ready) -> Result<Plan, Refusal>
+    ensures { result ≡ success ready }
 {
-    match path {
-        Path::Card(book, card) => Some(Edit::RemoveCard { book, card }),
-        Path::Book(book) => Some(Edit::RemoveBook { book }),
-        _ => None,
-    }
-}
-
-fn mkcol_edit(caller: Caller, path: Path) -> Option<Edit>
-    ensures { result ≡ mkcol_edit caller path }
-{
-    match path {
-        Path::Book(book) => Some(Edit::AddBook {
-            book,
-            owner: owner_of(caller),
-        }),
-        _ => None,
+    let Ready {
+        caller,
+        asked,
+        target,
+    } = ready;
+    let Target { path, node } = target;
+    match asked {
+        Asked::Get | Asked::Head => Ok(replied(200, Content::Card(text_of(node)?), None)),
+        Asked::Options => Ok(replied(200, Content::Allow(AllowedMethods::of(path.kind())), None)),
+        Asked::Put(text) => {
+            let status = put_status(&node);
+            let edit = put_edit(caller, text, path)?;
+            Ok(replied(status, Content::Empty, Some(edit)))
+        }
+        Asked::Delete => Ok(replied(204, Content::Empty, Some(delete_edit(path)?))),
+        Asked::Mkcol => Ok(replied(201, Content::Empty, Some(mkcol_edit(caller, path)?))),
+        Asked::Propfind
+        | Asked::Proppatch
+        | Asked::Acl
+        | Asked::Copy
+        | Asked::Move
+        | Asked::Report => Err(Refusal::NotAllowed(AllowedMethods::of(path.kind()))),
     }
 }

@@ -1,7 +1,7 @@
 -- Which edits raise the epoch.
 use Rattle.std.proofs.Common.{◌≡◌, ◌+◌, true, false, not, cond, refl}
 use Rattle.book_office.specs.declared.edits.Edit.{Edit}
-use Rattle.book_office.specs.declared.edits.Edit.TheVariants.{PutCard, RemoveCard, AddBook, RemoveBook, Adopt}
+use Rattle.book_office.specs.declared.edits.Edit.TheVariants.{PutCard, RemoveCard, CopyCard, MoveCard, AddBook, RemoveBook, Adopt}
 use Rattle.book_values.specs.declared.offices.Office.{Office}
 use Rattle.book_adopting.specs.Adopting.{taken_over}
 use Rattle.book_office.specs.Edits.{apply, raises_epoch}
@@ -10,6 +10,8 @@ use Rattle.book_adopting.specs.Sameness.{same_office}
 pub epoch_after : (o : Office) (edit : Edit) → (apply o edit).epoch ≡ cond (raises_epoch o edit) (o.epoch + 1) o.epoch
 epoch_after o (PutCard b c owner text) = refl
 epoch_after o (RemoveCard b c) = refl
+epoch_after o (CopyCard fb fc tb tc owner) = refl
+epoch_after o (MoveCard fb fc tb tc) = refl
 epoch_after o (AddBook b owner) = refl
 epoch_after o (RemoveBook b) = refl
 epoch_after o (Adopt t) = elim (same_office o (taken_over t o)) as (λ b.

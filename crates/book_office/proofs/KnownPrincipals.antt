@@ -4,10 +4,10 @@ use Rattle.book_lists.specs.declared.entries.Entry.{Entry}
 use Rattle.book_lists.specs.declared.entries.Who.{Who}
 use Rattle.book_lists.specs.declared.entries.Who.TheVariants.{Href, Everyone, Authenticated, Unauthenticated, Owner, Own}
 use Rattle.book_values.specs.declared.offices.Book.{Book}
-use Rattle.book_values.specs.declared.offices.Card.{Card}
+use Rattle.book_values.specs.declared.offices.StoredCard.{StoredCard}
 use Rattle.book_values.specs.declared.offices.Office.{Office}
-use Rattle.book_values.specs.declared.offices.Place.{Place}
-use Rattle.book_office.specs.Sound.{IsMapped, IsOwner, IsKnownForm, IsSoundList, IsSoundPlace, IsSoundCard, IsSoundBook}
+use Rattle.book_values.specs.declared.offices.Properties.{Properties}
+use Rattle.book_office.specs.Sound.{IsMapped, IsOwner, IsKnownForm, IsSoundList, AreSoundProperties, IsSoundCard, IsSoundBook}
 
 module _ (o p : Office) (known : (principal : List ℕ) → IsMapped o principal → IsMapped p principal) where
   owner_known : (owner : Option (List ℕ)) → IsOwner o owner → IsOwner p owner
@@ -25,20 +25,20 @@ module _ (o p : Office) (known : (principal : List ℕ) → IsMapped o principal
   list_known : (list : List Entry) → IsSoundList o list → IsSoundList p list
   list_known list h = record { few = h.few; known = λ k d l. form_known _ (h.known k d l) }
 
-  pub place_known : (place : Place) → IsSoundPlace o place → IsSoundPlace p place
-  place_known place h = record {
-    owner = owner_known place.owner h.owner;
+  pub properties_known : (properties : Properties) → AreSoundProperties o properties → AreSoundProperties p properties
+  properties_known properties h = record {
+    owner = owner_known properties.owner h.owner;
     label = h.label;
-    protected = list_known place.protected h.protected;
-    own = list_known place.own h.own;
+    protected = list_known properties.protected h.protected;
+    own = list_known properties.own h.own;
   }
 
-  pub card_known : (card : Card) → IsSoundCard o card → IsSoundCard p card
+  pub card_known : (card : StoredCard) → IsSoundCard o card → IsSoundCard p card
   card_known card h = record { owner = owner_known card.owner h.owner; label = h.label; own = list_known card.own h.own; text = h.text }
 
   pub book_known : (book : Book) → IsSoundBook o book → IsSoundBook p book
   book_known book h = record {
-    place = place_known book.place h.place;
+    properties = properties_known book.properties h.properties;
     cards = λ name card e. card_known card (h.cards name card e);
     few = h.few;
     changed = h.changed;

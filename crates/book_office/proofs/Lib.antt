@@ -7,5 +7,6 @@ pub mod ProtectedLists
 pub mod SameOffices
 pub mod SoundAdoptions
 pub mod SoundBooks
-pub mod StandingPlaces
+pub mod StandingResources
 pub mod TouchedNames
+pub mod MovedCards

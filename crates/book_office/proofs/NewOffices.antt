@@ -7,8 +7,8 @@ use Rattle.book_lists.specs.Memberships.{membership_cmp}
 use Rattle.book_lists.specs.Names.{name_cmp}
 use Rattle.book_lists.specs.declared.memberships.Membership.{Membership}
 use Rattle.book_values.proofs.OneName.{some_apart}
-use Rattle.book_office.specs.Edits.{empty_office, empty_place}
-use Rattle.book_office.specs.Sound.{IsSound, IsSoundPlace}
+use Rattle.book_office.specs.Edits.{empty_office, empty_properties}
+use Rattle.book_office.specs.Sound.{IsSound, AreSoundProperties}
 use Rattle.book_values.specs.declared.offices.Book.{Book}
 use Rattle.book_values.specs.declared.offices.Office.{Office}
 
@@ -24,8 +24,8 @@ none_kept p = set.same_set memberships_total memberships_exact _ _ (λ q.
 no_pair : {P : Type 0} (pair : Membership) → set.contains (set.empty {R = membership_cmp}) pair ≡ true → P
 no_pair pair e = absurd (let none = set.contains-empty membership_cmp pair in cc)
 
-empty_place_sound : (o : Office) → IsSoundPlace o (empty_place None)
-empty_place_sound o = record {
+empty_properties_sound : (o : Office) → AreSoundProperties o (empty_properties None)
+empty_properties_sound o = record {
   owner = tt;
   label = omega arith;
   protected = record { few = omega arith; known = λ k d l. absurd (omega arith) };
@@ -34,10 +34,10 @@ empty_place_sound o = record {
 
 pub empty_sound : IsSound empty_office
 empty_sound = record {
-  root = empty_place_sound empty_office;
-  people = empty_place_sound empty_office;
-  groups_home = empty_place_sound empty_office;
-  books_home = empty_place_sound empty_office;
+  root = empty_properties_sound empty_office;
+  people = empty_properties_sound empty_office;
+  groups_home = empty_properties_sound empty_office;
+  books_home = empty_properties_sound empty_office;
   persons = λ q k e. nothing_in q k e;
   groups = λ q k e. nothing_in q k e;
   books = λ q k e. nothing_in q k e;

@@ -8,9 +8,9 @@ use Rattle.book_lists.specs.declared.entries.Entry.{Entry}
 use Rattle.book_lists.specs.declared.entries.Here.{Here}
 use Rattle.book_office.specs.declared.nodes.EffectiveEntry.{EffectiveEntry}
 use Rattle.book_values.specs.declared.offices.Book.{Book}
-use Rattle.book_values.specs.declared.offices.Card.{Card}
+use Rattle.book_values.specs.declared.offices.StoredCard.{StoredCard}
 use Rattle.book_values.specs.declared.offices.Office.{Office}
-use Rattle.book_values.specs.declared.offices.Place.{Place}
+use Rattle.book_values.specs.declared.offices.Properties.{Properties}
 use Rattle.book_values.specs.declared.paths.Path.{Path}
 use Rattle.book_values.specs.declared.paths.Path.TheVariants as path
 use Rattle.book_office.specs.Edits.{changed_at, set_list}
@@ -36,16 +36,16 @@ record SameProtected (o p : Office) : Type 0 where
   people : p.people.protected ≡ o.people.protected
   groups_home : p.groups_home.protected ≡ o.groups_home.protected
   books_home : p.books_home.protected ≡ o.books_home.protected
-  persons : (n : List ℕ) → option_map (λ (place : Place). place.protected) (get p.persons n) ≡ option_map (λ (place : Place). place.protected) (get o.persons n)
-  groups : (n : List ℕ) → option_map (λ (place : Place). place.protected) (get p.groups n) ≡ option_map (λ (place : Place). place.protected) (get o.groups n)
-  books : (b : List ℕ) → option_map (λ (book : Book). book.place.protected) (get p.books b) ≡ option_map (λ (book : Book). book.place.protected) (get o.books b)
+  persons : (n : List ℕ) → option_map (λ (properties : Properties). properties.protected) (get p.persons n) ≡ option_map (λ (properties : Properties). properties.protected) (get o.persons n)
+  groups : (n : List ℕ) → option_map (λ (properties : Properties). properties.protected) (get p.groups n) ≡ option_map (λ (properties : Properties). properties.protected) (get o.groups n)
+  books : (b : List ℕ) → option_map (λ (book : Book). book.properties.protected) (get p.books b) ≡ option_map (λ (book : Book). book.properties.protected) (get o.books b)
 
 read_twice : {V R S : Type 0} (f : V → R) (g : R → S) (r : Option V) → option_map g (option_map f r) ≡ option_map (λ v. g (f v)) r
 read_twice f g None = refl
 read_twice f g (Some v) = refl
 
 -- a card has no protected list
-no_protected : (book : Option Book) (resource : Book → Card → Resource) (c : List ℕ) → ((book : Book) (card : Card) → (resource book card).protected ≡ [])
+no_protected : (book : Option Book) (resource : Book → StoredCard → Resource) (c : List ℕ) → ((book : Book) (card : StoredCard) → (resource book card).protected ≡ [])
     → unwrap_or (option_map (λ (r : Resource). r.protected) (option_and_then (λ (book : Book). option_map (resource book) (get book.cards c)) book)) [] ≡ []
 no_protected None resource c h = refl
 no_protected (Some book) resource c h =
@@ -67,7 +67,7 @@ set_list_same o (path.Person n) list = record {
   people = refl;
   groups_home = refl;
   books_home = refl;
-  persons = kept_at (λ (place : Place). record place { own = list }) (λ place. place.protected) (λ _. refl) o.persons n;
+  persons = kept_at (λ (properties : Properties). record properties { own = list }) (λ properties. properties.protected) (λ _. refl) o.persons n;
   groups = λ _. refl;
   books = λ _. refl;
 }
@@ -77,7 +77,7 @@ set_list_same o (path.Group n) list = record {
   groups_home = refl;
   books_home = refl;
   persons = λ _. refl;
-  groups = kept_at (λ (place : Place). record place { own = list }) (λ place. place.protected) (λ _. refl) o.groups n;
+  groups = kept_at (λ (properties : Properties). record properties { own = list }) (λ properties. properties.protected) (λ _. refl) o.groups n;
   books = λ _. refl;
 }
 set_list_same o (path.Book b) list = record {
@@ -87,7 +87,7 @@ set_list_same o (path.Book b) list = record {
   books_home = refl;
   persons = λ _. refl;
   groups = λ _. refl;
-  books = kept_at (λ (book : Book). record book { place = record book.place { own = list } }) (λ book. book.place.protected) (λ _. refl) o.books b;
+  books = kept_at (λ (book : Book). record book { properties = record book.properties { own = list } }) (λ book. book.properties.protected) (λ _. refl) o.books b;
 }
 set_list_same o (path.Card b c) list = record {
   root = refl;
@@ -96,7 +96,7 @@ set_list_same o (path.Card b c) list = record {
   books_home = refl;
   persons = λ _. refl;
   groups = λ _. refl;
-  books = kept_at (λ (book : Book). record book { cards = changed_at (λ (card : Card). record card { own = list }) book.cards c }) (λ book. book.place.protected) (λ _. refl) o.books b;
+  books = kept_at (λ (book : Book). record book { cards = changed_at (λ (card : StoredCard). record card { own = list }) book.cards c }) (λ book. book.properties.protected) (λ _. refl) o.books b;
 }
 set_list_same o p list = record {
   root = refl;

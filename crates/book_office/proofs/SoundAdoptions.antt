@@ -26,27 +26,27 @@ use Rattle.book_policies.specs.declared.parts.PolicyTables.{PolicyTables}
 use Rattle.book_values.proofs.NameMapLaws.{same, is_same}
 use Rattle.book_values.specs.declared.offices.Book.{Book}
 use Rattle.book_values.specs.declared.offices.Office.{Office}
-use Rattle.book_values.specs.declared.offices.Place.{Place}
+use Rattle.book_values.specs.declared.offices.Properties.{Properties}
 use Rattle.book_values.specs.declared.offices.TheConstants.{MAX_BOOKS, LAST_NUMBER}
 use Rattle.book_adopting.specs.Adopting.{labelled, owned, or_else, is_group_of, taken_over, adopt}
 use Rattle.book_office.specs.Fitting.{AdoptFits}
 use Rattle.book_office.specs.Edits.{members_of, new_book}
 use Rattle.book_adopting.specs.TakingOver.{listed, listed_book}
 use Rattle.book_adopting.specs.Sameness.{same_office}
-use Rattle.book_office.specs.Sound.{IsMapped, IsOwner, IsKnownForm, IsSoundList, IsSoundPlace, IsSoundBook, IsSoundPair, IsSound}
+use Rattle.book_office.specs.Sound.{IsMapped, IsOwner, IsKnownForm, IsSoundList, AreSoundProperties, IsSoundBook, IsSoundPair, IsSound}
 use Rattle.book_adopting.proofs.Adoptions.{person_after, book_after, person_there, group_there, book_there, contains_adopted}
-use Rattle.book_office.proofs.KnownPrincipals.{place_known, book_known}
+use Rattle.book_office.proofs.KnownPrincipals.{properties_known, book_known}
 use Rattle.book_values.proofs.OneName.{some_apart, same_some, is_there}
 use Rattle.book_office.proofs.SoundBooks.{new_book_sound}
 
 module _ (t : PolicyTables) where
   -- persons and groups of either are there afterwards
-  kept_after : (at : List ℕ) (label : Option (List ℕ)) (old : Option Place) → old ≢ None → person_after t at label old ≢ None
+  kept_after : (at : List ℕ) (label : Option (List ℕ)) (old : Option Properties) → old ≢ None → person_after t at label old ≢ None
   kept_after at label None there = absurd (there refl)
-  kept_after at None (Some place) there = λ e. some_apart e
-  kept_after at (Some label) (Some place) there = λ e. some_apart e
+  kept_after at None (Some properties) there = λ e. some_apart e
+  kept_after at (Some label) (Some properties) there = λ e. some_apart e
 
-  named_after : (at : List ℕ) (label : Option (List ℕ)) (old : Option Place) → label ≢ None → person_after t at label old ≢ None
+  named_after : (at : List ℕ) (label : Option (List ℕ)) (old : Option Properties) → label ≢ None → person_after t at label old ≢ None
   named_after at None old there = absurd (there refl)
   named_after at (Some label) old there = λ e. some_apart e
 
@@ -111,41 +111,41 @@ module _ (t : PolicyTables) where
     own_list [] old h k = k
     own_list (e ∷ es) old h k = h
 
-    listed_sound : (at : List ℕ) (place : Place) → IsOwner p place.owner → length place.label ≤ MAX_LABEL_BYTES → IsSoundList p place.own → IsSoundPlace p (listed t at place)
-    listed_sound at place owner label own = record {
+    listed_sound : (at : List ℕ) (properties : Properties) → IsOwner p properties.owner → length properties.label ≤ MAX_LABEL_BYTES → IsSoundList p properties.own → AreSoundProperties p (listed t at properties)
+    listed_sound at properties owner label own = record {
       owner = owner;
       label = label;
       protected = policy_list true at;
-      own = own_list (entries_at false at t.entries) place.own (policy_list false at) own;
+      own = own_list (entries_at false at t.entries) properties.own (policy_list false at) own;
     }
 
-    place_sound : (at : List ℕ) (place : Place) → IsSoundPlace o place → IsSoundPlace p (listed t at place)
-    place_sound at place h = let k = place_known o p known place h in listed_sound at place k.owner k.label k.own
+    properties_sound : (at : List ℕ) (properties : Properties) → AreSoundProperties o properties → AreSoundProperties p (listed t at properties)
+    properties_sound at properties h = let k = properties_known o p known properties h in listed_sound at properties k.owner k.label k.own
 
     no_entries : IsSoundList p []
     no_entries = record { few = omega arith; known = λ k d l. absurd (omega arith) }
 
     -- persons and groups
-    person_sound : (at name : List ℕ) (label : Option (List ℕ)) (old : Option Place)
+    person_sound : (at name : List ℕ) (label : Option (List ℕ)) (old : Option Properties)
         → ((l : List ℕ) → label ≡ Some l → IsName name × IsShort l)
-        → ((k : Place) → old ≡ Some k → IsName name × IsSoundPlace o k)
-        → (place : Place) → person_after t at label old ≡ Some place → IsName name × IsSoundPlace p place
-    person_sound at name None None fresh before place e = some_apart (sym e)
-    person_sound at name None (Some k) fresh before place e =
+        → ((k : Properties) → old ≡ Some k → IsName name × AreSoundProperties o k)
+        → (properties : Properties) → person_after t at label old ≡ Some properties → IsName name × AreSoundProperties p properties
+    person_sound at name None None fresh before properties e = some_apart (sym e)
+    person_sound at name None (Some k) fresh before properties e =
         let h = before k refl in
-        (h.0, subst (IsSoundPlace p) (same_some (listed t at k) place e) (place_sound at k h.1))
-    person_sound at name (Some l) None fresh before place e =
+        (h.0, subst (AreSoundProperties p) (same_some (listed t at k) properties e) (properties_sound at k h.1))
+    person_sound at name (Some l) None fresh before properties e =
         let h = fresh l refl in
-        (h.0, subst (IsSoundPlace p) (same_some (listed t at (labelled l None)) place e) (listed_sound at (labelled l None) tt h.1 no_entries))
-    person_sound at name (Some l) (Some k) fresh before place e =
+        (h.0, subst (AreSoundProperties p) (same_some (listed t at (labelled l None)) properties e) (listed_sound at (labelled l None) tt h.1 no_entries))
+    person_sound at name (Some l) (Some k) fresh before properties e =
         let h = fresh l refl in
-        let g = place_known o p known k (before k refl).1 in
-        (h.0, subst (IsSoundPlace p) (same_some (listed t at (labelled l (Some k))) place e) (listed_sound at (labelled l (Some k)) g.owner h.1 g.own))
+        let g = properties_known o p known k (before k refl).1 in
+        (h.0, subst (AreSoundProperties p) (same_some (listed t at (labelled l (Some k))) properties e) (listed_sound at (labelled l (Some k)) g.owner h.1 g.own))
 
-    -- a book with another place
-    replaced : (book : Book) (place : Place) → IsSoundBook p book → IsSoundPlace p place → IsSoundBook p (record book { place = place })
-    replaced book place h good = record {
-      place = good;
+    -- a book with other properties
+    replaced : (book : Book) (properties : Properties) → IsSoundBook p book → AreSoundProperties p properties → IsSoundBook p (record book { properties = properties })
+    replaced book properties h good = record {
+      properties = good;
       cards = h.cards;
       few = h.few;
       changed = h.changed;
@@ -158,10 +158,10 @@ module _ (t : PolicyTables) where
     owned_sound : (at : List ℕ) (named : PolicyBook) (book : Book) → IsShort named.label → IsKnownOwner t.persons t.groups named.owner → IsSoundBook p book
         → IsSoundBook p (listed_book t at (owned named (Some book)))
     owned_sound at named book short owner h =
-        replaced (owned named (Some book)) (listed t at (owned named (Some book)).place)
-        (replaced book (record book.place { owner = named.owner; label = named.label }) h
-        (record { owner = listed_owner named.owner owner; label = short; protected = h.place.protected; own = h.place.own }))
-        (listed_sound at (record book.place { owner = named.owner; label = named.label }) (listed_owner named.owner owner) short h.place.own)
+        replaced (owned named (Some book)) (listed t at (owned named (Some book)).properties)
+        (replaced book (record book.properties { owner = named.owner; label = named.label }) h
+        (record { owner = listed_owner named.owner owner; label = short; protected = h.properties.protected; own = h.properties.own }))
+        (listed_sound at (record book.properties { owner = named.owner; label = named.label }) (listed_owner named.owner owner) short h.properties.own)
 
     book_sound : (at name : List ℕ) (named : Option PolicyBook) (old : Option Book)
         → ((n : PolicyBook) → named ≡ Some n → IsName name × IsShort n.label × IsKnownOwner t.persons t.groups n.owner)
@@ -171,7 +171,7 @@ module _ (t : PolicyTables) where
     book_sound at name None (Some k) fresh before book e =
         let h = before k refl in
         let g = book_known o p known k h.1 in
-        (h.0, subst (IsSoundBook p) (same_some (listed_book t at k) book e) (replaced k (listed t at k.place) g (listed_sound at k.place g.place.owner g.place.label g.place.own)))
+        (h.0, subst (IsSoundBook p) (same_some (listed_book t at k) book e) (replaced k (listed t at k.properties) g (listed_sound at k.properties g.properties.owner g.properties.label g.properties.own)))
     book_sound at name (Some n) None fresh before book e =
         let h = fresh n refl in
         (h.0, subst (IsSoundBook p) (same_some (listed_book t at (owned n None)) book e) (owned_sound at n (new_book None) h.1 h.2 (new_book_sound p None tt)))
@@ -258,16 +258,16 @@ module _ (t : PolicyTables) where
         let r : Office = record p { epoch = epoch } in
         let moved : (principal : List ℕ) → IsMapped p principal → IsMapped r principal = λ _ h. h in
         record {
-          root = place_known p r moved (listed t (codes "/") o.root) (place_sound (codes "/") o.root sound.root);
-          people = place_known p r moved (listed t (codes "/people") o.people) (place_sound (codes "/people") o.people sound.people);
-          groups_home = place_known p r moved (listed t (codes "/groups") o.groups_home) (place_sound (codes "/groups") o.groups_home sound.groups_home);
-          books_home = place_known p r moved (listed t (codes "/books") o.books_home) (place_sound (codes "/books") o.books_home sound.books_home);
-          persons = λ name place e.
-              let h = person_sound (person_path name) name (get t.persons name) (get o.persons name) (pol.persons name) (sound.persons name) place (sym (person_there t o name) ∙ e) in
-              (h.0, place_known p r moved place h.1);
-          groups = λ name place e.
-              let h = person_sound (group_path name) name (get t.groups name) (get o.groups name) (pol.groups name) (sound.groups name) place (sym (group_there t o name) ∙ e) in
-              (h.0, place_known p r moved place h.1);
+          root = properties_known p r moved (listed t (codes "/") o.root) (properties_sound (codes "/") o.root sound.root);
+          people = properties_known p r moved (listed t (codes "/people") o.people) (properties_sound (codes "/people") o.people sound.people);
+          groups_home = properties_known p r moved (listed t (codes "/groups") o.groups_home) (properties_sound (codes "/groups") o.groups_home sound.groups_home);
+          books_home = properties_known p r moved (listed t (codes "/books") o.books_home) (properties_sound (codes "/books") o.books_home sound.books_home);
+          persons = λ name properties e.
+              let h = person_sound (person_path name) name (get t.persons name) (get o.persons name) (pol.persons name) (sound.persons name) properties (sym (person_there t o name) ∙ e) in
+              (h.0, properties_known p r moved properties h.1);
+          groups = λ name properties e.
+              let h = person_sound (group_path name) name (get t.groups name) (get o.groups name) (pol.groups name) (sound.groups name) properties (sym (group_there t o name) ∙ e) in
+              (h.0, properties_known p r moved properties h.1);
           books = λ name book e.
               let h = book_sound (book_path name) name (get t.books name) (get o.books name) (pol.books name) (sound.books name) book (sym (book_there t o name) ∙ e) in
               (h.0, book_known p r moved book h.1);
@@ -286,4 +286,4 @@ adopting_sound t o pol sound few low = elim (same_office o (taken_over t o)) as 
     ] few
 
 pub adopt_fits : AdoptFits
-adopt_fits o t sound pol few low = record { place = tt; sound = adopting_sound t o pol sound few low }
+adopt_fits o t sound pol few low = record { possible = tt; sound = adopting_sound t o pol sound few low }

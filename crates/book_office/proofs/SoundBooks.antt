@@ -3,9 +3,9 @@ use Rattle.std.proofs.Common.{◌≡◌, ◌≢◌, inl, inr, ℕ, ◌+◌, ◌<
 use Rattle.std.specs.FinMap.{get, empty, get-empty, len-empty}
 use Rattle.book_lists.specs.Names.{IsName}
 use Rattle.book_values.specs.Changes.{touched, AreNumbers}
-use Rattle.book_values.specs.declared.changes.Numbers.{Numbers}
+use Rattle.book_values.specs.declared.collections.changes.Numbers.{Numbers}
 use Rattle.book_values.specs.declared.offices.Book.{Book}
-use Rattle.book_values.specs.declared.offices.Card.{Card}
+use Rattle.book_values.specs.declared.offices.StoredCard.{StoredCard}
 use Rattle.book_values.specs.declared.offices.Office.{Office}
 use Rattle.book_values.specs.declared.offices.TheConstants.{MAX_CARDS, LAST_NUMBER}
 use Rattle.book_office.specs.Edits.{place_card, remove_card, new_book}
@@ -38,10 +38,10 @@ module _ (o : Office) (book : Book) (name : List ℕ) (sound : IsSoundBook o boo
   now_changed q is = by_touch q (λ r. r ≢ None) (λ _ e. some_apart e) (λ apart. absurd (apart is))
 
   -- any sound card may be placed at a name, where there is room
-  pub place_sound : (card : Card) → IsName name → IsSoundCard o card → book.changes.number < LAST_NUMBER → HasRoom book name
+  pub placed_sound : (card : StoredCard) → IsName name → IsSoundCard o card → book.changes.number < LAST_NUMBER → HasRoom book name
       → IsSoundBook o (place_card book name card)
-  place_sound card named good low room = record {
-    place = sound.place;
+  placed_sound card named good low room = record {
+    properties = sound.properties;
     cards = λ q k. by_put book.cards name card q (λ r. r ≡ Some k → IsSoundCard o k)
         (λ _ h. subst (IsSoundCard o) (same_some card k h) good)
         (λ _. sound.cards q k);
@@ -57,7 +57,7 @@ module _ (o : Office) (book : Book) (name : List ℕ) (sound : IsSoundBook o boo
 
   pub removed_sound : IsName name → book.changes.number < LAST_NUMBER → IsSoundBook o (remove_card name book)
   removed_sound named low = record {
-    place = sound.place;
+    properties = sound.properties;
     cards = λ q k. by_removed book.cards name q (λ r. r ≡ Some k → IsSoundCard o k) (λ _ h. some_apart (sym h)) (λ _. sound.cards q k);
     few = le_trans (len_removed book.cards name) sound.few;
     changed = λ q k. by_removed book.cards name q (λ r. r ≡ Some k → get after.last q ≢ None)
@@ -79,14 +79,14 @@ nothing_in q v e = some_apart (sym e ∙ get-empty name_cmp q)
 
 pub new_book_sound : (o : Office) (owner : Option (List ℕ)) → IsOwner o owner → IsSoundBook o (new_book owner)
 new_book_sound o owner known = record {
-  place = record {
+  properties = record {
     owner = known;
     label = omega arith;
     protected = record { few = omega arith; known = λ k d l. absurd (omega arith) };
     own = record { few = omega arith; known = λ k d l. absurd (omega arith) };
   };
   cards = λ q k e. nothing_in q k e;
-  few = rw (len-empty name_cmp Card) (omega arith);
+  few = rw (len-empty name_cmp StoredCard) (omega arith);
   changed = λ q k e. nothing_in q k e;
   names = λ q n e. nothing_in q n e;
   within = λ q n e. nothing_in q n e;

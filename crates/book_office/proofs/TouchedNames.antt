@@ -1,5 +1,5 @@
 -- Which names of a book get a new last change.
-use Rattle.std.proofs.Common.{◌≡◌, ◌≢◌, ◌⊎◌, inl, inr, ℕ, ◌+◌, zero, suc, List, [], ◌∷◌, true, false, cond, ◌||◌, fold, Contains, Option, Some, None, is_some, option_map, bytes_eq, refl, sym, ap, ◌∙◌, subst, arith}
+use Rattle.std.proofs.Common.{◌≡◌, ◌≢◌, ◌⊎◌, inl, inr, ℕ, ◌+◌, zero, suc, List, [], ◌∷◌, true, false, cond, ◌||◌, fold, map, filter, Contains, Option, Some, None, is_some, option_map, bytes_eq, refl, sym, ap, ◌∙◌, subst, arith}
 use Rattle.std.proofs.lemmas.Bool.{false_from_ne_true}
 use Rattle.std.proofs.lemmas.Slice.Eq.{bytes_eq-Decides}
 use Rattle.std.proofs.lemmas.Bool.{false≢true}
@@ -13,17 +13,19 @@ use Rattle.book_policies.specs.declared.parts.PolicyTables.{PolicyTables}
 use Rattle.book_adopting.specs.Adopting.{taken_over, adopt}
 use Rattle.book_adopting.specs.Sameness.{same_office}
 use Rattle.book_values.specs.Changes.{touched}
-use Rattle.book_values.specs.declared.changes.Numbers.{Numbers}
-use Rattle.book_office.specs.declared.edits.Edit.TheVariants.{PutCard, RemoveCard, AddBook, RemoveBook, Adopt}
+use Rattle.book_values.specs.declared.collections.changes.Numbers.{Numbers}
+use Rattle.book_office.specs.declared.edits.Edit.TheVariants.{PutCard, RemoveCard, CopyCard, MoveCard, AddBook, RemoveBook, Adopt}
 use Rattle.book_values.specs.declared.offices.Book.{Book}
-use Rattle.book_values.specs.declared.offices.Card.{Card}
+use Rattle.book_values.specs.declared.offices.StoredCard.{StoredCard}
 use Rattle.book_values.specs.declared.offices.Office.{Office}
-use Rattle.book_office.specs.Edits.{with_book, place_card, card_put, put_card, remove_card, new_book, touches}
+use Rattle.book_office.specs.Edits.{with_book, place_card, card_put, put_card, remove_card, card_copied, copy_from, move_to, new_book, touches}
 use Rattle.book_lists.specs.Names.{name_cmp}
-use Rattle.book_office.specs.Touches.{OtherBooksStay, names_in, NamesAreTouchedInTurn, Renumbers, TouchedNamesAloneChange, ChangesOneName, PutCardChangesOneName, RemoveCardChangesOneName, NewBookHasNoChanges, RemovedBookIsGone}
+use Rattle.book_office.specs.Resources.{card_at}
+use Rattle.book_office.specs.Touches.{OtherBooksStay, names_in, NamesAreTouchedInTurn, Renumbers, TouchedNamesAloneChange, ChangesOneName, PutCardChangesOneName, RemoveCardChangesOneName, CopyCardChangesOneName, MoveAcrossChangesANameOfEach, MoveWithinChangesTwoNames, NewBookHasNoChanges, RemovedBookIsGone}
 use Rattle.book_values.proofs.NameMapLaws.{by_names, by_same, same}
 use Rattle.book_adopting.proofs.Adoptions.{book_after, book_there}
-use Rattle.book_values.proofs.OneName.{some_apart, same_some, by_put, by_removed, by_changed, put_here, put_elsewhere, removed_here, removed_elsewhere, changed_here, changed_elsewhere}
+use Rattle.book_office.proofs.MovedCards.{card_is}
+use Rattle.book_values.proofs.OneName.{some_apart, same_some, where_some, by_put, by_removed, by_changed, put_here, put_elsewhere, removed_here, removed_elsewhere, changed_here, changed_elsewhere}
 
 -- the elements of a list
 contains_first : {A : Type 0} (x : A) (xs : List A) (y : A) → y ≡ x → Contains (x ∷ xs) y
@@ -79,6 +81,10 @@ no_key m b h = elim (get m b) as (λ r. get m b ≡ r → r ≡ None) [
 pub other_books_stay : OtherBooksStay
 other_books_stay o (PutCard b' c owner text) b h = changed_elsewhere o.books b' (put_card c owner text) b (apart_from_one b' b h)
 other_books_stay o (RemoveCard b' c) b h = changed_elsewhere o.books b' (remove_card c) b (apart_from_one b' b h)
+other_books_stay o (CopyCard fb fc b' c owner) b h = changed_elsewhere o.books b' (copy_from (card_at o fb fc) c owner) b (apart_from_one b' b h)
+other_books_stay o (MoveCard fb fc tb tc) b h =
+    changed_elsewhere (with_book (remove_card fc) o fb).books tb (move_to (card_at o fb fc) tc) b (λ is. h (contains_later fb (tb ∷ []) b (contains_first tb [] b is)))
+    ∙ changed_elsewhere o.books fb (remove_card fc) b (λ is. h (contains_first fb (tb ∷ []) b is))
 other_books_stay o (AddBook b' owner) b h = put_elsewhere o.books b' (new_book owner) b (apart_from_one b' b h)
 other_books_stay o (RemoveBook b') b h = removed_elsewhere o.books b' b (apart_from_one b' b h)
 other_books_stay o (Adopt t) b h =
@@ -105,16 +111,52 @@ one_touched o change b' c h b old new before = by_changed o.books b' change b (�
     let now : old ≡ new = same_some _ _ (sym before ∙ after) in
     ap (λ (book : Book). book.changes) (sym now) ∙ ap (fold touched old.changes) (sym (names_in_other b b' c apart)))
 
+-- touches of one book, the first and the others
+names_first : (b : List ℕ) (c : Numbers) (x : List ℕ × List ℕ) (ys : List (List ℕ × List ℕ))
+    → fold touched c (names_in b (x ∷ ys)) ≡ fold touched (fold touched c (names_in b (x ∷ []))) (names_in b ys)
+names_first b c x ys = elim (bytes_eq x.0 b) as (λ t.
+    fold touched c (map (λ (touch : List ℕ × List ℕ). touch.1) (cond t (x ∷ filter (λ (touch : List ℕ × List ℕ). bytes_eq touch.0 b) ys) (filter (λ (touch : List ℕ × List ℕ). bytes_eq touch.0 b) ys)))
+    ≡ fold touched (fold touched c (map (λ (touch : List ℕ × List ℕ). touch.1) (cond t (x ∷ []) []))) (names_in b ys)) [ true ↦ refl | false ↦ refl ]
+
+-- a book that is there stays there where one book is changed
+still_there : (o : Office) (change : Book → Book) (b' b : List ℕ) (old : Book) → get o.books b ≡ Some old → (mid : Book) × (get (with_book change o b').books b ≡ Some mid)
+still_there o change b' b old at = by_changed o.books b' change b (λ r. (mid : Book) × (r ≡ Some mid))
+    (λ is. (change old, ap (option_map change) at))
+    (λ _. (old, at))
+
+-- one more book changed, which touches one name of it
+then_touched : (o : Office) (first second : Book → Book) (b' c b'' d : List ℕ) → ((book : Book) → (first book).changes ≡ touched book.changes c)
+    → ((book : Book) → (second book).changes ≡ touched book.changes d)
+    → (b : List ℕ) (old new : Book) → get o.books b ≡ Some old → get (with_book second (with_book first o b') b'').books b ≡ Some new
+    → new.changes ≡ fold touched old.changes (names_in b ((b', c) ∷ (b'', d) ∷ []))
+then_touched o first second b' c b'' d h k b old new before after =
+    let m = still_there o first b' b old before in
+    one_touched (with_book first o b') second b'' d k b m.0 new m.1 after
+    ∙ ap (λ n. fold touched n (names_in b ((b'', d) ∷ []))) (one_touched o first b' c h b old m.0 before m.1)
+    ∙ sym (names_first b old.changes (b', c) ((b'', d) ∷ []))
+
+copy_touches : (card : Option StoredCard) (c : List ℕ) (owner : Option (List ℕ)) → card ≢ None → (book : Book) → (copy_from card c owner book).changes ≡ touched book.changes c
+copy_touches None c owner h book = absurd (h refl)
+copy_touches (Some card) c owner h book = refl
+
+move_touches : (card : Option StoredCard) (c : List ℕ) → card ≢ None → (book : Book) → (move_to card c book).changes ≡ touched book.changes c
+move_touches None c h book = absurd (h refl)
+move_touches (Some card) c h book = refl
+
 pub names_touched_in_turn : NamesAreTouchedInTurn
-names_touched_in_turn o (PutCard b' c owner text) b old new place before = one_touched o (put_card c owner text) b' c (λ _. refl) b old new before
-names_touched_in_turn o (RemoveCard b' c) b old new place before = one_touched o (remove_card c) b' c (λ _. refl) b old new before
+names_touched_in_turn o (PutCard b' c owner text) b old new possible before = one_touched o (put_card c owner text) b' c (λ _. refl) b old new before
+names_touched_in_turn o (RemoveCard b' c) b old new possible before = one_touched o (remove_card c) b' c (λ _. refl) b old new before
+names_touched_in_turn o (CopyCard fb fc b' c owner) b old new possible before =
+    one_touched o (copy_from (card_at o fb fc) c owner) b' c (copy_touches (card_at o fb fc) c owner possible.0) b old new before
+names_touched_in_turn o (MoveCard fb fc tb tc) b old new possible before =
+    then_touched o (remove_card fc) (move_to (card_at o fb fc) tc) fb fc tb tc (λ _. refl) (move_touches (card_at o fb fc) tc possible.0) b old new before
 names_touched_in_turn o (AddBook b' owner) b old new none before = by_put o.books b' (new_book owner) b (λ r. r ≡ Some new → new.changes ≡ old.changes)
     (λ is _. some_apart (sym before ∙ ap (get o.books) is ∙ none))
     (λ _ after. ap (λ (book : Book). book.changes) (same_some _ _ (sym after ∙ before)))
-names_touched_in_turn o (RemoveBook b') b old new place before = by_removed o.books b' b (λ r. r ≡ Some new → new.changes ≡ old.changes)
+names_touched_in_turn o (RemoveBook b') b old new possible before = by_removed o.books b' b (λ r. r ≡ Some new → new.changes ≡ old.changes)
     (λ _ after. some_apart (sym after))
     (λ _ after. ap (λ (book : Book). book.changes) (same_some _ _ (sym after ∙ before)))
-names_touched_in_turn o (Adopt t) b old new place before = λ after.
+names_touched_in_turn o (Adopt t) b old new possible before = λ after.
     book_kept t (book_path b) (get t.books b) old new (ap (book_after t (book_path b) (get t.books b)) (sym before) ∙ sym (book_adopted t o b) ∙ after)
 
 -- names touched in turn
@@ -140,18 +182,18 @@ in_turn_renumbers (name ∷ names) old =
     }
 
 pub touched_names_alone_change : TouchedNamesAloneChange
-touched_names_alone_change o edit b old new place before after =
+touched_names_alone_change o edit b old new possible before after =
     subst (λ changes. Renumbers old.changes changes (names_in b (touches edit)))
-    (sym (names_touched_in_turn o edit b old new place before after))
+    (sym (names_touched_in_turn o edit b old new possible before after))
     (in_turn_renumbers (names_in b (touches edit)) old.changes)
 
-placed_changes : (book : Book) (c : List ℕ) (card : Card) → ChangesOneName book (place_card book c card) c
+placed_changes : (book : Book) (c : List ℕ) (card : StoredCard) → ChangesOneName book (place_card book c card) c
 placed_changes book c card = record {
   number = refl;
   touched = put_here book.changes.last c (book.changes.number + 1);
   others = λ q apart. put_elsewhere book.changes.last c (book.changes.number + 1) q apart;
   cards = λ q apart. put_elsewhere book.cards c card q apart;
-  place = refl;
+  properties = refl;
 }
 
 removed_changes : (book : Book) (c : List ℕ) → ChangesOneName book (remove_card c book) c
@@ -160,12 +202,12 @@ removed_changes book c = record {
   touched = put_here book.changes.last c (book.changes.number + 1);
   others = λ q apart. put_elsewhere book.changes.last c (book.changes.number + 1) q apart;
   cards = λ q apart. removed_elsewhere book.cards c q apart;
-  place = refl;
+  properties = refl;
 }
 
 pub put_card_changes : PutCardChangesOneName
 put_card_changes o b c owner text old at =
-    let card : Card = card_put (get old.cards c) owner text in (
+    let card : StoredCard = card_put (get old.cards c) owner text in (
       put_card c owner text old,
       changed_here o.books b (put_card c owner text) ∙ ap (option_map (put_card c owner text)) at,
       λ none. some_apart (sym (put_here old.cards c card) ∙ none),
@@ -179,6 +221,51 @@ remove_card_changes o b c old at = (
   removed_here old.cards c,
   removed_changes old c,
 )
+
+pub copy_card_changes : CopyCardChangesOneName
+copy_card_changes o fb fc tb tc owner old mapped at = where_some (card_at o fb fc) mapped (λ source is.
+    let card : StoredCard = card_copied (get old.cards tc) owner source.label source.text in (
+      place_card old tc card,
+      changed_here o.books tb (copy_from (card_at o fb fc) tc owner) ∙ ap (option_map (copy_from (card_at o fb fc) tc owner)) at ∙ ap (λ r. Some (copy_from r tc owner old)) is,
+      λ none. some_apart (sym (put_here old.cards tc card) ∙ none),
+      placed_changes old tc card,
+    ))
+
+pub move_across_changes : MoveAcrossChangesANameOfEach
+move_across_changes o fb fc tb tc source target card apart at here beside =
+    let middle : Office = with_book (remove_card fc) o fb in
+    let put : Book → Book = move_to (card_at o fb fc) tc in (
+      remove_card fc source,
+      place_card target tc card,
+      changed_elsewhere middle.books tb put fb apart ∙ changed_here o.books fb (remove_card fc) ∙ ap (option_map (remove_card fc)) at,
+      removed_here source.cards fc,
+      removed_changes source fc,
+      changed_here middle.books tb put ∙ ap (option_map put) (changed_elsewhere o.books fb (remove_card fc) tb (λ is. apart (sym is)) ∙ beside)
+          ∙ ap (λ r. Some (move_to r tc target)) (card_is o fb fc source card at here),
+      put_here target.cards tc card,
+      placed_changes target tc card,
+    )
+
+pub move_within_changes : MoveWithinChangesTwoNames
+move_within_changes o b fc tc old card apart at here =
+    let middle : Office = with_book (remove_card fc) o b in
+    let put : Book → Book = move_to (card_at o b fc) tc in
+    let removed : Book = remove_card fc old in (
+      place_card removed tc card,
+      changed_here middle.books b put ∙ ap (option_map put) (changed_here o.books b (remove_card fc) ∙ ap (option_map (remove_card fc)) at)
+          ∙ ap (λ r. Some (move_to r tc removed)) (card_is o b fc old card at here),
+      put_elsewhere removed.cards tc card fc apart ∙ removed_here old.cards fc,
+      put_here removed.cards tc card,
+      record {
+        number = omega arith;
+        first = put_elsewhere removed.changes.last tc (removed.changes.number + 1) fc apart ∙ put_here old.changes.last fc (old.changes.number + 1);
+        second = put_here removed.changes.last tc (removed.changes.number + 1);
+        others = λ q not_first not_second. put_elsewhere removed.changes.last tc (removed.changes.number + 1) q not_second
+            ∙ put_elsewhere old.changes.last fc (old.changes.number + 1) q not_first;
+        cards = λ q not_first not_second. put_elsewhere removed.cards tc card q not_second ∙ removed_elsewhere old.cards fc q not_first;
+        properties = refl;
+      },
+    )
 
 pub new_book_has_no_changes : NewBookHasNoChanges
 new_book_has_no_changes o b owner =

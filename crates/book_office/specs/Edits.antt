@@ -7,32 +7,32 @@ use Rattle.book_lists.specs.Memberships.{Memberships}
 use Rattle.book_lists.specs.declared.entries.Entry.{Entry}
 use Rattle.book_lists.specs.declared.memberships.Membership.{Membership}
 use Rattle.book_office.specs.declared.edits.Edit.{Edit}
-use Rattle.book_office.specs.declared.edits.Edit.TheVariants.{PutCard, RemoveCard, AddBook, RemoveBook, Adopt}
+use Rattle.book_office.specs.declared.edits.Edit.TheVariants.{PutCard, RemoveCard, CopyCard, MoveCard, AddBook, RemoveBook, Adopt}
 use Rattle.book_values.specs.declared.offices.Book.{Book}
-use Rattle.book_values.specs.declared.offices.Card.{Card}
+use Rattle.book_values.specs.declared.offices.StoredCard.{StoredCard}
 use Rattle.book_values.specs.declared.offices.Office.{Office}
-use Rattle.book_values.specs.declared.offices.Place.{Place}
+use Rattle.book_values.specs.declared.offices.Properties.{Properties}
 use Rattle.book_values.specs.declared.paths.Path.{Path}
 use Rattle.book_values.specs.declared.paths.Path.TheVariants as path
 use Rattle.book_values.specs.Changes.{touched}
 use Rattle.book_adopting.specs.Adopting.{taken_over, adopt}
 use Rattle.book_office.specs.Resources.{card_at}
 use Rattle.book_adopting.specs.Sameness.{same_office}
-pub use Rattle.book_values.specs.Fresh.{empty_place, new_book}
+pub use Rattle.book_values.specs.Fresh.{empty_properties, new_book}
 pub use Rattle.book_values.specs.Names.{changed_if, changed_at}
 
 abbrev pub with_book : (Book → Book) → Office → List ℕ → Office
 with_book change o b = record o { books = changed_at change o.books b }
 
 -- the book with a card at a name, which is touched
-abbrev pub place_card : Book → List ℕ → Card → Book
+abbrev pub place_card : Book → List ℕ → StoredCard → Book
 place_card book c card = record book { cards = insert book.cards c card; changes = touched book.changes c }
 
-abbrev pub with_text : List ℕ → Card → Card
+abbrev pub with_text : List ℕ → StoredCard → StoredCard
 with_text text card = record card { text = text }
 
 -- PUT: a new card has the owner, an empty label and an empty own list; of a card that is there the text is replaced
-abbrev pub card_put : Option Card → Option (List ℕ) → List ℕ → Card
+abbrev pub card_put : Option StoredCard → Option (List ℕ) → List ℕ → StoredCard
 card_put None owner text = record { owner = owner; label = []; own = []; text = text }
 card_put (Some card) owner text = with_text text card
 
@@ -44,19 +44,22 @@ abbrev pub remove_card : List ℕ → Book → Book
 remove_card c book = record book { cards = remove book.cards c; changes = touched book.changes c }
 
 -- COPY: a new card has the source's text and label, the owner and an empty own list; of a card that is there text and label are replaced
-abbrev pub card_copied : Option Card → Option (List ℕ) → Card → Card
-card_copied None owner source = record { owner = owner; label = source.label; own = []; text = source.text }
-card_copied (Some card) owner source = record card { label = source.label; text = source.text }
+abbrev pub card_copied : Option StoredCard → Option (List ℕ) → List ℕ → List ℕ → StoredCard
+card_copied None owner label text = record { owner = owner; label = label; own = []; text = text }
+card_copied (Some card) owner label text = record card { label = label; text = text }
 
-abbrev pub copy_from : Option Card → List ℕ → Option (List ℕ) → Book → Book
+abbrev pub put_copy : List ℕ → Option (List ℕ) → List ℕ → List ℕ → Book → Book
+put_copy c owner label text book = place_card book c (card_copied (get book.cards c) owner label text)
+
+abbrev pub copy_from : Option StoredCard → List ℕ → Option (List ℕ) → Book → Book
 copy_from None c owner book = book
-copy_from (Some source) c owner book = place_card book c (card_copied (get book.cards c) owner source)
+copy_from (Some source) c owner book = put_copy c owner source.label source.text book
 
 abbrev pub copy_card : List ℕ → List ℕ → List ℕ → List ℕ → Option (List ℕ) → Office → Office
 copy_card from_book from_card to_book to_card owner o = with_book (copy_from (card_at o from_book from_card) to_card owner) o to_book
 
 -- MOVE: the source is removed, and then the whole card is put at the destination, in place of a card that is there
-abbrev pub move_to : Option Card → List ℕ → Book → Book
+abbrev pub move_to : Option StoredCard → List ℕ → Book → Book
 move_to None c book = book
 move_to (Some card) c book = place_card book c card
 
@@ -71,32 +74,32 @@ abbrev pub remove_book : List ℕ → Office → Office
 remove_book b o = record o { books = remove o.books b; epoch = o.epoch + 1 }
 
 -- an Office with the owner, label and lists at a path changed; a card's label and list are changed by edits of their own
-abbrev pub with_place : (Place → Place) → Office → Path → Office
-with_place change o path.Root = record o { root = change o.root }
-with_place change o path.People = record o { people = change o.people }
-with_place change o path.Groups = record o { groups_home = change o.groups_home }
-with_place change o path.Books = record o { books_home = change o.books_home }
-with_place change o (path.Person n) = record o { persons = changed_at change o.persons n }
-with_place change o (path.Group n) = record o { groups = changed_at change o.groups n }
-with_place change o (path.Book b) = with_book (λ book. record book { place = change book.place }) o b
-with_place change o (path.Card b c) = o
+abbrev pub with_properties : (Properties → Properties) → Office → Path → Office
+with_properties change o path.Root = record o { root = change o.root }
+with_properties change o path.People = record o { people = change o.people }
+with_properties change o path.Groups = record o { groups_home = change o.groups_home }
+with_properties change o path.Books = record o { books_home = change o.books_home }
+with_properties change o (path.Person n) = record o { persons = changed_at change o.persons n }
+with_properties change o (path.Group n) = record o { groups = changed_at change o.groups n }
+with_properties change o (path.Book b) = with_book (λ book. record book { properties = change book.properties }) o b
+with_properties change o (path.Card b c) = o
 
-abbrev pub with_card : (Card → Card) → Office → List ℕ → List ℕ → Office
+abbrev pub with_card : (StoredCard → StoredCard) → Office → List ℕ → List ℕ → Office
 with_card change o b c = with_book (λ book. record book { cards = changed_at change book.cards c }) o b
 
 -- PROPPATCH of a displayname (RFC 4918, section 15.2): a card's is a change of the card, which touches its name
-abbrev pub label_card : List ℕ → List ℕ → Option Card → Book → Book
+abbrev pub label_card : List ℕ → List ℕ → Option StoredCard → Book → Book
 label_card c label None book = book
 label_card c label (Some card) book = place_card book c (record card { label = label })
 
 abbrev pub set_label : Path → List ℕ → Office → Office
 set_label (path.Card b c) label o = with_book (λ book. label_card c label (get book.cards c) book) o b
-set_label p label o = with_place (λ place. record place { label = label }) o p
+set_label p label o = with_properties (λ properties. record properties { label = label }) o p
 
 -- ACL (RFC 3744, section 8.1): the own list is replaced; no name is touched
 abbrev pub own_list_set : Path → List Entry → Office → Office
 own_list_set (path.Card b c) list o = with_card (λ card. record card { own = list }) o b c
-own_list_set p list o = with_place (λ place. record place { own = list }) o p
+own_list_set p list o = with_properties (λ properties. record properties { own = list }) o p
 
 abbrev pub set_list : Path → List Entry → Office → Office
 set_list p list o = record (own_list_set p list o) { epoch = o.epoch + 1 }
@@ -116,10 +119,10 @@ set_members group members o = record o { pairs = members_set o.pairs group membe
 -- the Office that a new keeper has: the root and the homes
 abbrev pub empty_office : Office
 empty_office = record {
-  root = empty_place None;
-  people = empty_place None;
-  groups_home = empty_place None;
-  books_home = empty_place None;
+  root = empty_properties None;
+  people = empty_properties None;
+  groups_home = empty_properties None;
+  books_home = empty_properties None;
   persons = empty;
   groups = empty;
   books = empty;
@@ -131,6 +134,8 @@ empty_office = record {
 abbrev pub apply : Office → Edit → Office
 apply o (PutCard b c owner text) = with_book (put_card c owner text) o b
 apply o (RemoveCard b c) = with_book (remove_card c) o b
+apply o (CopyCard from_book from_card to_book to_card owner) = copy_card from_book from_card to_book to_card owner o
+apply o (MoveCard from_book from_card to_book to_card) = move_card from_book from_card to_book to_card o
 apply o (AddBook b owner) = add_book b owner o
 apply o (RemoveBook b) = remove_book b o
 apply o (Adopt t) = adopt t o
@@ -139,6 +144,8 @@ apply o (Adopt t) = adopt t o
 abbrev pub raises_epoch : Office → Edit → Bool
 raises_epoch o (PutCard b c owner text) = false
 raises_epoch o (RemoveCard b c) = false
+raises_epoch o (CopyCard from_book from_card to_book to_card owner) = false
+raises_epoch o (MoveCard from_book from_card to_book to_card) = false
 raises_epoch o (AddBook b owner) = false
 raises_epoch o (RemoveBook b) = true
 raises_epoch o (Adopt t) = not (same_office o (taken_over t o))
@@ -147,6 +154,8 @@ raises_epoch o (Adopt t) = not (same_office o (taken_over t o))
 abbrev pub touches : Edit → List (List ℕ × List ℕ)
 touches (PutCard b c owner text) = (b, c) ∷ []
 touches (RemoveCard b c) = (b, c) ∷ []
+touches (CopyCard from_book from_card to_book to_card owner) = (to_book, to_card) ∷ []
+touches (MoveCard from_book from_card to_book to_card) = (from_book, from_card) ∷ (to_book, to_card) ∷ []
 touches (AddBook b owner) = []
 touches (RemoveBook b) = []
 touches (Adopt t) = []

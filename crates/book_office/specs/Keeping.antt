@@ -16,9 +16,9 @@ pub data Leftover : Type 0 where
 pub record Standing : Type 1 where
   -- nobody else has written its store, and the disk has returned what was written
   pub honest : Type 0
-  -- the Offices for which it stands: one, while its store can be read
+  -- each Office for which it stands, while its store can be read
   pub stands : Office → Type 0
-  -- they are sound
+  -- each is sound
   pub sound : (o : Office) → stands o → IsSound o
   -- what a stop now may leave
   pub left : Leftover → Type 0

@@ -4,7 +4,8 @@ pub mod Keeping
 pub mod Laws
 pub mod Levels
 pub mod OwnLists
-pub mod Places
+pub mod ResourceTree
 pub mod Resources
 pub mod Sound
 pub mod Touches
+pub mod Moving

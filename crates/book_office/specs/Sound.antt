@@ -9,11 +9,11 @@ use Rattle.book_lists.specs.declared.memberships.Membership.{Membership}
 use Rattle.book_lists.specs.Names.{IsName}
 use Rattle.book_lists.specs.Principals.{person_path, group_path}
 use Rattle.book_office.specs.declared.edits.Edit.{Edit}
-use Rattle.book_office.specs.declared.edits.Edit.TheVariants.{PutCard, RemoveCard, AddBook, RemoveBook, Adopt}
+use Rattle.book_office.specs.declared.edits.Edit.TheVariants.{PutCard, RemoveCard, CopyCard, MoveCard, AddBook, RemoveBook, Adopt}
 use Rattle.book_values.specs.declared.offices.Book.{Book}
-use Rattle.book_values.specs.declared.offices.Card.{Card}
+use Rattle.book_values.specs.declared.offices.StoredCard.{StoredCard}
 use Rattle.book_values.specs.declared.offices.Office.{Office}
-use Rattle.book_values.specs.declared.offices.Place.{Place}
+use Rattle.book_values.specs.declared.offices.Properties.{Properties}
 use Rattle.book_values.specs.declared.offices.TheConstants.{MAX_CARD_BYTES, MAX_CARDS, MAX_BOOKS, LAST_NUMBER}
 use Rattle.book_values.specs.declared.limits.TheConstants.{MAX_LABEL_BYTES, MAX_ENTRIES, MAX_MEMBERS}
 use Rattle.book_office.specs.Edits.{apply, members_of}
@@ -47,24 +47,24 @@ pub record IsSoundList (o : Office) (list : List Entry) : Type 0 where
   pub few : length list ≤ MAX_ENTRIES
   pub known : All (λ (entry : Entry). IsKnownForm o entry.who) list
 
-pub record IsSoundPlace (o : Office) (place : Place) : Type 0 where
-  pub owner : IsOwner o place.owner
-  pub label : length place.label ≤ MAX_LABEL_BYTES
-  pub protected : IsSoundList o place.protected
-  pub own : IsSoundList o place.own
+pub record AreSoundProperties (o : Office) (properties : Properties) : Type 0 where
+  pub owner : IsOwner o properties.owner
+  pub label : length properties.label ≤ MAX_LABEL_BYTES
+  pub protected : IsSoundList o properties.protected
+  pub own : IsSoundList o properties.own
 
-pub record IsSoundCard (o : Office) (card : Card) : Type 0 where
+pub record IsSoundCard (o : Office) (card : StoredCard) : Type 0 where
   pub owner : IsOwner o card.owner
   pub label : length card.label ≤ MAX_LABEL_BYTES
   pub own : IsSoundList o card.own
   pub text : length card.text ≤ MAX_CARD_BYTES
 
 pub record IsSoundBook (o : Office) (book : Book) : Type 0 where
-  pub place : IsSoundPlace o book.place
-  pub cards : (name : List ℕ) (card : Card) → get book.cards name ≡ Some card → IsSoundCard o card
+  pub properties : AreSoundProperties o book.properties
+  pub cards : (name : List ℕ) (card : StoredCard) → get book.cards name ≡ Some card → IsSoundCard o card
   pub few : len book.cards ≤ MAX_CARDS
   -- every card has a last change, and every name that changed is a name
-  pub changed : (name : List ℕ) (card : Card) → get book.cards name ≡ Some card → get book.changes.last name ≢ None
+  pub changed : (name : List ℕ) (card : StoredCard) → get book.cards name ≡ Some card → get book.changes.last name ≢ None
   pub names : (name : List ℕ) (n : ℕ) → get book.changes.last name ≡ Some n → IsName name
   -- numbers are from 1 to the book's, and all different
   pub within : (name : List ℕ) (n : ℕ) → get book.changes.last name ≡ Some n → (1 ≤ n) × (n ≤ book.changes.number)
@@ -77,12 +77,12 @@ pub record IsSoundPair (o : Office) (pair : Membership) : Type 0 where
   pub member : IsMapped o pair.member
 
 pub record IsSound (o : Office) : Type 0 where
-  pub root : IsSoundPlace o o.root
-  pub people : IsSoundPlace o o.people
-  pub groups_home : IsSoundPlace o o.groups_home
-  pub books_home : IsSoundPlace o o.books_home
-  pub persons : (name : List ℕ) (place : Place) → get o.persons name ≡ Some place → IsName name × IsSoundPlace o place
-  pub groups : (name : List ℕ) (place : Place) → get o.groups name ≡ Some place → IsName name × IsSoundPlace o place
+  pub root : AreSoundProperties o o.root
+  pub people : AreSoundProperties o o.people
+  pub groups_home : AreSoundProperties o o.groups_home
+  pub books_home : AreSoundProperties o o.books_home
+  pub persons : (name : List ℕ) (properties : Properties) → get o.persons name ≡ Some properties → IsName name × AreSoundProperties o properties
+  pub groups : (name : List ℕ) (properties : Properties) → get o.groups name ≡ Some properties → IsName name × AreSoundProperties o properties
   pub books : (name : List ℕ) (book : Book) → get o.books name ≡ Some book → IsName name × IsSoundBook o book
   pub few : len o.books ≤ MAX_BOOKS
   pub pairs : (pair : Membership) → set.contains o.pairs pair ≡ true → IsSoundPair o pair
@@ -90,14 +90,17 @@ pub record IsSound (o : Office) : Type 0 where
   pub epoch : o.epoch ≤ LAST_NUMBER
 
 -- what an edit names as present is mapped, and what it adds is not, and has a mapped parent
-abbrev pub HasPlace : Office → Edit → Type 0
-HasPlace o (PutCard b c owner text) = get o.books b ≢ None
-HasPlace o (RemoveCard b c) = card_at o b c ≢ None
-HasPlace o (AddBook b owner) = get o.books b ≡ None
-HasPlace o (RemoveBook b) = get o.books b ≢ None
-HasPlace o (Adopt t) = Unit {0}
+abbrev pub IsPossible : Office → Edit → Type 0
+IsPossible o (PutCard b c owner text) = get o.books b ≢ None
+IsPossible o (RemoveCard b c) = card_at o b c ≢ None
+IsPossible o (CopyCard from_book from_card to_book to_card owner) = (card_at o from_book from_card ≢ None) × (get o.books to_book ≢ None)
+IsPossible o (MoveCard from_book from_card to_book to_card) =
+    (card_at o from_book from_card ≢ None) × (get o.books to_book ≢ None) × (from_book ≡ to_book → from_card ≢ to_card)
+IsPossible o (AddBook b owner) = get o.books b ≡ None
+IsPossible o (RemoveBook b) = get o.books b ≢ None
+IsPossible o (Adopt t) = Unit {0}
 
--- an edit fits where it has its place, and leaves a sound Office
+-- an edit fits where it is possible, and leaves a sound Office
 pub record Fits (o : Office) (edit : Edit) : Type 0 where
-  pub place : HasPlace o edit
+  pub possible : IsPossible o edit
   pub sound : IsSound (apply o edit)

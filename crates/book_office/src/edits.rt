@@ -21,6 +21,23 @@ pub enum Edit {
         book: Name,
         card: Name,
     },
+    /// COPY: the text and the label of a card. A new card gets the owner and an empty own list; a card that is there keeps
+    /// its owner and its own list.
+    CopyCard {
+        from_book: Name,
+        from_card: Name,
+        to_book: Name,
+        to_card: Name,
+        owner: Option<Principal>,
+    },
+    /// MOVE: the whole card, in place of a card that is there. The name that it had is kept as removed. The destination is
+    /// another path than the source.
+    MoveCard {
+        from_book: Name,
+        from_card: Name,
+        to_book: Name,
+        to_card: Name,
+    },
     /// MKCOL: a book with an empty label, empty lists and the number 0.
     AddBook {
         book: Name,

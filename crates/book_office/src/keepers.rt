@@ -5,13 +5,13 @@ ghost use Rattle.book_lists.specs.Callers.{IsCircle};
 ghost use Rattle.book_office.specs.declared.keepers.StoreFault.TheVariants.{Memory};
 ghost use Rattle.book_adopting.specs.Adopting.{adoption_of};
 ghost use Rattle.book_office.specs.Keeping.{Standing, Reads, Edits};
-ghost use Rattle.book_office.specs.Resources.{node_at, children_at};
+ghost use Rattle.book_office.specs.Resources.{node_at, children_at, count_at, changed_after};
 ghost use Rattle.book_office.specs.Levels.{lists_at};
 
 use crate::edits::Edit;
-use crate::nodes::{Listed, Lists, Node};
+use crate::nodes::{Changed, Listed, Lists, Node};
 use book_adopting::Adoption;
-use book_lists::{Caller, Circle, Pairs};
+use book_lists::{Caller, Circle, Name, Pairs};
 use book_policies::Policy;
 use book_values::{Items, Path};
 use std::alloc::{AllocError, Global};
@@ -48,9 +48,24 @@ pub trait Keeper {
     fn children(&mut self, alloc: Global, path: &Path) -> Result<Items<Listed>, StoreFault>
         ensures { Reads (standing self.old) (standing self.new) result (λ o children. children ≡ children_at o path.now) };
 
+    /// How many children a path has; 0 where none is mapped there. It is asked only where a name is added, so that no other
+    /// request makes a store count the cards of a book.
+    fn count(&mut self, alloc: Global, path: &Path) -> Result<usize, StoreFault>
+        ensures { Reads (standing self.old) (standing self.new) result (λ o count. count ≡ count_at o path.now) };
+
     /// The lists of the resource at a path and of each ancestor; the lists of a path that is not mapped are empty.
     fn lists(&mut self, alloc: Global, path: &Path) -> Result<Lists, StoreFault>
         ensures { Reads (standing self.old) (standing self.new) result (λ o lists. lists ≡ lists_at o path.now) };
+
+    /// The last changes of a book above a number, in order of number, each with the card that has the name; none where there
+    /// is no such book.
+    fn changes_after(
+        &mut self,
+        alloc: Global,
+        book: &Name,
+        number: u64,
+    ) -> Result<Items<Changed>, StoreFault>
+        ensures { Reads (standing self.old) (standing self.new) result (λ o changes. changes ≡ changed_after o book.now number) };
 
     /// The direct members of all groups.
     fn pairs(&mut self, alloc: Global) -> Result<Pairs, StoreFault>

@@ -1,10 +1,10 @@
 //! What the definitions of an Office imply, stated on public functions since only what a contract names is proved.
 
-ghost use Rattle.book_office.specs.Fitting.{PutCardFits, RemoveCardFits, AddBookFits, RemoveBookFits, AdoptFits};
+ghost use Rattle.book_office.specs.Fitting.{PutCardFits, RemoveCardFits, CopyCardFits, MoveCardFits, AddBookFits, RemoveBookFits, AdoptFits};
 ghost use Rattle.book_office.specs.Laws.{EpochLaw, OfficeIsItsResources};
 ghost use Rattle.book_office.specs.OwnLists.{ProtectedListsStay, ProtectedEntriesStay, ProtectedDecisionsStay};
-ghost use Rattle.book_office.specs.Places.{HomesAreThere, ResourcesStandInPlace, RemovedNamesAreFree, NumbersAreFromOneToTheBooks, NumbersTellNames};
-ghost use Rattle.book_office.specs.Touches.{OtherBooksStay, NamesAreTouchedInTurn, TouchedNamesAloneChange, PutCardChangesOneName, RemoveCardChangesOneName, NewBookHasNoChanges, RemovedBookIsGone};
+ghost use Rattle.book_office.specs.ResourceTree.{HomesAreThere, ResourcesStandInPlace, RemovedNamesAreFree, NumbersAreFromOneToTheBooks, NumbersTellNames};
+ghost use Rattle.book_office.specs.Touches.{OtherBooksStay, NamesAreTouchedInTurn, TouchedNamesAloneChange, PutCardChangesOneName, RemoveCardChangesOneName, CopyCardChangesOneName, MoveAcrossChangesANameOfEach, MoveWithinChangesTwoNames, NewBookHasNoChanges, RemovedBookIsGone};
 
 /// The epoch rises by one with each edit that changes access, and with no other.
 pub fn access_changes_raise_the_epoch()
@@ -16,6 +16,8 @@ pub fn access_changes_raise_the_epoch()
 pub fn edits_within_the_limits_fit()
     ensures put_card { PutCardFits }
     ensures remove_card { RemoveCardFits }
+    ensures copy_card { CopyCardFits }
+    ensures move_card { MoveCardFits }
     ensures add_book { AddBookFits }
     ensures remove_book { RemoveBookFits }
     ensures adopt { AdoptFits }
@@ -41,6 +43,9 @@ pub fn touched_names_alone_change()
     ensures alone { TouchedNamesAloneChange }
     ensures put_card { PutCardChangesOneName }
     ensures remove_card { RemoveCardChangesOneName }
+    ensures copy_card { CopyCardChangesOneName }
+    ensures move_across { MoveAcrossChangesANameOfEach }
+    ensures move_within { MoveWithinChangesTwoNames }
     ensures add_book { NewBookHasNoChanges }
     ensures remove_book { RemovedBookIsGone }
     ensures other_books { OtherBooksStay }
@@ -51,7 +56,7 @@ pub fn touched_names_alone_change()
 /// and removed, and the numbers of its names are all different, at least 1 and at most the book's.
 pub fn resources_stand_in_place()
     ensures homes { HomesAreThere }
-    ensures places { ResourcesStandInPlace }
+    ensures principals { ResourcesStandInPlace }
     ensures removed { RemovedNamesAreFree }
     ensures within { NumbersAreFromOneToTheBooks }
     ensures different { NumbersTellNames }

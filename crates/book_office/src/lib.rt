@@ -13,6 +13,7 @@ mod edits;
 mod keepers;
 mod laws;
 mod memory_keepers;
+mod moving;
 mod nodes;
 mod reads;
 mod views;
@@ -22,9 +23,9 @@ pub use book_policies::{
     BookPart, EntryPart, GroupPart, PersonPart, Policy, PolicyBook, PolicyEntry, PolicyTables,
 };
 pub use book_values::{
-    Book, Card, Changes, Items, Kind, LAST_NUMBER, MAX_BOOKS, MAX_CARD_BYTES, MAX_CARDS,
-    MAX_ENTRIES, MAX_LABEL_BYTES, MAX_MEMBERS, MAX_NAMED, NameMap, Numbers, Office, Path,
-    PathFault, Place, Text,
+    Book, Changes, Items, Kind, LAST_NUMBER, MAX_BOOKS, MAX_CARD_BYTES, MAX_CARDS, MAX_ENTRIES,
+    MAX_LABEL_BYTES, MAX_MEMBERS, MAX_NAMED, NameMap, Numbers, Office, Path, PathFault, Properties,
+    StoredCard, Text,
 };
 pub use edits::Edit;
 pub use keepers::{Keeper, StoreFault};
@@ -33,5 +34,5 @@ pub use laws::{
     resources_stand_in_place, resources_tell_the_office, touched_names_alone_change,
 };
 pub use memory_keepers::MemoryKeeper;
-pub use nodes::{EffectiveEntry, Level, Listed, Lists, Node};
+pub use nodes::{Changed, EffectiveEntry, Level, Listed, Lists, Node};
 pub use views::effective;

@@ -1,19 +1,19 @@
 //! The keeper in memory.
 
 ghost use Rattle.std.specs.Prelude.{◌≡◌};
-ghost use Rattle.book_office.specs.Edits.{empty_office, empty_place};
+ghost use Rattle.book_office.specs.Edits.{empty_office, empty_properties};
 ghost use Rattle.book_office.specs.Keeping.{in_memory};
 ghost use Rattle.book_office.specs.Sound.{IsSound};
 
 use crate::changing::act;
 use crate::edits::Edit;
 use crate::keepers::{Keeper, StoreFault};
-use crate::nodes::{Listed, Lists, Node};
-use crate::reads::{children, find, lists};
+use crate::nodes::{Changed, Listed, Lists, Node};
+use crate::reads::{changed, children, count, find, lists};
 use book_adopting::{Adoption, adoption_of};
-use book_lists::{Caller, Circle, Pairs, expand};
+use book_lists::{Caller, Circle, Name, Pairs, expand};
 use book_policies::Policy;
-use book_values::{Items, NameMap, Office, Path, Place};
+use book_values::{Items, NameMap, Office, Path, Properties};
 use std::alloc::{AllocError, Global};
 use std::marker::Model;
 
@@ -46,10 +46,10 @@ impl MemoryKeeper {
     {
         MemoryKeeper {
             office: Office {
-                root: Place::empty(alloc, None),
-                people: Place::empty(alloc, None),
-                groups_home: Place::empty(alloc, None),
-                books_home: Place::empty(alloc, None),
+                root: Properties::empty(alloc, None),
+                people: Properties::empty(alloc, None),
+                groups_home: Properties::empty(alloc, None),
+                books_home: Properties::empty(alloc, None),
                 persons: NameMap::new(alloc),
                 groups: NameMap::new(alloc),
                 books: NameMap::new(alloc),
@@ -78,8 +78,21 @@ impl Keeper for MemoryKeeper {
         Ok(children(alloc, &self.office, path)?)
     }
 
+    fn count(&mut self, _alloc: Global, path: &Path) -> Result<usize, StoreFault> {
+        Ok(count(&self.office, path))
+    }
+
     fn lists(&mut self, alloc: Global, path: &Path) -> Result<Lists, StoreFault> {
         Ok(lists(alloc, &self.office, path)?)
+    }
+
+    fn changes_after(
+        &mut self,
+        alloc: Global,
+        book: &Name,
+        number: u64,
+    ) -> Result<Items<Changed>, StoreFault> {
+        Ok(changed(alloc, &self.office, book, number)?)
     }
 
     fn pairs(&mut self, _alloc: Global) -> Result<Pairs, StoreFault> {

@@ -1,7 +1,7 @@
 //! What a keeper tells of resources.
 
 use book_lists::{Entry, Name, Principal};
-use book_values::{Items, Kind, Path, Text};
+use book_values::{Items, Kind, Path, StoredCard, Text};
 
 /// A resource without its lists.
 #[derive(Debug, Drop)]
@@ -12,21 +12,40 @@ pub struct Node {
     pub owner: Option<Principal>,
     /// Its label, at most 256 bytes.
     pub label: Text,
-    /// A card's text; none for other kinds, and none in a listing of children.
+    /// A card's text; none for other kinds.
     pub text: Option<Text>,
     /// The number of a card's last change, or of a book's; else 0.
     pub number: u64,
-    /// How many children it has.
-    pub members: usize,
 }
 
-/// A child in a listing: its name, and its node without the text, which `Keeper::find` gives.
+/// A child in a listing, with the lists that stand at it. A card's text is not told: `Keeper::find` gives it.
 #[derive(Debug, Drop)]
 pub struct Listed {
-    /// The child's own name, the last of its path.
+    /// Its own name, the last of its path.
     pub name: Name,
-    /// The child.
-    pub node: Node,
+    /// Which kind of resource it is.
+    pub kind: Kind,
+    /// The person or group that owns it.
+    pub owner: Option<Principal>,
+    /// Its label, at most 256 bytes.
+    pub label: Text,
+    /// The number of a card's last change, or of a book's; else 0.
+    pub number: u64,
+    /// The protected list that stands at it.
+    pub protected: Items<Entry>,
+    /// The own list that stands at it.
+    pub own: Items<Entry>,
+}
+
+/// The last change of a name of a book, with the card that has the name.
+#[derive(Debug, Drop)]
+pub struct Changed {
+    /// Its number.
+    pub number: u64,
+    /// The name.
+    pub name: Name,
+    /// The card, text and own list included; none where the name was removed.
+    pub card: Option<StoredCard>,
 }
 
 /// The lists that stand at one path.

@@ -1,59 +1,54 @@
 //! What an Office in memory has.
 
 ghost use Rattle.std.specs.Prelude.{◌≡◌, [], IfOk, option_map, unwrap_or};
-ghost use Rattle.std.specs.FinMap.{entries, get, len};
+ghost use Rattle.std.specs.FinMap.{entries, get};
 ghost use Rattle.std.specs.Option.{option_copied};
 ghost use Rattle.book_lists.specs.Names.{IsName};
+ghost use Rattle.book_values.specs.Changes.{changes_after};
 ghost use Rattle.book_office.specs.Levels.{level_at, lists_at, own_at, protected_at};
-ghost use Rattle.book_office.specs.Resources.{book_resource, card_at, card_in, card_resource, children_at, listed_books, listed_cards, listed_home, listed_homes, listed_places, node_at, node_of, number_of, place_at, place_resource, without_text};
+ghost use Rattle.book_office.specs.Resources.{changed_after, changed_in, book_resource, card_at, card_in, card_resource, children_at, count_at, listed, listed_books, listed_cards, listed_home, listed_homes, listed_principals, node_at, node_of, number_of, properties_at, properties_resource};
 ghost use Rattle.book_values.specs.declared.paths.Kind.TheVariants as kind;
 
-use crate::nodes::{Level, Listed, Lists, Node};
+use crate::nodes::{Changed, Level, Listed, Lists, Node};
 use book_lists::{Entry, Name};
-use book_values::{Book, Card, Items, Kind, NameMap, Office, Path, Place};
+use book_values::{Book, Items, Kind, NameMap, Office, Path, Properties, StoredCard};
 use std::alloc::{AllocError, Global};
 
 /// The node of a resource other than a card.
-fn place_node(place: &Place, kind: Kind, number: u64, members: usize) -> Result<Node, AllocError>
-    ensures { IfOk result (λ node. node ≡ node_of members (place_resource kind number place.now)) }
+fn properties_node(properties: &Properties, kind: Kind, number: u64) -> Result<Node, AllocError>
+    ensures { IfOk result (λ node. node ≡ node_of (properties_resource kind number properties.now)) }
 {
-    let owner = place.owner.clone()?;
-    let label = place.label.clone()?;
+    let owner = properties.owner.clone()?;
+    let label = properties.label.clone()?;
     Ok(Node {
         kind,
         owner,
         label,
         text: None,
         number,
-        members,
     })
 }
 
 /// The node of a book.
 fn book_node(book: &Book) -> Result<Node, AllocError>
-    ensures { IfOk result (λ node. node ≡ node_of (len book.now.cards) (book_resource book.now)) }
+    ensures { IfOk result (λ node. node ≡ node_of (book_resource book.now)) }
 {
-    place_node(
-        &book.place,
-        Kind::Book,
-        book.changes.number(),
-        book.cards.len(),
-    )
+    properties_node(&book.properties, Kind::Book, book.changes.number())
 }
 
-/// The node of a card without its text.
-fn bare_card_node(card: &Card, number: u64) -> Result<Node, AllocError>
-    ensures { IfOk result (λ node. node ≡ without_text (node_of 0 (card_resource number card.now))) }
+/// The node of a card.
+fn card_node(card: &StoredCard, number: u64) -> Result<Node, AllocError>
+    ensures { IfOk result (λ node. node ≡ node_of (card_resource number card.now)) }
 {
     let owner = card.owner.clone()?;
     let label = card.label.clone()?;
+    let text = card.text.clone()?;
     Ok(Node {
         kind: Kind::Card,
         owner,
         label,
-        text: None,
+        text: Some(text),
         number,
-        members: 0,
     })
 }
 
@@ -66,39 +61,86 @@ fn number_in(book: &Book, name: &Name) -> u64
 
 /// The node of the card of a name, if there is one.
 fn find_card(book: &Book, name: &Name) -> Result<Option<Node>, AllocError>
-    ensures { IfOk result (λ node. node ≡ option_map (node_of 0) (card_in book.now name.now)) }
+    ensures { IfOk result (λ node. node ≡ option_map node_of (card_in book.now name.now)) }
 {
-    let Some(card) = book.cards.get(name) else {
-        return Ok(None);
-    };
-    let mut node = bare_card_node(card, number_in(book, name))?;
-    node.text = Some(card.text.clone()?);
-    Ok(Some(node))
-}
-
-/// The node of a person or a group, if there is one.
-fn find_place(places: &NameMap<Place>, name: &Name, kind: Kind) -> Result<Option<Node>, AllocError>
-    ensures { IfOk result (λ node. node ≡ option_map (λ place. node_of 0 (place_resource kind 0 place)) (get places.now name.now)) }
-{
-    match places.get(name) {
-        Some(place) => Ok(Some(place_node(place, kind, 0, 0)?)),
+    match book.cards.get(name) {
+        Some(card) => Ok(Some(card_node(card, number_in(book, name))?)),
         None => Ok(None),
     }
 }
 
-/// The persons or the groups, in byte order of their names.
-fn list_places(
+/// The node of a person or a group, if there is one.
+fn find_principal(
+    principals: &NameMap<Properties>,
+    name: &Name,
+    kind: Kind,
+) -> Result<Option<Node>, AllocError>
+    ensures { IfOk result (λ node. node ≡ option_map (λ properties. node_of (properties_resource kind 0 properties)) (get principals.now name.now)) }
+{
+    match principals.get(name) {
+        Some(properties) => Ok(Some(properties_node(properties, kind, 0)?)),
+        None => Ok(None),
+    }
+}
+
+/// A resource other than a card in a listing.
+fn listed_properties(
+    name: &Name,
+    properties: &Properties,
+    kind: Kind,
+    number: u64,
+) -> Result<Listed, AllocError>
+    ensures { IfOk result (λ child. child ≡ listed name.now (properties_resource kind number properties.now)) }
+{
+    Ok(Listed {
+        name: name.clone()?,
+        kind,
+        owner: properties.owner.clone()?,
+        label: properties.label.clone()?,
+        number,
+        protected: properties.protected.clone()?,
+        own: properties.own.clone()?,
+    })
+}
+
+/// A book in a listing.
+fn listed_book(name: &Name, book: &Book) -> Result<Listed, AllocError>
+    ensures { IfOk result (λ child. child ≡ listed name.now (book_resource book.now)) }
+{
+    listed_properties(name, &book.properties, Kind::Book, book.changes.number())
+}
+
+/// A card in a listing.
+fn listed_card(
     alloc: Global,
-    places: &NameMap<Place>,
+    name: &Name,
+    card: &StoredCard,
+    number: u64,
+) -> Result<Listed, AllocError>
+    ensures { IfOk result (λ child. child ≡ listed name.now (card_resource number card.now)) }
+{
+    Ok(Listed {
+        name: name.clone()?,
+        kind: Kind::Card,
+        owner: card.owner.clone()?,
+        label: card.label.clone()?,
+        number,
+        protected: Items::new(alloc),
+        own: card.own.clone()?,
+    })
+}
+
+/// The persons or the groups, in byte order of their names.
+fn list_principals(
+    alloc: Global,
+    principals: &NameMap<Properties>,
     kind: Kind,
 ) -> Result<Items<Listed>, AllocError>
-    ensures { IfOk result (λ children. children ≡ listed_places kind (entries places.now)) }
+    ensures { IfOk result (λ children. children ≡ listed_principals kind (entries principals.now)) }
 {
-    let mut children = Vec::with_capacity(alloc, places.len())?;
-    for (name, place) in places.iter() {
-        let name = name.clone()?;
-        let node = place_node(place, kind, 0, 0)?;
-        children.push(Listed { name, node })?;
+    let mut children = Vec::with_capacity(alloc, principals.len())?;
+    for (name, properties) in principals.iter() {
+        children.push(listed_properties(name, properties, kind, 0)?)?;
     }
     Ok(Items::from_vec(children))
 }
@@ -109,9 +151,7 @@ fn list_books(alloc: Global, books: &NameMap<Book>) -> Result<Items<Listed>, All
 {
     let mut children = Vec::with_capacity(alloc, books.len())?;
     for (name, book) in books.iter() {
-        let name = name.clone()?;
-        let node = book_node(book)?;
-        children.push(Listed { name, node })?;
+        children.push(listed_book(name, book)?)?;
     }
     Ok(Items::from_vec(children))
 }
@@ -122,21 +162,18 @@ fn list_cards(alloc: Global, book: &Book) -> Result<Items<Listed>, AllocError>
 {
     let mut children = Vec::with_capacity(alloc, book.cards.len())?;
     for (name, card) in book.cards.iter() {
-        let node = bare_card_node(card, number_in(book, name))?;
-        let name = name.clone()?;
-        children.push(Listed { name, node })?;
+        children.push(listed_card(alloc, name, card, number_in(book, name))?)?;
     }
     Ok(Items::from_vec(children))
 }
 
 /// One home among the children of the root.
-fn list_home(alloc: Global, name: &str, home: &Place, members: usize) -> Result<Listed, AllocError>
+fn list_home(alloc: Global, name: &str, home: &Properties) -> Result<Listed, AllocError>
     requires { IsName name.now }
-    ensures { IfOk result (λ child. child ≡ listed_home members name.now home.now) }
+    ensures { IfOk result (λ child. child ≡ listed_home name.now home.now) }
 {
     let name = Name::parse(alloc, name)?.ok_or(AllocError)?;
-    let node = place_node(home, Kind::Home, 0, members)?;
-    Ok(Listed { name, node })
+    listed_properties(&name, home, Kind::Home, 0)
 }
 
 /// A copy of the list, or an empty one where there is none.
@@ -149,9 +186,9 @@ fn copied(alloc: Global, list: Option<&Items<Entry>>) -> Result<Items<Entry>, Al
     }
 }
 
-/// The place at a path, if the path is mapped and is no card's.
-fn place_of<'a>(office: &'a Office, path: &Path) -> Option<&'a Place>
-    ensures { option_copied result ≡ place_at office.now path.now }
+/// What is kept at a path, if the path is mapped and is no card's.
+fn properties_of<'a>(office: &'a Office, path: &Path) -> Option<&'a Properties>
+    ensures { option_copied result ≡ properties_at office.now path.now }
 {
     match path {
         Path::Root => Some(&office.root),
@@ -160,13 +197,13 @@ fn place_of<'a>(office: &'a Office, path: &Path) -> Option<&'a Place>
         Path::Books => Some(&office.books_home),
         Path::Person(name) => office.persons.get(name),
         Path::Group(name) => office.groups.get(name),
-        Path::Book(name) => office.books.get(name).map(|book| &book.place),
+        Path::Book(name) => office.books.get(name).map(|book| &book.properties),
         Path::Card(_, _) => None,
     }
 }
 
 /// The card of a name in a book, if there is one.
-fn card_of<'a>(office: &'a Office, book: &Name, name: &Name) -> Option<&'a Card>
+fn card_of<'a>(office: &'a Office, book: &Name, name: &Name) -> Option<&'a StoredCard>
     ensures { option_copied result ≡ card_at office.now book.now name.now }
 {
     match office.books.get(book) {
@@ -180,17 +217,12 @@ pub(crate) fn find(office: &Office, path: &Path) -> Result<Option<Node>, AllocEr
     ensures { IfOk result (λ node. node ≡ node_at office.now path.now) }
 {
     match path {
-        Path::Root => Ok(Some(place_node(&office.root, Kind::Root, 0, 3)?)),
-        Path::People => Ok(Some(place_node(&office.people, Kind::Home, 0, office.persons.len())?)),
-        Path::Groups => Ok(Some(place_node(
-            &office.groups_home,
-            Kind::Home,
-            0,
-            office.groups.len(),
-        )?)),
-        Path::Books => Ok(Some(place_node(&office.books_home, Kind::Home, 0, office.books.len())?)),
-        Path::Person(name) => find_place(&office.persons, name, Kind::Person),
-        Path::Group(name) => find_place(&office.groups, name, Kind::Group),
+        Path::Root => Ok(Some(properties_node(&office.root, Kind::Root, 0)?)),
+        Path::People => Ok(Some(properties_node(&office.people, Kind::Home, 0)?)),
+        Path::Groups => Ok(Some(properties_node(&office.groups_home, Kind::Home, 0)?)),
+        Path::Books => Ok(Some(properties_node(&office.books_home, Kind::Home, 0)?)),
+        Path::Person(name) => find_principal(&office.persons, name, Kind::Person),
+        Path::Group(name) => find_principal(&office.groups, name, Kind::Group),
         Path::Book(name) => match office.books.get(name) {
             Some(book) => Ok(Some(book_node(book)?)),
             None => Ok(None),
@@ -202,15 +234,89 @@ pub(crate) fn find(office: &Office, path: &Path) -> Result<Option<Node>, AllocEr
     }
 }
 
+/// How many children of a path are mapped.
+pub(crate) fn count(office: &Office, path: &Path) -> usize
+    ensures { result ≡ count_at office.now path.now }
+{
+    match path {
+        Path::Root => 3,
+        Path::People => office.persons.len(),
+        Path::Groups => office.groups.len(),
+        Path::Books => office.books.len(),
+        Path::Book(name) => match office.books.get(name) {
+            Some(book) => book.cards.len(),
+            None => 0,
+        },
+        Path::Person(_) | Path::Group(_) | Path::Card(_, _) => 0,
+    }
+}
+
 /// The homes, in byte order of their names.
 fn list_homes(alloc: Global, office: &Office) -> Result<Items<Listed>, AllocError>
     ensures { IfOk result (λ children. children ≡ listed_homes office.now) }
 {
     let mut children = Vec::with_capacity(alloc, 3)?;
-    children.push(list_home(alloc, "books", &office.books_home, office.books.len())?)?;
-    children.push(list_home(alloc, "groups", &office.groups_home, office.groups.len())?)?;
-    children.push(list_home(alloc, "people", &office.people, office.persons.len())?)?;
+    children.push(list_home(alloc, "books", &office.books_home)?)?;
+    children.push(list_home(alloc, "groups", &office.groups_home)?)?;
+    children.push(list_home(alloc, "people", &office.people)?)?;
     Ok(Items::from_vec(children))
+}
+
+/// A copy of a card.
+fn copy_of(card: &StoredCard) -> Result<StoredCard, AllocError>
+    ensures { IfOk result (λ copy. copy ≡ card.now) }
+{
+    Ok(StoredCard {
+        owner: card.owner.clone()?,
+        label: card.label.clone()?,
+        own: card.own.clone()?,
+        text: card.text.clone()?,
+    })
+}
+
+/// A copy of the card of a name, if there is one.
+fn card_copy(book: &Book, name: &Name) -> Result<Option<StoredCard>, AllocError>
+    ensures { IfOk result (λ card. card ≡ get book.now.cards name.now) }
+{
+    match book.cards.get(name) {
+        Some(card) => Ok(Some(copy_of(card)?)),
+        None => Ok(None),
+    }
+}
+
+/// A change, with the card that has the name.
+fn changed_name(book: &Book, number: u64, name: Name) -> Result<Changed, AllocError>
+    ensures { IfOk result (λ change. change ≡ record { number = number; name = name; card = get book.now.cards name }) }
+{
+    let card = card_copy(book, &name)?;
+    Ok(Changed { number, name, card })
+}
+
+/// The last changes of a book above a number, in order of number.
+fn changes_of(alloc: Global, book: &Book, number: u64) -> Result<Items<Changed>, AllocError>
+    ensures { IfOk result (λ changes. changes ≡ changed_in book.now (changes_after book.now.changes.last number)) }
+{
+    let after = book.changes.after(alloc, number)?.into_vec();
+    let mut changes = Vec::with_capacity(alloc, after.len())?;
+    for (number, name) in after {
+        changes.push(changed_name(book, number, name)?)?;
+    }
+    Ok(Items::from_vec(changes))
+}
+
+/// The same of the book of a name; none where there is no such book.
+pub(crate) fn changed(
+    alloc: Global,
+    office: &Office,
+    book: &Name,
+    number: u64,
+) -> Result<Items<Changed>, AllocError>
+    ensures { IfOk result (λ changes. changes ≡ changed_after office.now book.now number) }
+{
+    match office.books.get(book) {
+        Some(book) => changes_of(alloc, book, number),
+        None => Ok(Items::new(alloc)),
+    }
 }
 
 /// The children of a resource, in byte order of their names.
@@ -223,8 +329,8 @@ pub(crate) fn children(
 {
     match path {
         Path::Root => list_homes(alloc, office),
-        Path::People => list_places(alloc, &office.persons, Kind::Person),
-        Path::Groups => list_places(alloc, &office.groups, Kind::Group),
+        Path::People => list_principals(alloc, &office.persons, Kind::Person),
+        Path::Groups => list_principals(alloc, &office.groups, Kind::Group),
         Path::Books => list_books(alloc, &office.books),
         Path::Book(name) => match office.books.get(name) {
             Some(book) => list_cards(alloc, book),
@@ -238,8 +344,8 @@ pub(crate) fn children(
 fn protected_list<'a>(office: &'a Office, path: &Path) -> Option<&'a Items<Entry>>
     ensures { unwrap_or (option_copied result) [] ≡ protected_at office.now path.now }
 {
-    match place_of(office, path) {
-        Some(place) => Some(&place.protected),
+    match properties_of(office, path) {
+        Some(properties) => Some(&properties.protected),
         None => None,
     }
 }
@@ -254,8 +360,8 @@ fn own_list<'a>(office: &'a Office, path: &Path) -> Option<&'a Items<Entry>>
             None => None,
         };
     }
-    match place_of(office, path) {
-        Some(place) => Some(&place.own),
+    match properties_of(office, path) {
+        Some(properties) => Some(&properties.own),
         None => None,
     }
 }

@@ -15,6 +15,3 @@ pub use parts::{
     BookPart, EntryPart, GroupPart, PersonPart, PolicyBook, PolicyEntry, PolicyTables,
 };
 pub use policies::Policy;
-
-#[cfg(test)]
-mod tests;

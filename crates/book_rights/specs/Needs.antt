@@ -34,9 +34,14 @@ abbrev pub listed_too : Option Need → List Need → List Need
 listed_too None needs = needs
 listed_too (Some need) needs = need ∷ needs
 
+-- the second need, and the third, if there is one
+abbrev pub listed_others : Option (Need × Option Need) → List Need
+listed_others None = []
+listed_others (Some others) = others.0 ∷ listed_too others.1 []
+
 -- the needs as a list
 abbrev pub listed : Needs → List Need
-listed needs = needs.first ∷ listed_too needs.second (listed_too needs.third [])
+listed needs = needs.first ∷ listed_others needs.others
 
 -- the needs of a request, in the order in which they are checked
 abbrev pub needs_of : Method → Shape → List Need

@@ -17,6 +17,3 @@ pub use leaf_sets::LeafSet;
 pub use methods::{Method, Shape, needs};
 pub use places::{Need, Needs, Place};
 pub use privileges::{Leaf, Privilege};
-
-#[cfg(test)]
-mod tests;

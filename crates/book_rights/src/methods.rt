@@ -65,32 +65,29 @@ fn at(place: Place, leaf: Leaf) -> Need
 }
 
 fn one(first: Need) -> Needs
-    ensures { result ≡ record { first = first; second = None; third = None } }
+    ensures { result ≡ record { first = first; others = None } }
 {
     Needs {
         first,
-        second: None,
-        third: None,
+        others: None,
     }
 }
 
 fn two(first: Need, second: Need) -> Needs
-    ensures { result ≡ record { first = first; second = Some second; third = None } }
+    ensures { result ≡ record { first = first; others = Some (second, None) } }
 {
     Needs {
         first,
-        second: Some(second),
-        third: None,
+        others: Some((second, None)),
     }
 }
 
 fn three(first: Need, second: Need, third: Need) -> Needs
-    ensures { result ≡ record { first = first; second = Some second; third = Some third } }
+    ensures { result ≡ record { first = first; others = Some (second, Some third) } }
 {
     Needs {
         first,
-        second: Some(second),
-        third: Some(third),
+        others: Some((second, Some(third))),
     }
 }
 

@@ -24,13 +24,11 @@ pub struct Need {
     pub set: LeafSet,
 }
 
-/// One to three needs, in the order in which they are checked. Where there is a third, there is a second.
+/// One to three needs, in the order in which they are checked.
 #[derive(Clone, Copy, Debug, PartialEq, Eq)]
 pub struct Needs {
     /// The first need.
     pub first: Need,
-    /// The second, if there is one.
-    pub second: Option<Need>,
-    /// The third, if there is one.
-    pub third: Option<Need>,
+    /// The second, if there is one, and with it the third, if there is one.
+    pub others: Option<(Need, Option<Need>)>,
 }

@@ -6,7 +6,7 @@ use Rattle.std.specs.Cmp.Lexicographic.{nat_list_cmp_total}
 use Rattle.std.specs.FinMap.{empty, get, insert, remove, entries, get-empty, get-insert, get-remove, get-from_entries, same_map, nat_cmp-IsAntisymmetric}
 use Rattle.book_lists.specs.Names.{name_cmp}
 use Rattle.book_values.specs.Names.{NamesTo}
-use Rattle.book_values.specs.declared.changes.Numbers.{Numbers}
+use Rattle.book_values.specs.declared.collections.changes.Numbers.{Numbers}
 use Rattle.book_values.specs.Changes.{NumberedNames, Change, by_number, touched, without, AreNumbers, IsInverse, AreIndexed}
 use Rattle.book_values.proofs.NameMapLaws.{names_apart, same, is_same, same_itself, tied, put_at}
 use Rattle.book_values.proofs.Members.{Mem, mem_map, find_mem, mem_some, mem_get, get_mem}
@@ -19,16 +19,16 @@ some_apart : {A P : Type 0} {x : A} → Some x ≡ None → P
 some_apart e = absurd cc
 
 -- whether two numbers are one
-abbrev one : ℕ → ℕ → Bool
+abbrev pub one : ℕ → ℕ → Bool
 one a b = is_eq (nat_cmp a b)
 
-is_one : (a b : ℕ) → one a b ≡ true → a ≡ b
+pub is_one : (a b : ℕ) → one a b ≡ true → a ≡ b
 is_one a b e = nat_cmp-IsAntisymmetric a b (tied _ e)
 
-one_itself : (a : ℕ) → one a a ≡ true
+pub one_itself : (a : ℕ) → one a a ≡ true
 one_itself a = (eq_by_cmp_equiv nat_cmp_total).refl a
 
-not_one : (a b : ℕ) → (a ≡ b → ⊥) → one a b ≡ false
+pub not_one : (a b : ℕ) → (a ≡ b → ⊥) → one a b ≡ false
 not_one a b h = elim (one a b) as (λ t. one a b ≡ t → t ≡ false) [ true ↦ λ e. absurd (h (is_one a b e)) | false ↦ λ _. refl ] refl
 
 unswap : (es : List (List ℕ × ℕ)) (n : ℕ) (q : List ℕ) → Mem {A = Change} (n, q) (map (λ (e : List ℕ × ℕ). (e.1, e.0)) es) → Mem {A = List ℕ × ℕ} (q, n) es
@@ -156,6 +156,13 @@ module _ (c : Numbers) (names : NumberedNames) (indexed : AreIndexed c names) (n
     within = touched_within c name indexed.within;
     inverse = inverse_put c.last names indexed.inverse name (c.number + 1) fresh;
   }
+
+  -- the next number is free
+  pub index_free : get names (c.number + 1) ≡ None
+  index_free = new_number c.last names indexed.inverse name (c.number + 1) fresh
+
+  pub index_free_next : get names (c.number + 1 + 1) ≡ None
+  index_free_next = new_number c.last names indexed.inverse name (c.number + 1 + 1) (λ other n e. let w = indexed.within other n e in omega arith)
 
   -- a change that was begun and is taken back
   pub index_undone : remove (insert names (c.number + 1) name) (c.number + 1) ≡ names

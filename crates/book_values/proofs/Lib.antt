@@ -1,4 +1,5 @@
 pub mod Above
+pub mod Entered
 pub mod Indexes
 pub mod Members
 pub mod NameMapLaws

@@ -78,6 +78,10 @@ module _ {V : Type 0} (m : NamesTo V) (k : List ℕ) where
   len_removed =
       rw (len-remove nat_list_cmp_total m k) (elim (is_some (get m k)) as (λ b. cond b (len m - 1) (len m) ≤ len m) [ true ↦ omega arith | false ↦ omega arith ])
 
+  -- the removal of a name that is there makes it smaller by one
+  pub len_removed_there : is_some (get m k) ≡ true → len (remove m k) ≡ len m - 1
+  len_removed_there there = len-remove nat_list_cmp_total m k ∙ ap (λ b. cond b (len m - 1) (len m)) there
+
 -- what is said where there is a value
 pub at_some : {B P : Type 0} (r : Option B) (x : B) → r ≡ Some x → OnSome r P → P
 at_some {P = P} r x e h = subst (λ o. OnSome o P) e h

@@ -1,7 +1,7 @@
 -- The numbers of a book after a change of one name.
 use Rattle.std.proofs.Common.{◌≡◌, ℕ, ◌+◌, ◌≤◌, List, cond, Some, sym, ◌∙◌, arith}
 use Rattle.std.specs.FinMap.{get}
-use Rattle.book_values.specs.declared.changes.Numbers.{Numbers}
+use Rattle.book_values.specs.declared.collections.changes.Numbers.{Numbers}
 use Rattle.book_values.specs.Changes.{touched, AreWithin, AreNumbers}
 use Rattle.book_values.proofs.NameMapLaws.{same, by_same, put_at}
 

@@ -1,9 +1,9 @@
 -- The last change of each name of a book, and the changes of a book in order of number.
-use Rattle.std.specs.Prelude.{◌≡◌, ℕ, ◌+◌, ◌≤◌, List, Option, Some, None, map, filter, nat_lt}
+use Rattle.std.specs.Prelude.{◌≡◌, ℕ, ◌+◌, ◌-◌, ◌≤◌, List, Option, Some, None, map, filter, nat_lt}
 use Rattle.std.specs.Ordering.{nat_cmp}
 use Rattle.std.specs.FinMap.{FinMap, get, insert, remove, entries, from_entries}
-use Rattle.book_values.specs.Names.{NamesTo}
-use Rattle.book_values.specs.declared.changes.Numbers.{Numbers}
+use Rattle.book_values.specs.Names.{NamesTo, changed_at}
+use Rattle.book_values.specs.declared.collections.changes.Numbers.{Numbers}
 
 -- a finite map from numbers to names
 abbrev pub NumberedNames : Type 0
@@ -48,3 +48,12 @@ pub record AreIndexed (c : Numbers) (names : NumberedNames) : Type 0 where
 abbrev pub without : NumberedNames → Option ℕ → NumberedNames
 without names None = names
 without names (Some n) = remove names n
+
+-- the number that a name had before is put back
+abbrev pub put_back : NamesTo ℕ → List ℕ → Option ℕ → NamesTo ℕ
+put_back last name None = remove last name
+put_back last name (Some n) = changed_at (λ _. n) last name
+
+-- the last change of a name is taken back
+abbrev pub left : Numbers → List ℕ → Option ℕ → Numbers
+left c name before = record { number = c.number - 1; last = put_back c.last name before }

@@ -4,7 +4,7 @@ use Rattle.std.specs.Borrow.{LendsSo, MutBor, Fml}
 use Rattle.std.specs.FinMap.{insert}
 use denote.RattleType.{RattleType}
 use Rattle.book_values.specs.Names.{NamesTo}
-use Rattle.book_values.specs.contracts.name_maps.NameMap.{the_row}
+use Rattle.book_values.specs.contracts.collections.name_maps.NameMap.{the_row}
 
 -- the map ends with the value that was left at the name, and is unchanged where it has none
 abbrev pub LendsValue : (V : RattleType) → MutBor (NamesTo V.Denot) → List ℕ → Option (MutBor V.Denot) → Fml

@@ -4,30 +4,20 @@
 //! as bytes, `NameMap` as a finite map, `Changes` as numbers, `Path` and `Office` as themselves; and that a path's text
 //! determines the path.
 //!
-//! Read `items`, `texts` and `name_maps` first; then `changes`, which is found by name and, through `number_maps`, in order
-//! of number; then `offices`; and `paths` by itself.
+//! Read `collections` first: `items`, `texts` and `name_maps`, then `changes`, which is found by name and, through
+//! `number_maps`, in order of number; then `offices`; and `paths` by itself.
 #![tactic(auto)]
 
-mod changes;
-mod items;
+mod collections;
 mod laws;
 mod limits;
-mod name_maps;
-mod number_maps;
 mod offices;
 mod paths;
-mod texts;
 
-pub use changes::{Changes, Numbers};
-pub use items::Items;
+pub use collections::{Changes, Items, NameMap, Numbers, Text};
 pub use laws::{levels_go_up, texts_spell_one_path};
 pub use limits::{MAX_ENTRIES, MAX_LABEL_BYTES, MAX_MEMBERS, MAX_NAMED};
-pub use name_maps::NameMap;
-pub use offices::{Book, Card, LAST_NUMBER, MAX_BOOKS, MAX_CARD_BYTES, MAX_CARDS, Office, Place};
+pub use offices::{
+    Book, LAST_NUMBER, MAX_BOOKS, MAX_CARD_BYTES, MAX_CARDS, Office, Properties, StoredCard,
+};
 pub use paths::{Kind, Path, PathFault};
-pub use texts::Text;
-
-#[cfg(test)]
-mod path_tests;
-#[cfg(test)]
-mod tests;

@@ -1,12 +1,9 @@
 //! The Office: everything that is kept, by kind of resource.
 
 ghost use Rattle.std.specs.Prelude.{◌≡◌};
-ghost use Rattle.book_values.specs.Fresh.{empty_place};
+ghost use Rattle.book_values.specs.Fresh.{empty_properties};
 
-use crate::changes::Changes;
-use crate::items::Items;
-use crate::name_maps::NameMap;
-use crate::texts::Text;
+use crate::collections::{Changes, Items, NameMap, Text};
 use book_lists::{Entry, Pairs, Principal};
 use std::alloc::Global;
 
@@ -25,7 +22,7 @@ pub const LAST_NUMBER: u64 = 9_007_199_254_740_991;
 /// A resource other than a card: its owner, if it has one, its label (`displayname`, RFC 4918, section 15.2), and its
 /// protected and own lists of entries (RFC 3744, section 5.5), each in stored order.
 #[derive(Debug, Drop)]
-pub struct Place {
+pub struct Properties {
     /// The person or group that owns it.
     pub owner: Option<Principal>,
     /// At most 256 bytes.
@@ -36,12 +33,12 @@ pub struct Place {
     pub own: Items<Entry>,
 }
 
-impl Place {
-    /// A place with an empty label and empty lists. Takes no memory.
-    pub fn empty(alloc: Global, owner: Option<Principal>) -> Place
-        ensures { result ≡ empty_place owner }
+impl Properties {
+    /// An empty label and empty lists. Takes no memory.
+    pub fn empty(alloc: Global, owner: Option<Principal>) -> Properties
+        ensures { result ≡ empty_properties owner }
     {
-        Place {
+        Properties {
             owner,
             label: Text::from_string(String::new(alloc)),
             protected: Items::new(alloc),
@@ -52,7 +49,7 @@ impl Place {
 
 /// A card: it has a text, and no protected entries.
 #[derive(Debug, Drop)]
-pub struct Card {
+pub struct StoredCard {
     /// The person or group that owns it.
     pub owner: Option<Principal>,
     /// At most 256 bytes.
@@ -67,9 +64,9 @@ pub struct Card {
 #[derive(Debug, Drop)]
 pub struct Book {
     /// The book's owner, label and lists.
-    pub place: Place,
+    pub properties: Properties,
     /// At most 10,000.
-    pub cards: NameMap<Card>,
+    pub cards: NameMap<StoredCard>,
     /// The last change of each name that was ever there. A removed name is one with a last change and no card.
     pub changes: Changes,
 }
@@ -78,17 +75,17 @@ pub struct Book {
 #[derive(Debug, Drop)]
 pub struct Office {
     /// `/`.
-    pub root: Place,
+    pub root: Properties,
     /// `/people`.
-    pub people: Place,
+    pub people: Properties,
     /// `/groups`.
-    pub groups_home: Place,
+    pub groups_home: Properties,
     /// `/books`.
-    pub books_home: Place,
+    pub books_home: Properties,
     /// `/people/N`, by name.
-    pub persons: NameMap<Place>,
+    pub persons: NameMap<Properties>,
     /// `/groups/N`, by name.
-    pub groups: NameMap<Place>,
+    pub groups: NameMap<Properties>,
     /// `/books/B`, by name, at most 1,000.
     pub books: NameMap<Book>,
     /// The direct members of the groups (RFC 3744, section 4.3).

@@ -6,7 +6,7 @@ ghost use Rattle.book_lists.specs.Principals.{Spells, EndsPlain};
 ghost use Rattle.book_values.specs.declared.paths.PathFault.TheVariants.{BadPath};
 ghost use Rattle.book_values.specs.Paths.{IsPath, SpellsPath, SpellsNone, path_text, parent_of, kind_of, levels};
 
-use crate::items::Items;
+use crate::collections::Items;
 use book_lists::Name;
 use std::alloc::{AllocError, AllocFailed, Global};
 

@@ -18,7 +18,6 @@ returns-clause-ok c =
     let t = c.args.policy.now in
     let o = c.args.office.now in
     let is : c.in_ok-new.new ≡ bare (taken_over t o) = search rules in
-    let epoch : c.in_ok-epoch.epoch ≡ o.epoch + 1 = search rules in
     c.replace.ensures
-    ∙ (λ i. record (is i) { books = moved (is i).books (entries o.books); epoch = epoch i })
+    ∙ (λ i. record (is i) { books = moved (is i).books (entries o.books); epoch = o.epoch + 1 })
     ∙ adopted t o (λ stay. false≢true (sym c.if-branch.false ∙ c.in_ok-same_but_cards.ensures.1 (stays_bare t o stay ∙ ap bare (sym is))))

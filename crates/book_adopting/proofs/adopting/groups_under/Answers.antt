@@ -1,12 +1,12 @@
 use Rattle.std.proofs.Common.{◌≡◌, codes, rules, ap, ◌∙◌}
 use Rattle.std.specs.FinMap.{empty, entries}
-use Rattle.book_adopting.specs.TakingOver.{new_place, old_place, placed}
+use Rattle.book_adopting.specs.TakingOver.{new_properties, old_properties, placed}
 use Rattle.book_adopting.proofs.TakenOver.{groups_made}
 use Rattle.book_adopting.proofs.adopting.groups_under.Goals as goal
 
 pub returns : goal.returns
 returns c =
     let t = c.args.policy.now in
-    let new : c.in_ok-groups.groups ≡ placed (new_place t (codes "/groups/")) empty (entries t.groups) = search rules in
-    let old : c.put_places.new.places ≡ placed (old_place t (codes "/groups/") t.groups) c.in_ok-groups.groups (entries c.args.office.now.groups) = search rules in
-    old ∙ ap (λ m. placed (old_place t (codes "/groups/") t.groups) m (entries c.args.office.now.groups)) new ∙ groups_made t c.args.office.now
+    let new : c.in_ok-groups.groups ≡ placed (new_properties t (codes "/groups/")) empty (entries t.groups) = search rules in
+    let old : c.put_principals.new.principals ≡ placed (old_properties t (codes "/groups/") t.groups) c.in_ok-groups.groups (entries c.args.office.now.groups) = search rules in
+    old ∙ ap (λ m. placed (old_properties t (codes "/groups/") t.groups) m (entries c.args.office.now.groups)) new ∙ groups_made t c.args.office.now

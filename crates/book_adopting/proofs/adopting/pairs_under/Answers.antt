@@ -7,4 +7,4 @@ pub returns : goal.returns
 returns c =
     let members : c.in_ok-pairs.pairs ≡ c.args.policy.now.members = search rules in
     c.in_ok-keep_pairs.ensures ∙ ap (λ s. kept_pairs c.args.policy.now s c.in_ok-list.field-0.items) members
-    ∙ kept_adopted c.args.policy.now c.args.old.now c.in_ok-list.field-0.items c.in_ok-list.ensures
+    ∙ kept_adopted c.args.policy.now c.args.old.now c.in_ok-list.field-0.items c.in_ok-list.ensures.pairs

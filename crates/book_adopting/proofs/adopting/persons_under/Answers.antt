@@ -1,12 +1,12 @@
 use Rattle.std.proofs.Common.{◌≡◌, codes, rules, ap, ◌∙◌}
 use Rattle.std.specs.FinMap.{empty, entries}
-use Rattle.book_adopting.specs.TakingOver.{new_place, old_place, placed}
+use Rattle.book_adopting.specs.TakingOver.{new_properties, old_properties, placed}
 use Rattle.book_adopting.proofs.TakenOver.{persons_made}
 use Rattle.book_adopting.proofs.adopting.persons_under.Goals as goal
 
 pub returns : goal.returns
 returns c =
     let t = c.args.policy.now in
-    let new : c.in_ok-persons.persons ≡ placed (new_place t (codes "/people/")) empty (entries t.persons) = search rules in
-    let old : c.put_places.new.places ≡ placed (old_place t (codes "/people/") t.persons) c.in_ok-persons.persons (entries c.args.office.now.persons) = search rules in
-    old ∙ ap (λ m. placed (old_place t (codes "/people/") t.persons) m (entries c.args.office.now.persons)) new ∙ persons_made t c.args.office.now
+    let new : c.in_ok-persons.persons ≡ placed (new_properties t (codes "/people/")) empty (entries t.persons) = search rules in
+    let old : c.put_principals.new.principals ≡ placed (old_properties t (codes "/people/") t.persons) c.in_ok-persons.persons (entries c.args.office.now.persons) = search rules in
+    old ∙ ap (λ m. placed (old_properties t (codes "/people/") t.persons) m (entries c.args.office.now.persons)) new ∙ persons_made t c.args.office.now

@@ -1,9 +1,9 @@
 use Rattle.std.proofs.Common.{◌≡◌, ◌+◌, drop}
 use Rattle.std.specs.Option.{option_map}
 use Rattle.book_cards.specs.Reading.{colon_from}
-use Rattle.book_cards.specs.declared.line.Place.TheVariants.{Start}
+use Rattle.book_cards.specs.declared.line.Position.TheVariants.{Start}
 use Rattle.book_cards.proofs.line.find_colon.Given as goal
 
 -- the colon of the rest is that of the text
 abbrev pub invariant-loop-i : goal.invariant-loop-i
-invariant-loop-i l = option_map (λ n. n + l.i) (colon_from l.place (drop l.i l.text)) ≡ colon_from Start l.text
+invariant-loop-i l = option_map (λ n. n + l.i) (colon_from l.position (drop l.i l.text)) ≡ colon_from Start l.text

@@ -7,7 +7,7 @@ returns-in_ok-entry-in-Denied c = inr (
   _,
   refl,
   record {
-    place = c.in-Denied.entry;
+    index = c.in-Denied.entry;
     resource = refl;
     entry = search rules;
     decided = subst (λ entries. IsDenial entries c.args.circle.now c.args.here c.args.set c.in-Denied.leaf c.in-Denied.entry)

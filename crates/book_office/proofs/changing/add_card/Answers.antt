@@ -2,13 +2,11 @@ use Rattle.std.proofs.Common.{◌≡◌, refl, ap, ◌∙◌, rules}
 use Rattle.std.specs.FinMap.{insert, remove}
 use Rattle.book_values.proofs.NameMapLaws.{undone}
 use Rattle.book_office.proofs.changing.add_card.Goals as goal
-use Rattle.book_values.specs.declared.offices.Card.{Card}
 
 pub returns-in-Err-clause-err : goal.returns-in-Err-clause-err
 returns-in-Err-clause-err c =
     let key : c.in_ok-key.key ≡ c.args.name.now = search rules in
-    let card : Card = record { owner = c.args.owner; label = c.from_string.result; own = c.new-2.result; text = c.args.text } in
     let back : c.remove.new.self ≡ c.args.book.now.cards =
-    c.remove.ensures.removed ∙ ap (λ m. remove m c.args.name.now) (c.in_ok-insert.ensures.ok ∙ ap (λ k. insert c.args.book.now.cards k card) key)
-    ∙ undone c.args.book.now.cards c.args.name.now card c.requires in
+    c.remove.ensures.removed ∙ ap (λ m. remove m c.args.name.now) (c.in_ok-insert.ensures.ok ∙ ap (λ k. insert c.args.book.now.cards k c.args.card) key)
+    ∙ undone c.args.book.now.cards c.args.name.now c.args.card c.requires.free in
     rw (c.in-Err.ensures.err, back) refl

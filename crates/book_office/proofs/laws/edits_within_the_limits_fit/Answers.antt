@@ -1,6 +1,14 @@
-use Rattle.book_office.proofs.FittingEdits.{put_card_fits, remove_card_fits, add_book_fits, remove_book_fits}
+use Rattle.book_office.proofs.FittingEdits.{put_card_fits, remove_card_fits, copy_card_fits, move_across_fits, move_within_fits, add_book_fits, remove_book_fits}
 use Rattle.book_office.proofs.SoundAdoptions.{adopt_fits}
 use Rattle.book_office.proofs.laws.edits_within_the_limits_fit.Goals as goal
 
 pub returns : goal.returns
-returns c = record { put_card = put_card_fits; remove_card = remove_card_fits; add_book = add_book_fits; remove_book = remove_book_fits; adopt = adopt_fits }
+returns c = record {
+  put_card = put_card_fits;
+  remove_card = remove_card_fits;
+  copy_card = copy_card_fits;
+  move_card = (move_across_fits, move_within_fits);
+  add_book = add_book_fits;
+  remove_book = remove_book_fits;
+  adopt = adopt_fits;
+}

@@ -1,8 +1,11 @@
-use Rattle.std.proofs.Common.{sym, ap, ◌∙◌}
+use Rattle.std.proofs.Common.{◌-◌, ◌^◌, min, sym, ap, ◌∙◌}
 use Rattle.std.specs.FinSet as set
 use Rattle.book_lists.specs.Memberships.{membership_cmp}
 use Rattle.book_lists.specs.GroupEntries.{pairs_in}
 use Rattle.book_lists.proofs.memberships.Pairs.new.Goals as goal
 
 pub invariant_of-result : goal.invariant_of-result
-invariant_of-result c = (c.new.ensures.ordered, sym (ap (λ es. set.len (pairs_in es)) c.new.ensures.empty ∙ set.len-empty membership_cmp))
+invariant_of-result c = (
+  c.new.ensures.ordered,
+  sym (ap (λ es. min (set.len (pairs_in es)) (2 ^ 64 - 1)) c.new.ensures.empty ∙ ap (λ n. min n (2 ^ 64 - 1)) (set.len-empty membership_cmp)),
+)

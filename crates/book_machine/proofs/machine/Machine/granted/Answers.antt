@@ -1,11 +1,11 @@
-use Rattle.book_machine.proofs.Asked.{asks_nothing, asks_refused, first_refuses, refused_on, second_refuses}
+use Rattle.book_machine.proofs.StagesInTurn.{asks_nothing, asks_refused, first_refuses, refused_on, second_refuses}
 use Rattle.book_machine.specs.Asking.{Meets}
 use Rattle.book_machine.specs.Stages.{granted_plan}
 use Rattle.book_machine.proofs.machine.Machine.granted.Goals as goal
 
 pub returns-in_err-check_body : goal.returns-in_err-check_body
 returns-in_err-check_body g c = asks_nothing _ _ _ (λ h o stands.
-    refused_on c.from_residual.result c.in_err-check_body.field-0.0 (λ r. Meets r (granted_plan o c.args.method c.args.ready)) c.from_residual.ensures.1
+    refused_on c.from_residual.result c.in_err-check_body.field-0.0 (λ r. Meets r (granted_plan o c.args.circle.now c.args.ready)) c.from_residual.ensures.1
     (first_refuses _ _ _ c.in_err-check_body.ensures))
 
 pub returns-in_err-check_limits : goal.returns-in_err-check_limits

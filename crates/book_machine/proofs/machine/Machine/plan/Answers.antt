@@ -1,7 +1,7 @@
 use Rattle.std.proofs.Common.{◌≡◌, ◌∙◌, Err, option_copied}
-use Rattle.book_machine.proofs.Asked.{still_quiet, refused_on}
+use Rattle.book_machine.proofs.StagesInTurn.{counted_after, refused_on}
 use Rattle.book_machine.proofs.Planning.{refused_by_needs, planned, target_of_ready}
-use Rattle.book_machine.specs.Asking.{MeetsPlan, Quietly}
+use Rattle.book_machine.specs.Asking.{MeetsPlan, Counted}
 use Rattle.book_machine.specs.declared.plans.Plan.{Plan}
 use Rattle.book_machine.proofs.machine.Machine.plan.Goals as goal
 
@@ -29,8 +29,8 @@ returns-in_err-check_needs g c =
           let h2 = c.in_err-check_needs.ensures.was_honest h in
           let h1 = c.in_ok-circle.ensures.was_honest h2 in
           c.in_ok-ready.ensures.left h1 x (c.in_ok-circle.ensures.left h2 x (c.in_err-check_needs.ensures.left h x left));
-      quiet = refused_on r e (λ x. Quietly {A = Plan} x ((g.K.Keeper.standing c.check_needs.new.self.keeper).failures ≡ (g.K.Keeper.standing c.args.self.now.keeper).failures)) is
-          (still_quiet {A = Plan} (Err e) _ _ _ c.in_err-check_needs.ensures.quiet (c.in_ok-circle.ensures.counted ∙ c.in_ok-ready.ensures.quiet));
+      counted = refused_on r e (λ x. Counted {A = Plan} x (g.K.Keeper.standing c.args.self.now.keeper).failures (g.K.Keeper.standing c.check_needs.new.self.keeper).failures) is
+          (counted_after {A = Plan} (Err e) _ _ _ c.in_err-check_needs.ensures.counted (c.in_ok-circle.ensures.counted ∙ c.in_ok-ready.ensures.counted));
     }
 
 pub returns : goal.returns
@@ -57,5 +57,5 @@ returns g c = record {
       let h2 = c.in_ok-check_needs.ensures.was_honest h3 in
       let h1 = c.in_ok-circle.ensures.was_honest h2 in
       c.in_ok-ready.ensures.left h1 x (c.in_ok-circle.ensures.left h2 x (c.in_ok-check_needs.ensures.left h3 x (c.granted.ensures.left h x left)));
-  quiet = still_quiet _ _ _ _ c.granted.ensures.quiet (c.in_ok-check_needs.ensures.quiet ∙ c.in_ok-circle.ensures.counted ∙ c.in_ok-ready.ensures.quiet);
+  counted = counted_after _ _ _ _ c.granted.ensures.counted (c.in_ok-check_needs.ensures.counted ∙ c.in_ok-circle.ensures.counted ∙ c.in_ok-ready.ensures.counted);
 }

@@ -1,17 +1,22 @@
-use Rattle.std.proofs.Common.{arith, rules, ◌∙◌}
+use Rattle.std.proofs.Common.{arith, rules, ◌≡◌, ◌∙◌, ap, subst, take, take_all}
 use Rattle.std.proofs.lemmas.List.{take_more}
+use Rattle.book_machine.proofs.LeadingRuns.{calls_more, paths_more}
 use Rattle.book_machine.proofs.RunLemmas.{no_calls, one_more_call}
+use Rattle.book_machine.specs.LeadingRuns.{HavePaths}
+use Rattle.book_machine.specs.Promises.{ServeAllPromise}
+use Rattle.book_machine.specs.Runs.{calls_of, call_of}
 use Rattle.book_machine.proofs.machine.Machine.serve_all.Goals as goal
 
 pub loop-call-init : goal.loop-call-init
-loop-call-init g c = record { runs = rw c.in_ok-replies.ensures.items (no_calls _); count = search rules; room = search rules }
+loop-call-init g c = record { runs = rw c.in_ok-replies.ensures.items (no_calls _); paths = tt; count = search rules; room = search rules }
 
 pub loop-call-preserved : goal.loop-call-preserved
 loop-call-preserved g c =
-    let more = take_more c.args.calls.now c.loop-call.call-index c.call-item.result c.loop-call-test.true in
+    let more = ap calls_of (take_more c.args.calls.now c.loop-call.call-index c.call-item.result c.loop-call-test.true) ∙ calls_more (take c.loop-call.call-index c.args.calls.now) _ in
     record {
       runs = rw (more, ← c.call-item.is, c.push_reserved.ensures.items)
-          (one_more_call _ _ _ _ _ _ _ c.loop-call.invariant.runs (rw (← c.name_text-name.ensures) c.serve-reply.ensures));
+          (one_more_call _ _ _ _ _ (call_of c.call-item.result) _ c.loop-call.invariant.runs (rw (← c.name_text-name.ensures) c.serve-reply.ensures.served));
+      paths = rw (more, ← c.call-item.is) (paths_more (calls_of (take c.loop-call.call-index c.args.calls.now)) (call_of c.call-item.result) c.loop-call.invariant.paths c.serve-reply.ensures.paths);
       count = omega (arith, c.push_reserved.ensures.len);
       room = c.push_reserved.ensures.capacity ∙ c.loop-call.invariant.room;
     }

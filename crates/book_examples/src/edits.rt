@@ -1,0 +1,69 @@
+//! Edits, made by a keeper.
+
+use crate::words::{name, owner, text, text_named, word};
+use book_office::{Edit, Keeper};
+use std::alloc::Global;
+use std::process::Abort;
+
+fn put(rt: &impl Abort, alloc: Global, line: &str) -> Edit {
+    Edit::PutCard {
+        book: name(rt, alloc, word(line, 1)),
+        card: name(rt, alloc, word(line, 2)),
+        owner: owner(rt, alloc, word(line, 3)),
+        text: text(rt, alloc, text_named(word(line, 4))),
+    }
+}
+
+fn remove(rt: &impl Abort, alloc: Global, line: &str) -> Edit {
+    Edit::RemoveCard {
+        book: name(rt, alloc, word(line, 1)),
+        card: name(rt, alloc, word(line, 2)),
+    }
+}
+
+fn copy(rt: &impl Abort, alloc: Global, line: &str) -> Edit {
+    Edit::CopyCard {
+        from_book: name(rt, alloc, word(line, 1)),
+        from_card: name(rt, alloc, word(line, 2)),
+        to_book: name(rt, alloc, word(line, 3)),
+        to_card: name(rt, alloc, word(line, 4)),
+        owner: owner(rt, alloc, word(line, 5)),
+    }
+}
+
+fn move_to(rt: &impl Abort, alloc: Global, line: &str) -> Edit {
+    Edit::MoveCard {
+        from_book: name(rt, alloc, word(line, 1)),
+        from_card: name(rt, alloc, word(line, 2)),
+        to_book: name(rt, alloc, word(line, 3)),
+        to_card: name(rt, alloc, word(line, 4)),
+    }
+}
+
+fn edit(rt: &impl Abort, alloc: Global, line: &str) -> Edit {
+    match word(line, 0) {
+        "put" => put(rt, alloc, line),
+        "remove" => remove(rt, alloc, line),
+        "copy" => copy(rt, alloc, line),
+        "move" => move_to(rt, alloc, line),
+        "add" => Edit::AddBook {
+            book: name(rt, alloc, word(line, 1)),
+            owner: owner(rt, alloc, word(line, 2)),
+        },
+        _ => Edit::RemoveBook {
+            book: name(rt, alloc, word(line, 1)),
+        },
+    }
+}
+
+/// Makes the edit of the line, which has no answer.
+pub(crate) fn make<K: Keeper>(
+    rt: &impl Abort,
+    alloc: Global,
+    keeper: &mut K,
+    line: &str,
+) -> String {
+    let edit = edit(rt, alloc, line);
+    keeper.act(alloc, &edit).expect(rt, "memory");
+    String::new(alloc)
+}

@@ -1,0 +1,107 @@
+//! Requests, and the texts of their replies.
+
+use crate::words::{method, text, text_named, word};
+use book_cards::CardFault;
+use book_machine::{Body, Content, Denial, Depth, Flag, Machine, Refusal, Reply, Request};
+use book_office::{Keeper, Path};
+use std::alloc::Global;
+use std::process::Abort;
+
+fn body(rt: &impl Abort, alloc: Global, word: &str) -> Body {
+    match word {
+        "" => Body::Empty,
+        "unread" => Body::Unread,
+        _ => Body::Text(text(rt, alloc, text_named(word))),
+    }
+}
+
+/// The caller's name; none at a dash.
+pub(crate) fn caller(line: &str) -> Option<&str> {
+    match word(line, 0) {
+        "-" => None,
+        name => Some(name),
+    }
+}
+
+pub(crate) fn request(rt: &impl Abort, alloc: Global, line: &str) -> Request {
+    Request {
+        method: method(word(line, 1)).expect(rt, "a method"),
+        path: Path::parse(alloc, word(line, 2)).ok(),
+        destination: None,
+        overwrite: Flag::Yes,
+        depth: Depth::Zero,
+        body: body(rt, alloc, word(line, 3)),
+    }
+}
+
+/// The privilege, the resource, and the entry: where it stands, and its number.
+fn tell_denial(rt: &impl Abort, alloc: Global, denial: &Denial) -> String {
+    let privilege = denial.privilege.name();
+    let resource = denial.resource.text(alloc).expect(rt, "memory");
+    match &denial.entry {
+        Some(entry) => {
+            let from = entry.from.text(alloc).expect(rt, "memory");
+            let number = entry.number;
+            format!(in alloc; " {privilege} {resource} {from} {number}").expect(rt, "memory")
+        }
+        None => format!(in alloc; " {privilege} {resource} null").expect(rt, "memory"),
+    }
+}
+
+fn tell_fault(rt: &impl Abort, alloc: Global, fault: CardFault) -> String {
+    let kind = fault.kind;
+    let line = fault.line;
+    format!(in alloc; " {kind} {line}").expect(rt, "memory")
+}
+
+fn tell_details(rt: &impl Abort, alloc: Global, refusal: &Refusal) -> String {
+    match refusal {
+        Refusal::BadCard(fault) => tell_fault(rt, alloc, *fault),
+        Refusal::NotAllowed(methods) => {
+            let methods = methods.text();
+            format!(in alloc; " {methods}").expect(rt, "memory")
+        }
+        Refusal::NeedPrivileges(denial) => tell_denial(rt, alloc, denial),
+        _ => String::new(alloc),
+    }
+}
+
+fn tell_refusal(rt: &impl Abort, alloc: Global, refusal: &Refusal) -> String {
+    let name = refusal.name();
+    let details = tell_details(rt, alloc, refusal);
+    format!(in alloc; " {name}{details}").expect(rt, "memory")
+}
+
+fn tell_content(rt: &impl Abort, alloc: Global, content: &Content) -> String {
+    match content {
+        Content::Empty => String::new(alloc),
+        Content::Card(text) => {
+            let text = text.as_str();
+            format!(in alloc; " {text}").expect(rt, "memory")
+        }
+        Content::Allow(methods) => {
+            let methods = methods.text();
+            format!(in alloc; " allow {methods}").expect(rt, "memory")
+        }
+        Content::Refusal(refusal) => tell_refusal(rt, alloc, refusal),
+    }
+}
+
+/// The status, and what the reply carries.
+pub(crate) fn tell(rt: &impl Abort, alloc: Global, reply: &Reply) -> String {
+    let status = reply.status;
+    let content = tell_content(rt, alloc, &reply.content);
+    format!(in alloc; "{status}{content}").expect(rt, "memory")
+}
+
+/// The reply to the request of a line.
+pub(crate) fn served<K: Keeper>(
+    rt: &impl Abort,
+    alloc: Global,
+    machine: &mut Machine<K>,
+    line: &str,
+) -> String {
+    let request = request(rt, alloc, line);
+    let reply = machine.serve(alloc, caller(line), &request);
+    tell(rt, alloc, &reply)
+}

@@ -1,0 +1,18 @@
+-- A denial names an entry of the list.
+use Rattle.std.proofs.Common.{◌+◌, ◌<◌, ◌^◌, Bool, List, Some, None, IfSome, length, arith}
+use Rattle.std.proofs.lemmas.Option.{slice_get_within}
+use Rattle.book_rights.specs.declared.privileges.Leaf.{Leaf}
+use Rattle.book_lists.specs.declared.entries.Entry.{Entry}
+use Rattle.book_lists.specs.declared.entries.Here.{Here}
+use Rattle.book_lists.specs.declared.decisions.Outcome.{Outcome}
+use Rattle.book_lists.specs.declared.decisions.Outcome.TheVariants.{Allowed, Denied}
+use Rattle.book_lists.specs.Circles.{CircleOf}
+use Rattle.book_lists.specs.Decisions.{IsDenial, IfDenied}
+
+pub index_fits : (entries : List Entry) (circle : CircleOf) (here : Here) (need : Leaf → Bool) (o : Outcome) → length entries < 2 ^ 64
+    → IfDenied o (IsDenial entries circle here need) → IfDenied o (λ leaf entry. IfSome entry (λ index. index + 1 < 2 ^ 64))
+index_fits entries circle here need Allowed small d = tt
+index_fits entries circle here need (Denied leaf None) small d = tt
+index_fits entries circle here need (Denied leaf (Some i)) small d =
+    let within = slice_get_within entries i d.1.0 d.1.1.there in
+    omega (arith, within)

@@ -1,0 +1,221 @@
+-- What the path stage lets through is served: a granted request with an accepted body within the limits has a plan.
+use Rattle.std.proofs.Common.{◌≡◌, ◌⊎◌, ℕ, ◌<◌, List, Bool, true, false, ◌&&◌, Option, Some, None, option_map, option_and_then, Result, Ok, Err, inl, inr, refl, sym, ap, ◌∙◌, subst, arith}
+use Rattle.std.specs.FinMap.{get}
+use Rattle.book_values.specs.Paths.{kind_of}
+use Rattle.book_values.specs.declared.offices.Book.{Book}
+use Rattle.book_values.specs.declared.offices.Office.{Office}
+use Rattle.book_values.specs.declared.offices.Properties.{Properties}
+use Rattle.book_values.specs.declared.offices.StoredCard.{StoredCard}
+use Rattle.book_values.specs.declared.paths.Kind.{Kind}
+use Rattle.book_values.specs.declared.paths.Kind.TheVariants as kind
+use Rattle.book_values.specs.declared.paths.Path.{Path}
+use Rattle.book_values.specs.declared.paths.Path.TheVariants as path
+use Rattle.book_lists.specs.declared.circles.Caller.{Caller}
+use Rattle.book_office.specs.Resources.{Resource, node_of, node_at, book_resource, properties_resource, card_resource, card_in, number_of}
+use Rattle.book_office.specs.declared.edits.Edit.{Edit}
+use Rattle.book_office.specs.declared.nodes.Node.{Node}
+use Rattle.book_rights.specs.declared.methods.Method.{Method}
+use Rattle.book_rights.specs.declared.methods.Method.TheVariants as method
+use Rattle.book_machine.proofs.FittingPlans.{Passed, answered, bind_ok, ready_at, same_Ok, same_Some}
+use Rattle.book_machine.specs.AllowedMethods.{goes_on, is_among, methods_of, allowed_of}
+use Rattle.book_machine.specs.Asked.{method_of}
+use Rattle.book_machine.specs.Stages.{◌>>=◌, at_unmapped, replied, text_of, put_status, put_edit, delete_edit, mkcol_edit, success, success_of}
+use Rattle.book_machine.specs.declared.asked.Asked.{Asked}
+use Rattle.book_machine.specs.declared.asked.Asked.TheVariants as asked
+use Rattle.book_machine.specs.declared.messages.Content.{Content}
+use Rattle.book_machine.specs.declared.messages.Content.TheVariants as content
+use Rattle.book_machine.specs.declared.messages.Request.{Request}
+use Rattle.book_machine.specs.declared.plans.Plan.{Plan}
+use Rattle.book_machine.specs.declared.plans.Ready.{Ready}
+use Rattle.book_machine.specs.declared.refusals.Refusal.{Refusal}
+use Rattle.book_machine.specs.declared.refusals.Refusal.TheVariants.{NotFound}
+
+-- ---- the kind of what is mapped
+of_properties : (k : Kind) (found : Option Properties) (n : Node) → option_map node_of (option_map (properties_resource k 0) found) ≡ Some n → n.kind ≡ k
+of_properties k None n e = absurd (cc (e))
+of_properties k (Some x) n e = sym (ap (λ (m : Node). m.kind) (same_Some _ n e))
+
+of_book : (found : Option Book) (n : Node) → option_map node_of (option_map book_resource found) ≡ Some n → n.kind ≡ kind.Book
+of_book None n e = absurd (cc (e))
+of_book (Some x) n e = sym (ap (λ (m : Node). m.kind) (same_Some _ n e))
+
+of_card : (number : ℕ) (found : Option StoredCard) (n : Node) → option_map node_of (option_map (card_resource number) found) ≡ Some n
+    → (n.kind ≡ kind.Card) × ((text : List ℕ) × (n.text ≡ Some text))
+of_card number None n e = absurd (cc (e))
+of_card number (Some x) n e =
+    let same = sym (same_Some _ n e) in
+    (ap (λ (m : Node). m.kind) same, (x.text, ap (λ (m : Node). m.text) same))
+
+in_book : (c : List ℕ) (found : Option Book) (n : Node) → option_map node_of (option_and_then (λ (book : Book). card_in book c) found) ≡ Some n
+    → (n.kind ≡ kind.Card) × ((text : List ℕ) × (n.text ≡ Some text))
+in_book c None n e = absurd (cc (e))
+in_book c (Some book) n e = of_card (number_of book c) (get book.cards c) n e
+
+kind_at : (o : Office) (p : Path) (n : Node) → node_at o p ≡ Some n → n.kind ≡ kind_of p
+kind_at o path.Root n e = sym (ap (λ (m : Node). m.kind) (same_Some _ n e))
+kind_at o path.People n e = sym (ap (λ (m : Node). m.kind) (same_Some _ n e))
+kind_at o path.Groups n e = sym (ap (λ (m : Node). m.kind) (same_Some _ n e))
+kind_at o path.Books n e = sym (ap (λ (m : Node). m.kind) (same_Some _ n e))
+kind_at o (path.Person x) n e = of_properties kind.Person (get o.persons x) n e
+kind_at o (path.Group x) n e = of_properties kind.Group (get o.groups x) n e
+kind_at o (path.Book b) n e = of_book (get o.books b) n e
+kind_at o (path.Card b c) n e = (in_book c (get o.books b) n e).0
+
+-- ---- what the path stage lets through
+both_hold : (a : Bool) → (a && false) ≡ true → {A : Type 0} → A
+both_hold true e = absurd (cc (e))
+both_hold false e = absurd (cc (e))
+
+abbrev refused_then : Refusal → Unit {0} → Result (Unit {0}) Refusal
+refused_then r _ = Err r
+
+abbrev passes : Result (Unit {0}) Refusal
+passes = Ok tt
+
+then_refused : {A : Type 0} (m : Result (Unit {0}) Refusal) (r : Refusal) → (m >>= refused_then r) ≡ passes → A
+then_refused (Ok u) r e = absurd (cc (e))
+then_refused (Err x) r e = absurd (cc (e))
+
+-- a plan of a success
+pub record Served (ready : Ready) : Type 0 where
+  pub plan : Plan
+  pub is : success ready ≡ Ok plan
+  pub low : plan.reply.status < 300
+
+at_once : (ready : Ready) (status : ℕ) (what : Content) (edit : Option Edit) → success ready ≡ Ok (replied status what edit) → status < 300 → Served ready
+at_once ready status what edit is low = record { plan = replied status what edit; is = is; low = low }
+
+put_low : (node : Option Node) → put_status node < 300
+put_low None = omega arith
+put_low (Some node) = omega arith
+
+module _ (o : Office) (caller : Caller) where
+  -- a method goes on at a path where its stage for unmapped paths does, or by the kind of the path
+  let_through : (m : Method) (p : Path) → (node_at o p ≡ None → at_unmapped o m p ≡ Ok tt) → ((n : Node) → node_at o p ≡ Some n → goes_on m n.kind ≡ true)
+      → (at_unmapped o m p ≡ Ok tt) ⊎ ((n : Node) × (node_at o p ≡ Some n) × (goes_on m (kind_of p) ≡ true))
+  let_through m p free there = go (node_at o p) refl
+    where
+      go : (r : Option Node) → node_at o p ≡ r → (at_unmapped o m p ≡ Ok tt) ⊎ ((n : Node) × (node_at o p ≡ Some n) × (goes_on m (kind_of p) ≡ true))
+      go None is = inl (free is)
+      go (Some n) is = inr (n, is, subst (λ k. goes_on m k ≡ true) (kind_at o p n is) (there n is))
+
+  abbrev ServedAt : Asked → Path → Type 0
+  ServedAt what p = (at_unmapped o (method_of what) p ≡ Ok tt) ⊎ ((n : Node) × (node_at o p ≡ Some n) × (goes_on (method_of what) (kind_of p) ≡ true)) → Served (ready_at o p caller what)
+
+  -- a card has a text
+  text_there : (b c : List ℕ) (n : Node) → node_at o (path.Card b c) ≡ Some n → (text : List ℕ) × (text_of (node_at o (path.Card b c)) ≡ Ok text)
+  text_there b c n is =
+      let card = (in_book c (get o.books b) n is).1 in
+      (card.0, ap text_of is ∙ ap (λ t. text_of (Some (record n { text = t }))) card.1)
+
+  get_served : (p : Path) → ServedAt asked.Get p
+  get_served p (inl free) = absurd (cc (free))
+  get_served path.Root (inr there) = let h = there.2 in absurd (cc (h))
+  get_served path.People (inr there) = let h = there.2 in absurd (cc (h))
+  get_served path.Groups (inr there) = let h = there.2 in absurd (cc (h))
+  get_served path.Books (inr there) = let h = there.2 in absurd (cc (h))
+  get_served (path.Person n) (inr there) = let h = there.2 in absurd (cc (h))
+  get_served (path.Group n) (inr there) = let h = there.2 in absurd (cc (h))
+  get_served (path.Book b) (inr there) = let h = there.2 in absurd (cc (h))
+  get_served (path.Card b c) (inr there) =
+      let text = text_there b c there.0 there.1 in
+      at_once _ 200 _ None (ap (λ r. r >>= λ t. Ok (replied 200 (content.Card t) None)) text.1) (omega arith)
+
+  head_served : (p : Path) → ServedAt asked.Head p
+  head_served p (inl free) = absurd (cc (free))
+  head_served path.Root (inr there) = let h = there.2 in absurd (cc (h))
+  head_served path.People (inr there) = let h = there.2 in absurd (cc (h))
+  head_served path.Groups (inr there) = let h = there.2 in absurd (cc (h))
+  head_served path.Books (inr there) = let h = there.2 in absurd (cc (h))
+  head_served (path.Person n) (inr there) = let h = there.2 in absurd (cc (h))
+  head_served (path.Group n) (inr there) = let h = there.2 in absurd (cc (h))
+  head_served (path.Book b) (inr there) = let h = there.2 in absurd (cc (h))
+  head_served (path.Card b c) (inr there) =
+      let text = text_there b c there.0 there.1 in
+      at_once _ 200 _ None (ap (λ r. r >>= λ t. Ok (replied 200 (content.Card t) None)) text.1) (omega arith)
+
+  put_served : (text : List ℕ) (p : Path) → ServedAt (asked.Put text) p
+  put_served text path.Root (inl free) = absurd (cc (free))
+  put_served text path.Root (inr there) = let h = there.2 in absurd (cc (h))
+  put_served text path.People (inl free) = absurd (cc (free))
+  put_served text path.People (inr there) = let h = there.2 in absurd (cc (h))
+  put_served text path.Groups (inl free) = absurd (cc (free))
+  put_served text path.Groups (inr there) = let h = there.2 in absurd (cc (h))
+  put_served text path.Books (inl free) = absurd (cc (free))
+  put_served text path.Books (inr there) = let h = there.2 in absurd (cc (h))
+  put_served text (path.Person n) (inl free) = absurd (cc (free))
+  put_served text (path.Person n) (inr there) = let h = there.2 in absurd (cc (h))
+  put_served text (path.Group n) (inl free) = absurd (cc (free))
+  put_served text (path.Group n) (inr there) = let h = there.2 in absurd (cc (h))
+  put_served text (path.Book b) (inl free) = absurd (cc (free))
+  put_served text (path.Book b) (inr there) = let h = there.2 in absurd (cc (h))
+  put_served text (path.Card b c) through = at_once _ (put_status (node_at o (path.Card b c))) _ _ refl (put_low (node_at o (path.Card b c)))
+
+  delete_served : (p : Path) → ServedAt asked.Delete p
+  delete_served p (inl free) = absurd (cc (free))
+  delete_served path.Root (inr there) = let h = there.2 in absurd (cc (h))
+  delete_served path.People (inr there) = let h = there.2 in absurd (cc (h))
+  delete_served path.Groups (inr there) = let h = there.2 in absurd (cc (h))
+  delete_served path.Books (inr there) = let h = there.2 in absurd (cc (h))
+  delete_served (path.Person n) (inr there) = let h = there.2 in absurd (cc (h))
+  delete_served (path.Group n) (inr there) = let h = there.2 in absurd (cc (h))
+  delete_served (path.Book b) (inr there) = at_once _ 204 _ _ refl (omega arith)
+  delete_served (path.Card b c) (inr there) = at_once _ 204 _ _ refl (omega arith)
+
+  mkcol_served : (p : Path) → ServedAt asked.Mkcol p
+  mkcol_served path.Root (inl free) = absurd (cc (free))
+  mkcol_served path.Root (inr there) = let h = there.2 in absurd (cc (h))
+  mkcol_served path.People (inl free) = absurd (cc (free))
+  mkcol_served path.People (inr there) = let h = there.2 in absurd (cc (h))
+  mkcol_served path.Groups (inl free) = absurd (cc (free))
+  mkcol_served path.Groups (inr there) = let h = there.2 in absurd (cc (h))
+  mkcol_served path.Books (inl free) = absurd (cc (free))
+  mkcol_served path.Books (inr there) = let h = there.2 in absurd (cc (h))
+  mkcol_served (path.Person n) (inl free) = absurd (cc (free))
+  mkcol_served (path.Person n) (inr there) = let h = there.2 in absurd (cc (h))
+  mkcol_served (path.Group n) (inl free) = absurd (cc (free))
+  mkcol_served (path.Group n) (inr there) = let h = there.2 in absurd (cc (h))
+  mkcol_served (path.Book b) through = at_once _ 201 _ _ refl (omega arith)
+  mkcol_served (path.Card b c) (inl free) = then_refused _ _ free
+  mkcol_served (path.Card b c) (inr there) = let h = there.2 in absurd (cc (h))
+
+  -- a method that is not served goes on nowhere
+  none_served : (what : Asked) (p : Path) (listed : Bool) → at_unmapped o (method_of what) p ≡ Err NotFound → goes_on (method_of what) (kind_of p) ≡ (listed && false) → ServedAt what p
+  none_served what p listed unmapped mapped (inl free) = let none : Err NotFound ≡ passes = sym unmapped ∙ free in absurd cc
+  none_served what p listed unmapped mapped (inr there) = both_hold listed (sym mapped ∙ there.2)
+
+  served_at : (what : Asked) (p : Path) → ServedAt what p
+  served_at asked.Get p = get_served p
+  served_at asked.Head p = head_served p
+  served_at asked.Options p = λ _. at_once _ 200 _ None refl (omega arith)
+  served_at (asked.Put text) p = put_served text p
+  served_at asked.Propfind p = none_served asked.Propfind p (is_among method.Propfind (methods_of (allowed_of (kind_of p)))) refl refl
+  served_at asked.Proppatch p = none_served asked.Proppatch p (is_among method.Proppatch (methods_of (allowed_of (kind_of p)))) refl refl
+  served_at asked.Acl p = none_served asked.Acl p (is_among method.Acl (methods_of (allowed_of (kind_of p)))) refl refl
+  served_at asked.Copy p = none_served asked.Copy p (is_among method.Copy (methods_of (allowed_of (kind_of p)))) refl refl
+  served_at asked.Move p = none_served asked.Move p (is_among method.Move (methods_of (allowed_of (kind_of p)))) refl refl
+  served_at asked.Delete p = delete_served p
+  served_at asked.Mkcol p = mkcol_served p
+  served_at asked.Report p = none_served asked.Report p (is_among method.Report (methods_of (allowed_of (kind_of p)))) refl refl
+
+pub served : (o : Office) (request : Request) (ready : Ready) → Passed o request ready → Served ready
+served o request ready past =
+    subst Served (sym past.is) (served_at o past.caller past.what past.at (let_through o past.caller (method_of past.what) past.at past.free past.there))
+
+-- ---- any plan of a success
+low_at_once : (status : ℕ) (what : Content) (edit : Option Edit) (plan : Plan) → answered (replied status what edit) ≡ Ok plan → status < 300 → plan.reply.status < 300
+low_at_once status what edit plan is low = subst (λ (p : Plan). p.reply.status < 300) (same_Ok _ plan is) low
+
+pub success_low : (what : Asked) (ready : Ready) (plan : Plan) → success_of what ready.caller ready.target ≡ Ok plan → plan.reply.status < 300
+success_low asked.Get ready plan is = let told = bind_ok (text_of ready.target.node) _ plan is in low_at_once 200 _ _ plan told.2 (omega arith)
+success_low asked.Head ready plan is = let told = bind_ok (text_of ready.target.node) _ plan is in low_at_once 200 _ _ plan told.2 (omega arith)
+success_low asked.Options ready plan is = low_at_once 200 _ _ plan is (omega arith)
+success_low (asked.Put text) ready plan is = let told = bind_ok (put_edit ready.caller text ready.target.path) _ plan is in low_at_once (put_status ready.target.node) _ _ plan told.2 (put_low ready.target.node)
+success_low asked.Propfind ready plan is = absurd (cc (is))
+success_low asked.Proppatch ready plan is = absurd (cc (is))
+success_low asked.Acl ready plan is = absurd (cc (is))
+success_low asked.Copy ready plan is = absurd (cc (is))
+success_low asked.Move ready plan is = absurd (cc (is))
+success_low asked.Delete ready plan is = let told = bind_ok (delete_edit ready.target.path) _ plan is in low_at_once 204 _ _ plan told.2 (omega arith)
+success_low asked.Mkcol ready plan is = let told = bind_ok (mkcol_edit ready.caller ready.target.path) _ plan is in low_at_once 201 _ _ plan told.2 (omega arith)
+success_low asked.Report ready plan is = absurd (cc (is))

@@ -1,0 +1,25 @@
+-- Where runs of the machine lead.
+use Rattle.std.specs.Prelude.{ℕ, List, [], ◌∷◌, Option}
+use Rattle.book_values.specs.declared.offices.Office.{Office}
+use Rattle.book_office.specs.Sound.{IsSound}
+use Rattle.book_sync.specs.Copies.{Later}
+use Rattle.book_machine.specs.Asking.{HasPaths}
+use Rattle.book_machine.specs.Runs.{Call, Run, last_office}
+use Rattle.book_machine.specs.Steps.{Serves}
+use Rattle.book_machine.specs.declared.messages.Reply.{Reply}
+use Rattle.book_machine.specs.declared.messages.Request.{Request}
+
+-- the names of the paths of all calls are names
+abbrev pub HavePaths : List Call → Type 0
+HavePaths [] = Unit {0}
+HavePaths (call ∷ calls) = HasPaths call.1 × HavePaths calls
+
+-- a step from a sound Office leads to a sound one, which is later
+abbrev pub StepsLeadOn : Type 0
+StepsLeadOn = (o p : Office) (name : Option (List ℕ)) (request : Request) (reply : Reply)
+    → IsSound o → HasPaths request → Serves o name request reply p → IsSound p × Later o p
+
+-- so does a run of steps
+abbrev pub RunsLeadOn : Type 0
+RunsLeadOn = (o : Office) (calls : List Call) (replies : List Reply) (offices : List Office)
+    → IsSound o → HavePaths calls → Run o calls replies offices → IsSound (last_office o offices) × Later o (last_office o offices)

@@ -1,0 +1,14 @@
+use Rattle.std.proofs.Common.{rules, ◌≡◌, ap, ◌∙◌}
+use Rattle.std.specs.FinMap.{insert}
+use Rattle.book_values.specs.Names.{changed_if}
+use Rattle.book_office.specs.Moving.{bare_book}
+use Rattle.book_values.specs.declared.offices.Book.{Book}
+use Rattle.book_values.proofs.NameMapLaws.{at_some}
+use Rattle.book_office.proofs.moving.take_book.Goals as goal
+
+pub returns-in-Some-clause-left : goal.returns-in-Some-clause-left
+returns-in-Some-clause-left c =
+    let bare : c.replace.new.dest ≡ bare_book = search rules in
+    at_some c.get_mut.result _ c.in-Some.is (c.get_mut.follows.holds c.replace.new.dest)
+    ∙ ap (insert c.args.books.now c.args.name.now) bare
+    ∙ ap (changed_if (λ (_ : Book). bare_book) c.args.books.now c.args.name.now) c.in-Some.ensures.value

@@ -1,0 +1,11 @@
+use Rattle.std.proofs.Common.{◌≡◌, ◌++◌, length}
+use Rattle.std.specs.Vec.Iter.{into_iter_items, into_iter_len}
+use Rattle.book_office.specs.Resources.{changed_in}
+use Rattle.book_office.proofs.reads.changes_of.Given as goal
+
+-- the changes so far and those to come are those of the book
+abbrev pub invariant-loop-number : goal.invariant-loop-number
+invariant-loop-number l = record {
+  parts : l.changes.items ++ changed_in l.book (into_iter_items l.number-iterator) ≡ changed_in l.book (into_iter_items l.initial.number-iterator);
+  count : into_iter_len l.number-iterator ≡ length (into_iter_items l.number-iterator);
+}

@@ -1,0 +1,35 @@
+-- Elements of filtered lists.
+use Rattle.std.proofs.Common.{◌≡◌, inl, inr, Bool, true, false, cond, T, ◌&&◌, List, [], ◌∷◌, filter, refl, subst}
+use Rattle.std.specs.declared.cmp.Ordering.{Ordering}
+use Rattle.std.specs.declared.cmp.Ordering.TheVariants.{Less, Equal, Greater}
+use Rattle.std.specs.Ordering.{is_lt}
+use Rattle.book_values.proofs.Members.{Mem}
+
+pub less : (o : Ordering) → T (is_lt o) → o ≡ Less
+less Less h = refl
+less Equal h = absurd h
+less Greater h = absurd h
+
+pub first : (a b : Bool) → T (a && b) → T a
+first true b h = tt
+first false b h = h
+
+pub second : (a b : Bool) → T (a && b) → T b
+second true b h = h
+second false b h = absurd h
+
+pub mem_filter : {A : Type 0} (p : A → Bool) (x : A) (xs : List A) → Mem x xs → p x ≡ true → Mem x (filter p xs)
+mem_filter p x [] m t = m
+mem_filter p x (y ∷ ys) m t =
+    elim (p y) as (λ b. p y ≡ b → Mem x (cond b (y ∷ filter p ys) (filter p ys))) [
+      | true ↦ λ _. elim m [ inl is ↦ inl is | inr r ↦ inr (mem_filter p x ys r t) ]
+      | false ↦ λ f. elim m [ inl is ↦ absurd (let e : p y ≡ true = subst (λ z. p z ≡ true) is t in cc) | inr r ↦ mem_filter p x ys r t ]
+    ] refl
+
+pub filter_mem : {A : Type 0} (p : A → Bool) (x : A) (xs : List A) → Mem x (filter p xs) → Mem x xs
+filter_mem p x [] m = m
+filter_mem p x (y ∷ ys) m =
+    elim (p y) as (λ b. Mem x (cond b (y ∷ filter p ys) (filter p ys)) → Mem x (y ∷ ys)) [
+      | true ↦ elim [ inl is ↦ inl is | inr r ↦ inr (filter_mem p x ys r) ]
+      | false ↦ λ r. inr (filter_mem p x ys r)
+    ] m

@@ -1,0 +1,120 @@
+//! Lists, texts, maps by name, and change numbers.
+
+ghost use Rattle.std.specs.Prelude.{◌≡◌, IfOk};
+
+use book_lists::Name;
+use book_values::{Changes, Items, NameMap, Text};
+use std::alloc::{AllocError, Global};
+use std::process::Abort;
+
+fn named(rt: &impl Abort, alloc: Global, text: &str) -> Name {
+    Name::parse(alloc, text)
+        .expect(rt, "memory")
+        .expect(rt, "a name")
+}
+
+/// A copy of a list is the list, where a copy of an item is the item.
+fn copied_texts(texts: &Items<Text>) -> Result<Items<Text>, AllocError>
+    ensures { IfOk result (λ copy. copy ≡ texts.now) }
+{
+    let copy = texts.clone()?;
+    Ok(copy)
+}
+
+#[test]
+fn lists_keep_their_items(rt: HostRuntime) {
+    let mut texts = Items::new(rt.alloc());
+    for text in ["Zürich", "", "Zürich"] {
+        let text = Text::copy_of(rt.alloc(), text).expect(&rt, "memory");
+        texts.push(text).expect(&rt, "memory");
+    }
+    let copy = copied_texts(&texts).expect(&rt, "memory");
+    assert!(rt; copy == texts && copy.len() == 3);
+    for (text, len) in copy.as_slice().iter().zip([7, 0, 7]) {
+        assert_eq!(rt; text.len(), len);
+    }
+}
+
+/// The names of a map, in byte order, found in one pass.
+fn names_of(alloc: Global, numbers: &NameMap<u64>) -> Result<Items<Name>, AllocError> {
+    let mut names = Items::new(alloc);
+    for (name, _) in numbers.iter() {
+        names.push(name.clone()?)?;
+    }
+    Ok(names)
+}
+
+fn set(rt: &impl Abort, alloc: Global, map: &mut NameMap<u64>, name: &str, value: u64) {
+    map.insert(named(rt, alloc, name), value)
+        .expect(rt, "memory");
+}
+
+#[test]
+fn maps_are_ordered_by_name(rt: HostRuntime) {
+    let alloc = rt.alloc();
+    let mut map = NameMap::new(alloc);
+    for (name, value) in [("b", 2), ("a", 1), ("B", 3), ("b-1", 4), ("b", 5)] {
+        set(&rt, alloc, &mut map, name, value);
+    }
+    assert_eq!(rt; map.len(), 4);
+    assert_eq!(rt; map.get(&named(&rt, alloc, "b")).copied(), Some(5));
+    let names = names_of(alloc, &map).expect(&rt, "memory");
+    for (name, text) in names.as_slice().iter().zip(["B", "a", "b", "b-1"]) {
+        assert_eq!(rt; name.text(), text);
+    }
+    assert_eq!(rt; map.remove(&named(&rt, alloc, "a")), Some(1));
+    assert_eq!(rt; map.get(&named(&rt, alloc, "a")).copied(), None);
+}
+
+/// The changes after a number: each number, and its name.
+fn told_after(rt: &impl Abort, alloc: Global, changes: &Changes, number: u64) -> String {
+    let mut answer = String::new(alloc);
+    let after = changes.after(alloc, number).expect(rt, "memory");
+    for (number, name) in after.as_slice() {
+        let name = name.text();
+        write!(answer, "{number} {name} ").expect(rt, "memory");
+    }
+    answer
+}
+
+/// Touches each of the names once.
+fn touch(rt: &impl Abort, alloc: Global, changes: &mut Changes, names: &[&str]) {
+    for name in names {
+        assert!(rt; changes.number() < 100);
+        changes.touch(&named(rt, alloc, name)).expect(rt, "memory");
+    }
+}
+
+/// The first change has the number 1; a name that changes again leaves its number, in the order of numbers.
+#[test]
+fn changes_are_numbered_from_1(rt: HostRuntime) {
+    let alloc = rt.alloc();
+    let mut changes = Changes::new(alloc);
+    assert_eq!(rt; changes.number(), 0);
+    touch(&rt, alloc, &mut changes, ["b", "a", "c", "b"].as_slice());
+    assert_eq!(rt; changes.number(), 4);
+    assert_eq!(rt; changes.get(&named(&rt, alloc, "a")), Some(2));
+    assert_eq!(rt; changes.get(&named(&rt, alloc, "d")), None);
+    for (number, wanted) in [(0, "2 a 3 c 4 b "), (2, "3 c 4 b "), (4, "")] {
+        let told = told_after(&rt, alloc, &changes, number);
+        assert_eq!(rt; told.as_str(), wanted);
+    }
+}
+
+/// Two changes take two numbers, in their order; in two books one each.
+#[test]
+fn changes_are_made_together(rt: HostRuntime) {
+    let alloc = rt.alloc();
+    let mut changes = Changes::new(alloc);
+    let mut others = Changes::new(alloc);
+    let (b, a) = (named(&rt, alloc, "b"), named(&rt, alloc, "a"));
+    assert_eq!(rt; changes.number(), 0);
+    changes.touch_both(&b, &a).expect(&rt, "memory");
+    changes
+        .touch_with(&b, &mut others, &a)
+        .expect(&rt, "memory");
+    let told = told_after(&rt, alloc, &changes, 0);
+    assert_eq!(rt; told.as_str(), "2 a 3 b ");
+    let told = told_after(&rt, alloc, &others, 0);
+    assert_eq!(rt; told.as_str(), "1 a ");
+}

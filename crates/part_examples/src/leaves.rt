@@ -1,0 +1,157 @@
+//! Privileges, their leaves, and what each method needs.
+
+use book_rights::{Leaf, LeafSet, Method, Need, Privilege, Shape, needs};
+use std::alloc::Global;
+use std::process::Abort;
+
+/// The leaves of a set, each after a space, in their order (RFC 3744, section 3).
+fn tell_leaves(rt: &impl Abort, answer: &mut String, set: LeafSet) {
+    for leaf in Leaf::ALL {
+        if set.has(leaf) {
+            answer.push(' ').expect(rt, "memory");
+            answer.push_str(leaf.name()).expect(rt, "memory");
+        }
+    }
+}
+
+/// Each name, and the leaves that the privilege holds (RFC 3744, section 3.12; own profile).
+const PRIVILEGES: &[(&str, &str)] = &[
+    ("read", " read"),
+    ("write-content", " write-content"),
+    ("write-properties", " write-properties"),
+    ("bind", " bind"),
+    ("unbind", " unbind"),
+    ("read-acl", " read-acl"),
+    ("write-acl", " write-acl"),
+    (
+        "read-current-user-privilege-set",
+        " read-current-user-privilege-set",
+    ),
+    ("write", " write-content write-properties bind unbind"),
+    (
+        "all",
+        " read write-content write-properties bind unbind read-acl write-acl read-current-user-privilege-set",
+    ),
+];
+
+fn check_privilege(rt: &impl Abort, alloc: Global, name: &str, leaves: &str) {
+    let privilege = Privilege::from_name(name).expect(rt, name);
+    assert_eq!(rt; privilege.name(), name);
+    let mut answer = String::new(alloc);
+    tell_leaves(rt, &mut answer, privilege.leaves());
+    assert_eq!(rt; answer.as_str(), leaves, "{name}");
+}
+
+#[test]
+fn privileges_hold_their_leaves(rt: HostRuntime) {
+    for (name, leaves) in PRIVILEGES {
+        check_privilege(&rt, rt.alloc(), name, leaves);
+    }
+    for name in ["unlock", "Read", ""] {
+        assert_eq!(rt; Privilege::from_name(name), None, "{name}");
+    }
+}
+
+#[test]
+fn sets_of_leaves_are_sets(rt: HostRuntime) {
+    let write = Privilege::Write.leaves();
+    assert_eq!(rt; write.least(), Some(Leaf::WriteContent));
+    assert_eq!(rt; LeafSet::empty().least(), None);
+    let others = LeafSet::all().minus(write);
+    assert!(rt; !others.meets(write) && others.meets(LeafSet::all()));
+    assert_eq!(rt; others.union(write), LeafSet::all());
+    assert_ne!(rt; others.with(Leaf::Bind), LeafSet::all());
+}
+
+/// What is asked, what the needs depend on, and the needs: a line for each, with its place and its leaves.
+const NEEDS: &[(Method, &str, &str)] = &[
+    (Method::Get, "target", "Target read\n"),
+    (Method::Head, "target", "Target read\n"),
+    (Method::Options, "target", "Target read\n"),
+    (Method::Put, "", "Parent bind\n"),
+    (Method::Put, "target", "Target write-content\n"),
+    (Method::Propfind, "target", "Target read\n"),
+    (Method::Propfind, "target acl", "Target read read-acl\n"),
+    (
+        Method::Propfind,
+        "target privileges",
+        "Target read read-current-user-privilege-set\n",
+    ),
+    (
+        Method::Propfind,
+        "target acl privileges",
+        "Target read read-acl read-current-user-privilege-set\n",
+    ),
+    (Method::Proppatch, "target", "Target write-properties\n"),
+    (Method::Acl, "target", "Target write-acl\n"),
+    (
+        Method::Copy,
+        "target",
+        "Target read\nDestinationParent bind\n",
+    ),
+    (
+        Method::Copy,
+        "target destination",
+        "Target read\nDestination write-content write-properties\n",
+    ),
+    (
+        Method::Move,
+        "target",
+        "Parent unbind\nDestinationParent bind\n",
+    ),
+    (
+        Method::Move,
+        "target destination",
+        "Parent unbind\nDestinationParent bind\nDestinationParent unbind\n",
+    ),
+    (Method::Delete, "target", "Parent unbind\n"),
+    (
+        Method::Delete,
+        "target book",
+        "Parent unbind\nTarget unbind\n",
+    ),
+    (Method::Mkcol, "", "Parent bind\n"),
+    (Method::Report, "target", "Target read\n"),
+    (Method::Report, "target book", "Target read\n"),
+    (Method::Report, "target effective", "Target read read-acl\n"),
+];
+
+fn shape(flags: &str) -> Shape {
+    Shape {
+        target_mapped: flags.contains("target"),
+        destination_mapped: flags.contains("destination"),
+        book: flags.contains("book"),
+        acl: flags.contains("acl"),
+        privileges: flags.contains("privileges"),
+        effective: flags.contains("effective"),
+    }
+}
+
+fn tell_need(rt: &impl Abort, answer: &mut String, need: Need) {
+    let place = need.place;
+    write!(answer, "{place:?}").expect(rt, "memory");
+    tell_leaves(rt, answer, need.set);
+    answer.push('\n').expect(rt, "memory");
+}
+
+fn told_needs(rt: &impl Abort, alloc: Global, method: Method, shape: Shape) -> String {
+    let mut answer = String::new(alloc);
+    let found = needs(method, shape);
+    tell_need(rt, &mut answer, found.first);
+    if let Some((second, third)) = found.others {
+        tell_need(rt, &mut answer, second);
+        if let Some(third) = third {
+            tell_need(rt, &mut answer, third);
+        }
+    }
+    answer
+}
+
+/// Each row of the table (RFC 3744, appendix B; COPY, DELETE of a book and the report effective are own profile).
+#[test]
+fn methods_need_their_rows(rt: HostRuntime) {
+    for (method, flags, wanted) in NEEDS {
+        let told = told_needs(&rt, rt.alloc(), *method, shape(flags));
+        assert_eq!(rt; told.as_str(), *wanted, "{method:?} {flags}");
+    }
+}

@@ -1,0 +1,239 @@
+//! Names, principals, memberships, entries and decisions.
+
+use book_lists::{
+    Caller, Circle, Entry, Here, Name, Outcome, Pairs, Principal, Who, applies, decide, expand,
+    granted,
+};
+use book_rights::{Leaf, LeafSet, Privilege};
+use std::alloc::{AllocError, Global};
+use std::process::Abort;
+
+/// 64 bytes.
+pub(crate) const LONGEST: &str = "abcdefghijklmnopqrstuvwxyzABCDEFGHIJKLMNOPQRSTUVWXYZ0123456789._";
+
+/// 65 bytes.
+pub(crate) const TOO_LONG: &str =
+    "abcdefghijklmnopqrstuvwxyzABCDEFGHIJKLMNOPQRSTUVWXYZ0123456789._-";
+
+#[test]
+fn names_are_read(rt: HostRuntime) {
+    assert_eq!(rt; (LONGEST.len(), TOO_LONG.len()), (64, 65));
+    let cases = [
+        ("ann", true),
+        ("a.b_c-1.", true),
+        ("-", true),
+        (LONGEST, true),
+        (TOO_LONG, false),
+        ("", false),
+        (".ann", false),
+        ("an n", false),
+        ("ann/", false),
+        ("a+b", false),
+        ("änn", false),
+    ];
+    for (text, is_name) in cases {
+        let name = Name::parse(rt.alloc(), text).expect(&rt, "memory");
+        let expected = if is_name { Some(text) } else { None };
+        assert_eq!(rt; name.as_ref().map(|n| n.text()), expected, "{text:?}");
+    }
+}
+
+#[test]
+fn paths_of_principals_are_read(rt: HostRuntime) {
+    let cases = [
+        ("/people/ann", Some("/people/ann")),
+        ("/people/ann/", Some("/people/ann")),
+        ("/groups/a_b-c.1", Some("/groups/a_b-c.1")),
+        ("/people/ann//", None),
+        ("/people/", None),
+        ("/people/.ann", None),
+        ("/people/an n", None),
+        ("/people/ann/card", None),
+        ("/books/sales", None),
+        ("people/ann", None),
+        ("", None),
+    ];
+    for (text, path) in cases {
+        let principal = Principal::parse(rt.alloc(), text).expect(&rt, "memory");
+        assert_eq!(rt; principal.as_ref().map(|p| p.text()), path, "{text:?}");
+    }
+    for (name, is_one) in [(LONGEST, true), (TOO_LONG, false)] {
+        let path = format!(in rt.alloc(); "/people/{name}").expect(&rt, "memory");
+        let principal = Principal::parse(rt.alloc(), path.as_str()).expect(&rt, "memory");
+        assert_eq!(rt; principal.is_some(), is_one, "{name}");
+    }
+}
+
+/// A copy, which may want memory.
+fn copied<T: Clone>(rt: &impl Abort, value: &T) -> T {
+    let copy: Result<T, AllocError> = value.clone();
+    copy.expect(rt, "memory")
+}
+
+fn named(rt: &impl Abort, alloc: Global, path: &str) -> Principal {
+    Principal::parse(alloc, path)
+        .expect(rt, "memory")
+        .expect(rt, "a principal")
+}
+
+#[test]
+fn names_make_principals(rt: HostRuntime) {
+    let alloc = rt.alloc();
+    let ann = Name::parse(alloc, "ann").expect(&rt, "memory");
+    let ann = ann.expect(&rt, "a name");
+    let person = Principal::person(alloc, &ann).expect(&rt, "memory");
+    let group = Principal::group(alloc, &ann).expect(&rt, "memory");
+    assert_eq!(rt; person.text(), "/people/ann");
+    assert_eq!(rt; group.text(), "/groups/ann");
+    assert!(rt; group.is_group() && !person.is_group() && person != group);
+    assert!(rt; copied(&rt, &group) == group);
+}
+
+fn add(rt: &impl Abort, alloc: Global, pairs: &mut Pairs, group: &str, member: &str) {
+    let group = named(rt, alloc, group);
+    let member = named(rt, alloc, member);
+    pairs.add(group, member).expect(rt, "memory");
+}
+
+/// Staff within crew, which are within each other; and ann within staff.
+const MEMBERS: &[(&str, &str)] = &[
+    ("/groups/crew", "/groups/staff"),
+    ("/groups/staff", "/groups/crew"),
+    ("/groups/staff", "/people/ann"),
+    ("/groups/staff", "/people/ann"),
+    ("/groups/house", "/groups/crew"),
+    ("/groups/guests", "/people/bob"),
+    ("/groups/own", "/groups/own"),
+];
+
+fn pairs(rt: &impl Abort, alloc: Global) -> Pairs {
+    let mut pairs = Pairs::new(alloc);
+    for (group, member) in MEMBERS {
+        add(rt, alloc, &mut pairs, group, member);
+    }
+    pairs
+}
+
+fn circle(rt: &impl Abort, alloc: Global, pairs: &Pairs, person: Option<&str>) -> Circle {
+    let caller = match person {
+        Some(person) => Caller::Known(named(rt, alloc, person)),
+        None => Caller::Nobody,
+    };
+    expand(alloc, pairs, &caller).expect(rt, "memory")
+}
+
+/// Each pair once, in byte order of the groups and then of the members.
+const LISTED: &[(&str, &str)] = &[
+    ("/groups/crew", "/groups/staff"),
+    ("/groups/guests", "/people/bob"),
+    ("/groups/house", "/groups/crew"),
+    ("/groups/own", "/groups/own"),
+    ("/groups/staff", "/groups/crew"),
+    ("/groups/staff", "/people/ann"),
+];
+
+fn check_listed(rt: &impl Abort, pairs: &Pairs) {
+    let list = pairs.list().expect(rt, "memory");
+    assert_eq!(rt; list.len(), LISTED.len());
+    for (group, member) in LISTED {
+        let found = list.iter().any(|pair| pair.group.text() == *group
+            && pair.member.text() == *member);
+        assert!(rt; found, "{group} {member}");
+    }
+}
+
+#[test]
+fn pairs_are_a_set(rt: HostRuntime) {
+    let alloc = rt.alloc();
+    let pairs = pairs(&rt, alloc);
+    assert!(rt; pairs.len() == 6 && !pairs.is_empty() && Pairs::new(alloc).is_empty());
+    let staff = named(&rt, alloc, "/groups/staff");
+    let ann = named(&rt, alloc, "/people/ann");
+    assert!(rt; pairs.has(&staff, &ann) && !pairs.has(&ann, &staff));
+    assert_eq!(rt; copied(&rt, &pairs).len(), 6);
+    check_listed(&rt, &pairs);
+}
+
+fn check_circle(
+    rt: &impl Abort,
+    alloc: Global,
+    pairs: &Pairs,
+    person: Option<&str>,
+    within: &[&str],
+) {
+    let circle = circle(rt, alloc, pairs, person);
+    assert_eq!(rt; circle.is_known(), person.is_some());
+    for path in [
+        "/people/ann",
+        "/people/bob",
+        "/groups/crew",
+        "/groups/guests",
+        "/groups/house",
+        "/groups/own",
+        "/groups/staff",
+    ] {
+        let belongs = circle.has(&named(rt, alloc, path));
+        assert_eq!(rt; belongs, within.contains(&path));
+    }
+}
+
+/// A principal belongs to itself and upwards along any chain; groups within each other end; nobody belongs to nothing.
+#[test]
+fn callers_belong_by_chains_and_cycles(rt: HostRuntime) {
+    let alloc = rt.alloc();
+    let pairs = pairs(&rt, alloc);
+    let ann = [
+        "/people/ann",
+        "/groups/staff",
+        "/groups/crew",
+        "/groups/house",
+    ];
+    check_circle(&rt, alloc, &pairs, Some("/people/ann"), ann.as_slice());
+    let bob = ["/people/bob", "/groups/guests"];
+    check_circle(&rt, alloc, &pairs, Some("/people/bob"), bob.as_slice());
+    check_circle(&rt, alloc, &pairs, None, [].as_slice());
+}
+
+fn entry(who: Who, deny: bool, set: LeafSet) -> Entry {
+    Entry {
+        who,
+        invert: false,
+        deny,
+        set,
+    }
+}
+
+#[test]
+fn the_first_applicable_entry_decides(rt: HostRuntime) {
+    let alloc = rt.alloc();
+    let here = Here {
+        owner: Some(named(&rt, alloc, "/people/ann")),
+        principal: None,
+    };
+    let ann = circle(&rt, alloc, &Pairs::new(alloc), Some("/people/ann"));
+    let read = LeafSet::empty().with(Leaf::Read);
+    let entries = [
+        entry(Who::Own, true, read),
+        entry(Who::Owner, false, read.with(Leaf::Unbind)),
+        entry(Who::Everyone, true, LeafSet::all().minus(read)),
+    ];
+    assert!(rt; !applies(&entries[0], &ann, &here) && applies(&entries[1], &ann, &here));
+    assert_eq!(rt; granted(&entries, &ann, &here), read.with(Leaf::Unbind));
+    assert_eq!(rt; decide(&entries, &ann, &here, read), Outcome::Allowed);
+    let refused = Outcome::Denied {
+        leaf: Leaf::Bind,
+        entry: Some(2),
+    };
+    assert_eq!(rt;
+        decide(&entries, &ann, &here, read.with(Leaf::Bind)),
+        refused
+    );
+    let undecided = Outcome::Denied {
+        leaf: Leaf::WriteContent,
+        entry: None,
+    };
+    assert_eq!(rt;
+        decide(&entries[..2], &ann, &here, LeafSet::all()),
+        undecided
+    );
+}
