@@ -2,11 +2,10 @@
 
 use crate::measures::{Bench, print_times};
 use anyhow::{Context, Result, ensure};
+use book_limits::MAX_NAMED;
 use book_lists::{Entry, Who};
 use book_machine::Machine;
-use book_office::{
-    BookPart, EntryPart, GroupPart, Items, MAX_NAMED, MemoryKeeper, PersonPart, Policy, Text,
-};
+use book_office::{BookPart, EntryPart, GroupPart, Items, MemoryKeeper, PersonPart, Policy, Text};
 use book_rights::LeafSet;
 use std::alloc::Global;
 use std::time::Duration;

@@ -2,8 +2,9 @@
 
 use crate::measures::{Bench, print_growth};
 use anyhow::{Context, Result, ensure};
+use book_limits::MAX_CARDS;
 use book_lists::Name;
-use book_office::{Edit, Keeper, MAX_CARDS, MemoryKeeper, Path, Text};
+use book_office::{Edit, Keeper, MemoryKeeper, Path, Text};
 use std::alloc::Global;
 use std::time::Duration;
 

@@ -18,6 +18,7 @@ use Rattle.book_cards.specs.CardText.{at, repeats, fault_of_content, line_fault,
 use Rattle.book_cards.specs.Valid.{IsContent, AreCardLines, IsCard}
 use Rattle.book_cards.proofs.Scans.{has_more, content_nil, content_cons, end_at, end_later, fields_passed}
 use Rattle.book_cards.proofs.Grammar.{fields_sound, fields_complete}
+use Rattle.book_limits.specs.declared.TheConstants.{MAX_CARD_BYTES}
 
 or_none : {A : Type 0} (x y : Option A) → option_or x y ≡ None → (x ≡ None) × (y ≡ None)
 or_none None y e = (refl, e)
@@ -317,15 +318,15 @@ lines_complete ls card =
     ∙ ap (λ t. option_or (option_map (at 2) (cond t None (Some OtherVersion))) (content_fault rest)) card.is_four
     ∙ content
 
-not_long : (n : ℕ) → nat_lt 65536 n ≡ false → n ≤ 65536
+not_long : (n : ℕ) → nat_lt MAX_CARD_BYTES n ≡ false → n ≤ MAX_CARD_BYTES
 not_long n e = grind arith
 
-short_enough : (n : ℕ) → n ≤ 65536 → nat_lt 65536 n ≡ false
+short_enough : (n : ℕ) → n ≤ MAX_CARD_BYTES → nat_lt MAX_CARD_BYTES n ≡ false
 short_enough n l = grind arith
 
 pub card_sound : (text : List ℕ) → card_fault text ≡ None → IsCard text
 card_sound text e =
-    let parts = then_none (nat_lt 65536 (length text)) (at 0 TooLong) (lines_fault (lines (unfolded text))) e in
+    let parts = then_none (nat_lt MAX_CARD_BYTES (length text)) (at 0 TooLong) (lines_fault (lines (unfolded text))) e in
     record { short = not_long (length text) parts.0; card = lines_sound (lines (unfolded text)) parts.1 }
 
 pub card_complete : (text : List ℕ) → IsCard text → card_fault text ≡ None
@@ -334,5 +335,5 @@ card_complete text is =
     ∙ lines_complete (lines (unfolded text)) is.card
 
 -- of a text whose unfolded lines have no fault
-pub read_sound : (text whole : List ℕ) → length text ≤ 65536 → whole ≡ unfolded text → lines_fault (lines whole) ≡ None → IsCard text
+pub read_sound : (text whole : List ℕ) → length text ≤ MAX_CARD_BYTES → whole ≡ unfolded text → lines_fault (lines whole) ≡ None → IsCard text
 read_sound text whole short is e = record { short = short; card = lines_sound (lines (unfolded text)) (ap (λ t. lines_fault (lines t)) (sym is) ∙ e) }

@@ -15,6 +15,7 @@ use Rattle.book_cards.specs.ContentLine.{Fields}
 use Rattle.book_cards.specs.Reading.{is_empty, fields_of}
 use Rattle.book_cards.specs.Properties.{property_of, is_formatted_name, is_uid, is_kind, is_member, has, first_line, first_value, values, kind_of, is_group}
 use Rattle.book_cards.specs.Content.{content_of}
+use Rattle.book_limits.specs.declared.TheConstants.{MAX_CARD_BYTES}
 
 -- Faults, in the order in which they are looked for
 
@@ -97,7 +98,7 @@ lines_fault (begin ∷ rest) =
 
 -- the one fault of a text, and none where it is a card
 abbrev pub card_fault : List ℕ → Option CardFault
-card_fault text = if nat_lt 65536 (length text) then Some (at 0 TooLong) else lines_fault (lines (unfolded text))
+card_fault text = if nat_lt MAX_CARD_BYTES (length text) then Some (at 0 TooLong) else lines_fault (lines (unfolded text))
 
 -- What a card says, by its unfolded text: values as written
 

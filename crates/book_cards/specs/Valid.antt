@@ -9,6 +9,7 @@ use Rattle.book_cards.specs.ContentLine.{Fields, IsContentLine}
 use Rattle.book_cards.specs.Properties.{property_of, has, count_of, is_group, is_version, is_formatted_name, is_uid, is_kind, is_member}
 use Rattle.book_cards.specs.Content.{is_control, may_have}
 use Rattle.book_cards.specs.CardText.{is_end}
+use Rattle.book_limits.specs.declared.TheConstants.{MAX_CARD_BYTES}
 
 -- a line of the grammar with no control character, whose property may have its value
 pub record IsContent (line : List ℕ) : Type 0 where
@@ -41,5 +42,5 @@ pub record AreCardLines (text_lines : List (List ℕ)) : Type 0 where
 
 -- a text is a card
 pub record IsCard (text : List ℕ) : Type 0 where
-  pub short : length text ≤ 65536
+  pub short : length text ≤ MAX_CARD_BYTES
   pub card : AreCardLines (lines (unfolded text))

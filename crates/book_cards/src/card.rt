@@ -17,11 +17,9 @@ use crate::fault::{CardFault, CardFaultKind};
 use crate::line::Line;
 use crate::property::{Property, is_word, property_named};
 use crate::text::{split_line, unfold};
+use book_limits::MAX_CARD_BYTES;
 use std::alloc::Global;
 use std::marker::Model;
-
-/// The most bytes that a card may have (own profile).
-pub const MAX_CARD_BYTES: usize = 65_536;
 
 /// A vCard of version 4.0 (RFC 6350). A contract sees its unfolded text, whose lines have no fault.
 ///

@@ -13,7 +13,8 @@ ghost use Rattle.book_desk.specs.declared.failures.Failure.TheVariants.{Output};
 use crate::failures::Failure;
 use crate::short_texts::read_short_text;
 use crate::streams::print;
-use book_cards::{Card, CardFault, CardFaultKind, MAX_CARD_BYTES, read_card};
+use book_cards::{Card, CardFault, CardFaultKind, read_card};
+use book_limits::MAX_CARD_BYTES;
 use std::alloc::{AllocError, Global};
 use std::io::{Read, Write};
 

@@ -243,6 +243,8 @@ const LAST_NUMBER: &[Step] = &[
     ("bob PUT /books/sales/b.vcf BO", "507 full"),
     ("bob PUT /books/sales/c.vcf BO", "507 full"),
     ("bob DELETE /books/sales/b.vcf", "507 full"),
+    ("bob PROPPATCH /books/sales/b.vcf label X", "507 full"),
+    ("bob PROPPATCH /books/sales label X", "200"),
     (
         "bob PUT /books/sales/b.vcf TWO_UIDS",
         "400 bad-card twice 4",
@@ -255,6 +257,7 @@ const LAST_NUMBER: &[Step] = &[
 const LAST_NUMBER_BUT_ONE: &[Step] = &[
     ("bob PUT /books/sales/b.vcf BO", "204"),
     ("bob PUT /books/sales/c.vcf BO", "201"),
+    ("bob PROPPATCH /books/sales/b.vcf label X", "200"),
     ("bob DELETE /books/sales/b.vcf", "204"),
 ];
 

@@ -11,6 +11,8 @@ mod adoptions;
 #[cfg(test)]
 mod asking;
 #[cfg(test)]
+mod bodies;
+#[cfg(test)]
 mod denials;
 #[cfg(test)]
 mod edits;
@@ -30,5 +32,11 @@ mod requests;
 mod scripts;
 #[cfg(test)]
 mod serving;
+#[cfg(test)]
+mod settings;
+#[cfg(test)]
+mod stopping;
+#[cfg(test)]
+mod stored_settings;
 #[cfg(test)]
 mod words;

@@ -2,12 +2,14 @@
 //!
 //! A line is one of these, with single spaces between its words:
 //!
-//! - a request: `CALLER METHOD PATH BODY`, where `-` is nobody and the body, if there is one, is named in `words`;
+//! - a request: `CALLER METHOD PATH BODY`, where `-` is nobody and the body is said as in `bodies`;
 //! - a policy to adopt: `adopt NAME`, named in `policies`;
 //! - a question to the keeper: `node PATH`, `children PATH`, `lists PATH`, `effective PATH`, `changes BOOK NUMBER`,
 //!   `epoch`, `failures`, `pairs` or `belongs PERSON PRINCIPAL`;
 //! - an edit: `put BOOK CARD OWNER TEXT`, `remove BOOK CARD`, `copy BOOK CARD BOOK CARD OWNER`,
-//!   `move BOOK CARD BOOK CARD`, `add BOOK OWNER` or `take BOOK`, where `-` is no owner.
+//!   `move BOOK CARD BOOK CARD`, `add BOOK OWNER` or `take BOOK`, where `-` is no owner; `label PATH LABEL`,
+//!   `list PATH grant WHO NAME ..` or `members GROUP MEMBER ..`, where nothing after the path or the group is the empty
+//!   label, the empty list or no member.
 
 use crate::asking::ask;
 use crate::edits::make;
@@ -40,7 +42,7 @@ pub(crate) fn answer<K: Keeper>(
         | "failures"
         | "pairs"
         | "belongs" => ask(rt, alloc, &mut machine.keeper, line),
-        "put" | "remove" | "copy" | "move" | "add" | "take" => {
+        "put" | "remove" | "copy" | "move" | "add" | "take" | "label" | "list" | "members" => {
             make(rt, alloc, &mut machine.keeper, line)
         }
         _ => served(rt, alloc, machine, line),

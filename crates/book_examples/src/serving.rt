@@ -1,19 +1,12 @@
 //! Requests, and the texts of their replies.
 
-use crate::words::{method, text, text_named, word};
+use crate::bodies::body;
+use crate::words::{method, word};
 use book_cards::CardFault;
-use book_machine::{Body, Content, Denial, Depth, Flag, Machine, Refusal, Reply, Request};
+use book_machine::{Content, Denial, Depth, Flag, Machine, Refusal, Reply, Request};
 use book_office::{Keeper, Path};
 use std::alloc::Global;
 use std::process::Abort;
-
-fn body(rt: &impl Abort, alloc: Global, word: &str) -> Body {
-    match word {
-        "" => Body::Empty,
-        "unread" => Body::Unread,
-        _ => Body::Text(text(rt, alloc, text_named(word))),
-    }
-}
 
 /// The caller's name; none at a dash.
 pub(crate) fn caller(line: &str) -> Option<&str> {
@@ -30,7 +23,7 @@ pub(crate) fn request(rt: &impl Abort, alloc: Global, line: &str) -> Request {
         destination: None,
         overwrite: Flag::Yes,
         depth: Depth::Zero,
-        body: body(rt, alloc, word(line, 3)),
+        body: body(rt, alloc, line),
     }
 }
 

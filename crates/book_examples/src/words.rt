@@ -84,14 +84,22 @@ pub(crate) fn method(word: &str) -> Option<Method> {
     }
 }
 
-fn who(rt: &impl Abort, alloc: Global, word: &str) -> Who {
+/// The principal form of a word, but for paths.
+pub(crate) fn form(word: &str) -> Option<Who> {
     match word {
-        "all" => Who::Everyone,
-        "authenticated" => Who::Authenticated,
-        "unauthenticated" => Who::Unauthenticated,
-        "owner" => Who::Owner,
-        "self" => Who::Own,
-        _ => Who::Href(principal(rt, alloc, word)),
+        "all" => Some(Who::Everyone),
+        "authenticated" => Some(Who::Authenticated),
+        "unauthenticated" => Some(Who::Unauthenticated),
+        "owner" => Some(Who::Owner),
+        "self" => Some(Who::Own),
+        _ => None,
+    }
+}
+
+fn who(rt: &impl Abort, alloc: Global, word: &str) -> Who {
+    match form(word) {
+        Some(form) => form,
+        None => Who::Href(principal(rt, alloc, word)),
     }
 }
 

@@ -8,7 +8,8 @@ ghost use Rattle.book_explain.specs.Questions.{IsQuestion, Fits, Excess, LineFau
 
 use crate::faults::{ExplainFault, ExplainFaultKind, fault_at};
 use crate::lines::{Line, line_of, pieces};
-use book_lists::{Caller, Entry, Here, MAX_ENTRIES, MAX_MEMBERS, Pairs};
+use book_limits::{MAX_ENTRIES, MAX_MEMBERS};
+use book_lists::{Caller, Entry, Here, Pairs};
 use book_rights::LeafSet;
 use std::alloc::Global;
 

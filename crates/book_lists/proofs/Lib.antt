@@ -1,7 +1,9 @@
 pub mod PathSets
 pub mod Passed
+pub mod FirstBearings
 pub mod OneLeaf
-pub mod OpenLeaves
+pub mod GoingScans
+pub mod OneReader
 pub mod Pairing
 pub mod GroupLists
 pub mod Searches

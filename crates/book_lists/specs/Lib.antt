@@ -3,7 +3,10 @@ pub mod Principals
 pub mod Circles
 pub mod PrincipalSets
 pub mod Entries
+pub mod Deciding
 pub mod Decisions
+pub mod Scans
+pub mod ListEdits
 pub mod Memberships
 pub mod GroupEntries
 pub mod Callers

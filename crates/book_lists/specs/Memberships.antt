@@ -3,6 +3,7 @@ use Rattle.std.specs.Prelude.{◌≡◌, ℕ, ◌⊎◌, true, List, [], ◌∷�
 use Rattle.std.specs.Coded.{Coded, code_by, coded×, coded_list, coded_ℕ}
 use Rattle.std.specs.FinSet as set
 use Rattle.std.specs.Ordering.{nat_cmp, ordering_then}
+use Rattle.std.specs.Str.{bytes_eq}
 use Rattle.std.specs.declared.cmp.Ordering.{Ordering}
 use Rattle.std.specs.Cmp.Lexicographic.{slice_cmp}
 use Rattle.book_lists.specs.declared.memberships.Membership.{Membership}
@@ -25,6 +26,10 @@ set_of pairs = set.from_list pairs
 -- the member is a direct member of the group
 abbrev pub IsDirect : Memberships → List ℕ → List ℕ → Type 0
 IsDirect pairs group member = set.contains pairs (record { group = group; member = member }) ≡ true
+
+-- the direct memberships of one group
+abbrev pub members_of : Memberships → List ℕ → Memberships
+members_of pairs group = set.retain pairs (λ (m : Membership). bytes_eq m.group group)
 
 -- from a group to a direct member, and so on through the list, down to p, which is its last
 abbrev pub Descends : Memberships → List ℕ → List (List ℕ) → List ℕ → Type 0

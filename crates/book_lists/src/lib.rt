@@ -1,29 +1,32 @@
 //! Names, principals, their membership of groups, access entries, and the decision over one list of entries (RFC 3744).
 //!
-//! It stands on `book_rights`. The crate above uses that `expand` gives exactly the principals to which a caller belongs,
+//! It stands on `book_limits` and `book_rights`. The crate above uses that `expand` gives exactly the principals to which a caller belongs,
 //! that `decide` answers by the first applicable entry for each needed leaf and names it in a denial, and that `granted`
-//! gives exactly the leaves that a grant decides.
+//! gives exactly the leaves that a grant decides; that a `Scan` and a `GrantScan` tell the same of several lists, each
+//! gone over by its own call, without joining them; and that `check_edit` accepts exactly the lists without a fault.
 //!
-//! Read `names`, `principals`, `memberships` and `circles` first, then `entries` and `decisions`; `principal_sets` has
-//! the sets of which memberships and circles are made, `limits` how long a list may be, and `submitted` entries before they
-//! are checked.
+//! Read `names`, `principals`, `memberships` and `circles` first, then `entries`, `decisions` and `scans`, then
+//! `submitted`, the entries of an edit, and `list_edits`; `principal_sets` has the sets of which memberships and
+//! circles are made.
 #![tactic(auto)]
 
 mod circles;
 mod decisions;
 mod entries;
-mod limits;
+mod list_edits;
 mod memberships;
 mod names;
 mod principal_sets;
 mod principals;
+mod scans;
 mod submitted;
 
 pub use circles::{Caller, Circle, expand};
 pub use decisions::{Outcome, decide, granted};
 pub use entries::{Entry, Here, Who, applies};
-pub use limits::{MAX_ENTRIES, MAX_MEMBERS};
+pub use list_edits::{EditFault, check_edit};
 pub use memberships::{Membership, Pairs};
 pub use names::Name;
 pub use principals::Principal;
+pub use scans::{GrantScan, Scan};
 pub use submitted::Submitted;

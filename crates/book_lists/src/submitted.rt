@@ -1,6 +1,10 @@
 //! Entries as a request submits them, before they are checked.
 
-use crate::entries::Who;
+ghost use Rattle.std.specs.Prelude.{◌≡◌, ◌≢◌, List, None};
+ghost use Rattle.book_lists.specs.declared.entries.Entry.{Entry};
+ghost use Rattle.book_lists.specs.ListEdits.{IsFaultless, entry_of};
+
+use crate::entries::{Entry, Who};
 use book_rights::LeafSet;
 
 /// An entry of the list that an ACL submits (RFC 3744, section 8.1), as it was read.
@@ -18,4 +22,23 @@ pub struct Submitted {
     pub protected: bool,
     /// Whether it is marked as inherited.
     pub inherited: bool,
+}
+
+impl Submitted {
+    /// The entry that was submitted; none where its principal is not recognized or a privilege not supported, and so
+    /// never of a list that `check_edit` accepts. Takes no memory.
+    pub fn into_entry(self) -> Option<Entry>
+        ensures entry { result ≡ entry_of self }
+        ensures faultless { (protected : List Entry) → IsFaultless protected self → result ≢ None }
+    {
+        match (self.who, self.set) {
+            (Some(who), Some(set)) => Some(Entry {
+                who,
+                invert: self.invert,
+                deny: self.deny,
+                set,
+            }),
+            _ => None,
+        }
+    }
 }

@@ -1,13 +1,18 @@
 -- From agreeing Offices a request has one plan.
 use Rattle.std.proofs.Common.{◌≡◌, inl, inr, ℕ, List, [], ◌∷◌, Bool, true, false, Option, Some, None, is_some, option_map, ◌&&◌, ◌||◌, Result, Ok, Err, refl, sym, ap, ◌∙◌, subst, nat_lt}
-use Rattle.std.specs.Prelude.{if◌then◌else◌}
+use Rattle.std.specs.Prelude.{if◌then◌else◌, map}
 use Rattle.std.specs.FinMap.{get}
+use Rattle.std.specs.List.{AllZip, flat_map}
 use Rattle.book_lists.specs.Callers.{IsCircle}
 use Rattle.book_lists.specs.Circles.{CircleOf}
 use Rattle.book_lists.specs.Principals.{person_path}
 use Rattle.book_lists.specs.declared.circles.Caller.{Caller}
 use Rattle.book_lists.specs.declared.circles.Caller.TheVariants.{Known}
-use Rattle.book_office.specs.Levels.{effective_at}
+use Rattle.book_lists.specs.ListEdits.{entries_of}
+use Rattle.book_lists.specs.declared.submitted.Submitted.{Submitted}
+use Rattle.book_office.specs.Levels.{protected_entries, effective_at}
+use Rattle.book_office.specs.declared.edits.Edit.TheVariants.{SetList}
+use Rattle.book_office.specs.declared.nodes.EffectiveEntry.{EffectiveEntry}
 use Rattle.book_office.specs.Resources.{node_at}
 use Rattle.book_office.specs.declared.nodes.Node.{Node}
 use Rattle.book_rights.specs.Needs.{only, read_and, needs_of}
@@ -18,22 +23,23 @@ use Rattle.book_rights.specs.declared.places.Need.{Need}
 use Rattle.book_rights.specs.declared.privileges.Leaf.{Leaf}
 use Rattle.book_rights.specs.declared.privileges.Leaf.TheVariants.{Read, WriteContent, WriteProperties, Bind, Unbind, ReadAcl, WriteAcl, ReadCurrentUserPrivilegeSet}
 use Rattle.book_values.specs.declared.offices.Office.{Office}
-use Rattle.book_values.specs.declared.offices.TheConstants.{LAST_NUMBER, MAX_BOOKS, MAX_CARDS}
+use Rattle.book_limits.specs.declared.TheConstants.{MAX_CARDS, MAX_BOOKS, LAST_NUMBER}
 use Rattle.book_values.specs.declared.paths.Path.{Path}
 use Rattle.book_values.specs.declared.paths.Path.TheVariants as path
-use Rattle.book_values.specs.Paths.{kind_of}
+use Rattle.book_values.specs.Paths.{kind_of, levels}
 use Rattle.book_machine.proofs.FittingPlans.{ready_is_target}
-use Rattle.book_machine.proofs.Outlines.{there_mapped, outline_of_node, book_there, count_same, nodes_alike, node_same, effective_same, here_same}
+use Rattle.book_machine.proofs.Outlines.{there_mapped, outline_of_node, book_there, count_same, nodes_alike, node_same, level_same, effective_same, here_same}
 use Rattle.book_machine.specs.Agreement.{named, MayRead, outline, Agree}
 use Rattle.book_machine.specs.AllowedMethods.{allowed_of, goes_on}
 use Rattle.book_machine.specs.Asked.{asked_of, method_of}
-use Rattle.book_machine.specs.Stages.{◌>>=◌, check, caller_of, at_unmapped, at_node, target_of, ready_of, body_of, can_change, put_limits, delete_limits, keeps_limits, limits_of, text_of, refused_at, success_of, granted_plan, put_status, put_edit, delete_edit, mkcol_edit, replied}
+use Rattle.book_machine.specs.Stages.{◌>>=◌, check, caller_of, at_unmapped, at_node, target_of, suits_target, ready_of, IsMembersAnswer, IsChecked, IsListAnswer, protected_entries_at, IsAclAnswer, IsBodyAnswer, can_change, put_limits, delete_limits, label_limits, keeps_limits, limits_of, text_of, refused_at, success_of, IsGrantedPlan, put_status, put_edit, delete_edit, mkcol_edit, patch_edit, replied}
 use Rattle.book_machine.specs.Steps.{IsDecided, IsPlannedFrom, IsPlan}
 use Rattle.book_machine.specs.Verdicts.{IsGrantedBy, IsDeniedBy, IsGrantedAt, IsDeniedAt, AreGranted, IsFirstDenial, IsGranted, IsDenied, is_book, needs_at, shape_at, place_path, here_of}
 use Rattle.book_machine.specs.declared.allowed_methods.AllowedMethods.TheVariants.{OfNewCard}
 use Rattle.book_machine.specs.declared.asked.Asked.{Asked}
 use Rattle.book_machine.specs.declared.asked.Asked.TheVariants as asked
 use Rattle.book_machine.specs.declared.messages.Content.TheVariants as content
+use Rattle.book_machine.specs.declared.messages.Patch.TheVariants as patch
 use Rattle.book_machine.specs.declared.messages.Request.{Request}
 use Rattle.book_machine.specs.declared.plans.Plan.{Plan}
 use Rattle.book_machine.specs.declared.plans.Ready.{Ready}
@@ -66,9 +72,12 @@ outline_of_ready r = record { caller = r.caller; asked = r.asked; target = outli
 abbrev made_ready : Caller → Asked → Target → Result Ready Refusal
 made_ready caller what target = Ok (record { caller = caller; asked = what; target = target })
 
+abbrev suited_ready : Caller → Asked → Target → Result Ready Refusal
+suited_ready caller what target = suits_target what target >>= λ _. made_ready caller what target
+
 ready_told : (caller : Caller) (what : Asked) (r : Result Target Refusal)
-    → told_of outline_of_ready (r >>= made_ready caller what) ≡ (told_of outline_of_target r >>= made_ready caller what)
-ready_told caller what (Ok target) = refl
+    → told_of outline_of_ready (r >>= suited_ready caller what) ≡ (told_of outline_of_target r >>= suited_ready caller what)
+ready_told caller what (Ok target) = told_then_ok outline_of_ready (suits_target what target) (record { caller = caller; asked = what; target = target })
 ready_told caller what (Err e) = refl
 
 node_told : (o : Office) (m : Method) (q : Path) (r : Option Node) → told_of outline_of_target (at_node o m q r) ≡ at_node o m q (option_map outline_of_node r)
@@ -164,7 +173,7 @@ module _ (o p : Office) (same : outline o ≡ outline p) where
       bound outline_of_ready (caller_of o name) (caller_of p name) _ _ (caller_same name) (λ caller.
       bound outline_of_ready (asked_of request.method request.body) (asked_of request.method request.body) _ _ refl (λ what.
       ready_told caller what (target_of o request.method request.path)
-      ∙ ap (λ r. r >>= made_ready caller what) (target_same request.method request.path)
+      ∙ ap (λ r. r >>= suited_ready caller what) (target_same request.method request.path)
       ∙ sym (ready_told caller what (target_of p request.method request.path))))
 
   -- ---- the limits
@@ -191,14 +200,55 @@ module _ (o p : Office) (same : outline o ≡ outline p) where
   delete_limits_same (path.Book b) = ap (λ (x : Office). nat_lt x.epoch LAST_NUMBER) same
   delete_limits_same (path.Card b c) = book_changes_same b
 
+  label_limits_same : (q : Path) → label_limits o q ≡ label_limits p q
+  label_limits_same path.Root = refl
+  label_limits_same path.People = refl
+  label_limits_same path.Groups = refl
+  label_limits_same path.Books = refl
+  label_limits_same (path.Person n) = refl
+  label_limits_same (path.Group n) = refl
+  label_limits_same (path.Book b) = refl
+  label_limits_same (path.Card b c) = book_changes_same b
+
+  -- ---- the body
+  protected_same : (q : Path) → protected_entries_at o q ≡ protected_entries_at p q
+  protected_same q = λ i. map (λ (e : EffectiveEntry). e.entry) (flat_map protected_entries (map (λ x. level_same o p same x i) (levels q)))
+
+  acl_answer_same : (q : Path) (list : List Submitted) (answer : Result (Unit {0}) Refusal) → IsAclAnswer o q list answer → IsAclAnswer p q list answer
+  acl_answer_same q list answer (inl long) = inl long
+  acl_answer_same q list answer (inr at) = inr (
+    at.0,
+    (
+      at.1.0,
+      subst (λ (x : Office). AllZip (IsChecked x) list at.1.0) same at.1.1,
+      subst (λ protected. IsListAnswer protected at.1.0 answer) (protected_same q) at.1.2,
+    ),
+  )
+
+  body_answer_same : (what : Asked) (q : Path) (answer : Result (Unit {0}) Refusal) → IsBodyAnswer o what q answer → IsBodyAnswer p what q answer
+  body_answer_same asked.Get q answer is = is
+  body_answer_same asked.Head q answer is = is
+  body_answer_same asked.Options q answer is = is
+  body_answer_same (asked.Put text) q answer is = is
+  body_answer_same asked.Propfind q answer is = is
+  body_answer_same (asked.Proppatch (patch.DisplayName label)) q answer is = is
+  body_answer_same (asked.Proppatch (patch.GroupMembers members)) q answer is = subst (λ (x : Office). IsMembersAnswer x members answer) same is
+  body_answer_same (asked.Acl list) q answer is = acl_answer_same q list answer is
+  body_answer_same asked.Copy q answer is = is
+  body_answer_same asked.Move q answer is = is
+  body_answer_same asked.Delete q answer is = is
+  body_answer_same asked.Mkcol q answer is = is
+  body_answer_same asked.Report q answer is = is
+
   keeps_limits_same : (what : Asked) (q : Path) (mapped : Bool) → keeps_limits o what q mapped ≡ keeps_limits p what q mapped
   keeps_limits_same asked.Get q mapped = refl
   keeps_limits_same asked.Head q mapped = refl
   keeps_limits_same asked.Options q mapped = refl
   keeps_limits_same (asked.Put text) q mapped = put_limits_same q mapped
   keeps_limits_same asked.Propfind q mapped = refl
-  keeps_limits_same asked.Proppatch q mapped = refl
-  keeps_limits_same asked.Acl q mapped = refl
+  keeps_limits_same (asked.Proppatch (patch.DisplayName label)) q mapped = label_limits_same q
+  keeps_limits_same (asked.Proppatch (patch.GroupMembers members)) q mapped = ap (λ (x : Office). nat_lt x.epoch LAST_NUMBER) same
+  keeps_limits_same (asked.Acl list) q mapped = ap (λ (x : Office). nat_lt x.epoch LAST_NUMBER) same
   keeps_limits_same asked.Copy q mapped = refl
   keeps_limits_same asked.Move q mapped = refl
   keeps_limits_same asked.Delete q mapped = delete_limits_same q
@@ -318,8 +368,8 @@ module _ (a b : Ready) (alike : outline_of_ready a ≡ outline_of_ready b) where
       let status = put_status_same a.target.node b.target.node mapped_is in
       λ i. put_edit (caller_is i) text (path_is i) >>= λ edit. Ok (replied (status i) content.Empty (Some edit))
   success_same asked.Propfind shown = λ i. refused_at (path_is i)
-  success_same asked.Proppatch shown = λ i. refused_at (path_is i)
-  success_same asked.Acl shown = λ i. refused_at (path_is i)
+  success_same (asked.Proppatch patched) shown = λ i. patch_edit (path_is i) patched >>= λ edit. Ok (replied 200 content.Empty (Some edit))
+  success_same (asked.Acl list) shown = λ i. Ok (replied 200 content.Empty (Some (SetList (path_is i) (entries_of list))))
   success_same asked.Copy shown = λ i. refused_at (path_is i)
   success_same asked.Move shown = λ i. refused_at (path_is i)
   success_same asked.Delete shown = λ i. delete_edit (path_is i) >>= λ edit. Ok (replied 204 content.Empty (Some edit))
@@ -327,11 +377,13 @@ module _ (a b : Ready) (alike : outline_of_ready a ≡ outline_of_ready b) where
   success_same asked.Report shown = λ i. refused_at (path_is i)
 
   pub granted_plan_same : (o p : Office) → outline o ≡ outline p → (circle : CircleOf) → (reads_target (method_of a.asked) ≡ true → a.target.node ≡ b.target.node)
-      → granted_plan o circle a ≡ granted_plan p circle b
-  granted_plan_same o p same circle shown =
+      → (result : Result Plan Refusal) → IsGrantedPlan o circle a result → IsGrantedPlan p circle b result
+  granted_plan_same o p same circle shown result is =
       let success = success_same a.asked shown ∙ ap (λ what. success_of what b.caller b.target) asked_is in
       let limits = limits_same o p same in
-      λ i. body_of (asked_is i) >>= λ _. limits i >>= λ _. success i
+      let answers : IsBodyAnswer p b.asked b.target.path is.0 =
+      subst (λ q. IsBodyAnswer p b.asked q is.0) path_is (subst (λ what. IsBodyAnswer p what a.target.path is.0) asked_is (body_answer_same o p same a.asked a.target.path is.0 is.1)) in
+      (is.0, answers, is.2 ∙ (λ i. is.0 >>= λ _. limits i >>= λ _. success i))
 
 -- ---- the caller of a request that has passed is the one that it names
 answered_first : {A B : Type 0} (m : Result A Refusal) (f : A → Result B Refusal) (y : B) → (m >>= f) ≡ Ok y → (x : A) × (m ≡ Ok x) × (f x ≡ Ok y)
@@ -347,7 +399,7 @@ caller_named o (Some name) caller e =
     ] e
 
 abbrev then_target : Office → Request → Caller → Asked → Result Ready Refusal
-then_target o request caller what = target_of o request.method request.path >>= made_ready caller what
+then_target o request caller what = target_of o request.method request.path >>= suited_ready caller what
 
 abbrev then_asked : Office → Request → Caller → Result Ready Refusal
 then_asked o request caller = asked_of request.method request.body >>= then_target o request caller
@@ -356,8 +408,9 @@ pub ready_named : (o : Office) (name : Option (List ℕ)) (request : Request) (r
 ready_named o name request ready is =
     let a = answered_first (caller_of o name) (then_asked o request) ready is in
     let b = answered_first (asked_of request.method request.body) (then_target o request a.0) ready a.2 in
-    let c = answered_first (target_of o request.method request.path) (made_ready a.0 b.0) ready b.2 in
-    let made : record { caller = a.0; asked = b.0; target = c.0 } ≡ ready = cc (c.2) in
+    let c = answered_first (target_of o request.method request.path) (suited_ready a.0 b.0) ready b.2 in
+    let d = answered_first (suits_target b.0 c.0) (λ _. made_ready a.0 b.0 c.0) ready c.2 in
+    let made : record { caller = a.0; asked = b.0; target = c.0 } ≡ ready = cc (d.2) in
     sym (ap (λ (r : Ready). r.caller) made) ∙ caller_named o name a.0 a.1
 
 -- ---- plans
@@ -377,7 +430,7 @@ module _ (o p : Office) (name : Option (List ℕ)) (request : Request) (agree : 
       → (result : Result Plan Refusal) → IsDecided o request a result → IsDecided p request b result
   decided_same a b a_is b_is alike result (inl granted) = inl (
     verdict_granted a b alike o p agree.outlines request granted.0,
-    granted.1 ∙ granted_plan_same a b alike o p agree.outlines granted.0.circle (λ m. target_seen a b a_is b_is alike (reads o request a m granted.0)),
+    granted_plan_same a b alike o p agree.outlines granted.0.circle (λ m. target_seen a b a_is b_is alike (reads o request a m granted.0)) result granted.1,
   )
   decided_same a b a_is b_is alike result (inr denied) = inr (denied.0, verdict_denied a b alike o p agree.outlines request denied.0 denied.1, denied.2)
 

@@ -9,7 +9,6 @@ use Rattle.book_office.specs.Keeping.{Standing, Edits, whole, one_more, failures
 use Rattle.book_office.specs.Sound.{Fits}
 use Rattle.book_machine.proofs.FittingPlans.{plan_fits}
 use Rattle.book_machine.proofs.OnePlan.{one_plan}
-use Rattle.book_machine.specs.declared.messages.Reply.{Reply}
 use Rattle.book_machine.specs.declared.messages.Request.{Request}
 use Rattle.book_machine.specs.declared.plans.Plan.{Plan}
 use Rattle.book_machine.specs.declared.refusals.Refusal.{Refusal}

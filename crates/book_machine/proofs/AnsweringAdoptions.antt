@@ -14,7 +14,7 @@ use Rattle.book_office.specs.Sound.{IsSound, Fits}
 use Rattle.book_office.specs.declared.edits.Edit.TheVariants.{Adopt}
 use Rattle.book_office.specs.declared.keepers.StoreFault.{StoreFault}
 use Rattle.book_values.specs.declared.offices.Office.{Office}
-use Rattle.book_values.specs.declared.offices.TheConstants.{MAX_BOOKS, LAST_NUMBER}
+use Rattle.book_limits.specs.declared.TheConstants.{MAX_BOOKS, LAST_NUMBER}
 use Rattle.book_machine.proofs.Answering.{failed_once}
 use Rattle.book_machine.specs.Adoptions.{Adopts, HasRoomFor, adopted_by, epoch_after}
 use Rattle.book_machine.specs.Promises.{AdoptPromise}

@@ -1,6 +1,6 @@
 -- No stage refuses a request as unavailable.
 use Rattle.std.proofs.Common.{◌≡◌, ℕ, List, Bool, true, false, Option, Some, None, Result, Ok, Err, inl, inr, sym, ap, ◌∙◌, is_some}
-use Rattle.std.specs.Prelude.{if◌then◌else◌}
+use Rattle.std.specs.Prelude.{if◌then◌else◌, nat_le, length}
 use Rattle.std.specs.FinMap.{get}
 use Rattle.book_lists.specs.Principals.{person_path}
 use Rattle.book_lists.specs.Circles.{CircleOf}
@@ -8,30 +8,34 @@ use Rattle.book_lists.specs.declared.circles.Caller.{Caller}
 use Rattle.book_lists.specs.declared.circles.Caller.TheVariants.{Known}
 use Rattle.book_rights.specs.declared.methods.Method.{Method}
 use Rattle.book_rights.specs.declared.methods.Method.TheVariants.{Get, Head, Options, Put, Propfind, Proppatch, Acl, Copy, Move, Delete, Mkcol, Report}
+use Rattle.book_limits.specs.declared.TheConstants.{MAX_MEMBERS, MAX_LABEL_BYTES}
+use Rattle.book_values.specs.Paths.{kind_of}
 use Rattle.book_values.specs.declared.paths.Path.{Path}
 use Rattle.book_values.specs.declared.paths.Path.TheVariants as path
 use Rattle.book_office.specs.Resources.{node_at}
 use Rattle.book_office.specs.declared.nodes.Node.{Node}
 use Rattle.book_values.specs.declared.offices.Office.{Office}
-use Rattle.book_machine.proofs.StepLaws.{granted_answer, done, bad, full, not_success, planned_succeeds, same_refusal}
-use Rattle.book_machine.specs.Laws.{StepsAreAvailable}
+use Rattle.book_machine.proofs.StepLaws.{granted_answer, done, late, not_success, planned_succeeds, same_refusal}
+use Rattle.book_machine.specs.Laws.{is_late, StepsAreAvailable}
 use Rattle.book_machine.specs.Refusals.{refused}
 use Rattle.book_machine.specs.AllowedMethods.{allowed_of, goes_on}
-use Rattle.book_machine.specs.Asked.{asked_of, is_empty, put_asked, mkcol_asked}
-use Rattle.book_machine.specs.Stages.{◌>>=◌, check, caller_of, target_of, at_node, at_unmapped, new_card, new_book_at, ready_of, text_told, text_of, put_edit, delete_edit, mkcol_edit, success_of, granted_plan}
+use Rattle.book_machine.specs.Asked.{asked_of, is_empty, put_asked, each_once, patch_asked, proppatch_asked, acl_asked, mkcol_asked}
+use Rattle.book_machine.specs.Stages.{◌>>=◌, check, caller_of, target_of, at_node, at_unmapped, new_card, new_book_at, suits_target, ready_of, text_told, text_of, put_edit, delete_edit, mkcol_edit, members_edit, patch_edit, success_of, IsGrantedPlan}
 use Rattle.book_machine.specs.Steps.{IsPlannedFrom, IsPlan, settled}
 use Rattle.book_machine.specs.declared.allowed_methods.AllowedMethods.TheVariants.{OfNewCard}
 use Rattle.book_machine.specs.declared.asked.Asked.{Asked}
 use Rattle.book_machine.specs.declared.asked.Asked.TheVariants as asked
 use Rattle.book_machine.specs.declared.messages.Body.{Body}
 use Rattle.book_machine.specs.declared.messages.Body.TheVariants as body
+use Rattle.book_machine.specs.declared.messages.Patch.{Patch}
+use Rattle.book_machine.specs.declared.messages.Patch.TheVariants as patch
 use Rattle.book_machine.specs.declared.messages.Reply.{Reply}
 use Rattle.book_machine.specs.declared.messages.Request.{Request}
 use Rattle.book_machine.specs.declared.plans.Plan.{Plan}
 use Rattle.book_machine.specs.declared.plans.Ready.{Ready}
 use Rattle.book_machine.specs.declared.plans.Target.{Target}
 use Rattle.book_machine.specs.declared.refusals.Refusal.{Refusal}
-use Rattle.book_machine.specs.declared.refusals.Refusal.TheVariants.{BodyOnMkcol, UnknownCaller, NotAllowed, NoParent, Unavailable}
+use Rattle.book_machine.specs.declared.refusals.Refusal.TheVariants.{BadRequest, BodyOnMkcol, UnknownCaller, NotAllowed, NoParent, Unavailable}
 
 -- a stage that tells some other refusal
 abbrev IsAvailable : {A : Type 0} → Result A Refusal → Type 0
@@ -63,7 +67,7 @@ put_available : (b : Body) → IsAvailable (put_asked b)
 put_available body.Empty e = absurd (cc (e))
 put_available (body.Text text) e = absurd (cc (e))
 put_available (body.Find properties) e = absurd (cc (e))
-put_available (body.Patch patch) e = absurd (cc (e))
+put_available (body.Patch p) e = absurd (cc (e))
 put_available (body.List list) e = absurd (cc (e))
 put_available (body.Report report) e = absurd (cc (e))
 put_available body.Unread e = absurd (cc (e))
@@ -76,10 +80,36 @@ mkcol_available : (b : Body) → IsAvailable (mkcol_asked b)
 mkcol_available body.Empty e = absurd (cc (e))
 mkcol_available (body.Text text) e = text_available (is_empty text) e
 mkcol_available (body.Find properties) e = absurd (cc (e))
-mkcol_available (body.Patch patch) e = absurd (cc (e))
+mkcol_available (body.Patch p) e = absurd (cc (e))
 mkcol_available (body.List list) e = absurd (cc (e))
 mkcol_available (body.Report report) e = absurd (cc (e))
 mkcol_available body.Unread e = absurd (cc (e))
+
+bound_available : (low : Bool) (what : Asked) → IsAvailable (if low then Ok what else Err BadRequest)
+bound_available true what e = absurd (cc (e))
+bound_available false what e = absurd (cc (e))
+
+patch_available : (p : Patch) → IsAvailable (patch_asked p)
+patch_available (patch.DisplayName label) e = bound_available (nat_le (length label) MAX_LABEL_BYTES) _ e
+patch_available (patch.GroupMembers members) e = bound_available (nat_le (length (each_once members)) MAX_MEMBERS) _ e
+
+proppatch_available : (b : Body) → IsAvailable (proppatch_asked b)
+proppatch_available body.Empty e = absurd (cc (e))
+proppatch_available (body.Text text) e = absurd (cc (e))
+proppatch_available (body.Find properties) e = absurd (cc (e))
+proppatch_available (body.Patch p) e = patch_available p e
+proppatch_available (body.List list) e = absurd (cc (e))
+proppatch_available (body.Report report) e = absurd (cc (e))
+proppatch_available body.Unread e = absurd (cc (e))
+
+acl_available : (b : Body) → IsAvailable (acl_asked b)
+acl_available body.Empty e = absurd (cc (e))
+acl_available (body.Text text) e = absurd (cc (e))
+acl_available (body.Find properties) e = absurd (cc (e))
+acl_available (body.Patch p) e = absurd (cc (e))
+acl_available (body.List list) e = absurd (cc (e))
+acl_available (body.Report report) e = absurd (cc (e))
+acl_available body.Unread e = absurd (cc (e))
 
 asked_available : (m : Method) (b : Body) → IsAvailable (asked_of m b)
 asked_available Get b e = absurd (cc (e))
@@ -87,8 +117,8 @@ asked_available Head b e = absurd (cc (e))
 asked_available Options b e = absurd (cc (e))
 asked_available Put b e = put_available b e
 asked_available Propfind b e = absurd (cc (e))
-asked_available Proppatch b e = absurd (cc (e))
-asked_available Acl b e = absurd (cc (e))
+asked_available Proppatch b e = proppatch_available b e
+asked_available Acl b e = acl_available b e
 asked_available Copy b e = absurd (cc (e))
 asked_available Move b e = absurd (cc (e))
 asked_available Delete b e = absurd (cc (e))
@@ -178,14 +208,28 @@ mkcol_edit_available caller (path.Group n) e = absurd (cc (e))
 mkcol_edit_available caller (path.Book b) e = absurd (cc (e))
 mkcol_edit_available caller (path.Card b c) e = absurd (cc (e))
 
+members_edit_available : (p : Path) (members : List (List ℕ)) → IsAvailable (members_edit p members)
+members_edit_available path.Root members e = absurd (cc (e))
+members_edit_available path.People members e = absurd (cc (e))
+members_edit_available path.Groups members e = absurd (cc (e))
+members_edit_available path.Books members e = absurd (cc (e))
+members_edit_available (path.Person n) members e = absurd (cc (e))
+members_edit_available (path.Group n) members e = absurd (cc (e))
+members_edit_available (path.Book b) members e = absurd (cc (e))
+members_edit_available (path.Card b c) members e = absurd (cc (e))
+
+patch_edit_available : (p : Path) (patched : Patch) → IsAvailable (patch_edit p patched)
+patch_edit_available p (patch.DisplayName label) e = absurd (cc (e))
+patch_edit_available p (patch.GroupMembers members) e = members_edit_available p members e
+
 success_available : (what : Asked) (caller : Caller) (target : Target) → IsAvailable (success_of what caller target)
 success_available asked.Get caller target = both (text_of target.node) _ (text_of_available target.node) (λ text. value _)
 success_available asked.Head caller target = both (text_of target.node) _ (text_of_available target.node) (λ text. value _)
 success_available asked.Options caller target = value _
 success_available (asked.Put text) caller target = both (put_edit caller text target.path) _ (put_edit_available caller text target.path) (λ edit. value _)
 success_available asked.Propfind caller target = λ e. absurd (cc (e))
-success_available asked.Proppatch caller target = λ e. absurd (cc (e))
-success_available asked.Acl caller target = λ e. absurd (cc (e))
+success_available (asked.Proppatch patched) caller target = both (patch_edit target.path patched) _ (patch_edit_available target.path patched) (λ edit. value _)
+success_available (asked.Acl list) caller target = value _
 success_available asked.Copy caller target = λ e. absurd (cc (e))
 success_available asked.Move caller target = λ e. absurd (cc (e))
 success_available asked.Delete caller target = both (delete_edit target.path) _ (delete_edit_available target.path) (λ edit. value _)
@@ -196,18 +240,21 @@ module _ (o : Office) (request : Request) where
   ready_available : (name : Option (List ℕ)) → IsAvailable (ready_of o name request)
   ready_available name = both (caller_of o name) _ (caller_available o name) (λ caller.
       both (asked_of request.method request.body) _ (asked_available request.method request.body) (λ what.
-      both (target_of o request.method request.path) _ (target_available o request.method request.path) (λ target. value _)))
+      both (target_of o request.method request.path) _ (target_available o request.method request.path) (λ target.
+      both (suits_target what target) _ (check_available _ (NotAllowed (allowed_of (kind_of target.path))) (λ h. absurd (cc (h)))) (λ _. value _))))
 
-  granted_available : (circle : CircleOf) (ready : Ready) → IsAvailable (granted_plan o circle ready)
-  granted_available circle ready e = elim (granted_answer o circle ready) [
-    | done is ↦ absurd (success_available ready.asked ready.caller ready.target (sym is ∙ e))
-    | bad fault is ↦ absurd (cc (is, e))
-    | full is ↦ absurd (cc (is, e))
+  granted_available : (circle : CircleOf) (ready : Ready) → IsGrantedPlan o circle ready (Err Unavailable) → ⊥
+  granted_available circle ready planned = elim (granted_answer o circle ready (Err Unavailable) planned) [
+    | done is ↦ absurd (success_available ready.asked ready.caller ready.target (sym is))
+    | late refusal told is ↦
+        let same : refusal ≡ Unavailable = cc (is) in
+        let not_late : is_late Unavailable ≡ true = ap is_late (sym same) ∙ told in
+        absurd (cc (not_late))
   ]
 
   plan_available : (ready : Result Ready Refusal) → IsAvailable ready → IsPlannedFrom o request ready (Err Unavailable) → ⊥
   plan_available (Err refusal) available is = let same : refusal ≡ Unavailable = cc (is) in available (ap Err same)
-  plan_available (Ok ready) available (inl granted) = granted_available granted.0.circle ready (sym granted.1)
+  plan_available (Ok ready) available (inl granted) = granted_available granted.0.circle ready granted.1
   plan_available (Ok ready) available (inr denied) = let h = denied.2 in absurd (cc (h))
 
 pub steps_are_available : StepsAreAvailable

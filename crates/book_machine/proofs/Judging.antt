@@ -1,6 +1,5 @@
 -- The verdict, need by need.
-use Rattle.std.proofs.Common.{◌≡◌, List, [], ◌∷◌, Bool, Option, Some, None, Result, Ok, Err, inl, inr, refl, subst, ap, ◌∙◌, option_map, option_and_then, ℕ}
-use Rattle.book_rights.specs.Needs.{listed_too}
+use Rattle.std.proofs.Common.{◌≡◌, List, ◌∷◌, Bool, Option, Some, None, Result, Ok, Err, inl, inr, refl, subst, ap, ◌∙◌, option_map, option_and_then}
 use Rattle.book_rights.specs.declared.privileges.Leaf.{Leaf}
 use Rattle.book_rights.specs.declared.places.Need.{Need}
 use Rattle.book_lists.specs.Circles.{CircleOf}

@@ -1,9 +1,11 @@
 pub mod AlikePlans
 pub mod Answering
 pub mod AnsweringAdoptions
-pub mod StagesInTurn
+pub mod AskingEach
 pub mod AvailableSteps
+pub mod BodyAnswers
 pub mod FittingPlans
+pub mod FoundPrincipals
 pub mod Judging
 pub mod LeadingRuns
 pub mod Limits
@@ -11,8 +13,10 @@ pub mod MappedEntries
 pub mod OnePlan
 pub mod Outlines
 pub mod Planning
+pub mod ProtectedEntries
 pub mod RunLemmas
 pub mod ServedPlans
+pub mod StagesInTurn
 pub mod StepLaws
 pub mod StillAgreeing
 pub mod UnreadExample

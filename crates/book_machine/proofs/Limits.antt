@@ -11,16 +11,20 @@ use Rattle.book_lists.specs.declared.circles.Caller.{Caller}
 use Rattle.book_values.specs.declared.offices.Book.{Book}
 use Rattle.book_values.specs.declared.offices.StoredCard.{StoredCard}
 use Rattle.book_values.specs.declared.offices.Office.{Office}
-use Rattle.book_values.specs.declared.offices.TheConstants.{MAX_CARDS, MAX_BOOKS, LAST_NUMBER}
+use Rattle.book_limits.specs.declared.TheConstants.{MAX_CARDS, MAX_BOOKS, LAST_NUMBER}
 use Rattle.book_values.specs.declared.paths.Path.{Path}
 use Rattle.book_values.specs.declared.paths.Path.TheVariants as path
-use Rattle.book_office.specs.Edits.{apply, put_card, card_put, remove_card}
+use Rattle.book_lists.specs.ListEdits.{entries_of}
+use Rattle.book_lists.specs.Principals.{group_path}
+use Rattle.book_lists.specs.declared.entries.Entry.{Entry}
+use Rattle.book_office.specs.Edits.{apply, put_card, card_put, remove_card, label_card}
 use Rattle.book_office.specs.Resources.{node_of, node_at, count_at, book_resource, card_in, card_resource, number_of}
 use Rattle.book_office.specs.Sound.{IsSound}
 use Rattle.book_office.specs.declared.edits.Edit.{Edit}
-use Rattle.book_office.specs.declared.edits.Edit.TheVariants.{PutCard, RemoveCard, AddBook, RemoveBook}
+use Rattle.book_office.specs.declared.edits.Edit.TheVariants.{PutCard, RemoveCard, AddBook, RemoveBook, SetLabel, SetList, SetMembers}
 use Rattle.book_office.specs.declared.nodes.Node.{Node}
-use Rattle.book_rights.specs.declared.methods.Method.TheVariants.{Put, Delete, Mkcol}
+use Rattle.book_rights.specs.declared.methods.Method.TheVariants.{Put, Proppatch, Delete, Mkcol}
+use Rattle.book_machine.proofs.BodyAnswers.{one_body_answer}
 use Rattle.book_machine.proofs.FittingPlans.{answered, passed, edit_told, no_mkcol_at, success_fits, ready_at, count_of_book, node_of_card, no_book, is_free, same_Some}
 use Rattle.book_machine.proofs.OnePlan.{verdicts_exclude}
 use Rattle.book_machine.proofs.ServedPlans.{success_low}
@@ -28,12 +32,13 @@ use Rattle.book_machine.proofs.StepLaws.{decided, limits_answers, not_success}
 use Rattle.book_machine.specs.Laws.{RequestsAreFullAtLimits}
 use Rattle.book_machine.specs.AllowedMethods.{goes_on}
 use Rattle.book_machine.specs.Asked.{method_of}
-use Rattle.book_machine.specs.Stages.{◌>>=◌, check, at_unmapped, can_change, put_limits, delete_limits, limits_of, owner_of, replied, success, granted_plan}
+use Rattle.book_machine.specs.Stages.{◌>>=◌, check, at_unmapped, can_change, put_limits, delete_limits, label_limits, limits_of, owner_of, replied, success, after_body, IsGrantedPlan}
 use Rattle.book_machine.specs.Steps.{IsDecided, settled}
 use Rattle.book_machine.specs.Verdicts.{IsGranted}
 use Rattle.book_machine.specs.declared.asked.Asked.{Asked}
 use Rattle.book_machine.specs.declared.asked.Asked.TheVariants as asked
 use Rattle.book_machine.specs.declared.messages.Content.{Content}
+use Rattle.book_machine.specs.declared.messages.Patch.TheVariants as patch
 use Rattle.book_machine.specs.declared.messages.Reply.{Reply}
 use Rattle.book_machine.specs.declared.messages.Request.{Request}
 use Rattle.book_machine.specs.declared.plans.Plan.{Plan}
@@ -116,6 +121,34 @@ module _ (o : Office) where
       let last : o.epoch + 1 ≤ LAST_NUMBER = after.epoch in
       lt-ltb _ _ (omega (arith, last))
 
+  -- at the path of a card that is there, its book and the card
+  card_for : (b c : List ℕ) (P : Type 0) → (node_at o (path.Card b c) ≡ None → P)
+      → ((book : Book) (card : StoredCard) → get o.books b ≡ Some book → get book.cards c ≡ Some card → P) → P
+  card_for b c P free some = by_option (get o.books b)
+      (λ none. free (ap (card_node c) none))
+      (λ book found. by_option (get book.cards c)
+      (λ none. free (node_of_card o b c book found ∙ ap (λ r. option_map node_of (option_map (card_resource (number_of book c)) r)) none))
+      (λ card held. some book card found held))
+
+  label_room : (b c label : List ℕ) (book : Book) (card : StoredCard) → get o.books b ≡ Some book → get book.cards c ≡ Some card
+      → IsSound (apply o (SetLabel (path.Card b c) label)) → label_limits o (path.Card b c) ≡ true
+  label_room b c label book card is held after =
+      let change : Book → Book = λ k. label_card c label (get k.cards c) k in
+      let there = (after.books b (change book) (changed_here o.books b change ∙ ap (option_map change) is)).1 in
+      let last : (change book).changes.number ≤ LAST_NUMBER = there.last in
+      let labelled : (change book).changes.number ≡ book.changes.number + 1 = ap (λ r. (label_card c label r book).changes.number) held in
+      changes_of (get o.books b) book is (omega (arith, last, labelled))
+
+  members_room : (group : List ℕ) (members : List (List ℕ)) → IsSound (apply o (SetMembers group members)) → nat_lt o.epoch LAST_NUMBER ≡ true
+  members_room group members after =
+      let last : o.epoch + 1 ≤ LAST_NUMBER = after.epoch in
+      lt-ltb _ _ (omega (arith, last))
+
+  list_room : (p : Path) (list : List Entry) → IsSound (apply o (SetList p list)) → nat_lt o.epoch LAST_NUMBER ≡ true
+  list_room p list after =
+      let last : o.epoch + 1 ≤ LAST_NUMBER = after.epoch in
+      lt-ltb _ _ (omega (arith, last))
+
 -- ---- the limits of a request whose edit stays within them
 abbrev refused_by : Refusal → Result (Unit {0}) Refusal
 refused_by r = Err r
@@ -165,14 +198,36 @@ module _ (o : Office) (caller : Caller) (plan : Plan) (edit : Edit) (has : plan.
       let none = no_book (get o.books b) (is_free (node_at o (path.Book b)) (λ n some. no_mkcol_at o b n some (there n some))) in
       checked _ Full (add_room o b (owner_of caller) none (after_told _ _ _ is))
 
+  label_within : (label : List ℕ) (p : Path) → (node_at o p ≡ None → at_unmapped o Proppatch p ≡ Ok tt) → Within (asked.Proppatch (patch.DisplayName label)) p
+  label_within label path.Root free is = refl
+  label_within label path.People free is = refl
+  label_within label path.Groups free is = refl
+  label_within label path.Books free is = refl
+  label_within label (path.Person n) free is = refl
+  label_within label (path.Group n) free is = refl
+  label_within label (path.Book b) free is = refl
+  label_within label (path.Card b c) free is = card_for o b c _ (λ none. not_unmapped NotFound (free none)) (λ book card found held.
+      checked _ Full (label_room o b c label book card found held (after_told _ _ _ is)))
+
+  members_within : (members : List (List ℕ)) (p : Path) → Within (asked.Proppatch (patch.GroupMembers members)) p
+  members_within members path.Root is = absurd cc
+  members_within members path.People is = absurd cc
+  members_within members path.Groups is = absurd cc
+  members_within members path.Books is = absurd cc
+  members_within members (path.Person n) is = absurd cc
+  members_within members (path.Group n) is = checked _ Full (members_room o (group_path n) members (after_told _ _ _ is))
+  members_within members (path.Book b) is = absurd cc
+  members_within members (path.Card b c) is = absurd cc
+
   within : (what : Asked) (p : Path) → (node_at o p ≡ None → at_unmapped o (method_of what) p ≡ Ok tt) → ((n : Node) → node_at o p ≡ Some n → goes_on (method_of what) n.kind ≡ true) → Within what p
   within asked.Get p free there is = refl
   within asked.Head p free there is = refl
   within asked.Options p free there is = refl
   within (asked.Put text) p free there is = put_within text p free is
   within asked.Propfind p free there is = refl
-  within asked.Proppatch p free there is = refl
-  within asked.Acl p free there is = refl
+  within (asked.Proppatch (patch.DisplayName label)) p free there is = label_within label p free is
+  within (asked.Proppatch (patch.GroupMembers members)) p free there is = members_within members p is
+  within (asked.Acl list) p free there is = checked _ Full (list_room o p (entries_of list) (after_told _ _ _ is))
   within asked.Copy p free there is = refl
   within asked.Move p free there is = refl
   within asked.Delete p free there is = delete_within p free is
@@ -181,12 +236,9 @@ module _ (o : Office) (caller : Caller) (plan : Plan) (edit : Edit) (has : plan.
 
 -- ---- the reply
 granted_as : (o : Office) (request : Request) (ready : Ready) (result : Result Plan Refusal) → IsGranted o request ready → IsDecided o request ready result
-    → (circle : CircleOf) × (result ≡ granted_plan o circle ready)
+    → (circle : CircleOf) × IsGrantedPlan o circle ready result
 granted_as o request ready result granted (inl is) = (is.0.circle, is.1)
 granted_as o request ready result granted (inr denied) = absurd (verdicts_exclude o request ready denied.0 granted denied.1)
-
-abbrev after_body : Office → Ready → Result (Unit {0}) Refusal → Result Plan Refusal
-after_body o ready r = r >>= λ _. limits_of o ready.asked ready.target >>= λ _. success ready
 
 abbrev after_limits : Ready → Result (Unit {0}) Refusal → Result Plan Refusal
 after_limits ready r = r >>= λ _. success ready
@@ -195,7 +247,7 @@ pub full_at_limits : RequestsAreFullAtLimits
 full_at_limits o name request ready edit reply after sound named is granted body plan succeeds has_edit step =
     let past = passed o request name ready is in
     let decision = granted_as o request ready step.0 granted (decided o name request ready step.0 is step.1) in
-    let planned = decision.1 ∙ ap (after_body o ready) body in
+    let planned = decision.1.2 ∙ ap (after_body o ready) (one_body_answer o ready.asked ready.target.path decision.1.0 (Ok tt) decision.1.1 body) in
     let told : reply ≡ (settled o (after_limits ready (limits_of o ready.asked ready.target))).0 =
     ap (λ (x : Reply × Office). x.0) step.2 ∙ ap (λ r. (settled o r).0) planned in (
       λ full sound_after.

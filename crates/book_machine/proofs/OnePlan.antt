@@ -19,7 +19,8 @@ use Rattle.book_machine.specs.declared.plans.Ready.{Ready}
 use Rattle.book_machine.specs.declared.refusals.Denial.{Denial}
 use Rattle.book_machine.specs.declared.refusals.Refusal.{Refusal}
 use Rattle.book_machine.specs.declared.refusals.Refusal.TheVariants.{NeedPrivileges}
-use Rattle.book_machine.specs.Stages.{ready_of, granted_plan}
+use Rattle.book_machine.proofs.BodyAnswers.{one_body_answer}
+use Rattle.book_machine.specs.Stages.{ready_of, after_body, IsBodyAnswer}
 use Rattle.book_machine.specs.Steps.{IsDecided, IsPlannedFrom, IsPlan}
 use Rattle.book_machine.specs.Verdicts.{entries_of, paths_of, here_of, deciding_entry, place_path, needs_at, IsGrantedAt, IsDeniedAt, AreGranted, IsFirstDenial, IsGranted, IsDenied}
 
@@ -82,10 +83,14 @@ module _ (o : Office) (request : Request) where
       one_first_denial o y.circle request ready.target.path (needs_at ready) a b
       (subst (λ c. IsFirstDenial o c request ready.target.path (needs_at ready) a) same x.denied) y.denied
 
+  one_granted_plan : (ready : Ready) (a b : Result Plan Refusal) → (x : (answer : Result (Unit {0}) Refusal) × IsBodyAnswer o ready.asked ready.target.path answer × (a ≡ after_body o ready answer))
+      → (y : (answer : Result (Unit {0}) Refusal) × IsBodyAnswer o ready.asked ready.target.path answer × (b ≡ after_body o ready answer)) → a ≡ b
+  one_granted_plan ready a b x y =
+      x.2 ∙ ap (after_body o ready) (one_body_answer o ready.asked ready.target.path x.0 y.0 x.1 y.1) ∙ sym y.2
+
   one_decided : (ready : Ready) (a b : Result Plan Refusal) → IsDecided o request ready a → IsDecided o request ready b → a ≡ b
   one_decided ready a b (inl x) (inl y) =
-      let same = one_circle o.pairs ready.caller x.0.circle y.0.circle x.0.is_circle y.0.is_circle in
-      x.1 ∙ ap (λ circle. granted_plan o circle ready) same ∙ sym y.1
+      one_granted_plan ready a b x.1 y.1
   one_decided ready a b (inl x) (inr y) = absurd (verdicts_exclude ready y.0 x.0 y.1)
   one_decided ready a b (inr x) (inl y) = absurd (verdicts_exclude ready x.0 y.0 x.1)
   one_decided ready a b (inr x) (inr y) = x.2 ∙ ap (λ denial. Err (NeedPrivileges denial)) (one_denial ready x.0 y.0 x.1 y.1) ∙ sym y.2

@@ -140,7 +140,7 @@ module _ (o p : Office) (same : outline o ≡ outline p) where
   node_same q h = ap (option_map node_of) (resource_same q h)
 
   -- ---- the lists in force, and what they ask of a resource
-  level_same : (q : Path) → level_at o q ≡ level_at p q
+  pub level_same : (q : Path) → level_at o q ≡ level_at p q
   level_same q =
       let protected : protected_at o q ≡ protected_at p q =
       ap (λ r. unwrap_or r []) (told outline_of_resource (λ (r : Resource). r.protected) (resource_at o q) (resource_at p q) (resources_alike q)) in

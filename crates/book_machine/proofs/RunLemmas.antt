@@ -1,5 +1,5 @@
 -- A run goes on by one step.
-use Rattle.std.proofs.Common.{◌≡◌, List, [], ◌∷◌, ◌++◌, refl, ap, inl, inr}
+use Rattle.std.proofs.Common.{◌≡◌, List, [], ◌∷◌, ◌++◌, refl, inl, inr}
 use Rattle.book_values.specs.declared.offices.Office.{Office}
 use Rattle.book_office.specs.Keeping.{Standing, Leftover}
 use Rattle.book_machine.proofs.UnseenRuns.{runs_alike}
@@ -7,7 +7,6 @@ use Rattle.book_machine.specs.declared.messages.Reply.{Reply}
 use Rattle.book_machine.specs.Promises.{ServePromise, ServeAllPromise}
 use Rattle.book_machine.specs.Runs.{Call, Run, last_office, MayLeave, MayLeaveAfter}
 use Rattle.book_machine.specs.Steps.{Serves}
-use Rattle.book_machine.specs.Unseen.{RunsAlike}
 
 run_more : (o after : Office) (calls : List Call) (replies : List Reply) (offices : List Office) (call : Call) (reply : Reply)
     → Run o calls replies offices → Serves (last_office o offices) call.0 call.1 reply after → Run o (calls ++ call ∷ []) (replies ++ reply ∷ []) (offices ++ after ∷ [])

@@ -11,7 +11,7 @@ use Rattle.book_values.specs.declared.paths.Kind.TheVariants as kind
 use Rattle.book_values.specs.declared.paths.Path.{Path}
 use Rattle.book_values.specs.declared.paths.Path.TheVariants as path
 use Rattle.book_lists.specs.declared.circles.Caller.{Caller}
-use Rattle.book_office.specs.Resources.{Resource, node_of, node_at, book_resource, properties_resource, card_resource, card_in, number_of}
+use Rattle.book_office.specs.Resources.{node_of, node_at, book_resource, properties_resource, card_resource, card_in, number_of}
 use Rattle.book_office.specs.declared.edits.Edit.{Edit}
 use Rattle.book_office.specs.declared.nodes.Node.{Node}
 use Rattle.book_rights.specs.declared.methods.Method.{Method}
@@ -19,11 +19,12 @@ use Rattle.book_rights.specs.declared.methods.Method.TheVariants as method
 use Rattle.book_machine.proofs.FittingPlans.{Passed, answered, bind_ok, ready_at, same_Ok, same_Some}
 use Rattle.book_machine.specs.AllowedMethods.{goes_on, is_among, methods_of, allowed_of}
 use Rattle.book_machine.specs.Asked.{method_of}
-use Rattle.book_machine.specs.Stages.{◌>>=◌, at_unmapped, replied, text_of, put_status, put_edit, delete_edit, mkcol_edit, success, success_of}
+use Rattle.book_machine.specs.Stages.{◌>>=◌, at_unmapped, suits, replied, text_of, put_status, put_edit, delete_edit, mkcol_edit, patch_edit, success, success_of}
 use Rattle.book_machine.specs.declared.asked.Asked.{Asked}
 use Rattle.book_machine.specs.declared.asked.Asked.TheVariants as asked
 use Rattle.book_machine.specs.declared.messages.Content.{Content}
 use Rattle.book_machine.specs.declared.messages.Content.TheVariants as content
+use Rattle.book_machine.specs.declared.messages.Patch.TheVariants as patch
 use Rattle.book_machine.specs.declared.messages.Request.{Request}
 use Rattle.book_machine.specs.declared.plans.Plan.{Plan}
 use Rattle.book_machine.specs.declared.plans.Ready.{Ready}
@@ -179,28 +180,40 @@ module _ (o : Office) (caller : Caller) where
   mkcol_served (path.Card b c) (inl free) = then_refused _ _ free
   mkcol_served (path.Card b c) (inr there) = let h = there.2 in absurd (cc (h))
 
+  -- members are set at a group, to which the path stage has held them
+  members_served : (members : List (List ℕ)) (p : Path) → suits (asked.Proppatch (patch.GroupMembers members)) (kind_of p) ≡ true → ServedAt (asked.Proppatch (patch.GroupMembers members)) p
+  members_served members path.Root suited through = absurd (cc (suited))
+  members_served members path.People suited through = absurd (cc (suited))
+  members_served members path.Groups suited through = absurd (cc (suited))
+  members_served members path.Books suited through = absurd (cc (suited))
+  members_served members (path.Person n) suited through = absurd (cc (suited))
+  members_served members (path.Group n) suited through = at_once _ 200 _ _ refl (omega arith)
+  members_served members (path.Book b) suited through = absurd (cc (suited))
+  members_served members (path.Card b c) suited through = absurd (cc (suited))
+
   -- a method that is not served goes on nowhere
   none_served : (what : Asked) (p : Path) (listed : Bool) → at_unmapped o (method_of what) p ≡ Err NotFound → goes_on (method_of what) (kind_of p) ≡ (listed && false) → ServedAt what p
   none_served what p listed unmapped mapped (inl free) = let none : Err NotFound ≡ passes = sym unmapped ∙ free in absurd cc
   none_served what p listed unmapped mapped (inr there) = both_hold listed (sym mapped ∙ there.2)
 
-  served_at : (what : Asked) (p : Path) → ServedAt what p
-  served_at asked.Get p = get_served p
-  served_at asked.Head p = head_served p
-  served_at asked.Options p = λ _. at_once _ 200 _ None refl (omega arith)
-  served_at (asked.Put text) p = put_served text p
-  served_at asked.Propfind p = none_served asked.Propfind p (is_among method.Propfind (methods_of (allowed_of (kind_of p)))) refl refl
-  served_at asked.Proppatch p = none_served asked.Proppatch p (is_among method.Proppatch (methods_of (allowed_of (kind_of p)))) refl refl
-  served_at asked.Acl p = none_served asked.Acl p (is_among method.Acl (methods_of (allowed_of (kind_of p)))) refl refl
-  served_at asked.Copy p = none_served asked.Copy p (is_among method.Copy (methods_of (allowed_of (kind_of p)))) refl refl
-  served_at asked.Move p = none_served asked.Move p (is_among method.Move (methods_of (allowed_of (kind_of p)))) refl refl
-  served_at asked.Delete p = delete_served p
-  served_at asked.Mkcol p = mkcol_served p
-  served_at asked.Report p = none_served asked.Report p (is_among method.Report (methods_of (allowed_of (kind_of p)))) refl refl
+  served_at : (what : Asked) (p : Path) → suits what (kind_of p) ≡ true → ServedAt what p
+  served_at asked.Get p suited = get_served p
+  served_at asked.Head p suited = head_served p
+  served_at asked.Options p suited = λ _. at_once _ 200 _ None refl (omega arith)
+  served_at (asked.Put text) p suited = put_served text p
+  served_at asked.Propfind p suited = none_served asked.Propfind p (is_among method.Propfind (methods_of (allowed_of (kind_of p)))) refl refl
+  served_at (asked.Proppatch (patch.DisplayName label)) p suited = λ _. at_once _ 200 _ _ refl (omega arith)
+  served_at (asked.Proppatch (patch.GroupMembers members)) p suited = members_served members p suited
+  served_at (asked.Acl list) p suited = λ _. at_once _ 200 _ _ refl (omega arith)
+  served_at asked.Copy p suited = none_served asked.Copy p (is_among method.Copy (methods_of (allowed_of (kind_of p)))) refl refl
+  served_at asked.Move p suited = none_served asked.Move p (is_among method.Move (methods_of (allowed_of (kind_of p)))) refl refl
+  served_at asked.Delete p suited = delete_served p
+  served_at asked.Mkcol p suited = mkcol_served p
+  served_at asked.Report p suited = none_served asked.Report p (is_among method.Report (methods_of (allowed_of (kind_of p)))) refl refl
 
 pub served : (o : Office) (request : Request) (ready : Ready) → Passed o request ready → Served ready
 served o request ready past =
-    subst Served (sym past.is) (served_at o past.caller past.what past.at (let_through o past.caller (method_of past.what) past.at past.free past.there))
+    subst Served (sym past.is) (served_at o past.caller past.what past.at past.suited (let_through o past.caller (method_of past.what) past.at past.free past.there))
 
 -- ---- any plan of a success
 low_at_once : (status : ℕ) (what : Content) (edit : Option Edit) (plan : Plan) → answered (replied status what edit) ≡ Ok plan → status < 300 → plan.reply.status < 300
@@ -212,8 +225,8 @@ success_low asked.Head ready plan is = let told = bind_ok (text_of ready.target.
 success_low asked.Options ready plan is = low_at_once 200 _ _ plan is (omega arith)
 success_low (asked.Put text) ready plan is = let told = bind_ok (put_edit ready.caller text ready.target.path) _ plan is in low_at_once (put_status ready.target.node) _ _ plan told.2 (put_low ready.target.node)
 success_low asked.Propfind ready plan is = absurd (cc (is))
-success_low asked.Proppatch ready plan is = absurd (cc (is))
-success_low asked.Acl ready plan is = absurd (cc (is))
+success_low (asked.Proppatch patched) ready plan is = let told = bind_ok (patch_edit ready.target.path patched) _ plan is in low_at_once 200 _ _ plan told.2 (omega arith)
+success_low (asked.Acl list) ready plan is = low_at_once 200 _ _ plan is (omega arith)
 success_low asked.Copy ready plan is = absurd (cc (is))
 success_low asked.Move ready plan is = absurd (cc (is))
 success_low asked.Delete ready plan is = let told = bind_ok (delete_edit ready.target.path) _ plan is in low_at_once 204 _ _ plan told.2 (omega arith)

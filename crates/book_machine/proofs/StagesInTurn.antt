@@ -1,5 +1,5 @@
 -- Stages one after the other.
-use Rattle.std.proofs.Common.{◌≡◌, ℕ, Result, Ok, Err, IsErrAnd, inl, inr, refl, sym, subst, ◌∙◌}
+use Rattle.std.proofs.Common.{◌≡◌, ℕ, Result, Ok, Err, IsErrAnd, inl, inr, refl, sym, subst}
 use Rattle.book_office.specs.Keeping.{Standing}
 use Rattle.book_values.specs.declared.offices.Office.{Office}
 use Rattle.book_machine.specs.Asking.{Asks, Meets, Counted}

@@ -1,16 +1,15 @@
 -- What a step tells of the verdict.
-use Rattle.std.proofs.Common.{◌≡◌, ◌⊎◌, ℕ, ◌<◌, ◌≤◌, List, Bool, true, false, Option, Some, None, Result, Ok, Err, inl, inr, refl, sym, ap, ◌∙◌, subst, is_some, arith}
-use Rattle.book_cards.specs.CardText.{card_fault}
-use Rattle.book_cards.specs.declared.fault.CardFault.{CardFault}
+use Rattle.std.proofs.Common.{◌≡◌, ◌⊎◌, ℕ, ◌<◌, ◌≤◌, List, Bool, true, false, Option, None, Result, Ok, Err, inl, inr, refl, sym, ap, ◌∙◌, subst, is_some, arith}
 use Rattle.book_lists.specs.Circles.{CircleOf}
 use Rattle.book_office.specs.declared.edits.Edit.{Edit}
 use Rattle.book_values.specs.declared.offices.Office.{Office}
+use Rattle.book_machine.proofs.BodyAnswers.{body_answered}
 use Rattle.book_machine.proofs.FittingPlans.{answered, bind_ok, passed, same_Ok}
 use Rattle.book_machine.proofs.ServedPlans.{Served, served, success_low}
 use Rattle.book_machine.proofs.OnePlan.{one_plan, one_denial, verdicts_exclude}
-use Rattle.book_machine.specs.Laws.{RequestsHaveOneStep, IsPastVerdict, RequestsActWhereGranted, DenialsAreTold, RefusalsChangeNothing, TellingRepliesChangeNothing}
+use Rattle.book_machine.specs.Laws.{is_late, RequestsHaveOneStep, IsPastVerdict, RequestsActWhereGranted, DenialsAreTold, RefusalsChangeNothing, TellingRepliesChangeNothing}
 use Rattle.book_machine.specs.Refusals.{refused, status_of}
-use Rattle.book_machine.specs.Stages.{◌>>=◌, check, ready_of, bad_card, body_of, keeps_limits, limits_of, replied, text_of, put_edit, delete_edit, mkcol_edit, success, success_of, granted_plan}
+use Rattle.book_machine.specs.Stages.{◌>>=◌, check, ready_of, keeps_limits, limits_of, replied, text_of, put_edit, delete_edit, mkcol_edit, patch_edit, success, success_of, IsGrantedPlan}
 use Rattle.book_machine.specs.Steps.{IsDecided, IsPlannedFrom, IsPlan, apply_any, settled}
 use Rattle.book_machine.specs.Verdicts.{IsDenied}
 use Rattle.book_machine.specs.declared.asked.Asked.{Asked}
@@ -27,24 +26,6 @@ use Rattle.book_machine.specs.declared.refusals.Refusal.{Refusal}
 use Rattle.book_machine.specs.declared.refusals.Refusal.TheVariants.{BadRequest, UnknownCaller, BadCard, NeedPrivileges, NoProtectedAceConflict, NoInheritedAceConflict, LimitedNumberOfAces, NotSupportedPrivilege, RecognizedPrincipal, ValidSyncToken, NotFound, NotAllowed, NoParent, Overwrite, BodyOnMkcol, Full, Unavailable}
 
 -- ---- the stages after the verdict
-card_answers : (fault : Option CardFault) → (bad_card fault ≡ Ok tt) ⊎ ((f : CardFault) × (bad_card fault ≡ Err (BadCard f)))
-card_answers None = inl refl
-card_answers (Some f) = inr (f, refl)
-
-body_answers : (what : Asked) → (body_of what ≡ Ok tt) ⊎ ((f : CardFault) × (body_of what ≡ Err (BadCard f)))
-body_answers asked.Get = inl refl
-body_answers asked.Head = inl refl
-body_answers asked.Options = inl refl
-body_answers (asked.Put text) = card_answers (card_fault text)
-body_answers asked.Propfind = inl refl
-body_answers asked.Proppatch = inl refl
-body_answers asked.Acl = inl refl
-body_answers asked.Copy = inl refl
-body_answers asked.Move = inl refl
-body_answers asked.Delete = inl refl
-body_answers asked.Mkcol = inl refl
-body_answers asked.Report = inl refl
-
 check_answers : (b : Bool) → (check b Full ≡ Ok tt) ⊎ (check b Full ≡ Err Full)
 check_answers true = inl refl
 check_answers false = inr refl
@@ -53,10 +34,9 @@ pub limits_answers : (o : Office) (what : Asked) (target : Target) → (limits_o
 limits_answers o what target = check_answers (keeps_limits o what target.path (is_some target.node))
 
 -- what follows a verdict that grants
-pub data GrantedAnswer (o : Office) (circle : CircleOf) (ready : Ready) : Type 0 where
-  done : granted_plan o circle ready ≡ success ready → GrantedAnswer o circle ready
-  bad : (fault : CardFault) → granted_plan o circle ready ≡ Err (BadCard fault) → GrantedAnswer o circle ready
-  full : granted_plan o circle ready ≡ Err Full → GrantedAnswer o circle ready
+pub data GrantedAnswer (ready : Ready) (result : Result Plan Refusal) : Type 0 where
+  done : result ≡ success ready → GrantedAnswer ready result
+  late : (refusal : Refusal) → is_late refusal ≡ true → result ≡ Err refusal → GrantedAnswer ready result
 
 module _ (o : Office) (circle : CircleOf) (ready : Ready) where
   abbrev to_success : Unit {0} → Result Plan Refusal
@@ -65,28 +45,26 @@ module _ (o : Office) (circle : CircleOf) (ready : Ready) where
   abbrev to_limits : Unit {0} → Result Plan Refusal
   to_limits _ = limits_of o ready.asked ready.target >>= to_success
 
-  pub granted_answer : GrantedAnswer o circle ready
-  granted_answer = elim (body_answers ready.asked) [
+  pub granted_answer : (result : Result Plan Refusal) → IsGrantedPlan o circle ready result → GrantedAnswer ready result
+  granted_answer result is = elim (body_answered o ready.asked ready.target.path is.0 is.1) [
     | inl fine ↦ elim (limits_answers o ready.asked ready.target) [
-      | inl room ↦ done (ap (λ r. r >>= to_limits) fine ∙ ap (λ r. r >>= to_success) room)
-      | inr none ↦ full (ap (λ r. r >>= to_limits) fine ∙ ap (λ r. r >>= to_success) none)
+      | inl room ↦ done (is.2 ∙ ap (λ r. r >>= to_limits) fine ∙ ap (λ r. r >>= to_success) room)
+      | inr none ↦ late Full refl (is.2 ∙ ap (λ r. r >>= to_limits) fine ∙ ap (λ r. r >>= to_success) none)
     ]
-    | inr fault ↦ bad fault.0 (ap (λ r. r >>= to_limits) fault.1)
+    | inr bad ↦ late bad.0 bad.1 (is.2 ∙ ap (λ r. r >>= to_limits) bad.2)
   ]
 
-  past_verdict : Served ready → IsPastVerdict (settled o (granted_plan o circle ready)).0
-  past_verdict serves = elim granted_answer [
+  past_verdict : (result : Result Plan Refusal) → IsGrantedPlan o circle ready result → Served ready → IsPastVerdict (settled o result).0
+  past_verdict result planned serves = elim (granted_answer result planned) [
     | done is ↦ subst (λ (r : Result Plan Refusal). IsPastVerdict (settled o r).0) (sym (is ∙ serves.is)) (inl serves.low)
-    | bad fault is ↦ subst (λ (r : Result Plan Refusal). IsPastVerdict (settled o r).0) (sym is) (inr (inl (fault, refl)))
-    | full is ↦ subst (λ (r : Result Plan Refusal). IsPastVerdict (settled o r).0) (sym is) (inr (inr refl))
+    | late refusal told is ↦ subst (λ (r : Result Plan Refusal). IsPastVerdict (settled o r).0) (sym is) (inr (refusal, told, refl))
   ]
 
   -- a plan is that of a success
-  pub plan_of_success : (plan : Plan) → granted_plan o circle ready ≡ Ok plan → success ready ≡ Ok plan
-  plan_of_success plan is = elim granted_answer [
-    | done answer ↦ sym answer ∙ is
-    | bad fault answer ↦ absurd (cc (answer, is))
-    | full answer ↦ absurd (cc (answer, is))
+  pub plan_of_success : (plan : Plan) → IsGrantedPlan o circle ready (Ok plan) → success ready ≡ Ok plan
+  plan_of_success plan is = elim (granted_answer (Ok plan) is) [
+    | done answer ↦ sym answer
+    | late refusal told answer ↦ absurd (cc (answer))
   ]
 
 -- ---- refusals
@@ -120,8 +98,10 @@ same_refusal a b is = let content = ap (λ (r : Reply). r.content) is in cc (con
 
 denial_not_past : (denial : Denial) → IsPastVerdict (refused (NeedPrivileges denial)) → ⊥
 denial_not_past denial (inl low) = not_success (refused (NeedPrivileges denial)) (NeedPrivileges denial) refl low
-denial_not_past denial (inr (inl fault)) = let same = same_refusal (NeedPrivileges denial) (BadCard fault.0) fault.1 in absurd (cc (same))
-denial_not_past denial (inr (inr is)) = let same = same_refusal (NeedPrivileges denial) Full is in absurd (cc (same))
+denial_not_past denial (inr told) =
+    let same = same_refusal (NeedPrivileges denial) told.0 told.2 in
+    let not_late : is_late (NeedPrivileges denial) ≡ true = ap is_late same ∙ told.1 in
+    absurd (cc (not_late))
 
 -- ---- steps
 pub one_step : RequestsHaveOneStep
@@ -140,7 +120,7 @@ acts_where_granted o name request ready reply after is step =
     let told : reply ≡ (settled o step.0).0 = ap (λ (x : Reply × Office). x.0) step.2 in
     elim (decided o name request ready step.0 is step.1) [
       | inl granted ↦ (
-        λ _. subst IsPastVerdict (sym (told ∙ ap (λ r. (settled o r).0) granted.1)) (past_verdict o granted.0.circle ready (served o request ready (passed o request name ready is))),
+        λ _. subst IsPastVerdict (sym told) (past_verdict o granted.0.circle ready step.0 granted.1 (served o request ready (passed o request name ready is))),
         λ _. granted.0,
       )
       | inr denied ↦
@@ -157,7 +137,7 @@ denials_are_told o name request ready reply after denial is step =
       | inl granted ↦ (
         λ denied. absurd (verdicts_exclude o request ready denial granted.0 denied),
         λ refusal. absurd (denial_not_past denial
-            (subst IsPastVerdict (sym (told ∙ ap (λ r. (settled o r).0) granted.1) ∙ refusal) (past_verdict o granted.0.circle ready (served o request ready (passed o request name ready is))))),
+            (subst IsPastVerdict (sym told ∙ refusal) (past_verdict o granted.0.circle ready step.0 granted.1 (served o request ready (passed o request name ready is))))),
       )
       | inr denied ↦
           let denial_told : reply ≡ refused (NeedPrivileges denied.0) = told ∙ ap (λ r. (settled o r).0) denied.2 in (
@@ -173,7 +153,7 @@ denials_are_told o name request ready reply after denial is step =
 pub planned_succeeds : (o : Office) (request : Request) (ready : Result Ready Refusal) (plan : Plan) → IsPlannedFrom o request ready (Ok plan) → plan.reply.status < 300
 planned_succeeds o request (Err refusal) plan is = absurd (cc (is))
 planned_succeeds o request (Ok ready) plan (inl granted) =
-    success_low ready.asked ready plan (plan_of_success o granted.0.circle ready plan (sym granted.1))
+    success_low ready.asked ready plan (plan_of_success o granted.0.circle ready plan granted.1)
 planned_succeeds o request (Ok ready) plan (inr denied) = let h = denied.2 in absurd (cc (h))
 
 pub refusals_change_nothing : RefusalsChangeNothing
@@ -198,8 +178,8 @@ success_tells o asked.Head ready plan is = let told = bind_ok (text_of ready.tar
 success_tells o asked.Options ready plan is = inr (no_edit o _ plan _ is)
 success_tells o (asked.Put text) ready plan is = let told = bind_ok (put_edit ready.caller text ready.target.path) _ plan is in inl (empty_content _ plan _ told.2)
 success_tells o asked.Propfind ready plan is = absurd (cc (is))
-success_tells o asked.Proppatch ready plan is = absurd (cc (is))
-success_tells o asked.Acl ready plan is = absurd (cc (is))
+success_tells o (asked.Proppatch patched) ready plan is = let told = bind_ok (patch_edit ready.target.path patched) _ plan is in inl (empty_content _ plan _ told.2)
+success_tells o (asked.Acl list) ready plan is = inl (empty_content _ plan _ is)
 success_tells o asked.Copy ready plan is = absurd (cc (is))
 success_tells o asked.Move ready plan is = absurd (cc (is))
 success_tells o asked.Delete ready plan is = let told = bind_ok (delete_edit ready.target.path) _ plan is in inl (empty_content _ plan _ told.2)
@@ -210,7 +190,7 @@ planned_tells : (o : Office) (request : Request) (ready : Result Ready Refusal) 
     → (plan.reply.content ≡ content.Empty) ⊎ (apply_any o plan.edit ≡ o)
 planned_tells o request (Err refusal) plan is = absurd (cc (is))
 planned_tells o request (Ok ready) plan (inl granted) =
-    success_tells o ready.asked ready plan (plan_of_success o granted.0.circle ready plan (sym granted.1))
+    success_tells o ready.asked ready plan (plan_of_success o granted.0.circle ready plan granted.1)
 planned_tells o request (Ok ready) plan (inr denied) = let h = denied.2 in absurd (cc (h))
 
 pub telling_replies_change_nothing : TellingRepliesChangeNothing

@@ -14,17 +14,19 @@ use Rattle.book_values.specs.declared.paths.Path.TheVariants as path
 use Rattle.book_machine.proofs.AlikePlans.{plan_same, may_read_same, ready_named, reads_target, reads}
 use Rattle.book_machine.proofs.FittingPlans.{answered, asked_by_request, bind_ok, same_Ok}
 use Rattle.book_machine.proofs.StepLaws.{plan_of_success}
-use Rattle.book_machine.proofs.StillAgreeing.{put_agrees, removal_agrees, addition_agrees}
+use Rattle.book_machine.proofs.StillAgreeing.{put_agrees, removal_agrees, addition_agrees, label_agrees}
 use Rattle.book_machine.specs.Agreement.{named, MayRead, Agree}
 use Rattle.book_machine.specs.Promises.{ServePromise, ServeHidesUnread}
 use Rattle.book_machine.specs.Runs.{Call, last_office}
 use Rattle.book_machine.specs.Asked.{method_of}
-use Rattle.book_machine.specs.Stages.{ready_of, replied, text_of, success_of, granted_plan, put_edit, delete_edit, mkcol_edit}
+use Rattle.book_machine.specs.Stages.{ready_of, replied, text_of, success_of, IsGrantedPlan, put_edit, delete_edit, mkcol_edit, patch_edit, members_edit}
 use Rattle.book_machine.specs.Steps.{IsPlannedFrom, apply_any, settled, Serves}
 use Rattle.book_machine.specs.Unseen.{AgreementIsAnEquivalence, AgreeingOfficesStepAlike, EpochsNeverFall, RunsNeverLowerTheEpoch, AreByOne, AgreeingOfficesRunAlike}
 use Rattle.book_machine.specs.declared.asked.Asked.{Asked}
 use Rattle.book_machine.specs.declared.asked.Asked.TheVariants as asked
 use Rattle.book_machine.specs.declared.messages.Content.{Content}
+use Rattle.book_machine.specs.declared.messages.Patch.{Patch}
+use Rattle.book_machine.specs.declared.messages.Patch.TheVariants as patch
 use Rattle.book_machine.specs.declared.messages.Reply.{Reply}
 use Rattle.book_machine.specs.declared.messages.Request.{Request}
 use Rattle.book_machine.specs.declared.plans.Plan.{Plan}
@@ -97,6 +99,23 @@ module _ (o p : Office) (caller : Caller) (agree : Agree o p caller) where
       made (path.Book b) edit e = subst (λ x. StillAgrees (Some x)) (same_Ok _ edit e) (λ _. addition_agrees o p caller agree b _)
       made (path.Card b c) edit e = absurd (cc (e))
 
+  patch_still : (who : Caller) (patched : Patch) (t : Target) (plan : Plan) → SucceedsStill (asked.Proppatch patched) t who plan
+  patch_still who patched t plan is = let told = bind_ok (patch_edit t.path patched) _ plan is in told_still _ _ _ plan told.2 (made patched told.0 told.1)
+    where
+      members : (q : Path) (list : List (List ℕ)) (edit : Edit) → members_edit q list ≡ Ok edit → StillAgrees (Some edit)
+      members path.Root list edit e = absurd (cc (e))
+      members path.People list edit e = absurd (cc (e))
+      members path.Groups list edit e = absurd (cc (e))
+      members path.Books list edit e = absurd (cc (e))
+      members (path.Person n) list edit e = absurd (cc (e))
+      members (path.Group n) list edit e = subst (λ x. StillAgrees (Some x)) (same_Ok _ edit e) (λ risen. absurd (omega (arith, risen)))
+      members (path.Book b) list edit e = absurd (cc (e))
+      members (path.Card b c) list edit e = absurd (cc (e))
+
+      made : (patched : Patch) (edit : Edit) → patch_edit t.path patched ≡ Ok edit → StillAgrees (Some edit)
+      made (patch.DisplayName label) edit e = subst (λ x. StillAgrees (Some x)) (same_Ok _ edit e) (λ _. label_agrees o p caller agree t.path label)
+      made (patch.GroupMembers list) edit e = members t.path list edit e
+
   -- a row for each method: what a MOVE does isn't asked, and a method that needs `read` at its target had it
   success_still : (what : Asked) (who : Caller) (t : Target) (plan : Plan) → method_of what ≢ Move → (reads_target (method_of what) ≡ true → MayRead o caller t.path)
       → SucceedsStill what t who plan
@@ -105,8 +124,8 @@ module _ (o p : Office) (caller : Caller) (agree : Agree o p caller) where
   success_still asked.Options who t plan moves may is = told_still _ _ None plan is (λ _. agree)
   success_still (asked.Put text) who t plan moves may is = put_still who text t plan is
   success_still asked.Propfind who t plan moves may is = absurd (cc (is))
-  success_still asked.Proppatch who t plan moves may is = absurd (cc (is))
-  success_still asked.Acl who t plan moves may is = absurd (cc (is))
+  success_still (asked.Proppatch patched) who t plan moves may is = patch_still who patched t plan is
+  success_still (asked.Acl list) who t plan moves may is = told_still _ _ _ plan is (λ risen. absurd (omega (arith, risen)))
   success_still asked.Copy who t plan moves may is = absurd (cc (is))
   success_still asked.Move who t plan moves may is = absurd (moves refl)
   success_still asked.Delete who t plan moves may is = delete_still who t plan is
@@ -117,7 +136,7 @@ module _ (o p : Office) (caller : Caller) (agree : Agree o p caller) where
   SettlesAlike result = (settled o result).1.epoch ≡ o.epoch → Agree (settled o result).1 (settled p result).1 caller
 
   granted_still : (circle : CircleOf) (ready : Ready) (result : Result Plan Refusal) → method_of ready.asked ≢ Move → (reads_target (method_of ready.asked) ≡ true → MayRead o caller ready.target.path)
-      → granted_plan o circle ready ≡ result → SettlesAlike result
+      → IsGrantedPlan o circle ready result → SettlesAlike result
   granted_still circle ready (Err refusal) moves may is = λ _. agree
   granted_still circle ready (Ok plan) moves may is = success_still ready.asked ready.caller ready.target plan moves may (plan_of_success o circle ready plan is)
 
@@ -126,7 +145,7 @@ module _ (o p : Office) (caller : Caller) (agree : Agree o p caller) where
   planned_still request (Err refusal) result moves who is = subst SettlesAlike (sym is) (λ _. agree)
   planned_still request (Ok ready) result moves who (inl granted) =
       granted_still granted.0.circle ready result (λ is. moves (sym (who ready refl).1 ∙ is))
-      (λ e. subst (λ c. MayRead o c ready.target.path) (who ready refl).0 (reads o request ready e granted.0)) (sym granted.1)
+      (λ e. subst (λ c. MayRead o c ready.target.path) (who ready refl).0 (reads o request ready e granted.0)) granted.1
   planned_still request (Ok ready) result moves who (inr denied) = subst SettlesAlike (sym denied.2) (λ _. agree)
 
 -- ---- one step

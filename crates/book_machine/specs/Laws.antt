@@ -1,13 +1,12 @@
 -- What the definition of a step implies, in words of its own.
-use Rattle.std.specs.Prelude.{◌≡◌, ◌≢◌, ◌⊎◌, ◌↔◌, ℕ, ◌<◌, List, Option, Some, Ok}
-use Rattle.book_cards.specs.declared.fault.CardFault.{CardFault}
+use Rattle.std.specs.Prelude.{Bool, true, false, ◌≡◌, ◌≢◌, ◌⊎◌, ◌↔◌, ℕ, ◌<◌, List, Option, Some, Ok}
 use Rattle.book_values.specs.declared.offices.Office.{Office}
 use Rattle.book_office.specs.Edits.{apply}
 use Rattle.book_office.specs.Sound.{IsSound}
 use Rattle.book_office.specs.declared.edits.Edit.{Edit}
 use Rattle.book_machine.specs.Asking.{HasPaths}
 use Rattle.book_machine.specs.Refusals.{refused}
-use Rattle.book_machine.specs.Stages.{ready_of, body_of, success}
+use Rattle.book_machine.specs.Stages.{ready_of, IsBodyAnswer, success}
 use Rattle.book_machine.specs.Steps.{Steps}
 use Rattle.book_machine.specs.Verdicts.{IsGranted, IsDenied}
 use Rattle.book_machine.specs.declared.messages.Content.TheVariants as content
@@ -17,16 +16,36 @@ use Rattle.book_machine.specs.declared.plans.Plan.{Plan}
 use Rattle.book_machine.specs.declared.plans.Ready.{Ready}
 use Rattle.book_machine.specs.declared.refusals.Denial.{Denial}
 use Rattle.book_machine.specs.declared.refusals.Refusal.{Refusal}
-use Rattle.book_machine.specs.declared.refusals.Refusal.TheVariants.{BadCard, Full, NeedPrivileges, Unavailable}
+use Rattle.book_machine.specs.declared.refusals.Refusal.TheVariants.{BadRequest, UnknownCaller, BadCard, NeedPrivileges, NoProtectedAceConflict, NoInheritedAceConflict, LimitedNumberOfAces, NotSupportedPrivilege, RecognizedPrincipal, ValidSyncToken, NotFound, NotAllowed, NoParent, Overwrite, BodyOnMkcol, Full, Unavailable}
 
 -- a request finds one reply and one Office after it
 abbrev pub RequestsHaveOneStep : Type 0
 RequestsHaveOneStep = (o : Office) (name : Option (List ℕ)) (request : Request) (reply other : Reply) (after later : Office)
     → Steps o name request reply after → Steps o name request other later → (reply ≡ other) × (after ≡ later)
 
+-- the refusals by the body and by the limits, and no others
+abbrev pub is_late : Refusal → Bool
+is_late BadRequest = false
+is_late UnknownCaller = false
+is_late (BadCard fault) = true
+is_late (NeedPrivileges denial) = false
+is_late NoProtectedAceConflict = true
+is_late NoInheritedAceConflict = true
+is_late LimitedNumberOfAces = true
+is_late NotSupportedPrivilege = true
+is_late RecognizedPrincipal = true
+is_late ValidSyncToken = true
+is_late NotFound = false
+is_late (NotAllowed methods) = false
+is_late NoParent = false
+is_late Overwrite = false
+is_late BodyOnMkcol = false
+is_late Full = true
+is_late Unavailable = false
+
 -- a success, or a refusal by the body or by the limits
 abbrev pub IsPastVerdict : Reply → Type 0
-IsPastVerdict reply = (reply.status < 300) ⊎ ((fault : CardFault) × (reply ≡ refused (BadCard fault))) ⊎ (reply ≡ refused Full)
+IsPastVerdict reply = (reply.status < 300) ⊎ ((refusal : Refusal) × (is_late refusal ≡ true) × (reply ≡ refused refusal))
 
 -- among the requests that pass caller, shape and path, those whose needs are granted, and no others, get past the verdict
 abbrev pub RequestsActWhereGranted : Type 0
@@ -58,5 +77,5 @@ StepsAreAvailable = (o : Office) (name : Option (List ℕ)) (request : Request) 
 abbrev pub RequestsAreFullAtLimits : Type 0
 RequestsAreFullAtLimits = (o : Office) (name : Option (List ℕ)) (request : Request) (ready : Ready) (edit : Edit) (reply : Reply) (after : Office)
     → IsSound o → HasPaths request → ready_of o name request ≡ Ok ready → IsGranted o request ready
-    → body_of ready.asked ≡ Ok tt → (plan : Plan) → success ready ≡ Ok plan → plan.edit ≡ Some edit → Steps o name request reply after
+    → IsBodyAnswer o ready.asked ready.target.path (Ok tt) → (plan : Plan) → success ready ≡ Ok plan → plan.edit ≡ Some edit → Steps o name request reply after
     → (reply ≡ refused Full) ↔ (IsSound (apply o edit) → ⊥)

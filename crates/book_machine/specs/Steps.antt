@@ -4,7 +4,7 @@ use Rattle.book_office.specs.Edits.{apply}
 use Rattle.book_office.specs.declared.edits.Edit.{Edit}
 use Rattle.book_values.specs.declared.offices.Office.{Office}
 use Rattle.book_machine.specs.Refusals.{refused}
-use Rattle.book_machine.specs.Stages.{ready_of, granted_plan}
+use Rattle.book_machine.specs.Stages.{ready_of, IsGrantedPlan}
 use Rattle.book_machine.specs.Verdicts.{IsGranted, IsDenied}
 use Rattle.book_machine.specs.declared.messages.Reply.{Reply}
 use Rattle.book_machine.specs.declared.messages.Request.{Request}
@@ -16,7 +16,7 @@ use Rattle.book_machine.specs.declared.refusals.Refusal.TheVariants.{NeedPrivile
 
 -- where each need is granted the request goes on; else the denial is its refusal
 abbrev pub IsDecided : Office → Request → Ready → Result Plan Refusal → Type 0
-IsDecided o request ready result = ((granted : IsGranted o request ready) × (result ≡ granted_plan o granted.circle ready))
+IsDecided o request ready result = ((granted : IsGranted o request ready) × IsGrantedPlan o granted.circle ready result)
     ⊎ ((denial : Denial) × IsDenied o request ready denial × (result ≡ Err (NeedPrivileges denial)))
 
 -- the first stage that refuses decides

@@ -8,7 +8,8 @@ ghost use Rattle.book_machine.specs.Promises.{AdoptPromise};
 ghost use Rattle.book_machine.specs.declared.adoptions.AdoptFault.TheVariants.{Unavailable};
 
 use crate::machine::Machine;
-use book_office::{Adoption, Edit, Keeper, LAST_NUMBER, MAX_BOOKS, Policy, StoreFault};
+use book_limits::{LAST_NUMBER, MAX_BOOKS};
+use book_office::{Adoption, Edit, Keeper, Policy, StoreFault};
 use std::alloc::{AllocError, Global};
 
 /// A policy was adopted.

@@ -84,14 +84,11 @@ fn not_served(method: Method) -> bool
         | Method::Head
         | Method::Options
         | Method::Put
-        | Method::Delete
-        | Method::Mkcol => false,
-        Method::Propfind
         | Method::Proppatch
         | Method::Acl
-        | Method::Copy
-        | Method::Move
-        | Method::Report => true,
+        | Method::Delete
+        | Method::Mkcol => false,
+        Method::Propfind | Method::Copy | Method::Move | Method::Report => true,
     }
 }
 

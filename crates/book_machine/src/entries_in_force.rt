@@ -1,11 +1,13 @@
 //! The entries in force at a resource, as a decision takes them.
 
 ghost use Rattle.std.specs.Prelude.{◌≡◌, IfOk};
+ghost use Rattle.std.specs.List.{flat_map};
+ghost use Rattle.book_office.specs.declared.nodes.Level.{Level};
 ghost use Rattle.book_machine.specs.Verdicts.{Judges, entries_of, deciding_entry, paths_of};
 
 use crate::refusals::{DecidingEntry, Denial, Refusal};
 use book_lists::{Circle, Entry, Here, Outcome, decide};
-use book_office::{EffectiveEntry, Items, Path};
+use book_office::{EffectiveEntry, Items, Level, Lists, Path};
 use book_rights::LeafSet;
 use std::alloc::{AllocError, Global};
 
@@ -34,6 +36,18 @@ fn split(alloc: Global, effective: Items<EffectiveEntry>) -> Result<EntriesInFor
         entries: Items::from_vec(entries),
         paths: Items::from_vec(paths),
     })
+}
+
+/// The protected entries of all levels.
+pub(crate) fn protected_in(alloc: Global, lists: Lists) -> Result<Vec<Entry>, AllocError>
+    ensures { IfOk result (λ entries. entries.items ≡ flat_map (λ (level : Level). level.protected) lists.levels) }
+{
+    let mut entries = Vec::new(alloc);
+    for level in lists.levels.into_vec() {
+        let Level { protected, .. } = level;
+        entries.append(&mut protected.into_vec())?;
+    }
+    Ok(entries)
 }
 
 /// The entry at a index of the list, if there is one, as a denial names it.

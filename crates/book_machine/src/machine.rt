@@ -6,26 +6,29 @@ ghost use Rattle.std.specs.Option.{option_copied};
 ghost use Rattle.book_rights.specs.Needs.{listed_others, listed_too};
 ghost use Rattle.book_rights.specs.declared.places.Place.TheVariants as at;
 ghost use Rattle.book_office.specs.Resources.{count_at, node_at};
+ghost use Rattle.book_office.specs.Sound.{IsMapped};
 ghost use Rattle.book_office.specs.declared.nodes.Node.{Node};
 ghost use Rattle.book_values.specs.declared.paths.Path.TheVariants as path;
-ghost use Rattle.book_machine.specs.Asking.{Asks, HasPath, HasPaths, Meets, MeetsPlan};
+ghost use Rattle.book_machine.specs.Asking.{HasPath, HasPaths, Meets, MeetsAny, MeetsItems, MeetsPlan, StageAsks, TellsChecked, TellsCheckedEntry, TellsWhether};
 ghost use Rattle.book_machine.specs.LeadingRuns.{HavePaths};
 ghost use Rattle.book_machine.specs.Promises.{ServeAllPromise, ServeHidesUnread, ServePromise};
 ghost use Rattle.book_machine.specs.Runs.{calls_of, name_of};
-ghost use Rattle.book_machine.specs.Stages.{at_node, at_unmapped, can_change, caller_of, delete_limits, granted_plan, keeps_limits, limits_of, new_book_at, new_card, put_limits, ready_of, target_of};
+ghost use Rattle.book_machine.specs.Stages.{at_node, at_unmapped, can_change, caller_of, delete_limits, keeps_limits, label_limits, limits_of, new_book_at, new_card, patch_limits, put_limits, ready_of, target_of, IsAclAnswer, IsBodyAnswer, IsGrantedPlan, IsKnownWho, IsMembersAnswer, IsPatchAnswer, protected_entries_at};
 ghost use Rattle.book_machine.specs.Verdicts.{IsTarget, JudgesNeed, JudgesNeeds, needs_at, owner_at, place_path};
 
 use crate::allowed_methods::AllowedMethods;
-use crate::asked::{Asked, asked_of};
-use crate::entries_in_force::judge;
-use crate::messages::{Reply, Request};
+use crate::asked::{Asked, asked_of, copy_of_entry};
+use crate::entries_in_force::{judge, protected_in};
+use crate::messages::{Patch, Reply, Request};
 use crate::plans::{Plan, Ready, Target};
 use crate::refusals::{Refusal, refused};
 use crate::stages::{
-    can_change, check_body, check_kind, copy_of, place_path, principal_of, shape_at, success,
+    can_change, check_card, check_kind, check_suits, copy_of, list_refusal, path_of, place_path,
+    principal_of, shape_at, success,
 };
-use book_lists::{Caller, Circle, Here, Name, Principal};
-use book_office::{Keeper, LAST_NUMBER, MAX_BOOKS, MAX_CARDS, Node, Path, effective};
+use book_limits::{LAST_NUMBER, MAX_BOOKS, MAX_CARDS, MAX_ENTRIES};
+use book_lists::{Caller, Circle, Entry, Here, Name, Principal, Submitted, Who, check_edit};
+use book_office::{Items, Keeper, Node, Path, effective};
 use book_rights::{LeafSet, Method, Need, Needs, Place, needs};
 use std::alloc::{AllocError, Global};
 
@@ -54,7 +57,7 @@ impl<K: Keeper> Machine<K> {
 
     /// The caller: nobody, or the person of that name.
     fn caller(&mut self, alloc: Global, name: Option<&str>) -> Result<Caller, Refusal>
-        ensures { Asks (K.standing self.old.keeper) (K.standing self.new.keeper) result (λ o r. Meets r (caller_of o (option_copied name.entry))) }
+        ensures { StageAsks K.standing self.old self.new result (λ o r. Meets r (caller_of o (option_copied name.entry))) }
     {
         let Some(text) = name else {
             return Ok(Caller::Nobody);
@@ -71,7 +74,7 @@ impl<K: Keeper> Machine<K> {
 
     /// Whether a book is there.
     fn has_book(&mut self, alloc: Global, book: &Name) -> Result<bool, Refusal>
-        ensures { Asks (K.standing self.old.keeper) (K.standing self.new.keeper) result (λ o r. Meets r (Ok (is_some (get o.books book.now)))) }
+        ensures { StageAsks K.standing self.old self.new result (λ o r. Meets r (Ok (is_some (get o.books book.now)))) }
     {
         let path = Path::Book(book.clone()?);
         Ok(self.keeper.find(alloc, &path)?.is_some())
@@ -79,7 +82,7 @@ impl<K: Keeper> Machine<K> {
 
     /// A PUT at a path where nothing is mapped: the path of a card whose book is there.
     fn check_new_card(&mut self, alloc: Global, path: &Path) -> Result<(), Refusal>
-        ensures { Asks (K.standing self.old.keeper) (K.standing self.new.keeper) result (λ o r. Meets r (new_card o path.now)) }
+        ensures { StageAsks K.standing self.old self.new result (λ o r. Meets r (new_card o path.now)) }
     {
         match path {
             Path::Card(book, _) => match self.has_book(alloc, book)? {
@@ -98,7 +101,7 @@ impl<K: Keeper> Machine<K> {
 
     /// A MKCOL at a path where nothing is mapped: the path of a book.
     fn check_new_book(&mut self, alloc: Global, path: &Path) -> Result<(), Refusal>
-        ensures { Asks (K.standing self.old.keeper) (K.standing self.new.keeper) result (λ o r. Meets r (new_book_at o path.now)) }
+        ensures { StageAsks K.standing self.old self.new result (λ o r. Meets r (new_book_at o path.now)) }
     {
         match path {
             Path::Book(_) => Ok(()),
@@ -117,7 +120,7 @@ impl<K: Keeper> Machine<K> {
 
     /// The path of a request at which nothing is mapped.
     fn check_unmapped(&mut self, alloc: Global, method: Method, path: &Path) -> Result<(), Refusal>
-        ensures { Asks (K.standing self.old.keeper) (K.standing self.new.keeper) result (λ o r. Meets r (at_unmapped o method path.now)) }
+        ensures { StageAsks K.standing self.old self.new result (λ o r. Meets r (at_unmapped o method path.now)) }
     {
         match method {
             Method::Put => self.check_new_card(alloc, path),
@@ -143,7 +146,7 @@ impl<K: Keeper> Machine<K> {
         path: Path,
         node: Option<Node>,
     ) -> Result<Target, Refusal>
-        ensures { Asks (K.standing self.old.keeper) (K.standing self.new.keeper) result (λ o r. Meets r (at_node o method path node)) }
+        ensures { StageAsks K.standing self.old self.new result (λ o r. Meets r (at_node o method path node)) }
     {
         match node {
             None => {
@@ -162,7 +165,7 @@ impl<K: Keeper> Machine<K> {
 
     /// The path: what the request asks for.
     fn target(&mut self, alloc: Global, request: &Request) -> Result<Target, Refusal>
-        ensures { Asks (K.standing self.old.keeper) (K.standing self.new.keeper) result
+        ensures { StageAsks K.standing self.old self.new result
             (λ o r. Meets r (target_of o request.now.method request.now.path)) }
     {
         let Some(path) = &request.path else {
@@ -180,12 +183,13 @@ impl<K: Keeper> Machine<K> {
         name: Option<&str>,
         request: &Request,
     ) -> Result<Ready, Refusal>
-        ensures { Asks (K.standing self.old.keeper) (K.standing self.new.keeper) result
+        ensures { StageAsks K.standing self.old self.new result
             (λ o r. Meets r (ready_of o (option_copied name.entry) request.now)) }
     {
         let caller = self.caller(alloc, name)?;
         let asked = asked_of(alloc, request.method, &request.body)?;
         let target = self.target(alloc, request)?;
+        check_suits(&asked, &target)?;
         Ok(Ready {
             caller,
             asked,
@@ -195,7 +199,7 @@ impl<K: Keeper> Machine<K> {
 
     /// The owner of the resource at a path.
     fn owner(&mut self, alloc: Global, path: &Path) -> Result<Option<Principal>, Refusal>
-        ensures { Asks (K.standing self.old.keeper) (K.standing self.new.keeper) result (λ o r. Meets r (Ok (owner_at o path.now))) }
+        ensures { StageAsks K.standing self.old self.new result (λ o r. Meets r (Ok (owner_at o path.now))) }
     {
         match self.keeper.find(alloc, path)? {
             Some(Node { owner, .. }) => Ok(owner),
@@ -212,7 +216,7 @@ impl<K: Keeper> Machine<K> {
         owner: Option<Principal>,
         set: LeafSet,
     ) -> Result<(), Refusal>
-        ensures { Asks (K.standing self.old.keeper) (K.standing self.new.keeper) result
+        ensures { StageAsks K.standing self.old self.new result
             (λ o r. owner ≡ owner_at o path → JudgesNeed o circle.now path set r) }
     {
         let principal = principal_of(alloc, &path)?;
@@ -235,7 +239,7 @@ impl<K: Keeper> Machine<K> {
         target: &Target,
         place: Place,
     ) -> Result<Option<Principal>, Refusal>
-        ensures { Asks (K.standing self.old.keeper) (K.standing self.new.keeper) result
+        ensures { StageAsks K.standing self.old self.new result
             (λ o r. IsTarget o target.now → (place ≡ at.Target → path.now ≡ target.now.path) → Meets r (Ok (owner_at o path.now))) }
     {
         if place == Place::Target {
@@ -253,7 +257,7 @@ impl<K: Keeper> Machine<K> {
         target: &Target,
         need: Need,
     ) -> Result<(), Refusal>
-        ensures { Asks (K.standing self.old.keeper) (K.standing self.new.keeper) result
+        ensures { StageAsks K.standing self.old self.new result
             (λ o r. IsTarget o target.now → JudgesNeed o circle.now (place_path request.now target.now.path need.place) need.set r) }
     {
         let path = place_path(request, &target.path, need.place)?;
@@ -270,7 +274,7 @@ impl<K: Keeper> Machine<K> {
         target: &Target,
         need: Option<Need>,
     ) -> Result<(), Refusal>
-        ensures { Asks (K.standing self.old.keeper) (K.standing self.new.keeper) result
+        ensures { StageAsks K.standing self.old self.new result
             (λ o r. IsTarget o target.now → JudgesNeeds o circle.now request.now target.now.path (listed_too need []) r) }
     {
         match need {
@@ -288,7 +292,7 @@ impl<K: Keeper> Machine<K> {
         target: &Target,
         others: Option<(Need, Option<Need>)>,
     ) -> Result<(), Refusal>
-        ensures { Asks (K.standing self.old.keeper) (K.standing self.new.keeper) result
+        ensures { StageAsks K.standing self.old self.new result
             (λ o r. IsTarget o target.now → JudgesNeeds o circle.now request.now target.now.path (listed_others others) r) }
     {
         let Some((second, third)) = others else {
@@ -306,7 +310,7 @@ impl<K: Keeper> Machine<K> {
         request: &Request,
         ready: &Ready,
     ) -> Result<(), Refusal>
-        ensures { Asks (K.standing self.old.keeper) (K.standing self.new.keeper) result
+        ensures { StageAsks K.standing self.old self.new result
             (λ o r. IsTarget o ready.now.target → JudgesNeeds o circle.now request.now ready.now.target.path (needs_at ready.now) r) }
     {
         let Needs { first, others } = needs(ready.asked.method(), shape_at(ready));
@@ -316,7 +320,7 @@ impl<K: Keeper> Machine<K> {
 
     /// Whether the number of a book can rise.
     fn can_change(&mut self, alloc: Global, book: &Name) -> Result<bool, Refusal>
-        ensures { Asks (K.standing self.old.keeper) (K.standing self.new.keeper) result
+        ensures { StageAsks K.standing self.old self.new result
             (λ o r. Meets r (Ok (can_change (node_at o (path.Book book.now))))) }
     {
         let path = Path::Book(book.clone()?);
@@ -325,10 +329,48 @@ impl<K: Keeper> Machine<K> {
 
     /// Whether a path has fewer children than the most. They are counted only where one is to be added.
     fn has_room(&mut self, alloc: Global, path: &Path, most: usize) -> Result<bool, Refusal>
-        ensures { Asks (K.standing self.old.keeper) (K.standing self.new.keeper) result
+        ensures { StageAsks K.standing self.old self.new result
             (λ o r. Meets r (Ok (nat_lt (count_at o path.now) most))) }
     {
         Ok(self.keeper.count(alloc, path)? < most)
+    }
+
+    /// Whether the epoch can rise.
+    fn epoch_can_rise(&mut self) -> Result<bool, Refusal>
+        ensures { StageAsks K.standing self.old self.new result (λ o r. Meets r (Ok (nat_lt o.epoch LAST_NUMBER))) }
+    {
+        Ok(self.keeper.epoch()? < LAST_NUMBER)
+    }
+
+    /// Whether the limits are kept where a label is set: a card's takes a number.
+    fn keeps_label_limits(&mut self, alloc: Global, path: &Path) -> Result<bool, Refusal>
+        ensures { StageAsks K.standing self.old self.new result (λ o r. Meets r (Ok (label_limits o path.now))) }
+    {
+        match path {
+            Path::Card(book, _) => self.can_change(alloc, book),
+            Path::Root
+            | Path::People
+            | Path::Groups
+            | Path::Books
+            | Path::Person(_)
+            | Path::Group(_)
+            | Path::Book(_) => Ok(true),
+        }
+    }
+
+    /// Whether the limits are kept where a property is set.
+    fn keeps_patch_limits(
+        &mut self,
+        alloc: Global,
+        patch: &Patch,
+        path: &Path,
+    ) -> Result<bool, Refusal>
+        ensures { StageAsks K.standing self.old self.new result (λ o r. Meets r (Ok (patch_limits o patch.now path.now))) }
+    {
+        match patch {
+            Patch::DisplayName(_) => self.keeps_label_limits(alloc, path),
+            Patch::GroupMembers(_) => self.epoch_can_rise(),
+        }
     }
 
     /// Whether the limits are kept where a text is put.
@@ -338,7 +380,7 @@ impl<K: Keeper> Machine<K> {
         path: &Path,
         mapped: bool,
     ) -> Result<bool, Refusal>
-        ensures { Asks (K.standing self.old.keeper) (K.standing self.new.keeper) result (λ o r. Meets r (Ok (put_limits o path.now mapped))) }
+        ensures { StageAsks K.standing self.old self.new result (λ o r. Meets r (Ok (put_limits o path.now mapped))) }
     {
         match path {
             Path::Card(book, _) => {
@@ -362,11 +404,11 @@ impl<K: Keeper> Machine<K> {
 
     /// Whether the limits are kept where a resource is removed.
     fn keeps_delete_limits(&mut self, alloc: Global, path: &Path) -> Result<bool, Refusal>
-        ensures { Asks (K.standing self.old.keeper) (K.standing self.new.keeper) result (λ o r. Meets r (Ok (delete_limits o path.now))) }
+        ensures { StageAsks K.standing self.old self.new result (λ o r. Meets r (Ok (delete_limits o path.now))) }
     {
         match path {
             Path::Card(book, _) => self.can_change(alloc, book),
-            Path::Book(_) => Ok(self.keeper.epoch()? < LAST_NUMBER),
+            Path::Book(_) => self.epoch_can_rise(),
             Path::Root
             | Path::People
             | Path::Groups
@@ -383,19 +425,19 @@ impl<K: Keeper> Machine<K> {
         asked: &Asked,
         target: &Target,
     ) -> Result<bool, Refusal>
-        ensures { Asks (K.standing self.old.keeper) (K.standing self.new.keeper) result
+        ensures { StageAsks K.standing self.old self.new result
             (λ o r. Meets r (Ok (keeps_limits o asked.now target.now.path (is_some target.now.node)))) }
     {
         match asked {
             Asked::Put(_) => self.keeps_put_limits(alloc, &target.path, target.node.is_some()),
+            Asked::Proppatch(patch) => self.keeps_patch_limits(alloc, patch, &target.path),
+            Asked::Acl(_) => self.epoch_can_rise(),
             Asked::Delete => self.keeps_delete_limits(alloc, &target.path),
             Asked::Mkcol => self.has_room(alloc, &Path::Books, MAX_BOOKS),
             Asked::Get
             | Asked::Head
             | Asked::Options
             | Asked::Propfind
-            | Asked::Proppatch
-            | Asked::Acl
             | Asked::Copy
             | Asked::Move
             | Asked::Report => Ok(true),
@@ -404,7 +446,7 @@ impl<K: Keeper> Machine<K> {
 
     /// The limits, which the Office keeps after the edit.
     fn check_limits(&mut self, alloc: Global, asked: &Asked, target: &Target) -> Result<(), Refusal>
-        ensures { Asks (K.standing self.old.keeper) (K.standing self.new.keeper) result (λ o r. Meets r (limits_of o asked.now target.now)) }
+        ensures { StageAsks K.standing self.old self.new result (λ o r. Meets r (limits_of o asked.now target.now)) }
     {
         match self.keeps_limits(alloc, asked, target)? {
             true => Ok(()),
@@ -412,13 +454,129 @@ impl<K: Keeper> Machine<K> {
         }
     }
 
+    /// Whether a principal is there.
+    fn is_mapped(&mut self, alloc: Global, principal: &Principal) -> Result<bool, Refusal>
+        ensures { StageAsks K.standing self.old self.new result (λ o r. TellsWhether (IsMapped o principal.now) r) }
+    {
+        let path = path_of(alloc, principal)?;
+        Ok(self.keeper.find(alloc, &path)?.is_some())
+    }
+
+    /// Each member is there.
+    fn check_members(&mut self, alloc: Global, members: &[Principal]) -> Result<(), Refusal>
+        ensures { StageAsks K.standing self.old self.new result (λ o r. MeetsAny (IsMembersAnswer o members.now) r) }
+    {
+        for member in members {
+            if !self.is_mapped(alloc, member)? {
+                return Err(Refusal::RecognizedPrincipal);
+            }
+        }
+        Ok(())
+    }
+
+    /// Whether a form names no principal, or one that is there.
+    fn is_known(&mut self, alloc: Global, who: &Option<Who>) -> Result<bool, Refusal>
+        ensures { StageAsks K.standing self.old self.new result (λ o r. TellsWhether (IsKnownWho o who.now) r) }
+    {
+        match who {
+            Some(Who::Href(principal)) => self.is_mapped(alloc, principal),
+            None
+            | Some(Who::Everyone)
+            | Some(Who::Authenticated)
+            | Some(Who::Unauthenticated)
+            | Some(Who::Owner)
+            | Some(Who::Own) => Ok(true),
+        }
+    }
+
+    /// An entry as it is checked: without a form where its form names a principal that is not there.
+    fn checked_entry(&mut self, alloc: Global, entry: &Submitted) -> Result<Submitted, Refusal>
+        ensures { StageAsks K.standing self.old self.new result (λ o r. TellsCheckedEntry o entry.now r) }
+    {
+        let copy = copy_of_entry(entry)?;
+        if self.is_known(alloc, &entry.who)? {
+            return Ok(copy);
+        }
+        Ok(Submitted { who: None, ..copy })
+    }
+
+    /// A list as it is checked.
+    fn checked_list(
+        &mut self,
+        alloc: Global,
+        list: &[Submitted],
+    ) -> Result<Items<Submitted>, Refusal>
+        ensures { StageAsks K.standing self.old self.new result (λ o r. TellsChecked o list.now r) }
+    {
+        let mut checked = Items::new(alloc);
+        for entry in list {
+            let entry = self.checked_entry(alloc, entry)?;
+            checked.push(entry)?;
+        }
+        Ok(checked)
+    }
+
+    /// The protected entries in force at a resource.
+    fn protected(&mut self, alloc: Global, path: &Path) -> Result<Vec<Entry>, Refusal>
+        ensures { StageAsks K.standing self.old self.new result (λ o r. MeetsItems r (protected_entries_at o path.now)) }
+    {
+        let lists = self.keeper.lists(alloc, path)?;
+        Ok(protected_in(alloc, lists)?)
+    }
+
+    /// The list of an ACL: it has no fault at the resource. A list that is too long is refused before its principals are
+    /// looked up.
+    fn check_list(&mut self, alloc: Global, path: &Path, list: &[Submitted]) -> Result<(), Refusal>
+        ensures { StageAsks K.standing self.old self.new result (λ o r. MeetsAny (IsAclAnswer o path.now list.now) r) }
+    {
+        if list.len() > MAX_ENTRIES {
+            return Err(Refusal::LimitedNumberOfAces);
+        }
+        let checked = self.checked_list(alloc, list)?;
+        let protected = self.protected(alloc, path)?;
+        match check_edit(checked.as_slice(), protected.as_slice()) {
+            Ok(()) => Ok(()),
+            Err(fault) => Err(list_refusal(fault)),
+        }
+    }
+
+    /// What a PROPPATCH sets: each member is there.
+    fn check_patch(&mut self, alloc: Global, patch: &Patch) -> Result<(), Refusal>
+        ensures { StageAsks K.standing self.old self.new result (λ o r. MeetsAny (IsPatchAnswer o patch.now) r) }
+    {
+        match patch {
+            Patch::DisplayName(_) => Ok(()),
+            Patch::GroupMembers(members) => self.check_members(alloc, members.as_slice()),
+        }
+    }
+
+    /// The body of a request.
+    fn check_body(&mut self, alloc: Global, asked: &Asked, path: &Path) -> Result<(), Refusal>
+        ensures { StageAsks K.standing self.old self.new result (λ o r. MeetsAny (IsBodyAnswer o asked.now path.now) r) }
+    {
+        match asked {
+            Asked::Put(text) => check_card(alloc, text),
+            Asked::Proppatch(patch) => self.check_patch(alloc, patch),
+            Asked::Acl(list) => self.check_list(alloc, path, list.as_slice()),
+            Asked::Get
+            | Asked::Head
+            | Asked::Options
+            | Asked::Propfind
+            | Asked::Copy
+            | Asked::Move
+            | Asked::Delete
+            | Asked::Mkcol
+            | Asked::Report => Ok(()),
+        }
+    }
+
     /// The stages after a verdict that grants.
     fn granted(&mut self, alloc: Global, circle: &Circle, ready: Ready) -> Result<Plan, Refusal>
-        ensures { Asks (K.standing self.old.keeper) (K.standing self.new.keeper) result (λ o r. Meets r (granted_plan o circle.now ready)) }
+        ensures { StageAsks K.standing self.old self.new result (λ o r. MeetsAny (IsGrantedPlan o circle.now ready) r) }
     {
-        check_body(alloc, &ready.asked)?;
+        self.check_body(alloc, &ready.asked, &ready.target.path)?;
         self.check_limits(alloc, &ready.asked, &ready.target)?;
-        success(ready)
+        success(alloc, ready)
     }
 
     /// What is to be done for a request.
@@ -428,7 +586,7 @@ impl<K: Keeper> Machine<K> {
         name: Option<&str>,
         request: &Request,
     ) -> Result<Plan, Refusal>
-        ensures { Asks (K.standing self.old.keeper) (K.standing self.new.keeper) result
+        ensures { StageAsks K.standing self.old self.new result
             (λ o r. MeetsPlan o (option_copied name.entry) request.now r) }
     {
         let ready = self.ready(alloc, name, request)?;

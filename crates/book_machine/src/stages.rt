@@ -5,19 +5,21 @@ ghost use Rattle.book_cards.specs.CardText.{card_fault};
 ghost use Rattle.book_cards.specs.declared.fault.CardFaultKind.TheVariants.{Memory};
 ghost use Rattle.book_values.specs.Paths.{parent_of};
 ghost use Rattle.book_machine.specs.AllowedMethods.{allowed_of, goes_on};
-ghost use Rattle.book_machine.specs.Asking.{Meets};
-ghost use Rattle.book_machine.specs.Stages.{bad_card, body_of, can_change, check, delete_edit, mkcol_edit, owner_of, put_edit, put_status, replied, success, text_of};
+ghost use Rattle.book_machine.specs.Asking.{Meets, PathOf};
+ghost use Rattle.book_lists.specs.ListEdits.{entries_of};
+ghost use Rattle.book_machine.specs.Stages.{bad_card, can_change, check, delete_edit, list_refusal, members_edit, mkcol_edit, owner_of, patch_edit, put_edit, put_status, replied, success, suits, suits_target, text_of};
 ghost use Rattle.book_machine.specs.declared.refusals.Refusal.TheVariants.{BadCard, NotAllowed, Unavailable};
 ghost use Rattle.book_machine.specs.Verdicts.{or_itself, place_path, principal_of, shape_at};
 
 use crate::allowed_methods::{AllowedMethods, goes_on};
 use crate::asked::Asked;
-use crate::messages::{Content, Reply, Request};
+use crate::messages::{Content, Patch, Reply, Request};
 use crate::plans::{Plan, Ready, Target};
 use crate::refusals::Refusal;
 use book_cards::{CardFault, CardFaultKind, read_card};
-use book_lists::{Caller, Principal};
-use book_office::{Edit, Kind, LAST_NUMBER, Node, Path, Text};
+use book_limits::LAST_NUMBER;
+use book_lists::{Caller, EditFault, Entry, Principal, Submitted};
+use book_office::{Edit, Items, Kind, Node, Path, Text};
 use book_rights::{Method, Place, Shape};
 use std::alloc::{AllocError, Global};
 
@@ -114,7 +116,7 @@ fn card_refusal(fault: CardFault) -> Refusal
 }
 
 /// The text is a card.
-fn check_card(alloc: Global, text: &Text) -> Result<(), Refusal>
+pub(crate) fn check_card(alloc: Global, text: &Text) -> Result<(), Refusal>
     ensures { Meets result (bad_card (card_fault text.now)) }
 {
     if let Err(fault) = read_card(alloc, text.as_str()) {
@@ -123,24 +125,60 @@ fn check_card(alloc: Global, text: &Text) -> Result<(), Refusal>
     Ok(())
 }
 
-/// The body: the text of a card that is put is a card.
-pub(crate) fn check_body(alloc: Global, asked: &Asked) -> Result<(), Refusal>
-    ensures { Meets result (body_of asked.now) }
+/// The path of a principal. An error is want of memory: each principal's text spells a path.
+pub(crate) fn path_of(alloc: Global, principal: &Principal) -> Result<Path, Refusal>
+    ensures { PathOf principal.now result }
+{
+    principal.known();
+    match Path::parse(alloc, principal.text()) {
+        Ok(path) => Ok(path),
+        Err(_) => Err(Refusal::Unavailable),
+    }
+}
+
+/// Why a list is refused.
+pub(crate) fn list_refusal(fault: EditFault) -> Refusal
+    ensures { result ≡ list_refusal fault }
+{
+    match fault {
+        EditFault::NoProtectedAceConflict => Refusal::NoProtectedAceConflict,
+        EditFault::NoInheritedAceConflict => Refusal::NoInheritedAceConflict,
+        EditFault::LimitedNumberOfAces => Refusal::LimitedNumberOfAces,
+        EditFault::NotSupportedPrivilege => Refusal::NotSupportedPrivilege,
+        EditFault::RecognizedPrincipal => Refusal::RecognizedPrincipal,
+    }
+}
+
+/// Whether what is asked is asked of a resource of this kind: members are those of a group.
+fn suits(asked: &Asked, kind: Kind) -> bool
+    ensures { result ≡ suits asked.now kind }
 {
     match asked {
-        Asked::Put(text) => check_card(alloc, text),
+        Asked::Proppatch(Patch::GroupMembers(_)) => kind == Kind::Group,
         Asked::Get
         | Asked::Head
         | Asked::Options
+        | Asked::Put(_)
         | Asked::Propfind
-        | Asked::Proppatch
-        | Asked::Acl
+        | Asked::Proppatch(Patch::DisplayName(_))
+        | Asked::Acl(_)
         | Asked::Copy
         | Asked::Move
         | Asked::Delete
         | Asked::Mkcol
-        | Asked::Report => Ok(()),
+        | Asked::Report => true,
     }
+}
+
+/// The kind of the resource at which something is asked is one of which it is asked.
+pub(crate) fn check_suits(asked: &Asked, target: &Target) -> Result<(), Refusal>
+    ensures { result ≡ suits_target asked.now target.now }
+{
+    let kind = target.path.kind();
+    check(
+        suits(asked, kind),
+        Refusal::NotAllowed(AllowedMethods::of(kind)),
+    )
 }
 
 /// Whether the number of a book can rise.
@@ -240,10 +278,51 @@ fn put_status(node: &Option<Node>) -> u16
     if node.is_some() { 204 } else { 201 }
 }
 
-/// The reply, and the edit that is to be made. A method that is not served is refused, whatever the stages before let through.
-/// Takes no memory.
-pub(crate) fn success(ready: Ready) -> Result<Plan, Refusal>
-    ensures { result ≡ success ready }
+/// The edit that sets the members of a group.
+fn members_edit(alloc: Global, path: Path, members: Items<Principal>) -> Result<Edit, Refusal>
+    ensures { Meets result (members_edit path members) }
+{
+    match path {
+        Path::Group(name) => Ok(Edit::SetMembers {
+            group: Principal::group(alloc, &name)?,
+            members,
+        }),
+        Path::Root
+        | Path::People
+        | Path::Groups
+        | Path::Books
+        | Path::Person(_)
+        | Path::Book(_)
+        | Path::Card(_, _) => Err(Refusal::NotFound),
+    }
+}
+
+fn patch_edit(alloc: Global, path: Path, patch: Patch) -> Result<Edit, Refusal>
+    ensures { Meets result (patch_edit path patch) }
+{
+    match patch {
+        Patch::DisplayName(label) => Ok(Edit::SetLabel { path, label }),
+        Patch::GroupMembers(members) => members_edit(alloc, path, members),
+    }
+}
+
+/// The entries of a list that is accepted.
+fn entries_of(alloc: Global, list: Items<Submitted>) -> Result<Items<Entry>, AllocError>
+    ensures { IfOk result (λ entries. entries ≡ entries_of list) }
+{
+    let mut entries = Vec::with_capacity(alloc, list.len())?;
+    for submitted in list.into_vec() {
+        if let Some(entry) = submitted.into_entry() {
+            entries.push(entry)?;
+        }
+    }
+    Ok(Items::from_vec(entries))
+}
+
+/// The reply, and the edit that is to be made. A method that is not served is refused, whatever the stages before let
+/// through.
+pub(crate) fn success(alloc: Global, ready: Ready) -> Result<Plan, Refusal>
+    ensures { Meets result (success ready) }
 {
     let Ready {
         caller,
@@ -259,13 +338,18 @@ pub(crate) fn success(ready: Ready) -> Result<Plan, Refusal>
             let edit = put_edit(caller, text, path)?;
             Ok(replied(status, Content::Empty, Some(edit)))
         }
+        Asked::Proppatch(patch) => {
+            let edit = patch_edit(alloc, path, patch)?;
+            Ok(replied(200, Content::Empty, Some(edit)))
+        }
+        Asked::Acl(list) => {
+            let entries = entries_of(alloc, list)?;
+            Ok(replied(200, Content::Empty, Some(Edit::SetList { path, entries })))
+        }
         Asked::Delete => Ok(replied(204, Content::Empty, Some(delete_edit(path)?))),
         Asked::Mkcol => Ok(replied(201, Content::Empty, Some(mkcol_edit(caller, path)?))),
-        Asked::Propfind
-        | Asked::Proppatch
-        | Asked::Acl
-        | Asked::Copy
-        | Asked::Move
-        | Asked::Report => Err(Refusal::NotAllowed(AllowedMethods::of(path.kind()))),
+        Asked::Propfind | Asked::Copy | Asked::Move | Asked::Report => Err(Refusal::NotAllowed(
+            AllowedMethods::of(path.kind()),
+        )),
     }
 }

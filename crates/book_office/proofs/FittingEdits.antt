@@ -5,8 +5,7 @@ use Rattle.book_lists.specs.Names.{IsName}
 use Rattle.book_values.specs.declared.offices.Book.{Book}
 use Rattle.book_values.specs.declared.offices.StoredCard.{StoredCard}
 use Rattle.book_values.specs.declared.offices.Office.{Office}
-use Rattle.book_values.specs.declared.offices.TheConstants.{MAX_CARD_BYTES, MAX_CARDS, MAX_BOOKS, LAST_NUMBER}
-use Rattle.book_values.specs.declared.limits.TheConstants.{MAX_LABEL_BYTES}
+use Rattle.book_limits.specs.declared.TheConstants.{MAX_LABEL_BYTES, MAX_CARD_BYTES, MAX_CARDS, MAX_BOOKS, LAST_NUMBER}
 use Rattle.book_office.specs.Edits.{changed_at, with_book, card_put, put_card, remove_card, card_copied, copy_from, move_to, new_book}
 use Rattle.book_office.specs.Fitting.{PutCardFits, RemoveCardFits, CopyCardFits, MoveAcrossFits, MoveWithinFits, AddBookFits, RemoveBookFits}
 use Rattle.book_office.specs.Resources.{card_at}

@@ -1,8 +1,11 @@
 pub mod Epochs
 pub mod FittingEdits
+pub mod FittingSettings
+pub mod GroupMembers
 pub mod KnownPrincipals
 pub mod NewOffices
 pub mod OfficeEdits
+pub mod OneGroup
 pub mod ProtectedLists
 pub mod SameOffices
 pub mod SoundAdoptions

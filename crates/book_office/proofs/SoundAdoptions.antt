@@ -1,15 +1,14 @@
 -- A sound Office that adopts a policy stays sound.
-use Rattle.std.proofs.Common.{◌≡◌, ◌≢◌, ◌⊎◌, inl, inr, ℕ, ◌+◌, ◌<◌, ◌≤◌, List, [], ◌∷◌, Bool, true, false, not, cond, ◌&&◌, ◌||◌, length, codes, map, filter, Option, Some, None, refl, sym, ap, ◌∙◌, subst, arith}
+use Rattle.std.proofs.Common.{◌≡◌, ◌≢◌, inl, inr, ℕ, ◌+◌, ◌<◌, ◌≤◌, List, [], ◌∷◌, Bool, true, false, not, cond, ◌&&◌, ◌||◌, length, codes, map, filter, Option, Some, None, refl, sym, ap, ◌∙◌, subst, arith}
 use Rattle.std.specs.List.{All, list_any}
-use Rattle.std.proofs.lemmas.Bool.{false≢true}
 use Rattle.std.proofs.lemmas.List.Elements.{All-nil, All-cons, All-head, All-tail}
 use Rattle.std.specs.FinMap.{get, len, keys, contains_key-keys}
 use Rattle.std.specs.FinSet as set
-use Rattle.std.specs.FinSet.{contains-retain, same_set}
+use Rattle.std.specs.FinSet.{same_set}
 use Rattle.std.specs.Str.{bytes_eq}
+use Rattle.book_lists.specs.Memberships.{members_of}
 use Rattle.book_lists.proofs.Pairing.{memberships_total, memberships_exact, same_path, path_itself}
 use Rattle.book_lists.specs.Names.{IsName}
-use Rattle.book_lists.specs.Memberships.{Memberships}
 use Rattle.book_lists.specs.Principals.{person_path, group_path}
 use Rattle.book_lists.specs.declared.entries.Entry.{Entry}
 use Rattle.book_lists.specs.declared.entries.Who.{Who}
@@ -17,7 +16,7 @@ use Rattle.book_lists.specs.declared.entries.Who.TheVariants.{Href, Everyone, Au
 use Rattle.book_lists.specs.declared.memberships.Membership.{Membership}
 use Rattle.book_values.specs.Paths.{path_text, book_path}
 use Rattle.book_policies.specs.Policies.{IsPolicy, IsKnown, IsKnownOwner, NamesForm, IsPrincipalOf, IsShort, entries_at, stands_at}
-use Rattle.book_values.specs.declared.limits.TheConstants.{MAX_LABEL_BYTES, MAX_MEMBERS}
+use Rattle.book_limits.specs.declared.TheConstants.{MAX_MEMBERS, MAX_LABEL_BYTES, MAX_BOOKS, LAST_NUMBER}
 use Rattle.book_values.specs.declared.paths.Path.{Path}
 use Rattle.book_values.specs.declared.paths.Path.TheVariants as path
 use Rattle.book_policies.specs.declared.parts.PolicyBook.{PolicyBook}
@@ -27,16 +26,16 @@ use Rattle.book_values.proofs.NameMapLaws.{same, is_same}
 use Rattle.book_values.specs.declared.offices.Book.{Book}
 use Rattle.book_values.specs.declared.offices.Office.{Office}
 use Rattle.book_values.specs.declared.offices.Properties.{Properties}
-use Rattle.book_values.specs.declared.offices.TheConstants.{MAX_BOOKS, LAST_NUMBER}
 use Rattle.book_adopting.specs.Adopting.{labelled, owned, or_else, is_group_of, taken_over, adopt}
 use Rattle.book_office.specs.Fitting.{AdoptFits}
-use Rattle.book_office.specs.Edits.{members_of, new_book}
+use Rattle.book_office.specs.Edits.{new_book}
 use Rattle.book_adopting.specs.TakingOver.{listed, listed_book}
 use Rattle.book_adopting.specs.Sameness.{same_office}
 use Rattle.book_office.specs.Sound.{IsMapped, IsOwner, IsKnownForm, IsSoundList, AreSoundProperties, IsSoundBook, IsSoundPair, IsSound}
 use Rattle.book_adopting.proofs.Adoptions.{person_after, book_after, person_there, group_there, book_there, contains_adopted}
 use Rattle.book_office.proofs.KnownPrincipals.{properties_known, book_known}
 use Rattle.book_values.proofs.OneName.{some_apart, same_some, is_there}
+use Rattle.book_office.proofs.OneGroup.{one_of, only_new, only_old, among}
 use Rattle.book_office.proofs.SoundBooks.{new_book_sound}
 
 module _ (t : PolicyTables) where
@@ -180,11 +179,6 @@ module _ (t : PolicyTables) where
         (h.0, subst (IsSoundBook p) (same_some (listed_book t at (owned n (Some k))) book e) (owned_sound at n k h.1 h.2 (book_known o p known k (before k refl).1)))
 
     -- pairs
-    one_of : (a g m : Bool) → ((a && g) || m) ≡ true → (a ≡ true) ⊎ (m ≡ true)
-    one_of true g true e = inr refl
-    one_of true g false e = inl refl
-    one_of false g m e = inr e
-
     pair_sound : (q : Membership) → set.contains p.pairs q ≡ true → IsSoundPair p q
     pair_sound q e = elim (one_of (set.contains o.pairs q) (not (is_group_of t q.group)) (set.contains t.members q) (sym (contains_adopted t o.pairs q) ∙ e)) [
       | inl old ↦
@@ -214,44 +208,17 @@ module _ (t : PolicyTables) where
         subst (λ g. is_group_of t g ≡ true) (sym h.0.1)
         (any_name h.0.0 (keys t.groups) (sym (contains_key-keys t.groups h.0.0) ∙ is_there (get t.groups h.0.0) h.0.2))
 
-    only_new : (a g m e : Bool) → (e ≡ true → g ≡ true) → ((((a && not g) || m) && e) ≡ (m && e))
-    only_new a true m true h = ap (λ b. (b || m) && true) (dropped a)
-      where
-        dropped : (b : Bool) → (b && false) ≡ false
-        dropped true = refl
-        dropped false = refl
-    only_new a false m true h = absurd (false≢true (h refl))
-    only_new a g m false h = nothing ((a && not g) || m) ∙ sym (nothing m)
-      where
-        nothing : (b : Bool) → (b && false) ≡ false
-        nothing true = refl
-        nothing false = refl
-
-    only_old : (a g m e : Bool) → (e ≡ true → g ≡ false) → (m ≡ true → g ≡ true) → ((((a && not g) || m) && e) ≡ (a && e))
-    only_old true false m true h k = refl
-    only_old false false true true h k = absurd (false≢true (k refl))
-    only_old false false false true h k = refl
-    only_old a true m true h k = absurd (false≢true (sym (h refl)))
-    only_old a g m false h k = nothing ((a && not g) || m) ∙ sym (nothing a)
-      where
-        nothing : (b : Bool) → (b && false) ≡ false
-        nothing true = refl
-        nothing false = refl
-
     members_few : (group : List ℕ) → set.len (members_of p.pairs group) ≤ MAX_MEMBERS
     members_few group = elim (is_group_of t group) as (λ b. is_group_of t group ≡ b → set.len (members_of p.pairs group) ≤ MAX_MEMBERS) [
       | true ↦ λ is. rw (same_set memberships_total memberships_exact (members_of p.pairs group) (members_of t.members group) (λ q.
-          among p.pairs q ∙ ap (λ b. b && bytes_eq q.group group) (contains_adopted t o.pairs q)
+          among group p.pairs q ∙ ap (λ b. b && bytes_eq q.group group) (contains_adopted t o.pairs q)
           ∙ only_new (set.contains o.pairs q) (is_group_of t q.group) (set.contains t.members q) (bytes_eq q.group group) (λ e. ap (is_group_of t) (same_path q.group group e) ∙ is)
-          ∙ sym (among t.members q))) (pol.few_members group)
+          ∙ sym (among group t.members q))) (pol.few_members group)
       | false ↦ λ is. rw (same_set memberships_total memberships_exact (members_of p.pairs group) (members_of o.pairs group) (λ q.
-          among p.pairs q ∙ ap (λ b. b && bytes_eq q.group group) (contains_adopted t o.pairs q)
+          among group p.pairs q ∙ ap (λ b. b && bytes_eq q.group group) (contains_adopted t o.pairs q)
           ∙ only_old (set.contains o.pairs q) (is_group_of t q.group) (set.contains t.members q) (bytes_eq q.group group) (λ e. ap (is_group_of t) (same_path q.group group e) ∙ is) (listed_group q)
-          ∙ sym (among o.pairs q))) (sound.members group)
+          ∙ sym (among group o.pairs q))) (sound.members group)
     ] refl
-      where
-        among : (pairs : Memberships) (q : Membership) → set.contains (members_of pairs group) q ≡ (set.contains pairs q && bytes_eq q.group group)
-        among pairs q = contains-retain pairs (λ (m : Membership). bytes_eq m.group group) q (λ x e. ap (λ (m : Membership). bytes_eq m.group group) (sym (memberships_exact q x e)))
 
     pub taken_sound : (epoch : ℕ) → len p.books ≤ MAX_BOOKS → epoch ≤ LAST_NUMBER → IsSound (record p { epoch = epoch })
     taken_sound epoch few low =

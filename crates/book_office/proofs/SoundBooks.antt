@@ -7,7 +7,7 @@ use Rattle.book_values.specs.declared.collections.changes.Numbers.{Numbers}
 use Rattle.book_values.specs.declared.offices.Book.{Book}
 use Rattle.book_values.specs.declared.offices.StoredCard.{StoredCard}
 use Rattle.book_values.specs.declared.offices.Office.{Office}
-use Rattle.book_values.specs.declared.offices.TheConstants.{MAX_CARDS, LAST_NUMBER}
+use Rattle.book_limits.specs.declared.TheConstants.{MAX_CARDS, LAST_NUMBER}
 use Rattle.book_office.specs.Edits.{place_card, remove_card, new_book}
 use Rattle.book_office.specs.Fitting.{HasRoom}
 use Rattle.book_lists.specs.Names.{name_cmp}

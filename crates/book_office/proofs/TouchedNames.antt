@@ -1,5 +1,5 @@
 -- Which names of a book get a new last change.
-use Rattle.std.proofs.Common.{◌≡◌, ◌≢◌, ◌⊎◌, inl, inr, ℕ, ◌+◌, zero, suc, List, [], ◌∷◌, true, false, cond, ◌||◌, fold, map, filter, Contains, Option, Some, None, is_some, option_map, bytes_eq, refl, sym, ap, ◌∙◌, subst, arith}
+use Rattle.std.proofs.Common.{◌≡◌, ◌≢◌, ◌⊎◌, inl, inr, ℕ, ◌+◌, zero, suc, List, [], ◌∷◌, true, false, cond, ◌||◌, fold, map, filter, Contains, Option, Some, None, is_some, option_and_then, option_map, bytes_eq, refl, sym, ap, ◌∙◌, subst, arith}
 use Rattle.std.proofs.lemmas.Bool.{false_from_ne_true}
 use Rattle.std.proofs.lemmas.Slice.Eq.{bytes_eq-Decides}
 use Rattle.std.proofs.lemmas.Bool.{false≢true}
@@ -14,14 +14,17 @@ use Rattle.book_adopting.specs.Adopting.{taken_over, adopt}
 use Rattle.book_adopting.specs.Sameness.{same_office}
 use Rattle.book_values.specs.Changes.{touched}
 use Rattle.book_values.specs.declared.collections.changes.Numbers.{Numbers}
-use Rattle.book_office.specs.declared.edits.Edit.TheVariants.{PutCard, RemoveCard, CopyCard, MoveCard, AddBook, RemoveBook, Adopt}
+use Rattle.book_office.specs.declared.edits.Edit.TheVariants.{PutCard, RemoveCard, CopyCard, MoveCard, AddBook, RemoveBook, SetLabel, SetList, SetMembers, Adopt}
 use Rattle.book_values.specs.declared.offices.Book.{Book}
 use Rattle.book_values.specs.declared.offices.StoredCard.{StoredCard}
 use Rattle.book_values.specs.declared.offices.Office.{Office}
-use Rattle.book_office.specs.Edits.{with_book, place_card, card_put, put_card, remove_card, card_copied, copy_from, move_to, new_book, touches}
+use Rattle.book_lists.specs.declared.entries.Entry.{Entry}
+use Rattle.book_values.specs.declared.paths.Path.{Path}
+use Rattle.book_values.specs.declared.paths.Path.TheVariants as path
+use Rattle.book_office.specs.Edits.{changed_at, with_book, with_book_properties, with_cards, place_card, card_put, put_card, remove_card, card_copied, copy_from, move_to, new_book, labelled, card_labelled, label_card, set_label, listed, listed_card, set_list, touches, touches_label}
 use Rattle.book_lists.specs.Names.{name_cmp}
-use Rattle.book_office.specs.Resources.{card_at}
-use Rattle.book_office.specs.Touches.{OtherBooksStay, names_in, NamesAreTouchedInTurn, Renumbers, TouchedNamesAloneChange, ChangesOneName, PutCardChangesOneName, RemoveCardChangesOneName, CopyCardChangesOneName, MoveAcrossChangesANameOfEach, MoveWithinChangesTwoNames, NewBookHasNoChanges, RemovedBookIsGone}
+use Rattle.book_office.specs.Resources.{card_at, card_in, card_resource, number_of, resource_at}
+use Rattle.book_office.specs.Touches.{books_at, OtherBooksStay, names_in, NamesAreTouchedInTurn, Renumbers, TouchedNamesAloneChange, ChangesOneName, PutCardChangesOneName, RemoveCardChangesOneName, CopyCardChangesOneName, MoveAcrossChangesANameOfEach, MoveWithinChangesTwoNames, CardLabelChangesOneName, NewBookHasNoChanges, RemovedBookIsGone}
 use Rattle.book_values.proofs.NameMapLaws.{by_names, by_same, same}
 use Rattle.book_adopting.proofs.Adoptions.{book_after, book_there}
 use Rattle.book_office.proofs.MovedCards.{card_is}
@@ -78,6 +81,27 @@ no_key m b h = elim (get m b) as (λ r. get m b ≡ r → r ≡ None) [
   | Some v ↦ λ is. absurd (h (key_there m b v is))
 ] refl
 
+-- labels and lists of one resource, seen from a book that is neither it nor above it
+label_elsewhere : (p : Path) (label : List ℕ) (o : Office) (b : List ℕ) → (Contains (books_at p) b → ⊥) → get (set_label p label o).books b ≡ get o.books b
+label_elsewhere path.Root label o b h = refl
+label_elsewhere path.People label o b h = refl
+label_elsewhere path.Groups label o b h = refl
+label_elsewhere path.Books label o b h = refl
+label_elsewhere (path.Person n) label o b h = refl
+label_elsewhere (path.Group n) label o b h = refl
+label_elsewhere (path.Book b') label o b h = changed_elsewhere o.books b' (with_book_properties (labelled label)) b (apart_from_one b' b h)
+label_elsewhere (path.Card b' c) label o b h = changed_elsewhere o.books b' (λ (book : Book). label_card c label (get book.cards c) book) b (apart_from_one b' b h)
+
+list_elsewhere : (p : Path) (list : List Entry) (o : Office) (b : List ℕ) → (Contains (books_at p) b → ⊥) → get (set_list p list o).books b ≡ get o.books b
+list_elsewhere path.Root list o b h = refl
+list_elsewhere path.People list o b h = refl
+list_elsewhere path.Groups list o b h = refl
+list_elsewhere path.Books list o b h = refl
+list_elsewhere (path.Person n) list o b h = refl
+list_elsewhere (path.Group n) list o b h = refl
+list_elsewhere (path.Book b') list o b h = changed_elsewhere o.books b' (with_book_properties (listed list)) b (apart_from_one b' b h)
+list_elsewhere (path.Card b' c) list o b h = changed_elsewhere o.books b' (with_cards (λ cards. changed_at (listed_card list) cards c)) b (apart_from_one b' b h)
+
 pub other_books_stay : OtherBooksStay
 other_books_stay o (PutCard b' c owner text) b h = changed_elsewhere o.books b' (put_card c owner text) b (apart_from_one b' b h)
 other_books_stay o (RemoveCard b' c) b h = changed_elsewhere o.books b' (remove_card c) b (apart_from_one b' b h)
@@ -87,6 +111,9 @@ other_books_stay o (MoveCard fb fc tb tc) b h =
     ∙ changed_elsewhere o.books fb (remove_card fc) b (λ is. h (contains_first fb (tb ∷ []) b is))
 other_books_stay o (AddBook b' owner) b h = put_elsewhere o.books b' (new_book owner) b (apart_from_one b' b h)
 other_books_stay o (RemoveBook b') b h = removed_elsewhere o.books b' b (apart_from_one b' b h)
+other_books_stay o (SetLabel p label) b h = label_elsewhere p label o b h
+other_books_stay o (SetList p list) b h = list_elsewhere p list o b h
+other_books_stay o (SetMembers group members) b h = refl
 other_books_stay o (Adopt t) b h =
     let old = no_key o.books b (λ k. h (Contains-append_left (keys o.books) (keys t.books) b k)) in
     let named = no_key t.books b (λ k. h (Contains-append_right (keys o.books) (keys t.books) b k)) in
@@ -143,6 +170,57 @@ move_touches : (card : Option StoredCard) (c : List ℕ) → card ≢ None → (
 move_touches None c h book = absurd (h refl)
 move_touches (Some card) c h book = refl
 
+-- a change of one book that touches no name
+none_touched : (o : Office) (change : Book → Book) (b' : List ℕ) → ((book : Book) → (change book).changes ≡ book.changes)
+    → (b : List ℕ) (old new : Book) → get o.books b ≡ Some old → get (with_book change o b').books b ≡ Some new → new.changes ≡ old.changes
+none_touched o change b' h b old new before = by_changed o.books b' change b (λ r. r ≡ Some new → new.changes ≡ old.changes)
+    (λ _ after. ap (λ (book : Book). book.changes) (same_some _ _ (sym after ∙ ap (option_map change) before)) ∙ h old)
+    (λ _ after. ap (λ (book : Book). book.changes) (same_some _ _ (sym after ∙ before)))
+
+same_numbers : (old new : Book) (found : Option Book) → found ≡ Some old → found ≡ Some new → new.changes ≡ old.changes
+same_numbers old new found before after = ap (λ (book : Book). book.changes) (same_some _ _ (sym after ∙ before))
+
+-- the card of a resource that is there
+label_touches : (card : Option StoredCard) (c label : List ℕ) → card ≢ None → (book : Book) → (label_card c label card book).changes ≡ touched book.changes c
+label_touches None c label h book = absurd (h refl)
+label_touches (Some card) c label h book = refl
+
+-- a card of one book that is labelled
+label_touched : (o : Office) (b' c label : List ℕ) → resource_at o (path.Card b' c) ≢ None → (b : List ℕ) (old new : Book) → get o.books b ≡ Some old
+    → get (set_label (path.Card b' c) label o).books b ≡ Some new → new.changes ≡ fold touched old.changes (names_in b ((b', c) ∷ []))
+label_touched o b' c label possible b old new before = by_changed o.books b' (λ (book : Book). label_card c label (get book.cards c) book) b
+    (λ r. r ≡ Some new → new.changes ≡ fold touched old.changes (names_in b ((b', c) ∷ [])))
+    (λ is after.
+    let here : get o.books b' ≡ Some old = ap (get o.books) (sym is) ∙ before in
+    let there : get old.cards c ≢ None = λ none. possible (ap (option_and_then (λ (book : Book). card_in book c)) here ∙ ap (option_map (card_resource (number_of old c))) none) in
+    let now : label_card c label (get old.cards c) old ≡ new = same_some _ _ (sym (ap (option_map (λ (book : Book). label_card c label (get book.cards c) book)) before) ∙ after) in
+    ap (λ (book : Book). book.changes) (sym now) ∙ label_touches (get old.cards c) c label there old ∙ ap (fold touched old.changes) (sym (names_in_one b b' c is)))
+    (λ apart after.
+    let now : old ≡ new = same_some _ _ (sym before ∙ after) in
+    ap (λ (book : Book). book.changes) (sym now) ∙ ap (fold touched old.changes) (sym (names_in_other b b' c apart)))
+
+label_in_turn : (p : Path) (label : List ℕ) (o : Office) → resource_at o p ≢ None → (b : List ℕ) (old new : Book) → get o.books b ≡ Some old
+    → get (set_label p label o).books b ≡ Some new → new.changes ≡ fold touched old.changes (names_in b (touches_label p))
+label_in_turn path.Root label o possible b old new before = same_numbers old new _ before
+label_in_turn path.People label o possible b old new before = same_numbers old new _ before
+label_in_turn path.Groups label o possible b old new before = same_numbers old new _ before
+label_in_turn path.Books label o possible b old new before = same_numbers old new _ before
+label_in_turn (path.Person n) label o possible b old new before = same_numbers old new _ before
+label_in_turn (path.Group n) label o possible b old new before = same_numbers old new _ before
+label_in_turn (path.Book b') label o possible b old new before = none_touched o (with_book_properties (labelled label)) b' (λ _. refl) b old new before
+label_in_turn (path.Card b' c) label o possible b old new before = label_touched o b' c label possible b old new before
+
+list_in_turn : (p : Path) (list : List Entry) (o : Office) (b : List ℕ) (old new : Book) → get o.books b ≡ Some old
+    → get (set_list p list o).books b ≡ Some new → new.changes ≡ old.changes
+list_in_turn path.Root list o b old new before = same_numbers old new _ before
+list_in_turn path.People list o b old new before = same_numbers old new _ before
+list_in_turn path.Groups list o b old new before = same_numbers old new _ before
+list_in_turn path.Books list o b old new before = same_numbers old new _ before
+list_in_turn (path.Person n) list o b old new before = same_numbers old new _ before
+list_in_turn (path.Group n) list o b old new before = same_numbers old new _ before
+list_in_turn (path.Book b') list o b old new before = none_touched o (with_book_properties (listed list)) b' (λ _. refl) b old new before
+list_in_turn (path.Card b' c) list o b old new before = none_touched o (with_cards (λ cards. changed_at (listed_card list) cards c)) b' (λ _. refl) b old new before
+
 pub names_touched_in_turn : NamesAreTouchedInTurn
 names_touched_in_turn o (PutCard b' c owner text) b old new possible before = one_touched o (put_card c owner text) b' c (λ _. refl) b old new before
 names_touched_in_turn o (RemoveCard b' c) b old new possible before = one_touched o (remove_card c) b' c (λ _. refl) b old new before
@@ -156,6 +234,9 @@ names_touched_in_turn o (AddBook b' owner) b old new none before = by_put o.book
 names_touched_in_turn o (RemoveBook b') b old new possible before = by_removed o.books b' b (λ r. r ≡ Some new → new.changes ≡ old.changes)
     (λ _ after. some_apart (sym after))
     (λ _ after. ap (λ (book : Book). book.changes) (same_some _ _ (sym after ∙ before)))
+names_touched_in_turn o (SetLabel p label) b old new possible before = label_in_turn p label o possible b old new before
+names_touched_in_turn o (SetList p list) b old new possible before = list_in_turn p list o b old new before
+names_touched_in_turn o (SetMembers group members) b old new possible before = same_numbers old new _ before
 names_touched_in_turn o (Adopt t) b old new possible before = λ after.
     book_kept t (book_path b) (get t.books b) old new (ap (book_after t (book_path b) (get t.books b)) (sym before) ∙ sym (book_adopted t o b) ∙ after)
 
@@ -266,6 +347,15 @@ move_within_changes o b fc tc old card apart at here =
         properties = refl;
       },
     )
+
+pub card_label_changes : CardLabelChangesOneName
+card_label_changes o b c label old card at here = (
+  place_card old c (card_labelled label card),
+  changed_here o.books b (λ (book : Book). label_card c label (get book.cards c) book)
+      ∙ ap (option_map (λ (book : Book). label_card c label (get book.cards c) book)) at ∙ ap (λ r. Some (label_card c label r old)) here,
+  put_here old.cards c (card_labelled label card),
+  placed_changes old c (card_labelled label card),
+)
 
 pub new_book_has_no_changes : NewBookHasNoChanges
 new_book_has_no_changes o b owner =

@@ -7,7 +7,7 @@ use Rattle.book_lists.specs.Memberships.{Memberships}
 use Rattle.book_lists.specs.declared.entries.Entry.{Entry}
 use Rattle.book_lists.specs.declared.memberships.Membership.{Membership}
 use Rattle.book_office.specs.declared.edits.Edit.{Edit}
-use Rattle.book_office.specs.declared.edits.Edit.TheVariants.{PutCard, RemoveCard, CopyCard, MoveCard, AddBook, RemoveBook, Adopt}
+use Rattle.book_office.specs.declared.edits.Edit.TheVariants.{PutCard, RemoveCard, CopyCard, MoveCard, AddBook, RemoveBook, SetLabel, SetList, SetMembers, Adopt}
 use Rattle.book_values.specs.declared.offices.Book.{Book}
 use Rattle.book_values.specs.declared.offices.StoredCard.{StoredCard}
 use Rattle.book_values.specs.declared.offices.Office.{Office}
@@ -19,7 +19,7 @@ use Rattle.book_adopting.specs.Adopting.{taken_over, adopt}
 use Rattle.book_office.specs.Resources.{card_at}
 use Rattle.book_adopting.specs.Sameness.{same_office}
 pub use Rattle.book_values.specs.Fresh.{empty_properties, new_book}
-pub use Rattle.book_values.specs.Names.{changed_if, changed_at}
+pub use Rattle.book_values.specs.Names.{NamesTo, changed_if, changed_at}
 
 abbrev pub with_book : (Book → Book) → Office → List ℕ → Office
 with_book change o b = record o { books = changed_at change o.books b }
@@ -73,6 +73,12 @@ add_book b owner o = record o { books = insert o.books b (new_book owner) }
 abbrev pub remove_book : List ℕ → Office → Office
 remove_book b o = record o { books = remove o.books b; epoch = o.epoch + 1 }
 
+abbrev pub with_book_properties : (Properties → Properties) → Book → Book
+with_book_properties change book = record book { properties = change book.properties }
+
+abbrev pub with_cards : (NamesTo StoredCard → NamesTo StoredCard) → Book → Book
+with_cards change book = record book { cards = change book.cards }
+
 -- an Office with the owner, label and lists at a path changed; a card's label and list are changed by edits of their own
 abbrev pub with_properties : (Properties → Properties) → Office → Path → Office
 with_properties change o path.Root = record o { root = change o.root }
@@ -81,32 +87,40 @@ with_properties change o path.Groups = record o { groups_home = change o.groups_
 with_properties change o path.Books = record o { books_home = change o.books_home }
 with_properties change o (path.Person n) = record o { persons = changed_at change o.persons n }
 with_properties change o (path.Group n) = record o { groups = changed_at change o.groups n }
-with_properties change o (path.Book b) = with_book (λ book. record book { properties = change book.properties }) o b
+with_properties change o (path.Book b) = with_book (with_book_properties change) o b
 with_properties change o (path.Card b c) = o
 
 abbrev pub with_card : (StoredCard → StoredCard) → Office → List ℕ → List ℕ → Office
-with_card change o b c = with_book (λ book. record book { cards = changed_at change book.cards c }) o b
+with_card change o b c = with_book (with_cards (λ cards. changed_at change cards c)) o b
+
+abbrev pub labelled : List ℕ → Properties → Properties
+labelled label properties = record properties { label = label }
+
+abbrev pub card_labelled : List ℕ → StoredCard → StoredCard
+card_labelled label card = record card { label = label }
+
+abbrev pub listed : List Entry → Properties → Properties
+listed list properties = record properties { own = list }
+
+abbrev pub listed_card : List Entry → StoredCard → StoredCard
+listed_card list card = record card { own = list }
 
 -- PROPPATCH of a displayname (RFC 4918, section 15.2): a card's is a change of the card, which touches its name
 abbrev pub label_card : List ℕ → List ℕ → Option StoredCard → Book → Book
 label_card c label None book = book
-label_card c label (Some card) book = place_card book c (record card { label = label })
+label_card c label (Some card) book = place_card book c (card_labelled label card)
 
 abbrev pub set_label : Path → List ℕ → Office → Office
 set_label (path.Card b c) label o = with_book (λ book. label_card c label (get book.cards c) book) o b
-set_label p label o = with_properties (λ properties. record properties { label = label }) o p
+set_label p label o = with_properties (labelled label) o p
 
 -- ACL (RFC 3744, section 8.1): the own list is replaced; no name is touched
 abbrev pub own_list_set : Path → List Entry → Office → Office
-own_list_set (path.Card b c) list o = with_card (λ card. record card { own = list }) o b c
-own_list_set p list o = with_properties (λ properties. record properties { own = list }) o p
+own_list_set (path.Card b c) list o = with_card (listed_card list) o b c
+own_list_set p list o = with_properties (listed list) o p
 
 abbrev pub set_list : Path → List Entry → Office → Office
 set_list p list o = record (own_list_set p list o) { epoch = o.epoch + 1 }
-
--- the direct members of one group
-abbrev pub members_of : Memberships → List ℕ → Memberships
-members_of pairs group = set.retain pairs (λ (m : Membership). bytes_eq m.group group)
 
 -- PROPPATCH of a group-member-set (RFC 3744, section 4.3): the direct members of the group become those of the list
 abbrev pub members_set : Memberships → List ℕ → List (List ℕ) → Memberships
@@ -138,6 +152,9 @@ apply o (CopyCard from_book from_card to_book to_card owner) = copy_card from_bo
 apply o (MoveCard from_book from_card to_book to_card) = move_card from_book from_card to_book to_card o
 apply o (AddBook b owner) = add_book b owner o
 apply o (RemoveBook b) = remove_book b o
+apply o (SetLabel p label) = set_label p label o
+apply o (SetList p list) = set_list p list o
+apply o (SetMembers group members) = set_members group members o
 apply o (Adopt t) = adopt t o
 
 -- which edits change access: the epoch rises with each of them, and with no other
@@ -148,7 +165,21 @@ raises_epoch o (CopyCard from_book from_card to_book to_card owner) = false
 raises_epoch o (MoveCard from_book from_card to_book to_card) = false
 raises_epoch o (AddBook b owner) = false
 raises_epoch o (RemoveBook b) = true
+raises_epoch o (SetLabel p label) = false
+raises_epoch o (SetList p list) = true
+raises_epoch o (SetMembers group members) = true
 raises_epoch o (Adopt t) = not (same_office o (taken_over t o))
+
+-- the label of a card is a change of the card, any other of none
+abbrev pub touches_label : Path → List (List ℕ × List ℕ)
+touches_label path.Root = []
+touches_label path.People = []
+touches_label path.Groups = []
+touches_label path.Books = []
+touches_label (path.Person n) = []
+touches_label (path.Group n) = []
+touches_label (path.Book b) = []
+touches_label (path.Card b c) = (b, c) ∷ []
 
 -- the names that an edit touches, each with its book, in order
 abbrev pub touches : Edit → List (List ℕ × List ℕ)
@@ -158,4 +189,7 @@ touches (CopyCard from_book from_card to_book to_card owner) = (to_book, to_card
 touches (MoveCard from_book from_card to_book to_card) = (from_book, from_card) ∷ (to_book, to_card) ∷ []
 touches (AddBook b owner) = []
 touches (RemoveBook b) = []
+touches (SetLabel p label) = touches_label p
+touches (SetList p list) = []
+touches (SetMembers group members) = []
 touches (Adopt t) = []

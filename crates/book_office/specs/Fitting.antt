@@ -1,16 +1,19 @@
 -- When an edit of a sound Office fits: it stays within the limits, and names what may be there.
-use Rattle.std.specs.Prelude.{◌≡◌, ◌≢◌, ◌⊎◌, ℕ, ◌+◌, ◌<◌, ◌≤◌, List, length, Option, Some, None}
+use Rattle.std.specs.Prelude.{◌≡◌, ◌≢◌, ◌⊎◌, ℕ, ◌+◌, ◌<◌, ◌≤◌, List, length, Option, Some, None, All}
 use Rattle.std.specs.FinMap.{get, len}
 use Rattle.book_lists.specs.Names.{IsName}
-use Rattle.book_office.specs.declared.edits.Edit.TheVariants.{PutCard, RemoveCard, CopyCard, MoveCard, AddBook, RemoveBook, Adopt}
+use Rattle.book_office.specs.declared.edits.Edit.TheVariants.{PutCard, RemoveCard, CopyCard, MoveCard, AddBook, RemoveBook, SetLabel, SetList, SetMembers, Adopt}
 use Rattle.book_values.specs.declared.offices.Book.{Book}
 use Rattle.book_values.specs.declared.offices.Office.{Office}
-use Rattle.book_values.specs.declared.offices.TheConstants.{MAX_CARD_BYTES, MAX_CARDS, MAX_BOOKS, LAST_NUMBER}
+use Rattle.book_limits.specs.declared.TheConstants.{MAX_MEMBERS, MAX_LABEL_BYTES, MAX_CARD_BYTES, MAX_CARDS, MAX_BOOKS, LAST_NUMBER}
 use Rattle.book_policies.specs.Policies.{IsPolicy}
 use Rattle.book_policies.specs.declared.parts.PolicyTables.{PolicyTables}
 use Rattle.book_adopting.specs.Adopting.{adopt}
-use Rattle.book_office.specs.Resources.{card_at}
-use Rattle.book_office.specs.Sound.{IsOwner, IsSound, Fits}
+use Rattle.book_lists.specs.declared.entries.Entry.{Entry}
+use Rattle.book_values.specs.declared.paths.Path.{Path}
+use Rattle.book_values.specs.declared.paths.Path.TheVariants as path
+use Rattle.book_office.specs.Resources.{card_at, resource_at}
+use Rattle.book_office.specs.Sound.{IsMapped, IsMappedGroup, IsOwner, IsSoundList, IsSound, Fits}
 
 -- a card of this name is there, or one more has room
 abbrev pub HasRoom : Book → List ℕ → Type 0
@@ -60,6 +63,34 @@ abbrev pub RemoveBookFits : Type 0
 RemoveBookFits = (o : Office) (b : List ℕ) → IsSound o
     → get o.books b ≢ None → o.epoch < LAST_NUMBER
     → Fits o (RemoveBook b)
+
+-- the label of a card takes a number of its book, and any other takes none
+abbrev pub HasNumberFor : Office → Path → Type 0
+HasNumberFor o path.Root = Unit {0}
+HasNumberFor o path.People = Unit {0}
+HasNumberFor o path.Groups = Unit {0}
+HasNumberFor o path.Books = Unit {0}
+HasNumberFor o (path.Person n) = Unit {0}
+HasNumberFor o (path.Group n) = Unit {0}
+HasNumberFor o (path.Book b) = Unit {0}
+HasNumberFor o (path.Card b c) = (book : Book) → get o.books b ≡ Some book → book.changes.number < LAST_NUMBER
+
+abbrev pub SetLabelFits : Type 0
+SetLabelFits = (o : Office) (p : Path) (label : List ℕ) → IsSound o
+    → resource_at o p ≢ None → length label ≤ MAX_LABEL_BYTES → HasNumberFor o p
+    → Fits o (SetLabel p label)
+
+-- at most 64 entries, and each principal that one names is there
+abbrev pub SetListFits : Type 0
+SetListFits = (o : Office) (p : Path) (list : List Entry) → IsSound o
+    → resource_at o p ≢ None → IsSoundList o list → o.epoch < LAST_NUMBER
+    → Fits o (SetList p list)
+
+-- at most 1,000 members, each a person or group that is there; a member may be named more than once
+abbrev pub SetMembersFits : Type 0
+SetMembersFits = (o : Office) (group : List ℕ) (members : List (List ℕ)) → IsSound o
+    → IsMappedGroup o group → All (IsMapped o) members → length members ≤ MAX_MEMBERS → o.epoch < LAST_NUMBER
+    → Fits o (SetMembers group members)
 
 abbrev pub AdoptFits : Type 0
 AdoptFits = (o : Office) (t : PolicyTables) → IsSound o → IsPolicy t

@@ -5,7 +5,7 @@ use Rattle.book_values.specs.Names.{NamesTo, changed_at}
 use Rattle.book_values.specs.Fresh.{new_book}
 use Rattle.book_values.specs.declared.offices.Book.{Book}
 use Rattle.book_values.specs.declared.offices.StoredCard.{StoredCard}
-use Rattle.book_values.specs.declared.offices.TheConstants.{LAST_NUMBER}
+use Rattle.book_limits.specs.declared.TheConstants.{LAST_NUMBER}
 
 -- the number of each book is within its limit, as in a sound Office; so it can rise
 abbrev pub AreNumbered : NamesTo Book → Type 0

@@ -2,6 +2,7 @@
 use Rattle.std.specs.Prelude.{◌≡◌, ◌≢◌, ◌⊎◌, ℕ, ◌≤◌, List, length, Option, Some, None, All, true}
 use Rattle.std.specs.FinMap.{get, len}
 use Rattle.std.specs.FinSet as set
+use Rattle.book_lists.specs.Memberships.{members_of}
 use Rattle.book_lists.specs.declared.entries.Entry.{Entry}
 use Rattle.book_lists.specs.declared.entries.Who.{Who}
 use Rattle.book_lists.specs.declared.entries.Who.TheVariants.{Href, Everyone, Authenticated, Unauthenticated, Owner, Own}
@@ -9,15 +10,14 @@ use Rattle.book_lists.specs.declared.memberships.Membership.{Membership}
 use Rattle.book_lists.specs.Names.{IsName}
 use Rattle.book_lists.specs.Principals.{person_path, group_path}
 use Rattle.book_office.specs.declared.edits.Edit.{Edit}
-use Rattle.book_office.specs.declared.edits.Edit.TheVariants.{PutCard, RemoveCard, CopyCard, MoveCard, AddBook, RemoveBook, Adopt}
+use Rattle.book_office.specs.declared.edits.Edit.TheVariants.{PutCard, RemoveCard, CopyCard, MoveCard, AddBook, RemoveBook, SetLabel, SetList, SetMembers, Adopt}
 use Rattle.book_values.specs.declared.offices.Book.{Book}
 use Rattle.book_values.specs.declared.offices.StoredCard.{StoredCard}
 use Rattle.book_values.specs.declared.offices.Office.{Office}
 use Rattle.book_values.specs.declared.offices.Properties.{Properties}
-use Rattle.book_values.specs.declared.offices.TheConstants.{MAX_CARD_BYTES, MAX_CARDS, MAX_BOOKS, LAST_NUMBER}
-use Rattle.book_values.specs.declared.limits.TheConstants.{MAX_LABEL_BYTES, MAX_ENTRIES, MAX_MEMBERS}
-use Rattle.book_office.specs.Edits.{apply, members_of}
-use Rattle.book_office.specs.Resources.{card_at}
+use Rattle.book_limits.specs.declared.TheConstants.{MAX_ENTRIES, MAX_MEMBERS, MAX_LABEL_BYTES, MAX_CARD_BYTES, MAX_CARDS, MAX_BOOKS, LAST_NUMBER}
+use Rattle.book_office.specs.Edits.{apply}
+use Rattle.book_office.specs.Resources.{card_at, resource_at}
 
 abbrev pub IsMappedPerson : Office → List ℕ → Type 0
 IsMappedPerson o principal = (name : List ℕ) × (principal ≡ person_path name) × (get o.persons name ≢ None)
@@ -98,6 +98,9 @@ IsPossible o (MoveCard from_book from_card to_book to_card) =
     (card_at o from_book from_card ≢ None) × (get o.books to_book ≢ None) × (from_book ≡ to_book → from_card ≢ to_card)
 IsPossible o (AddBook b owner) = get o.books b ≡ None
 IsPossible o (RemoveBook b) = get o.books b ≢ None
+IsPossible o (SetLabel p label) = resource_at o p ≢ None
+IsPossible o (SetList p list) = resource_at o p ≢ None
+IsPossible o (SetMembers group members) = IsMappedGroup o group
 IsPossible o (Adopt t) = Unit {0}
 
 -- an edit fits where it is possible, and leaves a sound Office

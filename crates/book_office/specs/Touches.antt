@@ -4,14 +4,27 @@ use Rattle.std.specs.FinMap.{get, keys}
 use Rattle.std.specs.Str.{bytes_eq}
 use Rattle.book_values.specs.declared.collections.changes.Numbers.{Numbers}
 use Rattle.book_office.specs.declared.edits.Edit.{Edit}
-use Rattle.book_office.specs.declared.edits.Edit.TheVariants.{PutCard, RemoveCard, CopyCard, MoveCard, AddBook, RemoveBook, Adopt}
+use Rattle.book_office.specs.declared.edits.Edit.TheVariants.{PutCard, RemoveCard, CopyCard, MoveCard, AddBook, RemoveBook, SetLabel, SetList, SetMembers, Adopt}
 use Rattle.book_values.specs.declared.offices.Book.{Book}
 use Rattle.book_values.specs.declared.offices.Office.{Office}
 use Rattle.book_values.specs.declared.offices.StoredCard.{StoredCard}
+use Rattle.book_values.specs.declared.paths.Path.{Path}
+use Rattle.book_values.specs.declared.paths.Path.TheVariants as path
 use Rattle.book_office.specs.Edits.{apply, touches}
 use Rattle.book_office.specs.Resources.{card_at}
 use Rattle.book_values.specs.Changes.{touched}
 use Rattle.book_office.specs.Sound.{IsPossible}
+
+-- the book at a path, or the book of the card at it
+abbrev pub books_at : Path → List (List ℕ)
+books_at path.Root = []
+books_at path.People = []
+books_at path.Groups = []
+books_at path.Books = []
+books_at (path.Person n) = []
+books_at (path.Group n) = []
+books_at (path.Book b) = b ∷ []
+books_at (path.Card b c) = b ∷ []
 
 -- the books that an edit changes, adds or removes
 abbrev pub books_of : Office → Edit → List (List ℕ)
@@ -21,6 +34,9 @@ books_of o (CopyCard from_book from_card to_book to_card owner) = to_book ∷ []
 books_of o (MoveCard from_book from_card to_book to_card) = from_book ∷ to_book ∷ []
 books_of o (AddBook b owner) = b ∷ []
 books_of o (RemoveBook b) = b ∷ []
+books_of o (SetLabel p label) = books_at p
+books_of o (SetList p list) = books_at p
+books_of o (SetMembers group members) = []
 books_of o (Adopt t) = keys o.books ++ keys t.books
 
 abbrev pub OtherBooksStay : Type 0
@@ -105,6 +121,13 @@ MoveWithinChangesTwoNames = (o : Office) (b from_card to_card : List ℕ) (old :
     → get o.books b ≡ Some old → get old.cards from_card ≡ Some card
     → (new : Book) × (get (apply o (MoveCard b from_card b to_card)).books b ≡ Some new)
     × (get new.cards from_card ≡ None) × (get new.cards to_card ≡ Some card) × ChangesTwoNames old new from_card to_card
+
+-- the label of a card: the card gets it, and its name takes the next number
+abbrev pub CardLabelChangesOneName : Type 0
+CardLabelChangesOneName = (o : Office) (b c label : List ℕ) (old : Book) (card : StoredCard)
+    → get o.books b ≡ Some old → get old.cards c ≡ Some card
+    → (new : Book) × (get (apply o (SetLabel (path.Card b c) label)).books b ≡ Some new)
+    × (get new.cards c ≡ Some (record card { label = label })) × ChangesOneName old new c
 
 -- a new book has the number 0, no cards and no removed names
 abbrev pub NewBookHasNoChanges : Type 0

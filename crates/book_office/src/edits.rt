@@ -1,8 +1,8 @@
 //! The edits of an Office.
 
-use book_lists::{Name, Principal};
+use book_lists::{Entry, Name, Principal};
 use book_policies::Policy;
-use book_values::Text;
+use book_values::{Items, Path, Text};
 
 /// A change of an Office. It fits an Office where what it names as present is mapped, what it adds is not mapped and has
 /// a mapped parent, and what it leaves is sound.
@@ -46,6 +46,24 @@ pub enum Edit {
     /// DELETE of a book, with its cards and removed names. The epoch rises.
     RemoveBook {
         book: Name,
+    },
+    /// PROPPATCH of a displayname (RFC 4918, section 15.2): the label of a resource. A card's is a change of the card, and
+    /// touches its name, also where the label is the one that it has; another label touches nothing.
+    SetLabel {
+        path: Path,
+        label: Text,
+    },
+    /// ACL (RFC 3744, section 8.1): the own list of a resource is replaced. The epoch rises, also where the list is the one
+    /// that it has.
+    SetList {
+        path: Path,
+        entries: Items<Entry>,
+    },
+    /// PROPPATCH of a group-member-set (RFC 3744, section 4.3): the direct members of a group are replaced. The epoch rises,
+    /// also where the members are those that it has.
+    SetMembers {
+        group: Principal,
+        members: Items<Principal>,
     },
     /// Adopting a policy (own profile): what it names is added, and labels, owners of books, members and lists become the
     /// policy's. The epoch rises where the Office differs from before.

@@ -1,10 +1,10 @@
 //! What the definitions of an Office imply, stated on public functions since only what a contract names is proved.
 
-ghost use Rattle.book_office.specs.Fitting.{PutCardFits, RemoveCardFits, CopyCardFits, MoveCardFits, AddBookFits, RemoveBookFits, AdoptFits};
+ghost use Rattle.book_office.specs.Fitting.{PutCardFits, RemoveCardFits, CopyCardFits, MoveCardFits, AddBookFits, RemoveBookFits, SetLabelFits, SetListFits, SetMembersFits, AdoptFits};
 ghost use Rattle.book_office.specs.Laws.{EpochLaw, OfficeIsItsResources};
 ghost use Rattle.book_office.specs.OwnLists.{ProtectedListsStay, ProtectedEntriesStay, ProtectedDecisionsStay};
 ghost use Rattle.book_office.specs.ResourceTree.{HomesAreThere, ResourcesStandInPlace, RemovedNamesAreFree, NumbersAreFromOneToTheBooks, NumbersTellNames};
-ghost use Rattle.book_office.specs.Touches.{OtherBooksStay, NamesAreTouchedInTurn, TouchedNamesAloneChange, PutCardChangesOneName, RemoveCardChangesOneName, CopyCardChangesOneName, MoveAcrossChangesANameOfEach, MoveWithinChangesTwoNames, NewBookHasNoChanges, RemovedBookIsGone};
+ghost use Rattle.book_office.specs.Touches.{OtherBooksStay, NamesAreTouchedInTurn, TouchedNamesAloneChange, PutCardChangesOneName, RemoveCardChangesOneName, CopyCardChangesOneName, MoveAcrossChangesANameOfEach, MoveWithinChangesTwoNames, CardLabelChangesOneName, NewBookHasNoChanges, RemovedBookIsGone};
 
 /// The epoch rises by one with each edit that changes access, and with no other.
 pub fn access_changes_raise_the_epoch()
@@ -12,7 +12,8 @@ pub fn access_changes_raise_the_epoch()
 {}
 
 /// An edit of a sound Office fits where what it names is there, or has a valid name and is not there yet, and where the
-/// Office stays within the limits (own profile) on cards, books, texts, change numbers and the epoch.
+/// Office stays within the limits (own profile) on cards, books, texts, labels, entries, members, change numbers and the
+/// epoch.
 pub fn edits_within_the_limits_fit()
     ensures put_card { PutCardFits }
     ensures remove_card { RemoveCardFits }
@@ -20,6 +21,9 @@ pub fn edits_within_the_limits_fit()
     ensures move_card { MoveCardFits }
     ensures add_book { AddBookFits }
     ensures remove_book { RemoveBookFits }
+    ensures set_label { SetLabelFits }
+    ensures set_list { SetListFits }
+    ensures set_members { SetMembersFits }
     ensures adopt { AdoptFits }
 {}
 
@@ -46,6 +50,7 @@ pub fn touched_names_alone_change()
     ensures copy_card { CopyCardChangesOneName }
     ensures move_across { MoveAcrossChangesANameOfEach }
     ensures move_within { MoveWithinChangesTwoNames }
+    ensures set_label { CardLabelChangesOneName }
     ensures add_book { NewBookHasNoChanges }
     ensures remove_book { RemovedBookIsGone }
     ensures other_books { OtherBooksStay }

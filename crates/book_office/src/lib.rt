@@ -4,7 +4,7 @@
 //! The crate above uses that a `Keeper` stands for a sound Office: each read tells what that Office has (`Reads`), and `act`
 //! leaves the edited Office or, on an error, the Office as it was (`Edits`); and that edits within the limits fit.
 //!
-//! Read `nodes`, `edits` and `keepers` first; then `reads`, `changing` and `memory_keepers`, which keep an Office in memory;
+//! Read `nodes`, `edits` and `keepers` first; then `reads`, `changing`, `moving`, `setting` and `memory_keepers`, which keep an Office in memory;
 //! then `views` and `laws`.
 #![tactic(auto)]
 
@@ -16,6 +16,7 @@ mod memory_keepers;
 mod moving;
 mod nodes;
 mod reads;
+mod setting;
 mod views;
 
 pub use book_adopting::{Adoption, adopting_twice_is_adopting_once};
@@ -23,9 +24,8 @@ pub use book_policies::{
     BookPart, EntryPart, GroupPart, PersonPart, Policy, PolicyBook, PolicyEntry, PolicyTables,
 };
 pub use book_values::{
-    Book, Changes, Items, Kind, LAST_NUMBER, MAX_BOOKS, MAX_CARD_BYTES, MAX_CARDS, MAX_ENTRIES,
-    MAX_LABEL_BYTES, MAX_MEMBERS, MAX_NAMED, NameMap, Numbers, Office, Path, PathFault, Properties,
-    StoredCard, Text,
+    Book, Changes, Items, Kind, NameMap, Numbers, Office, Path, PathFault, Properties, StoredCard,
+    Text,
 };
 pub use edits::Edit;
 pub use keepers::{Keeper, StoreFault};

@@ -11,7 +11,7 @@ use Rattle.book_lists.specs.declared.entries.Entry.{Entry}
 use Rattle.book_lists.specs.declared.memberships.Membership.{Membership}
 use Rattle.book_values.specs.declared.paths.Path.{Path}
 use Rattle.book_values.specs.Paths.{IsPath, path_text}
-use Rattle.book_values.specs.declared.limits.TheConstants.{MAX_ENTRIES, MAX_MEMBERS, MAX_NAMED}
+use Rattle.book_limits.specs.declared.TheConstants.{MAX_ENTRIES, MAX_MEMBERS, MAX_NAMED}
 use Rattle.book_policies.specs.declared.parts.PersonPart.{PersonPart}
 use Rattle.book_policies.specs.declared.parts.GroupPart.{GroupPart}
 use Rattle.book_policies.specs.declared.parts.BookPart.{BookPart}
@@ -34,7 +34,7 @@ nothing q v e = let none = get-empty {X = _} name_cmp q in let clash : Some v �
 none_short : AreShort empty
 none_short q = rw (get-empty name_cmp q) (omega arith)
 
-known_spelled : (persons groups : NamesTo (List ℕ)) (text : List ℕ) → NamesPrincipal persons groups text → IsKnown persons groups (spelled text)
+pub known_spelled : (persons groups : NamesTo (List ℕ)) (text : List ℕ) → NamesPrincipal persons groups text → IsKnown persons groups (spelled text)
 known_spelled persons groups text h = (h.0, h.1, sym (principal_spelled persons groups text h.0 h.1 h.2 h.3), h.3)
 
 known_owner : (persons groups : NamesTo (List ℕ)) (owner : Option (List ℕ)) → NamesOwner persons groups owner → IsKnownOwner persons groups (option_map spelled owner)
@@ -79,37 +79,37 @@ module _ (persons : List PersonPart) (groups : List GroupPart) (books : List Boo
   -- ---- parts without a fault fit
   module _ (f : IsFaultless persons groups books entries) where
     pub persons_fit : PersonsFit empty persons
-    persons_fit = can_add (λ p. IsShort p.label) named_person empty persons f.person_labels f.person_names f.persons_once (λ k d within. get-empty name_cmp _)
+    persons_fit = can_add (λ p. IsShort p.label) named_person empty persons f.labels.of_persons f.names.of_persons f.once.of_persons (λ k d within. get-empty name_cmp _)
 
     pub groups_fit : GroupsFit empty groups
-    groups_fit = can_add (λ g. IsShort g.label) named_group empty groups f.group_labels f.group_names f.groups_once (λ k d within. get-empty name_cmp _)
+    groups_fit = can_add (λ g. IsShort g.label) named_group empty groups f.labels.of_groups f.names.of_groups f.once.of_groups (λ k d within. get-empty name_cmp _)
 
     pub books_fit : CanAdd (BookFits t.persons t.groups) named_book empty books
-    books_fit = can_add (BookFits t.persons t.groups) named_book empty books (λ k d within. (f.book_labels k d within, f.owners k d within)) f.book_names f.books_once (λ k d within. get-empty name_cmp _)
+    books_fit = can_add (BookFits t.persons t.groups) named_book empty books (λ k d within. (f.labels.of_books k d within, f.known.owners k d within)) f.names.of_books f.once.of_books (λ k d within. get-empty name_cmp _)
 
     pub members_fit : AllByRecursion (MembersFit t.persons t.groups) (map given_members groups)
-    members_fit = members_fit_of t.persons t.groups groups f.members f.few.few_members
+    members_fit = members_fit_of t.persons t.groups groups f.known.members f.few.few_members
 
     pub all_entries_fit : EntriesFit (EntryFits t.persons t.groups t.books) empty empty entries
     all_entries_fit =
         let listed = are_listed (map entry_of entries) in
-        entries_fit (EntryFits t.persons t.groups t.books) empty empty entries (λ k d within. (f.leaves k d within, f.forms k d within, f.places k d within))
+        entries_fit (EntryFits t.persons t.groups t.books) empty empty entries (λ k d within. (f.leaves k d within, f.known.forms k d within, f.places k d within))
         (λ q. rw (listed.protected_lists q) (f.few.few_entries true q)) (λ q. rw (listed.own_lists q) (f.few.few_entries false q))
 
     -- ---- and make a policy
     pub is_policy : IsPolicy t
     is_policy = record {
-      persons = each_added (λ p. IsShort p.label) named_person (λ name label. IsName name × IsShort label) empty persons (λ q v e. nothing q v e) (λ k d within. (f.person_names k d within, f.person_labels k d within));
-      groups = each_added (λ g. IsShort g.label) named_group (λ name label. IsName name × IsShort label) empty groups (λ q v e. nothing q v e) (λ k d within. (f.group_names k d within, f.group_labels k d within));
+      persons = each_added (λ p. IsShort p.label) named_person (λ name label. IsName name × IsShort label) empty persons (λ q v e. nothing q v e) (λ k d within. (f.names.of_persons k d within, f.labels.of_persons k d within));
+      groups = each_added (λ g. IsShort g.label) named_group (λ name label. IsName name × IsShort label) empty groups (λ q v e. nothing q v e) (λ k d within. (f.names.of_groups k d within, f.labels.of_groups k d within));
       books = each_added (BookFits t.persons t.groups) named_book (λ name book. IsName name × IsShort book.label × IsKnownOwner t.persons t.groups book.owner) empty books (λ q v e. nothing q v e)
-          (λ k d within. (f.book_names k d within, f.book_labels k d within, known_owner t.persons t.groups _ (f.owners k d within)));
+          (λ k d within. (f.names.of_books k d within, f.labels.of_books k d within, known_owner t.persons t.groups _ (f.known.owners k d within)));
       members = each_paired_all (λ (m : Membership). ((name : List ℕ) × (m.group ≡ group_path name) × (get t.groups name ≢ None)) × IsKnown t.persons t.groups m.member) set.empty groups
           (λ q e. let clash : true ≡ false = sym e ∙ contains-empty membership_cmp q in absurd cc)
           (λ k d within. all_mapped (λ (m : Membership). ((name : List ℕ) × (m.group ≡ group_path name) × (get t.groups name ≢ None)) × IsKnown t.persons t.groups m.member) _ _
-          (λ j e inside. ((_, refl, all_there (λ g. IsShort g.label) named_group empty groups k d within), known_spelled t.persons t.groups _ (f.members k d within j e inside))));
-      few_members = few_direct MAX_MEMBERS groups f.groups_once f.few.few_members;
+          (λ j e inside. ((_, refl, all_there (λ g. IsShort g.label) named_group empty groups k d within), known_spelled t.persons t.groups _ (f.known.members k d within j e inside))));
+      few_members = few_direct MAX_MEMBERS groups f.once.of_groups f.few.few_members;
       leaves = all_mapped (λ (e : PolicyEntry). HoldsSome e.entry.set) entry_of entries f.leaves;
-      forms = all_mapped (λ (e : PolicyEntry). NamesForm t.persons t.groups e.entry.who) entry_of entries f.forms;
+      forms = all_mapped (λ (e : PolicyEntry). NamesForm t.persons t.groups e.entry.who) entry_of entries f.known.forms;
       places = all_mapped (λ (e : PolicyEntry). (p : Path) × IsPath p × (e.at ≡ path_text p) × IsPlaceOf t.persons t.groups t.books p) entry_of entries (λ k d within.
           let h = f.places k d within in
           (h.0, h.1, sym (place_spelled t.persons t.groups _ h.0 h.1 h.2 t.books h.3), h.3));
@@ -134,19 +134,27 @@ module _ (persons : List PersonPart) (groups : List GroupPart) (books : List Boo
       let short = lists_short (EntryFits t.persons t.groups t.books) empty empty entries none_short none_short es in
       let listed = are_listed (map entry_of entries) in
       record {
-        person_labels = all_fine (λ p. IsShort p.label) named_person empty persons ps;
-        group_labels = all_fine (λ g. IsShort g.label) named_group empty groups gs;
-        book_labels = λ k d within. (book_fine k d within).0;
+        labels = record {
+          of_persons = all_fine (λ p. IsShort p.label) named_person empty persons ps;
+          of_groups = all_fine (λ g. IsShort g.label) named_group empty groups gs;
+          of_books = λ k d within. (book_fine k d within).0;
+        };
         leaves = λ k d within. (fits k d within).0;
-        person_names = all_named (λ p. IsShort p.label) named_person empty persons ps;
-        group_names = all_named (λ g. IsShort g.label) named_group empty groups gs;
-        book_names = all_named (BookFits t.persons t.groups) named_book empty books bs;
-        persons_once = all_once (λ p. IsShort p.label) named_person empty persons ps;
-        groups_once = all_once (λ g. IsShort g.label) named_group empty groups gs;
-        books_once = all_once (BookFits t.persons t.groups) named_book empty books bs;
-        members = members_known t.persons t.groups groups ms;
-        owners = λ k d within. (book_fine k d within).1;
-        forms = λ k d within. (fits k d within).1;
+        names = record {
+          of_persons = all_named (λ p. IsShort p.label) named_person empty persons ps;
+          of_groups = all_named (λ g. IsShort g.label) named_group empty groups gs;
+          of_books = all_named (BookFits t.persons t.groups) named_book empty books bs;
+        };
+        once = record {
+          of_persons = all_once (λ p. IsShort p.label) named_person empty persons ps;
+          of_groups = all_once (λ g. IsShort g.label) named_group empty groups gs;
+          of_books = all_once (BookFits t.persons t.groups) named_book empty books bs;
+        };
+        known = record {
+          members = members_known t.persons t.groups groups ms;
+          owners = λ k d within. (book_fine k d within).1;
+          forms = λ k d within. (fits k d within).1;
+        };
         places = λ k d within. (fits k d within).2;
         few = record {
           few_persons = few_persons;

@@ -8,7 +8,7 @@ use Rattle.std.specs.FinMap.{get, empty, get-empty}
 use Rattle.std.specs.Str.{bytes_eq}
 use Rattle.book_lists.specs.Names.{name_cmp}
 use Rattle.book_lists.specs.declared.entries.Entry.{Entry}
-use Rattle.book_values.specs.declared.limits.TheConstants.{MAX_ENTRIES}
+use Rattle.book_limits.specs.declared.TheConstants.{MAX_ENTRIES}
 use Rattle.book_policies.specs.declared.parts.EntryPart.{EntryPart}
 use Rattle.book_policies.specs.declared.parts.PolicyEntry.{PolicyEntry}
 use Rattle.book_values.specs.Names.{NamesTo}

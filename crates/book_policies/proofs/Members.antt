@@ -9,11 +9,11 @@ use Rattle.std.specs.Ordering.{eq_by_cmp}
 use Rattle.std.specs.Str.{bytes_eq}
 use Rattle.std.proofs.Common.{codes}
 use Rattle.book_lists.proofs.Pairing.{memberships_total, memberships_exact, same_membership, same_path, both_true}
-use Rattle.book_lists.specs.Memberships.{Memberships, membership_cmp}
+use Rattle.book_lists.specs.Memberships.{Memberships, membership_cmp, members_of}
 use Rattle.book_lists.specs.Principals.{group_path}
 use Rattle.book_lists.specs.declared.memberships.Membership.{Membership}
 use Rattle.book_policies.specs.declared.parts.GroupPart.{GroupPart}
-use Rattle.book_policies.specs.Policies.{spelled, direct, memberships, given_members, paired, paired_all, direct_members}
+use Rattle.book_policies.specs.Policies.{spelled, direct, memberships, given_members, paired, paired_all}
 use Rattle.book_policies.proofs.Names.{pairs_head, pairs_tail}
 
 one_of : (a b : Bool) → (a || b) ≡ true → (a ≡ true) ⊎ (b ≡ true)
@@ -54,7 +54,7 @@ module _ (group : List ℕ) where
   abbrev of_group : Membership → Bool
   of_group m = bytes_eq m.group group
 
-  contains_direct : (pairs : Memberships) (q : Membership) → set.contains (direct_members pairs group) q ≡ (set.contains pairs q && of_group q)
+  contains_direct : (pairs : Memberships) (q : Membership) → set.contains (members_of pairs group) q ≡ (set.contains pairs q && of_group q)
   contains_direct pairs q = contains-retain pairs of_group q (λ x e. ap of_group (sym (memberships_exact q x e)))
 
   step_true : (e a p : Bool) → (e ≡ true → p ≡ true) → ((e || a) && p) ≡ (e || (a && p))
@@ -67,25 +67,25 @@ module _ (group : List ℕ) where
   step_false false a p h = refl
 
   direct_insert : (pairs : Memberships) (m : Membership)
-      → direct_members (set.insert pairs m) group ≡ cond (of_group m) (set.insert (direct_members pairs group) m) (direct_members pairs group)
-  direct_insert pairs m = elim (of_group m) as (λ b. of_group m ≡ b → direct_members (set.insert pairs m) group ≡ cond b (set.insert (direct_members pairs group) m) (direct_members pairs group)) [
+      → members_of (set.insert pairs m) group ≡ cond (of_group m) (set.insert (members_of pairs group) m) (members_of pairs group)
+  direct_insert pairs m = elim (of_group m) as (λ b. of_group m ≡ b → members_of (set.insert pairs m) group ≡ cond b (set.insert (members_of pairs group) m) (members_of pairs group)) [
     | true ↦ λ is. same_set memberships_total memberships_exact _ _ (λ q.
         contains_direct (set.insert pairs m) q ∙ ap (λ c. c && of_group q) (contains-insert memberships_total pairs m q)
         ∙ step_true (eq_by_cmp membership_cmp q m) (set.contains pairs q) (of_group q) (λ same. ap of_group (sym (tied q m same)) ∙ is)
-        ∙ sym (contains-insert memberships_total (direct_members pairs group) m q ∙ ap (λ c. eq_by_cmp membership_cmp q m || c) (contains_direct pairs q)))
+        ∙ sym (contains-insert memberships_total (members_of pairs group) m q ∙ ap (λ c. eq_by_cmp membership_cmp q m || c) (contains_direct pairs q)))
     | false ↦ λ is. same_set memberships_total memberships_exact _ _ (λ q.
         contains_direct (set.insert pairs m) q ∙ ap (λ c. c && of_group q) (contains-insert memberships_total pairs m q)
         ∙ step_false (eq_by_cmp membership_cmp q m) (set.contains pairs q) (of_group q) (λ same. ap of_group (sym (tied q m same)) ∙ is)
         ∙ sym (contains_direct pairs q))
   ] refl
 
-  direct_paired : (pairs : Memberships) (ms : List Membership) → direct_members (paired pairs ms) group ≡ paired (direct_members pairs group) (filter of_group ms)
+  direct_paired : (pairs : Memberships) (ms : List Membership) → members_of (paired pairs ms) group ≡ paired (members_of pairs group) (filter of_group ms)
   direct_paired pairs [] = refl
   direct_paired pairs (m ∷ ms) =
       direct_paired (set.insert pairs m) ms ∙ ap (λ s. paired s (filter of_group ms)) (direct_insert pairs m) ∙ swap (of_group m)
     where
-      swap : (b : Bool) → paired (cond b (set.insert (direct_members pairs group) m) (direct_members pairs group)) (filter of_group ms)
-          ≡ paired (direct_members pairs group) (cond b (m ∷ filter of_group ms) (filter of_group ms))
+      swap : (b : Bool) → paired (cond b (set.insert (members_of pairs group) m) (members_of pairs group)) (filter of_group ms)
+          ≡ paired (members_of pairs group) (cond b (m ∷ filter of_group ms) (filter of_group ms))
       swap true = refl
       swap false = refl
 
@@ -97,19 +97,19 @@ module _ (group : List ℕ) where
   left_out path [] is = refl
   left_out path (t ∷ ts) is = rw is (left_out path ts is)
 
-  direct_empty : direct_members set.empty group ≡ set.empty
+  direct_empty : members_of set.empty group ≡ set.empty
   direct_empty = same_set memberships_total memberships_exact _ _ (λ q.
       contains_direct set.empty q ∙ ap (λ c. c && of_group q) (contains-empty membership_cmp q) ∙ sym (contains-empty membership_cmp q))
 
   -- no more than the members of one group are added, where each group comes once
   few_in : (most : ℕ) (pairs : Memberships) (gs : List GroupPart) → AllPairs (λ (g h : GroupPart). g.name ≢ h.name) gs
       → All (λ (g : GroupPart). set.len (paired set.empty (memberships (given_members g))) ≤ most) gs
-      → (direct_members pairs group ≡ set.empty) ⊎ ((set.len (direct_members pairs group) ≤ most) × All (λ (g : GroupPart). group_path g.name ≢ group) gs)
-      → set.len (direct_members (paired_all pairs (map given_members gs)) group) ≤ most
+      → (members_of pairs group ≡ set.empty) ⊎ ((set.len (members_of pairs group) ≤ most) × All (λ (g : GroupPart). group_path g.name ≢ group) gs)
+      → set.len (members_of (paired_all pairs (map given_members gs)) group) ≤ most
   few_in most pairs [] once few (inl none) = rw none (rw (len-empty membership_cmp) (omega arith))
   few_in most pairs [] once few (inr some) = some.0
   few_in most pairs (g ∷ gs) once few state =
-      elim (bytes_eq (group_path g.name) group) as (λ b. bytes_eq (group_path g.name) group ≡ b → set.len (direct_members (paired_all pairs (map given_members (g ∷ gs))) group) ≤ most) [
+      elim (bytes_eq (group_path g.name) group) as (λ b. bytes_eq (group_path g.name) group ≡ b → set.len (members_of (paired_all pairs (map given_members (g ∷ gs))) group) ≤ most) [
         | true ↦ λ is. few_in most (paired pairs (memberships (given_members g))) gs rest_once rest_few (inr (here is state, others is))
         | false ↦ λ is. few_in most (paired pairs (memberships (given_members g))) gs rest_once rest_few (elsewhere is state)
       ] refl
@@ -126,25 +126,25 @@ module _ (group : List ℕ) where
           (append_cancel_left (codes "/groups/") _ _ (same_path _ _ is ∙ sym e))
 
       here : bytes_eq (group_path g.name) group ≡ true
-          → (direct_members pairs group ≡ set.empty) ⊎ ((set.len (direct_members pairs group) ≤ most) × All (λ (x : GroupPart). group_path x.name ≢ group) (g ∷ gs))
-          → set.len (direct_members (paired pairs (memberships (given_members g))) group) ≤ most
+          → (members_of pairs group ≡ set.empty) ⊎ ((set.len (members_of pairs group) ≤ most) × All (λ (x : GroupPart). group_path x.name ≢ group) (g ∷ gs))
+          → set.len (members_of (paired pairs (memberships (given_members g))) group) ≤ most
       here is (inl none) =
           rw (direct_paired pairs (memberships (given_members g)))
           (rw (kept (group_path g.name) g.members is)
           (rw none (All-head (λ (x : GroupPart). set.len (paired set.empty (memberships (given_members x))) ≤ most) g gs few)))
       here is (inr some) = absurd (All-head (λ (x : GroupPart). group_path x.name ≢ group) g gs some.1 (same_path _ _ is))
 
-      stays : bytes_eq (group_path g.name) group ≡ false → direct_members (paired pairs (memberships (given_members g))) group ≡ direct_members pairs group
-      stays is = direct_paired pairs (memberships (given_members g)) ∙ ap (paired (direct_members pairs group)) (left_out (group_path g.name) g.members is)
+      stays : bytes_eq (group_path g.name) group ≡ false → members_of (paired pairs (memberships (given_members g))) group ≡ members_of pairs group
+      stays is = direct_paired pairs (memberships (given_members g)) ∙ ap (paired (members_of pairs group)) (left_out (group_path g.name) g.members is)
 
       elsewhere : bytes_eq (group_path g.name) group ≡ false
-          → (direct_members pairs group ≡ set.empty) ⊎ ((set.len (direct_members pairs group) ≤ most) × All (λ (x : GroupPart). group_path x.name ≢ group) (g ∷ gs))
-          → (direct_members (paired pairs (memberships (given_members g))) group ≡ set.empty)
-          ⊎ ((set.len (direct_members (paired pairs (memberships (given_members g))) group) ≤ most) × All (λ (x : GroupPart). group_path x.name ≢ group) gs)
+          → (members_of pairs group ≡ set.empty) ⊎ ((set.len (members_of pairs group) ≤ most) × All (λ (x : GroupPart). group_path x.name ≢ group) (g ∷ gs))
+          → (members_of (paired pairs (memberships (given_members g))) group ≡ set.empty)
+          ⊎ ((set.len (members_of (paired pairs (memberships (given_members g))) group) ≤ most) × All (λ (x : GroupPart). group_path x.name ≢ group) gs)
       elsewhere is (inl none) = inl (stays is ∙ none)
       elsewhere is (inr some) = inr (rw (stays is) some.0, All-tail (λ (x : GroupPart). group_path x.name ≢ group) g gs some.1)
 
 pub few_direct : (most : ℕ) (gs : List GroupPart) → AllPairs (λ (g h : GroupPart). g.name ≢ h.name) gs
     → All (λ (g : GroupPart). set.len (paired set.empty (memberships (given_members g))) ≤ most) gs
-    → (group : List ℕ) → set.len (direct_members (paired_all set.empty (map given_members gs)) group) ≤ most
+    → (group : List ℕ) → set.len (members_of (paired_all set.empty (map given_members gs)) group) ≤ most
 few_direct most gs once few group = few_in group most set.empty gs once few (inl (direct_empty group))

@@ -5,7 +5,7 @@ use Rattle.std.specs.FinSet as set
 use Rattle.std.specs.Str.{bytes_eq}
 use Rattle.book_rights.specs.declared.privileges.Leaf.{Leaf}
 use Rattle.book_lists.specs.Names.{IsName}
-use Rattle.book_lists.specs.Memberships.{Memberships}
+use Rattle.book_lists.specs.Memberships.{Memberships, members_of}
 use Rattle.book_lists.specs.Principals.{group_path}
 use Rattle.book_lists.specs.declared.entries.Entry.{Entry}
 use Rattle.book_lists.specs.declared.entries.Who.{Who}
@@ -13,7 +13,7 @@ use Rattle.book_lists.specs.declared.entries.Who.TheVariants.{Href, Everyone, Au
 use Rattle.book_lists.specs.declared.memberships.Membership.{Membership}
 use Rattle.book_values.specs.Names.{NamesTo}
 use Rattle.book_values.specs.Paths.{IsPath, SpellsPath, path_text}
-use Rattle.book_values.specs.declared.limits.TheConstants.{MAX_LABEL_BYTES, MAX_ENTRIES, MAX_MEMBERS, MAX_NAMED}
+use Rattle.book_limits.specs.declared.TheConstants.{MAX_ENTRIES, MAX_MEMBERS, MAX_NAMED, MAX_LABEL_BYTES}
 use Rattle.book_values.specs.declared.paths.Path.{Path}
 use Rattle.book_values.specs.declared.paths.Path.TheVariants as path
 use Rattle.book_policies.specs.declared.parts.PersonPart.{PersonPart}
@@ -105,7 +105,7 @@ IsPrincipalOf persons groups (path.Book name) = ⊥
 IsPrincipalOf persons groups (path.Card book name) = ⊥
 
 -- the root, a home, or a person, a group or a book of the policy
-abbrev pub IsPlaceOf : NamesTo (List ℕ) → NamesTo (List ℕ) → NamesTo PolicyBook → Path → Type 0
+abbrev pub IsPlaceOf : {B : Type 0} → NamesTo (List ℕ) → NamesTo (List ℕ) → NamesTo B → Path → Type 0
 IsPlaceOf persons groups books path.Root = Unit {0}
 IsPlaceOf persons groups books path.People = Unit {0}
 IsPlaceOf persons groups books path.Groups = Unit {0}
@@ -119,7 +119,7 @@ IsPlaceOf persons groups books (path.Card book name) = ⊥
 abbrev pub NamesPrincipal : NamesTo (List ℕ) → NamesTo (List ℕ) → List ℕ → Type 0
 NamesPrincipal persons groups text = (p : Path) × IsPath p × SpellsPath text p × IsPrincipalOf persons groups p
 
-abbrev pub NamesPlace : NamesTo (List ℕ) → NamesTo (List ℕ) → NamesTo PolicyBook → List ℕ → Type 0
+abbrev pub NamesPlace : {B : Type 0} → NamesTo (List ℕ) → NamesTo (List ℕ) → NamesTo B → List ℕ → Type 0
 NamesPlace persons groups books text = (p : Path) × IsPath p × SpellsPath text p × IsPlaceOf persons groups books p
 
 abbrev pub NamesOwner : NamesTo (List ℕ) → NamesTo (List ℕ) → Option (List ℕ) → Type 0
@@ -160,39 +160,52 @@ pub record IsFew (persons : List PersonPart) (groups : List GroupPart) (books : 
   -- of one list
   pub few_entries : (is_protected : Bool) (at : List ℕ) → length (entries_at is_protected at (map entry_of entries)) ≤ MAX_ENTRIES
 
--- parts without a fault
-pub record IsFaultless (persons : List PersonPart) (groups : List GroupPart) (books : List BookPart) (entries : List EntryPart) : Type 0 where
-  -- labels have at most 256 bytes
-  pub person_labels : All (λ (p : PersonPart). IsShort p.label) persons
-  pub group_labels : All (λ (g : GroupPart). IsShort g.label) groups
-  pub book_labels : All (λ (b : BookPart). IsShort b.label) books
-  -- each entry holds a leaf
-  pub leaves : All (λ (e : EntryPart). HoldsSome e.entry.set) entries
-  -- names are names
-  pub person_names : All (λ (p : PersonPart). IsName p.name) persons
-  pub group_names : All (λ (g : GroupPart). IsName g.name) groups
-  pub book_names : All (λ (b : BookPart). IsName b.name) books
-  -- no name stands twice among the persons, the groups or the books
-  pub persons_once : AllPairs (λ (p q : PersonPart). p.name ≢ q.name) persons
-  pub groups_once : AllPairs (λ (g h : GroupPart). g.name ≢ h.name) groups
-  pub books_once : AllPairs (λ (b c : BookPart). b.name ≢ c.name) books
-  -- members, owners and the principals of entries are persons and groups of these
+-- labels have at most 256 bytes
+pub record HaveShortLabels (persons : List PersonPart) (groups : List GroupPart) (books : List BookPart) : Type 0 where
+  pub of_persons : All (λ (p : PersonPart). IsShort p.label) persons
+  pub of_groups : All (λ (g : GroupPart). IsShort g.label) groups
+  pub of_books : All (λ (b : BookPart). IsShort b.label) books
+
+-- names are names
+pub record AreNames (persons : List PersonPart) (groups : List GroupPart) (books : List BookPart) : Type 0 where
+  pub of_persons : All (λ (p : PersonPart). IsName p.name) persons
+  pub of_groups : All (λ (g : GroupPart). IsName g.name) groups
+  pub of_books : All (λ (b : BookPart). IsName b.name) books
+
+-- no name stands twice among the persons, the groups or the books
+pub record AreOnce (persons : List PersonPart) (groups : List GroupPart) (books : List BookPart) : Type 0 where
+  pub of_persons : AllPairs (λ (p q : PersonPart). p.name ≢ q.name) persons
+  pub of_groups : AllPairs (λ (g h : GroupPart). g.name ≢ h.name) groups
+  pub of_books : AllPairs (λ (b c : BookPart). b.name ≢ c.name) books
+
+-- members, owners and the principals of entries are persons and groups of these
+pub record AreKnown (persons : List PersonPart) (groups : List GroupPart) (books : List BookPart) (entries : List EntryPart) : Type 0 where
   pub members : let t = policy_of persons groups books entries in
       All (λ (g : GroupPart). All (NamesPrincipal t.persons t.groups) g.members) groups
   pub owners : let t = policy_of persons groups books entries in
       All (λ (b : BookPart). NamesOwner t.persons t.groups b.owner) books
   pub forms : let t = policy_of persons groups books entries in
       All (λ (e : EntryPart). NamesForm t.persons t.groups e.entry.who) entries
-  -- entries stand at the root, a home, or a person, a group or a book of these
-  pub places : let t = policy_of persons groups books entries in
-      All (λ (e : EntryPart). NamesPlace t.persons t.groups t.books e.at) entries
+
+-- entries stand at the root, a home, or a person, a group or a book of these
+abbrev pub ArePlaces : List PersonPart → List GroupPart → List BookPart → List EntryPart → Type 0
+ArePlaces persons groups books entries =
+    let t = policy_of persons groups books entries in
+    All (λ (e : EntryPart). NamesPlace t.persons t.groups t.books e.at) entries
+
+-- parts without a fault
+pub record IsFaultless (persons : List PersonPart) (groups : List GroupPart) (books : List BookPart) (entries : List EntryPart) : Type 0 where
+  pub labels : HaveShortLabels persons groups books
+  -- each entry holds a leaf
+  pub leaves : All (λ (e : EntryPart). HoldsSome e.entry.set) entries
+  pub names : AreNames persons groups books
+  pub once : AreOnce persons groups books
+  pub known : AreKnown persons groups books entries
+  pub places : ArePlaces persons groups books entries
   -- there are not too many
   pub few : IsFew persons groups books entries
 
 -- ---- what holds of every policy
-
-abbrev pub direct_members : Memberships → List ℕ → Memberships
-direct_members pairs group = set.retain pairs (λ (m : Membership). bytes_eq m.group group)
 
 pub record IsPolicy (t : PolicyTables) : Type 0 where
   pub persons : (name : List ℕ) (label : List ℕ) → get t.persons name ≡ Some label → IsName name × IsShort label
@@ -200,7 +213,7 @@ pub record IsPolicy (t : PolicyTables) : Type 0 where
   pub books : (name : List ℕ) (book : PolicyBook) → get t.books name ≡ Some book → IsName name × IsShort book.label × IsKnownOwner t.persons t.groups book.owner
   pub members : (m : Membership) → set.contains t.members m ≡ true
       → ((name : List ℕ) × (m.group ≡ group_path name) × (get t.groups name ≢ None)) × IsKnown t.persons t.groups m.member
-  pub few_members : (group : List ℕ) → set.len (direct_members t.members group) ≤ MAX_MEMBERS
+  pub few_members : (group : List ℕ) → set.len (members_of t.members group) ≤ MAX_MEMBERS
   pub leaves : All (λ (e : PolicyEntry). HoldsSome e.entry.set) t.entries
   pub forms : All (λ (e : PolicyEntry). NamesForm t.persons t.groups e.entry.who) t.entries
   pub places : All (λ (e : PolicyEntry). (p : Path) × IsPath p × (e.at ≡ path_text p) × IsPlaceOf t.persons t.groups t.books p) t.entries

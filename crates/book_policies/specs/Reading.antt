@@ -7,7 +7,7 @@ use Rattle.book_lists.specs.Names.{IsName}
 use Rattle.book_lists.specs.declared.entries.Entry.{Entry}
 use Rattle.book_values.specs.Names.{NamesTo}
 use Rattle.book_policies.specs.Policies.{named_person, named_group, memberships, paired, entry_of, NamesPrincipal, NamesOwner, NamesForm, NamesPlace, HoldsSome, IsShort, list_at}
-use Rattle.book_values.specs.declared.limits.TheConstants.{MAX_ENTRIES, MAX_MEMBERS}
+use Rattle.book_limits.specs.declared.TheConstants.{MAX_ENTRIES, MAX_MEMBERS}
 use Rattle.book_policies.specs.declared.parts.PersonPart.{PersonPart}
 use Rattle.book_policies.specs.declared.parts.GroupPart.{GroupPart}
 use Rattle.book_policies.specs.declared.parts.BookPart.{BookPart}

@@ -10,11 +10,10 @@ ghost use Rattle.book_policies.specs.Reading.{BookFits, CanAdd, EntriesFit, Entr
 
 use crate::parts::{BookPart, EntryPart, GroupPart, PersonPart, PolicyBook, PolicyEntry};
 use crate::text_maps::TextMap;
+use book_limits::{MAX_ENTRIES, MAX_LABEL_BYTES, MAX_MEMBERS};
 use book_lists::{Entry, Name, Pairs, Principal, Who};
 use book_rights::LeafSet;
-use book_values::{
-    Items, MAX_ENTRIES, MAX_LABEL_BYTES, MAX_MEMBERS, NameMap, Path, PathFault, Text,
-};
+use book_values::{Items, NameMap, Path, PathFault, Text};
 use std::alloc::{AllocError, Global};
 
 /// The name of something that is added to a map, if it is a name, the label is short, and the name is not there.

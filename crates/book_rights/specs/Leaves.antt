@@ -1,9 +1,10 @@
 -- Sets of leaves. A set is a function from leaves to truth values.
-use Rattle.std.specs.Prelude.{◌≡◌, ℕ, Bool, true, false, ◌≤◌, ◌&&◌, ◌||◌, not, nat_eq, Option, None, Some, refl}
+use Rattle.std.specs.Prelude.{◌≡◌, ℕ, zero, suc, Bool, true, false, ◌+◌, ◌<◌, ◌≤◌, ◌⊎◌, ◌&&◌, ◌||◌, not, cond, nat_eq, Option, None, Some, refl}
+use Rattle.std.specs.Int.{bit_at}
 use Rattle.std.specs.Bool.{Decides}
 use Rattle.std.specs.Cmp.{booleans_Decides}
-use Rattle.std.proofs.Common.{subst}
-use Rattle.std.proofs.lemmas.Bool.{false≢true}
+use Rattle.std.proofs.Common.{subst, sym, ap, arith, inl, inr}
+use Rattle.std.proofs.lemmas.Bool.{false≢true, eqb-true}
 use mathlib.Core.Bool.{beq}
 use Rattle.std.specs.Coded.{Coded, code_by, coded×, coded_bool}
 use Rattle.book_rights.specs.declared.privileges.Leaf.{Leaf}
@@ -132,3 +133,40 @@ Meets f g = (leaf : Leaf) × (f leaf ≡ true) × (g leaf ≡ true)
 abbrev pub IsLeast : (Leaf → Bool) → Option Leaf → Type 0
 IsLeast f None = (leaf : Leaf) → f leaf ≡ false
 IsLeast f (Some least) = (f least ≡ true) × ((leaf : Leaf) → f leaf ≡ true → place_of least ≤ place_of leaf)
+
+-- ---- a set as a mask
+-- whether the number has this bit
+abbrev pub has_bit : ℕ → ℕ → Bool
+has_bit n i = nat_eq (bit_at n i) 1
+
+-- the leaves of a mask: bit 0 is `read`, and each leaf has the bit of its place
+abbrev pub leaves_in : ℕ → Leaf → Bool
+leaves_in mask leaf = has_bit mask (place_of leaf)
+
+-- the mask of a set
+abbrev pub mask_of : (Leaf → Bool) → ℕ
+mask_of f =
+    cond (f Read) 1 0 + cond (f WriteContent) 2 0 + cond (f WriteProperties) 4 0 + cond (f Bind) 8 0 + cond (f Unbind) 16 0
+    + cond (f ReadAcl) 32 0 + cond (f WriteAcl) 64 0 + cond (f ReadCurrentUserPrivilegeSet) 128 0
+
+-- the test holds of each number below this one
+abbrev pub all_below : (ℕ → Bool) → ℕ → Bool
+all_below p zero = true
+all_below p (suc n) = p n && all_below p n
+
+pub all_below_tells : (p : ℕ → Bool) (n k : ℕ) → all_below p n ≡ true → k < n → p k ≡ true
+all_below_tells p zero k each below = absurd (omega (arith, below))
+all_below_tells p (suc n) k each below = elim (same_or_below k n below) [
+  | inl lt ↦ all_below_tells p n k (both (p n) (all_below p n) each).1 lt
+  | inr is ↦ subst (λ m. p m ≡ true) (sym is) (both (p n) (all_below p n) each).0
+]
+  where
+    same_or_below : (j m : ℕ) → j < suc m → (j < m) ⊎ (j ≡ m)
+    same_or_below zero zero lt = inr refl
+    same_or_below zero (suc m) lt = inl (omega arith)
+    same_or_below (suc j) zero lt = absurd (omega (arith, lt))
+    same_or_below (suc j) (suc m) lt = elim (same_or_below j m (omega (arith, lt))) [ inl h ↦ inl (omega (arith, h)) | inr h ↦ inr (ap suc h) ]
+
+-- a mask of eight bits is that of its leaves
+pub mask_of-leaves_in : (mask : ℕ) → mask < 256 → mask_of (leaves_in mask) ≡ mask
+mask_of-leaves_in mask below = eqb-true _ _ (all_below_tells (λ m. nat_eq (mask_of (leaves_in m)) m) 256 mask refl below)

@@ -2,8 +2,8 @@
 //! sets of leaves, and which of them each method needs.
 //!
 //! It stands on nothing, and no call of it takes memory. The crate above reads a set by `LeafSet::has` and its laws: a
-//! contract sees a `LeafSet` as a function from leaves to truth values, so none names its representation. `needs` is
-//! the table of `needs_of`.
+//! contract sees a `LeafSet` as a function from leaves to truth values, so none names its representation, which is a
+//! mask: what is stored takes it by `mask` and gives it back by `from_mask`. `needs` is the table of `needs_of`.
 //!
 //! Read `privileges` and `leaf_sets` first, then `places` and `methods`.
 #![tactic(auto)]

@@ -20,13 +20,13 @@ use Rattle.book_adopting.specs.Adopting.{taken_over}
 use Rattle.book_adopting.specs.Sameness.{same_office}
 use Rattle.book_adopting.proofs.Samenesses.{same_office_is}
 use Rattle.book_office.specs.declared.edits.Edit.{Edit}
-use Rattle.book_office.specs.declared.edits.Edit.TheVariants.{PutCard, RemoveCard, CopyCard, MoveCard, AddBook, RemoveBook, Adopt}
+use Rattle.book_office.specs.declared.edits.Edit.TheVariants.{PutCard, RemoveCard, CopyCard, MoveCard, AddBook, RemoveBook, SetLabel, SetList, SetMembers, Adopt}
 use Rattle.book_office.specs.declared.nodes.EffectiveEntry.{EffectiveEntry}
-use Rattle.book_office.specs.Edits.{apply, with_book, place_card, put_card, remove_card, card_put, copy_from, card_copied, move_to, new_book, label_card, set_label, set_list, set_members}
+use Rattle.book_office.specs.Edits.{apply, with_book, place_card, put_card, remove_card, card_put, copy_from, card_copied, move_to, new_book, label_card, set_label}
 use Rattle.book_office.specs.Levels.{effective_of}
 use Rattle.book_office.specs.Resources.{Resource, number_of, card_at, card_in, card_resource, book_resource}
 use Rattle.book_office.specs.Sound.{IsPossible}
-use Rattle.book_values.proofs.NameMapLaws.{same, by_names}
+use Rattle.book_values.proofs.NameMapLaws.{by_names}
 use Rattle.book_values.proofs.OneName.{some_apart, by_changed, by_put, put_here, put_elsewhere, removed_elsewhere}
 use Rattle.book_sync.specs.declared.messages.Seen.{Seen}
 use Rattle.book_sync.specs.Copies.{grants, here_of_card, seen, shown, last_change, Right, KeptBook, Kept, Later}
@@ -222,7 +222,7 @@ with_book_kept o b change kept = record {
 }
 
 -- a label that is set, at any path
-pub label_kept : (p : Path) (label : List ℕ) (o : Office) → Kept o (set_label p label o)
+label_kept : (p : Path) (label : List ℕ) (o : Office) → Kept o (set_label p label o)
 label_kept path.Root label o = record { pairs = refl; root_protected = refl; root_own = refl; home_protected = refl; home_own = refl; books = λ b x at. (x, at, kept_book_refl x) }
 label_kept path.People label o = record { pairs = refl; root_protected = refl; root_own = refl; home_protected = refl; home_own = refl; books = λ b x at. (x, at, kept_book_refl x) }
 label_kept path.Groups label o = record { pairs = refl; root_protected = refl; root_own = refl; home_protected = refl; home_own = refl; books = λ b x at. (x, at, kept_book_refl x) }
@@ -233,15 +233,15 @@ label_kept (path.Book b) label o = with_book_kept o b (λ (book : Book). record 
     (λ x. record { protected = refl; own = refl; number = omega arith; names = λ c. inl (refl, refl) })
 label_kept (path.Card b c) label o = with_book_kept o b (λ (book : Book). label_card c label (get book.cards c) book) (λ x. labelled_kept c label (get x.cards c) x)
 
-pub set_label_later : (p : Path) (label : List ℕ) (o : Office) → (set_label p label o).epoch ≡ o.epoch → Later o (set_label p label o)
-set_label_later p label o same = inr (same, label_kept p label o)
-
--- a change of access raises the epoch, and nothing else is asked of it
-pub set_list_later : (p : Path) (list : List Entry) (o : Office) → Later o (set_list p list o)
-set_list_later p list o = inl (omega arith)
-
-pub set_members_later : (group : List ℕ) (members : List (List ℕ)) (o : Office) → Later o (set_members group members o)
-set_members_later group members o = inl (omega arith)
+label_leaves_epoch : (p : Path) (label : List ℕ) (o : Office) → (set_label p label o).epoch ≡ o.epoch
+label_leaves_epoch path.Root label o = refl
+label_leaves_epoch path.People label o = refl
+label_leaves_epoch path.Groups label o = refl
+label_leaves_epoch path.Books label o = refl
+label_leaves_epoch (path.Person n) label o = refl
+label_leaves_epoch (path.Group n) label o = refl
+label_leaves_epoch (path.Book b) label o = refl
+label_leaves_epoch (path.Card b c) label o = refl
 
 adopted_later : (t : PolicyTables) (o : Office) (b : Bool) → same_office o (taken_over t o) ≡ b
     → Later o (cond b (taken_over t o) (record (taken_over t o) { epoch = (taken_over t o).epoch + 1 }))
@@ -273,4 +273,7 @@ apply_later o (AddBook b owner) none = inr (
   },
 )
 apply_later o (RemoveBook b) possible = inl (omega arith)
+apply_later o (SetLabel p label) possible = inr (label_leaves_epoch p label o, label_kept p label o)
+apply_later o (SetList p list) possible = inl (omega arith)
+apply_later o (SetMembers group members) possible = inl (omega arith)
 apply_later o (Adopt t) possible = adopted_later t o (same_office o (taken_over t o)) refl

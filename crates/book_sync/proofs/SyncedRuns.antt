@@ -19,7 +19,7 @@ use Rattle.book_values.proofs.OneName.{some_apart, same_some}
 use Rattle.book_sync.proofs.CopiesKept.{later_refl, later_trans}
 use Rattle.book_sync.proofs.ReportLaws.{follows, begins, token_within}
 
-both_true : (a b : Bool) → (a && b) ≡ true → (a ≡ true) × (b ≡ true)
+pub both_true : (a b : Bool) → (a && b) ≡ true → (a ≡ true) × (b ≡ true)
 both_true true b e = (refl, e)
 both_true false b e = absurd cc
 
@@ -27,11 +27,11 @@ at_most : (a b : ℕ) → nat_le a b ≡ true → a ≤ b
 at_most a b e = grind (arith, nat_tests)
 
 -- the report of a sync request, with the book and what makes the token valid
-record Told (o : Office) (circle : CircleOf) (b : List ℕ) (token : Option Token) (limit : Option ℕ) (r : Report) : Type 0 where
-  book : Book
-  at : get o.books b ≡ Some book
-  valid : is_valid o b book token ≡ true
-  is : r ≡ report o circle b book token limit
+pub record Told (o : Office) (circle : CircleOf) (b : List ℕ) (token : Option Token) (limit : Option ℕ) (r : Report) : Type 0 where
+  pub book : Book
+  pub at : get o.books b ≡ Some book
+  pub valid : is_valid o b book token ≡ true
+  pub is : r ≡ report o circle b book token limit
 
 told_by : (o : Office) (circle : CircleOf) (b : List ℕ) (token : Option Token) (limit : Option ℕ) (r : Report) (found : Option Book) → get o.books b ≡ found
     → option_and_then (sync_of o circle b token limit) found ≡ Some r → Told o circle b token limit r
@@ -42,7 +42,7 @@ told_by o circle b token limit r (Some book) at e =
       | false ↦ λ _ h. some_apart (sym h)
     ] refl e
 
-told : (o : Office) (circle : CircleOf) (b : List ℕ) (token : Option Token) (limit : Option ℕ) (r : Report) → sync o circle b token limit ≡ Some r → Told o circle b token limit r
+pub told : (o : Office) (circle : CircleOf) (b : List ℕ) (token : Option Token) (limit : Option ℕ) (r : Report) → sync o circle b token limit ≡ Some r → Told o circle b token limit r
 told o circle b token limit r e = told_by o circle b token limit r (get o.books b) refl e
 
 -- a valid token names a number that the book has reached
@@ -51,7 +51,7 @@ start_within o b book None e = omega arith
 start_within o b book (Some token) e =
     at_most token.number book.changes.number (both_true (bytes_eq token.book b && token.epoch == o.epoch) (nat_le token.number book.changes.number) e).1
 
-valid_epoch : (o : Office) (b : List ℕ) (book : Book) (token : Token) → is_valid o b book (Some token) ≡ true → token.epoch ≡ o.epoch
+pub valid_epoch : (o : Office) (b : List ℕ) (book : Book) (token : Token) → is_valid o b book (Some token) ≡ true → token.epoch ≡ o.epoch
 valid_epoch o b book token e =
     eqb-true token.epoch o.epoch (both_true (bytes_eq token.book b) (token.epoch == o.epoch) (both_true (bytes_eq token.book b && token.epoch == o.epoch) (nat_le token.number book.changes.number) e).0).1
 

@@ -155,3 +155,12 @@ Follows o p circle t r =
 abbrev pub Begins : Office → CircleOf → List ℕ → Report → Type 0
 Begins o circle b r =
     Right (patch empty r.items) o circle b r.token.number × (r.truncated ≡ false → IsView (patch empty r.items) o circle b)
+
+-- a token is one of this Office: it names its epoch, and a number that its book has reached
+abbrev pub IsTokenOf : Office → Token → Type 0
+IsTokenOf o t = (book : Book) × (get o.books t.book ≡ Some book) × (t.epoch ≡ o.epoch) × (t.number ≤ book.changes.number)
+
+-- a report brings copies to the present: without a token the empty copy, and after a token of an earlier Office each copy that was right by it
+abbrev pub BringsCopies : Office → CircleOf → List ℕ → Option Token → Report → Type 0
+BringsCopies o circle b None r = Begins o circle b r
+BringsCopies o circle b (Some t) r = (p : Office) → Later p o → IsTokenOf p t → Follows p o circle t r

@@ -1,6 +1,7 @@
 -- How a report is read: by the lists above a book's cards, read once, and each card's own list.
-use Rattle.std.specs.Prelude.{Bool, List, [], ◌∷◌, ◌++◌, Option, Some, None, if◌then◌else◌}
+use Rattle.std.specs.Prelude.{ℕ, Bool, true, List, [], ◌∷◌, ◌++◌, ◌==◌, ◌&&◌, nat_le, filter, is_some, Option, Some, None, if◌then◌else◌}
 use Rattle.std.specs.List.{flat_map}
+use Rattle.std.specs.Str.{bytes_eq}
 use Rattle.book_rights.specs.declared.privileges.Leaf.{Leaf}
 use Rattle.book_rights.specs.declared.privileges.Leaf.TheVariants.{Read}
 use Rattle.book_lists.specs.Circles.{CircleOf}
@@ -13,6 +14,7 @@ use Rattle.book_office.specs.declared.nodes.Level.{Level}
 use Rattle.book_sync.specs.Copies.{grants, here_of_card}
 use Rattle.book_sync.specs.declared.messages.Found.{Found}
 use Rattle.book_sync.specs.declared.messages.Item.{Item}
+use Rattle.book_sync.specs.declared.messages.Token.{Token}
 use Rattle.book_sync.specs.declared.reports.Above.{Above}
 
 -- whether the first entry that applies and holds the leaf denies it
@@ -37,3 +39,13 @@ found_in above circle (Some card) = if is_readable above circle (here_of_card ca
 
 abbrev pub item_in : Above → CircleOf → Changed → Item
 item_in above circle change = record { name = change.name; number = change.number; found = found_in above circle change.card }
+
+-- whether a token, if there is one, names this book, this epoch and a number up to this one
+abbrev pub names_place : List ℕ → ℕ → ℕ → Option Token → Bool
+names_place b epoch number None = true
+names_place b epoch number (Some token) = bytes_eq token.book b && token.epoch == epoch && nat_le token.number number
+
+-- what a report lists of the items: all of them, and without a token those of cards that may be read
+abbrev pub listed_items : Option Token → List Item → List Item
+listed_items None items = filter (λ (item : Item). is_some item.found) items
+listed_items (Some token) items = items

@@ -1,14 +1,16 @@
 //! Sync reports over a keeper.
 
-ghost use Rattle.std.specs.Prelude.{◌≡◌, ◌++◌, ◌∷◌, [], Some, None, IfOk, OnOk, map};
+ghost use Rattle.std.specs.Prelude.{◌≡◌, ◌++◌, ◌∷◌, [], Some, None, IfOk, IfSome, OnOk, map, option_map};
 ghost use Rattle.std.specs.FinMap.{get};
+ghost use Rattle.std.specs.Option.{option_copied};
 ghost use Rattle.book_values.specs.Changes.{changes_after};
 ghost use Rattle.book_values.specs.declared.offices.Book.{Book};
 ghost use Rattle.book_office.specs.Keeping.{Reads};
-ghost use Rattle.book_sync.specs.Copies.{item_of};
+ghost use Rattle.book_sync.specs.Copies.{item_of, start_of, sync, BringsCopies};
 ghost use Rattle.book_sync.specs.Reading.{above_of, first_bearing, found_in, is_readable, item_in};
+ghost use Rattle.book_sync.specs.Reading.{names_place, listed_items};
 
-use crate::messages::{Found, Item};
+use crate::messages::{Found, Item, Report, Token};
 use book_lists::{Circle, Entry, Here, Name, applies};
 use book_office::{Changed, Items, Keeper, Level, Lists, Path, StoreFault};
 use book_rights::Leaf;
@@ -128,8 +130,8 @@ fn items_in(
     Ok(Items::from_vec(items))
 }
 
-/// The items of a report on a book after a number: the lists above its cards are read once, and then all changes at once,
-/// each with its card.
+/// The items of a report on a book after a number: the lists above its cards are read once, and then all changes at
+/// once, each with its card.
 pub fn items_after<K: Keeper>(
     alloc: Global,
     keeper: &mut K,
@@ -145,4 +147,111 @@ pub fn items_after<K: Keeper>(
     let changes = keeper.changes_after(alloc, book, number)?;
     let above = join_levels(alloc, lists)?;
     Ok(items_in(alloc, &above, circle, changes)?)
+}
+
+/// The number of the last change of a book, if there is such a book.
+fn number_of_book<K: Keeper>(
+    alloc: Global,
+    keeper: &mut K,
+    book: &Name,
+) -> Result<Option<u64>, StoreFault>
+    ensures { Reads (K.standing keeper.old) (K.standing keeper.new) result
+        (λ o number. number ≡ option_map (λ (x : Book). x.changes.number) (get o.books book.now)) }
+{
+    let path = Path::Book(book.clone()?);
+    match keeper.find(alloc, &path)? {
+        Some(node) => Ok(Some(node.number)),
+        None => Ok(None),
+    }
+}
+
+/// Whether a token, if there is one, names this book, this epoch, and a number that the book has reached.
+fn is_valid(token: Option<&Token>, book: &Name, epoch: u64, number: u64) -> bool
+    ensures { result ≡ names_place book.now epoch number (option_copied token.entry) }
+{
+    match token {
+        Some(token) => token.book == *book && token.epoch == epoch && token.number <= number,
+        None => true,
+    }
+}
+
+/// The number after which a report is asked: that of the token, and else 0.
+fn start_of(token: Option<&Token>) -> u64
+    ensures { result ≡ start_of (option_copied token.entry) }
+{
+    match token {
+        Some(token) => token.number,
+        None => 0,
+    }
+}
+
+/// What a report lists of the items: all of them, and without a token those of cards that may be read. Takes no memory.
+fn listed_items(token: Option<&Token>, items: Items<Item>) -> Items<Item>
+    ensures { result ≡ listed_items (option_copied token.entry) items }
+{
+    match token {
+        Some(_) => items,
+        None => {
+            let mut items = items.into_vec();
+            items.retain(|item| item.found.is_some());
+            Items::from_vec(items)
+        }
+    }
+}
+
+/// The report on a book after a token, or the initial one without a token; none where the token is not valid.
+fn read_report<K: Keeper>(
+    alloc: Global,
+    keeper: &mut K,
+    circle: &Circle,
+    book: &Name,
+    token: Option<&Token>,
+) -> Result<Option<Report>, StoreFault>
+    ensures { Reads (K.standing keeper.old) (K.standing keeper.new) result
+        (λ o report. report ≡ sync o circle.now book.now (option_copied token.entry) None) }
+{
+    let name = book.clone()?;
+    let epoch = keeper.epoch()?;
+    let Some(number) = number_of_book(alloc, keeper, book)? else {
+        return Ok(None);
+    };
+    if !is_valid(token, book, epoch, number) {
+        return Ok(None);
+    }
+    let items = items_after(alloc, keeper, circle, book, start_of(token))?;
+    Ok(Some(Report {
+        items: listed_items(token, items),
+        truncated: false,
+        token: Token {
+            book: name,
+            epoch,
+            number,
+        },
+    }))
+}
+
+/// The report on a book after a token, or the initial one without a token (RFC 6578, section 3.2): in order of number,
+/// each name whose last change is later than the token, with its card where it is there and the caller may read it, and
+/// else as removed; the initial report has the cards that the caller may read. Its token is that of the book's present
+/// contents.
+///
+/// None where there is no such book, or where the token is not valid: it names another book, another epoch than the
+/// present one, or a number that the book has not reached (RFC 6578, section 3.2, precondition valid-sync-token). An
+/// error is want of memory or a failure of the store.
+///
+/// It makes four calls of the keeper, whatever the size of the book, decides once for each change, and changes nothing.
+/// The circle is that of the caller.
+pub fn sync_report<K: Keeper>(
+    alloc: Global,
+    keeper: &mut K,
+    circle: &Circle,
+    book: &Name,
+    token: Option<&Token>,
+) -> Result<Option<Report>, StoreFault>
+    ensures reads { Reads (K.standing keeper.old) (K.standing keeper.new) result
+        (λ o report. report ≡ sync o circle.now book.now (option_copied token.entry) None) }
+    ensures copies { Reads (K.standing keeper.old) (K.standing keeper.new) result
+        (λ o report. IfSome report (BringsCopies o circle.now book.now (option_copied token.entry))) }
+{
+    read_report(alloc, keeper, circle, book, token)
 }

@@ -10,14 +10,10 @@
 
 mod collections;
 mod laws;
-mod limits;
 mod offices;
 mod paths;
 
 pub use collections::{Changes, Items, NameMap, Numbers, Text};
 pub use laws::{levels_go_up, texts_spell_one_path};
-pub use limits::{MAX_ENTRIES, MAX_LABEL_BYTES, MAX_MEMBERS, MAX_NAMED};
-pub use offices::{
-    Book, LAST_NUMBER, MAX_BOOKS, MAX_CARD_BYTES, MAX_CARDS, Office, Properties, StoredCard,
-};
+pub use offices::{Book, Office, Properties, StoredCard};
 pub use paths::{Kind, Path, PathFault};

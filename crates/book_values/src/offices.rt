@@ -7,18 +7,6 @@ use crate::collections::{Changes, Items, NameMap, Text};
 use book_lists::{Entry, Pairs, Principal};
 use std::alloc::Global;
 
-/// The most bytes of a card's text (own profile).
-pub const MAX_CARD_BYTES: usize = 65_536;
-
-/// The most cards of a book (own profile).
-pub const MAX_CARDS: usize = 10_000;
-
-/// The most books of an Office (own profile).
-pub const MAX_BOOKS: usize = 1_000;
-
-/// The last change number and the last epoch: 2^53 - 1, the greatest whole number that every JSON reader keeps.
-pub const LAST_NUMBER: u64 = 9_007_199_254_740_991;
-
 /// A resource other than a card: its owner, if it has one, its label (`displayname`, RFC 4918, section 15.2), and its
 /// protected and own lists of entries (RFC 3744, section 5.5), each in stored order.
 #[derive(Debug, Drop)]

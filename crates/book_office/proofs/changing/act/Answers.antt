@@ -1,6 +1,6 @@
 use Rattle.std.proofs.Common.{◌≤◌, sym, arith}
 use Rattle.std.proofs.lemmas.Result.{on_ok_weaker, on_err_weaker}
-use Rattle.book_values.specs.declared.offices.TheConstants.{LAST_NUMBER}
+use Rattle.book_limits.specs.declared.TheConstants.{LAST_NUMBER}
 use Rattle.book_office.specs.Edits.{put_card, remove_card}
 use Rattle.book_values.proofs.NameMapLaws.{at_some}
 use Rattle.book_office.proofs.OfficeEdits.{edited, kept}
@@ -54,3 +54,8 @@ pub returns-in-MoveCard-clause-ok : goal.returns-in-MoveCard-clause-ok
 returns-in-MoveCard-clause-ok c = rw c.in-MoveCard.is (on_ok_weaker c.move_card.result
     (λ h sound possible. h (λ name book at. (sound.books name book at).1.last) possible.0 possible.1 possible.2)
     c.move_card.ensures.ok)
+
+pub returns-in-SetLabel-clause-ok : goal.returns-in-SetLabel-clause-ok
+returns-in-SetLabel-clause-ok c = rw c.in-SetLabel.is (on_ok_weaker c.set_label.result
+    (λ h sound _. h (λ name book at. (sound.books name book at).1.last))
+    c.set_label.ensures.ok)

@@ -1,9 +1,7 @@
-use Rattle.std.proofs.Common.{◌≡◌, ◌∷◌, ◌++◌, List, rules, sym, ap, ◌∙◌}
-use Rattle.std.specs.FinSet as set
+use Rattle.std.proofs.Common.{◌≡◌, ◌∷◌, ◌++◌, rules, sym, ap, ◌∙◌}
 use Rattle.std.specs.List.{flat_map}
 use Rattle.book_lists.specs.GroupEntries.{pairs_of}
 use Rattle.book_lists.specs.Memberships.{set_of}
-use Rattle.book_lists.specs.Principals.{path_cmp}
 use Rattle.book_lists.proofs.GroupLists.{listed_next}
 use Rattle.book_lists.proofs.memberships.Pairs.list.Goals as goal
 

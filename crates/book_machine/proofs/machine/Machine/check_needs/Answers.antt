@@ -1,6 +1,6 @@
-use Rattle.std.proofs.Common.{ap, subst, ◌∙◌}
+use Rattle.std.proofs.Common.{subst, ◌∙◌}
 use Rattle.book_rights.specs.Needs.{listed_others, needs_of}
-use Rattle.book_machine.proofs.StagesInTurn.{asks_then, asks_refused}
+use Rattle.book_machine.proofs.StagesInTurn.{asks_then}
 use Rattle.book_machine.proofs.Judging.{then_needs}
 use Rattle.book_machine.specs.Verdicts.{IsTarget, JudgesNeeds}
 use Rattle.book_machine.proofs.machine.Machine.check_needs.Goals as goal

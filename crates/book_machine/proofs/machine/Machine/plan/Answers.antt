@@ -1,4 +1,4 @@
-use Rattle.std.proofs.Common.{◌≡◌, ◌∙◌, Err, option_copied}
+use Rattle.std.proofs.Common.{◌∙◌, Err, option_copied}
 use Rattle.book_machine.proofs.StagesInTurn.{counted_after, refused_on}
 use Rattle.book_machine.proofs.Planning.{refused_by_needs, planned, target_of_ready}
 use Rattle.book_machine.specs.Asking.{MeetsPlan, Counted}

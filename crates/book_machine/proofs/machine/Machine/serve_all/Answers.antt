@@ -1,9 +1,7 @@
-use Rattle.std.proofs.Common.{arith, rules, ◌≡◌, ◌∙◌, ap, subst, take, take_all}
+use Rattle.std.proofs.Common.{arith, rules, ◌∙◌, ap, take}
 use Rattle.std.proofs.lemmas.List.{take_more}
 use Rattle.book_machine.proofs.LeadingRuns.{calls_more, paths_more}
 use Rattle.book_machine.proofs.RunLemmas.{no_calls, one_more_call}
-use Rattle.book_machine.specs.LeadingRuns.{HavePaths}
-use Rattle.book_machine.specs.Promises.{ServeAllPromise}
 use Rattle.book_machine.specs.Runs.{calls_of, call_of}
 use Rattle.book_machine.proofs.machine.Machine.serve_all.Goals as goal
 

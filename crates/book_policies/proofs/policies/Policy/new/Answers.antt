@@ -3,7 +3,7 @@ use Rattle.std.proofs.lemmas.Bool.{false≢true}
 use Rattle.std.specs.FinMap.{empty}
 use Rattle.std.specs.FinSet as set
 use Rattle.std.specs.List.{AllByRecursion}
-use Rattle.book_values.specs.declared.limits.TheConstants.{MAX_NAMED}
+use Rattle.book_limits.specs.declared.TheConstants.{MAX_NAMED}
 use Rattle.book_policies.specs.Policies.{IsFaultless, added, entry_of, given_members, named_book, named_group, named_person, paired_all}
 use Rattle.book_policies.specs.Reading.{BookFits, CanAdd, EntriesFit, EntryFits, GroupsFit, MembersFit, PersonsFit, with_entries}
 use Rattle.book_policies.proofs.Faults.{persons_fit, groups_fit, not_books, not_members, not_entries, all_read, policy_made, listed_made}

@@ -1,0 +1,4 @@
+pub mod Utf8
+pub mod Wording
+pub mod Naming
+pub mod EntryLists

@@ -1,0 +1,9 @@
+pub mod Forms
+pub mod Properties
+pub mod Principals
+pub mod Privileges
+pub mod Entries
+pub mod Patches
+pub mod Reports
+pub mod Bodies
+pub mod Refusals

@@ -1,0 +1,101 @@
+//! The body of a PROPFIND.
+
+ghost use Rattle.std.specs.Prelude.{◌≡◌, [], IfOk, map, option_map};
+ghost use Rattle.serde_json.specs.View.{view};
+ghost use Rattle.book_bodies.specs.Properties.{property_named, properties_of, properties_asked, find_body, place_of, is_among};
+
+use crate::forms::{only_under, texts_in};
+use book_machine::{Body, Property};
+use book_values::Items;
+use serde_json::Value;
+use std::alloc::{AllocError, Global};
+
+/// The property with this name. Names are compared with case.
+fn property_named(name: &str) -> Option<Property>
+    ensures { result ≡ property_named name.now }
+{
+    match name {
+        "displayname" => Some(Property::DisplayName),
+        "resourcetype" => Some(Property::ResourceType),
+        "owner" => Some(Property::Owner),
+        "acl" => Some(Property::Acl),
+        "current-user-privilege-set" => Some(Property::CurrentUserPrivilegeSet),
+        "group-member-set" => Some(Property::GroupMemberSet),
+        "sync-token" => Some(Property::SyncToken),
+        _ => None,
+    }
+}
+
+/// The place of a property among the seven.
+fn place_of(property: Property) -> u8
+    ensures { result ≡ place_of property }
+{
+    match property {
+        Property::DisplayName => 0,
+        Property::ResourceType => 1,
+        Property::Owner => 2,
+        Property::Acl => 3,
+        Property::CurrentUserPrivilegeSet => 4,
+        Property::GroupMemberSet => 5,
+        Property::SyncToken => 6,
+    }
+}
+
+fn is_among(property: Property, found: &[Property]) -> bool
+    ensures { result ≡ is_among property found.now }
+{
+    found
+        .iter()
+        .any(|other| place_of(*other) == place_of(property))
+}
+
+/// The properties with these names, in order, if there are 1 to 7 different ones. An error is want of memory.
+fn properties_of(alloc: Global, names: &[&str]) -> Result<Option<Vec<Property>>, AllocError>
+    ensures { IfOk result (λ found. option_map (λ properties. properties.items) found
+        ≡ properties_of (map (λ n. n.now) names.now)) }
+{
+    let mut found = Vec::new(alloc);
+    for name in names {
+        match property_named(name) {
+            Some(property) => {
+                if is_among(property, found.as_slice()) {
+                    return Ok(None);
+                }
+                found.push(property)?;
+            }
+            None => return Ok(None),
+        }
+    }
+    if found.is_empty() {
+        Ok(None)
+    } else {
+        Ok(Some(found))
+    }
+}
+
+/// The properties that the value asks for. An error is want of memory.
+fn properties_asked(alloc: Global, value: &Value) -> Result<Option<Vec<Property>>, AllocError>
+    ensures { IfOk result (λ found. option_map (λ properties. properties.items) found
+        ≡ properties_asked (view value.now)) }
+{
+    match only_under(value, "prop") {
+        Some(list) => match texts_in(alloc, list)? {
+            Some(names) => properties_of(alloc, names.as_slice()),
+            None => Ok(None),
+        },
+        None => Ok(None),
+    }
+}
+
+/// The body of a PROPFIND, which asks for properties (RFC 4918, section 9.1). An error is want of memory.
+pub(crate) fn find_body(alloc: Global, value: Option<&Value>) -> Result<Body, AllocError>
+    ensures { IfOk result (λ body. body ≡ find_body (option_map (λ v. view v.now) value.entry)) }
+{
+    match value {
+        Some(value) => match properties_asked(alloc, value)? {
+            Some(properties) => Ok(Body::Find(Items::from_vec(properties))),
+            None => Ok(Body::Unread),
+        },
+        None => Ok(Body::Unread),
+    }
+}

@@ -1,0 +1,9 @@
+pub mod InTurn
+pub mod ScanLaws
+pub mod GrantLaws
+pub mod Leaves
+pub mod ReadingLaws
+pub mod ReadListings
+pub mod AlikeListings
+pub mod OneListing
+pub mod ToldValues

@@ -1,0 +1,6 @@
+pub mod Verdicts
+pub mod Values
+pub mod Listings
+pub mod Scanning
+pub mod Reading
+pub mod Laws

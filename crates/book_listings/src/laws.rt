@@ -1,0 +1,22 @@
+//! What the definitions imply.
+
+ghost use Rattle.book_listings.specs.Laws.{ListingsHaveOneAnswer, UnreadResourcesStayUnseen};
+ghost use Rattle.book_listings.specs.Laws.{MembersToldAreDirect, PrivilegesToldAreGranted};
+
+/// Contents stay unseen: of two Offices that differ only in what may not be read, a listing tells the same (own
+/// profile).
+pub fn unread_resources_stay_unseen()
+    ensures { UnreadResourcesStayUnseen }
+{}
+
+/// A listing is determined by the Office, the caller's circle and what is asked.
+pub fn listings_have_one_answer()
+    ensures { ListingsHaveOneAnswer }
+{}
+
+/// What the values of properties are: the leaves of `current-user-privilege-set` are those that are granted, and the
+/// paths of `group-member-set` are the direct members, each once, in byte order.
+pub fn values_tell_grants_and_members()
+    ensures privileges { PrivilegesToldAreGranted }
+    ensures members { MembersToldAreDirect }
+{}

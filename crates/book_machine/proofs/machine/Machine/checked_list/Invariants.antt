@@ -1,0 +1,9 @@
+use Rattle.std.proofs.Common.{take}
+use Rattle.std.specs.List.{AllZip}
+use Rattle.book_machine.proofs.AskingEach.{HasAsked}
+use Rattle.book_machine.specs.Stages.{IsChecked}
+use Rattle.book_machine.proofs.machine.Machine.checked_list.Given as goal
+
+-- the entries so far are checked
+abbrev pub invariant-loop-entry : goal.invariant-loop-entry
+invariant-loop-entry g l = HasAsked (g.K.Keeper.standing l.fn.self.keeper) (g.K.Keeper.standing l.self.keeper) (λ o. AllZip (IsChecked o) (take l.entry-index l.list) l.checked)

@@ -1,0 +1,6 @@
+pub mod Labelled
+pub mod Least
+pub mod Privileges
+pub mod Shaped
+pub mod Whole
+pub mod Words

@@ -1,0 +1,10 @@
+use Rattle.std.proofs.Common.{drop}
+use Rattle.std.specs.List.{AllByRecursion}
+use Rattle.book_lists.specs.Names.{IsName}
+use Rattle.book_policy.proofs.passes.all_named.Given as goal
+
+abbrev pub invariant-loop-part : goal.invariant-loop-part
+invariant-loop-part g l = record {
+  fits : AllByRecursion (λ p. IsName (g.T.Named.entry p).0) (drop l.part-index l.parts) → AllByRecursion (λ p. IsName (g.T.Named.entry p).0) l.parts;
+  fit : AllByRecursion (λ p. IsName (g.T.Named.entry p).0) l.parts → AllByRecursion (λ p. IsName (g.T.Named.entry p).0) (drop l.part-index l.parts);
+}

@@ -1,0 +1,13 @@
+use Rattle.std.proofs.Common.{drop}
+use Rattle.std.specs.List.{AllByRecursion}
+use Rattle.book_policies.specs.Policies.{NamesPrincipal}
+use Rattle.book_policies.specs.declared.parts.GroupPart.{GroupPart}
+use Rattle.book_policy.proofs.passes.members_known.Given as goal
+
+abbrev pub invariant-loop-part : goal.invariant-loop-part
+invariant-loop-part l = record {
+  fits : AllByRecursion (λ (p : GroupPart). AllByRecursion (NamesPrincipal l.persons l.groups) p.members) (drop l.part-index l.parts)
+      → AllByRecursion (λ (p : GroupPart). AllByRecursion (NamesPrincipal l.persons l.groups) p.members) l.parts;
+  fit : AllByRecursion (λ (p : GroupPart). AllByRecursion (NamesPrincipal l.persons l.groups) p.members) l.parts
+      → AllByRecursion (λ (p : GroupPart). AllByRecursion (NamesPrincipal l.persons l.groups) p.members) (drop l.part-index l.parts);
+}

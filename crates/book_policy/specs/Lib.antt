@@ -1,0 +1,4 @@
+pub mod FaultNames
+pub mod Shapes
+pub mod Rules
+pub mod Passes

@@ -1,0 +1,98 @@
+-- A card or another node is labelled, and a card is copied, step by step.
+use Rattle.std.proofs.Common.{◌≡◌, ℕ, ◌+◌, Bool, List, [], find, Option, Some, option_map, unwrap_or, is_some, string_bytes, sym, ap, subst, ◌∙◌}
+use Rattle.sqlite.specs.declared.types.Value.{Value}
+use Rattle.sqlite.specs.declared.types.Value.TheVariants.{Int}
+use Rattle.sqlite.specs.Effect.{Database}
+use Rattle.sqlite.specs.Edit.{id_in}
+use Rattle.sqlite.specs.Order.{column}
+use Rattle.sqlite.specs.Tree.{rowid}
+use Rattle.sqlite.specs.State.{State}
+use Rattle.sqlite_keyed.proofs.SliceLemmas.{is_some-map}
+use Rattle.book_rows.specs.declared.nodes.Found.{Found}
+use Rattle.book_rows.specs.Rows.{rows_of, IsBook}
+use Rattle.book_rows.specs.Writes.{is_at, label_card, set_label, put_copy}
+use Rattle.book_rows.specs.Nodes.{Told, Finds, labelling_card, labelling_node, copying_card, told, told_of, number_in, text_in}
+use Rattle.book_rows.specs.Steps.{Becomes, Looks, Makes}
+use Rattle.book_rows.proofs.CardPuts.{told_row}
+
+module _ (old mid new : State) (path : List ℕ) (f : Found) (found : Option Found) (first : Looks old mid) (is_there : found ≡ Some f) (node_found : Finds old path (option_map told found)) where
+  pub labels_card : (card_path label : List ℕ) → Becomes mid new (label_card path card_path label (f.number + 1)) → Makes old new (labelling_card path card_path label)
+  labels_card card_path label written = record {
+    inside = written.inside;
+    was_open = node_found.0;
+    is_open = written.is_open;
+    made = λ book fits.
+        let rows = rows_of old.now.trees in
+        let mid_is : mid.now ≡ old.now = first.same book in
+        let b = told_row f (find (is_at path) rows.nodes) (sym (ap (option_map told) is_there) ∙ node_found.1 book) in
+        let done = written.rows (subst IsBook (sym mid_is) book) in (
+          done.0,
+          record {
+            book = b.0;
+            there = b.1;
+            rows_are = done.1 ∙ ap (λ (d : Database). label_card path card_path label (f.number + 1) (rows_of d.trees)) mid_is
+                ∙ ap (λ (t : Told). label_card path card_path label (t.number + 1) rows) (sym b.2);
+          },
+        );
+  }
+
+  pub labels_node : (label : List ℕ) → Becomes mid new (set_label path label f.number) → Makes old new (labelling_node path label)
+  labels_node label written = record {
+    inside = written.inside;
+    was_open = node_found.0;
+    is_open = written.is_open;
+    made = λ book fits.
+        let rows = rows_of old.now.trees in
+        let mid_is : mid.now ≡ old.now = first.same book in
+        let n = told_row f (find (is_at path) rows.nodes) (sym (ap (option_map told) is_there) ∙ node_found.1 book) in
+        let done = written.rows (subst IsBook (sym mid_is) book) in (
+          done.0,
+          record {
+            node = n.0;
+            there = n.1;
+            rows_are = done.1 ∙ ap (λ (d : Database). set_label path label f.number (rows_of d.trees)) mid_is ∙ ap (λ (t : Told). set_label path label t.number rows) (sym n.2);
+          },
+        );
+  }
+
+module _ (old s1 s2 s3 new : State) (source_path book_path card_path name : List ℕ) (owner : Option (List ℕ)) (h f : Found) (text : List ℕ) (found_source found_book found_card : Option Found) (is_mapped : Bool)
+    (first : Looks old s1) (second : Looks s1 s2) (third : Looks s2 s3) (is_source : found_source ≡ Some h) (is_book : found_book ≡ Some f) (mapped : is_mapped ≡ is_some found_card)
+    (text_is : option_map string_bytes h.text ≡ Some text)
+    (source_found : Finds old source_path (option_map told found_source)) (book_found : Finds s1 book_path (option_map told found_book)) (card_found : Finds s2 card_path (option_map told found_card))
+    (written : Becomes s3 new (put_copy (Int f.id) is_mapped book_path card_path name owner (string_bytes h.label) text (f.number + 1))) where
+  pub copies : Makes old new (copying_card source_path book_path card_path name owner)
+  copies = record {
+    inside = written.inside;
+    was_open = source_found.0;
+    is_open = written.is_open;
+    made = λ book fits.
+        let rows = rows_of old.now.trees in
+        let s1_is : s1.now ≡ old.now = first.same book in
+        let book_1 = subst IsBook (sym s1_is) book in
+        let s2_is : s2.now ≡ old.now = second.same book_1 ∙ s1_is in
+        let book_2 = subst IsBook (sym s2_is) book in
+        let s3_is : s3.now ≡ old.now = third.same book_2 ∙ s2_is in
+        let s = told_row h (find (is_at source_path) rows.nodes) (sym (ap (option_map told) is_source) ∙ source_found.1 book) in
+        let b = told_row f (find (is_at book_path) rows.nodes)
+        (sym (ap (option_map told) is_book) ∙ book_found.1 book_1 ∙ ap (λ (d : Database). option_map told_of (find (is_at book_path) (rows_of d.trees).nodes)) s1_is) in
+        let card : is_mapped ≡ is_some (find (is_at card_path) rows.nodes) =
+        mapped ∙ sym (is_some-map told found_card) ∙ ap is_some (card_found.1 book_2) ∙ is_some-map told_of (find (is_at card_path) (rows_of s2.now.trees).nodes)
+        ∙ ap (λ (d : Database). is_some (find (is_at card_path) (rows_of d.trees).nodes)) s2_is in
+        let label : unwrap_or (text_in (column s.0 6)) [] ≡ string_bytes h.label = ap (λ (t : Told). t.label) s.2 in
+        let done = written.rows (subst IsBook (sym s3_is) book) in
+        let id : Value = Int (id_in (rowid b.0)) in (
+          done.0,
+          record {
+            source = s.0;
+            source_there = s.1;
+            text = text;
+            text_is = ap (λ (t : Told). t.text) s.2 ∙ text_is;
+            book = b.0;
+            there = b.1;
+            rows_are = done.1 ∙ ap (λ (d : Database). put_copy (Int f.id) is_mapped book_path card_path name owner (string_bytes h.label) text (f.number + 1) (rows_of d.trees)) s3_is
+                ∙ ap (λ (t : Told). put_copy (Int t.id) is_mapped book_path card_path name owner (string_bytes h.label) text (t.number + 1) rows) (sym b.2)
+                ∙ ap (λ m. put_copy id m book_path card_path name owner (string_bytes h.label) text (number_in (column b.0 8) + 1) rows) card
+                ∙ ap (λ l. put_copy id (is_some (find (is_at card_path) rows.nodes)) book_path card_path name owner l text (number_in (column b.0 8) + 1) rows) (sym label);
+          },
+        );
+  }

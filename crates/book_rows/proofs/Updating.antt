@@ -1,0 +1,50 @@
+-- What the UPDATEs of a label, of a copy and of a place leave.
+use Rattle.std.proofs.Common.{◌≡◌, ℕ, ℤ, pos, List, [], ◌∷◌, Ok, refl, IsTrue}
+use Rattle.sqlite.specs.declared.types.Value.TheVariants.{Null, Int, Text}
+use Rattle.sqlite.specs.Order.{Row, column}
+use Rattle.sqlite.specs.Term.{lit, col}
+use Rattle.sqlite.specs.Tree.{rowid}
+use Rattle.sqlite.specs.State.{State, ExecutesInside}
+use Rattle.sqlite_rules.specs.Cast.{cast_row}
+use Rattle.sqlite_trees.specs.View.{is_int}
+use Rattle.book_rows.specs.Schema.{node_table}
+use Rattle.book_rows.specs.Texts as text
+use Rattle.book_rows.specs.Writes as writes
+use Rattle.book_rows.specs.Writes.{with_label, with_copy, moved_to}
+use Rattle.book_rows.specs.Steps.{Becomes}
+use Rattle.book_rows.proofs.Meanings.{set_label_is, set_label_plain, set_copy_is, set_copy_plain, move_is, move_plain}
+use Rattle.book_rows.proofs.Typing.{cast_integer, cast_text, TypedNode}
+use Rattle.book_rows.proofs.Shapes.{int_of}
+use Rattle.book_rows.proofs.Becoming.{becomes_updated}
+
+pub becomes_labelled : (old new : State) (path label : List ℕ) (number count : ℕ) → ExecutesInside 0 text.set_label (Text path ∷ Text label ∷ Int (pos number) ∷ []) old new (Ok count) → Becomes old new (writes.set_label path label number)
+becomes_labelled old new path label number count h =
+    becomes_updated old new text.set_label path (Text label ∷ Int (pos number) ∷ []) (col 1 0 ∷ lit Null ∷ col 1 2 ∷ col 1 3 ∷ col 1 4 ∷ col 1 5 ∷ col 0 1 ∷ col 1 7 ∷ col 0 2 ∷ []) (with_label label number)
+    set_label_is set_label_plain (λ r. refl) (λ r. refl) (labelled_cast label number) count h
+  where
+    labelled_cast : (label : List ℕ) (number : ℕ) (r : Row) → IsTrue (is_int (rowid r)) → TypedNode r → cast_row node_table (with_label label number r) ≡ with_label label number r
+    labelled_cast label number r int t =
+        let id = int_of (rowid r) int in
+        rw (id.1, cast_integer (Int id.0) refl, cast_integer Null refl, cast_text (column r 2) t.path, cast_integer (column r 3) t.parent, cast_integer (column r 4) t.kind, cast_text (column r 5) t.owner, cast_text (column r 7) t.text, cast_integer (Int (pos number)) refl) refl
+
+pub becomes_copied : (old new : State) (path label words : List ℕ) (number count : ℕ) → ExecutesInside 0 text.set_copy (Text path ∷ Text label ∷ Text words ∷ Int (pos number) ∷ []) old new (Ok count)
+    → Becomes old new (writes.set_copy path label words number)
+becomes_copied old new path label words number count h =
+    becomes_updated old new text.set_copy path (Text label ∷ Text words ∷ Int (pos number) ∷ []) (col 1 0 ∷ lit Null ∷ col 1 2 ∷ col 1 3 ∷ col 1 4 ∷ col 1 5 ∷ col 0 1 ∷ col 0 2 ∷ col 0 3 ∷ []) (with_copy label words number)
+    set_copy_is set_copy_plain (λ r. refl) (λ r. refl) (copied_cast label words number) count h
+  where
+    copied_cast : (label words : List ℕ) (number : ℕ) (r : Row) → IsTrue (is_int (rowid r)) → TypedNode r → cast_row node_table (with_copy label words number r) ≡ with_copy label words number r
+    copied_cast label words number r int t =
+        let id = int_of (rowid r) int in
+        rw (id.1, cast_integer (Int id.0) refl, cast_integer Null refl, cast_text (column r 2) t.path, cast_integer (column r 3) t.parent, cast_integer (column r 4) t.kind, cast_text (column r 5) t.owner, cast_integer (Int (pos number)) refl) refl
+
+pub becomes_moved : (old new : State) (path destination : List ℕ) (parent : ℤ) (number count : ℕ) → ExecutesInside 0 text.move_node (Text path ∷ Text destination ∷ Int parent ∷ Int (pos number) ∷ []) old new (Ok count)
+    → Becomes old new (writes.move_node path destination (Int parent) number)
+becomes_moved old new path destination parent number count h =
+    becomes_updated old new text.move_node path (Text destination ∷ Int parent ∷ Int (pos number) ∷ []) (col 1 0 ∷ lit Null ∷ col 0 1 ∷ col 0 2 ∷ col 1 4 ∷ col 1 5 ∷ col 1 6 ∷ col 1 7 ∷ col 0 3 ∷ []) (moved_to destination (Int parent) number)
+    move_is move_plain (λ r. refl) (λ r. refl) (moved_cast destination parent number) count h
+  where
+    moved_cast : (destination : List ℕ) (parent : ℤ) (number : ℕ) (r : Row) → IsTrue (is_int (rowid r)) → TypedNode r → cast_row node_table (moved_to destination (Int parent) number r) ≡ moved_to destination (Int parent) number r
+    moved_cast destination parent number r int t =
+        let id = int_of (rowid r) int in
+        rw (id.1, cast_integer (Int id.0) refl, cast_integer Null refl, cast_integer (Int parent) refl, cast_integer (column r 4) t.kind, cast_text (column r 5) t.owner, cast_text (column r 6) t.label, cast_text (column r 7) t.text, cast_integer (Int (pos number)) refl) refl

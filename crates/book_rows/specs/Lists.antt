@@ -1,0 +1,67 @@
+-- What a look-up of a list shows.
+use Rattle.std.specs.Prelude.{◌≡◌, ℕ, ℤ, pos, Bool, ◌&&◌, List, [], ◌∷◌, map, filter, find, length, min, slice_get, option_map, unwrap_or, IsTrue, IsPermutation}
+use Rattle.std.specs.declared.cmp.Ordering.{Ordering}
+use Rattle.sqlite.specs.Collation.TheVariants.{Binary}
+use Rattle.sqlite.specs.Ops.{binary, is_true}
+use Rattle.sqlite_sql.specs.declared.ops.BinaryOp.TheVariants.{Compare}
+use Rattle.sqlite_sql.specs.declared.ops.CompareOp.TheVariants.{Gt}
+use Rattle.sqlite_keyed.specs.Lists.{sort_by}
+use Rattle.sqlite.specs.declared.types.Value.TheVariants.{Int}
+use Rattle.sqlite.specs.Order.{Row, column, value_cmp}
+use Rattle.sqlite.specs.State.{State}
+use Rattle.sqlite.specs.Tree.{rowid}
+use Rattle.book_rows.specs.Rows.{Rows, rows_of, has, IsBook}
+use Rattle.book_rows.specs.Nodes.{number_in}
+use Rattle.book_rows.specs.Writes.{is_at, is_under, entries_of}
+
+-- form, principal, invert, deny and mask of an entry
+abbrev pub entry_columns : Row → Row
+entry_columns row = column row 4 ∷ column row 5 ∷ column row 6 ∷ column row 7 ∷ column row 8 ∷ []
+
+-- an open connection shows the entries of a list, in order of their places
+abbrev pub ShowsList : State → ℤ → Bool → List Row → Type 0
+ShowsList s id protected rows = IsTrue s.is_open × (IsBook s.now → rows ≡ map entry_columns (entries_of (rows_of s.now.trees).entries (Int id) protected))
+
+-- an open connection shows these rows, in some order
+abbrev pub ShowsRows : State → (Rows → List Row) → List Row → Type 0
+ShowsRows s picked shown = IsTrue s.is_open × (IsBook s.now → IsPermutation (picked (rows_of s.now.trees)) shown)
+
+-- a row's number in a column is above another, as SQL compares values
+abbrev pub is_above : ℕ → ℕ → Row → Bool
+is_above place number row = is_true (binary (Compare Gt Binary) (column row place) (Int (pos number)))
+
+-- group and member of each pair
+abbrev pub pairs_of : Rows → List Row
+pairs_of rows = map (λ row. column row 1 ∷ column row 2 ∷ []) rows.members
+
+-- name and number of the removed names of a book whose numbers are above another
+abbrev pub gone_after : ℤ → ℕ → Rows → List Row
+gone_after book number rows = map (λ row. column row 2 ∷ column row 3 ∷ []) (filter (λ row. has 1 (Int book) row && is_above 3 number row) rows.gone)
+
+-- number of the row, path, owner, label, text and change number of the children of a node whose change numbers are above another
+abbrev pub changed_after : ℤ → ℕ → Rows → List Row
+changed_after book number rows =
+    map (λ row. column row 0 ∷ column row 2 ∷ column row 5 ∷ column row 6 ∷ column row 7 ∷ column row 8 ∷ []) (filter (λ row. is_under (Int book) row && is_above 8 number row) rows.nodes)
+
+abbrev pub by_path : Row → Row → Ordering
+by_path a b = value_cmp (column a 2) (column b 2)
+
+-- number of the row, path, kind, owner, label and change number of the children of a node, in order of their paths
+abbrev pub children_of : ℤ → Rows → List Row
+children_of id rows = map (λ row. column row 0 ∷ column row 2 ∷ column row 4 ∷ column row 5 ∷ column row 6 ∷ column row 8 ∷ []) (sort_by by_path (filter (is_under (Int id)) rows.nodes))
+
+-- an open connection shows the children of a node, in order of their paths
+abbrev pub ShowsChildren : State → ℤ → List Row → Type 0
+ShowsChildren s id shown = IsTrue s.is_open × (IsBook s.now → shown ≡ children_of id (rows_of s.now.trees))
+
+-- how many children the node at a path has, 0 where there is none; SQL counts no further than the last whole number
+abbrev pub count_at : List ℕ → Rows → ℕ
+count_at path rows = unwrap_or (option_map (λ node. min 9223372036854775807 (length (filter (is_under (rowid node)) rows.nodes))) (find (is_at path) rows.nodes)) 0
+
+-- the number in the one column of the first row, 0 where there is none
+abbrev pub first_number : List Row → ℕ
+first_number rows = unwrap_or (option_map (λ row. number_in (column row 0)) (slice_get rows 0)) 0
+
+-- an open connection shows that count
+abbrev pub ShowsCount : State → List ℕ → ℕ → Type 0
+ShowsCount s path count = IsTrue s.is_open × (IsBook s.now → count ≡ count_at path (rows_of s.now.trees))

@@ -1,0 +1,220 @@
+-- What each statement makes of the rows.
+use Rattle.std.specs.Prelude.{◌≡◌, ℕ, ℤ, pos, Bool, true, false, ◌&&◌, List, [], ◌∷◌, ◌++◌, filter, Option, Some, None}
+use Rattle.sqlite.specs.declared.types.Value.{Value}
+use Rattle.sqlite.specs.declared.types.Value.TheVariants.{Null, Int, Text}
+use Rattle.sqlite.specs.Order.{Row, column, value_cmp}
+use Rattle.std.specs.List.{list_any}
+use Rattle.sqlite_rules.specs.Lists.{Has}
+use Rattle.sqlite.specs.Collation.TheVariants.{Binary}
+use Rattle.sqlite_schema.specs.Rules.{equal}
+use Rattle.sqlite.specs.Edit.{next_rowid, id_in}
+use Rattle.sqlite.specs.Tree.{rowid}
+use Rattle.sqlite_keyed.specs.Lists.{update_where, delete_where, sort_by}
+use Rattle.std.specs.declared.cmp.Ordering.{Ordering}
+use Rattle.book_rows.specs.Rows.{Rows, has}
+
+-- a value, or NULL
+abbrev pub or_null : Option (List ℕ) → Value
+or_null None = Null
+or_null (Some text) = Text text
+
+-- a row of `node` stands at a path, or under the node with a number
+abbrev pub is_at : List ℕ → Row → Bool
+is_at path = has 2 (Text path)
+
+abbrev pub is_under : Value → Row → Bool
+is_under id = has 3 id
+
+-- a row of `gone` is a removed name of the book with a number
+abbrev pub is_gone : Value → List ℕ → Row → Bool
+is_gone id name row = has 1 id row && has 2 (Text name) row
+
+-- the values of a truth value
+abbrev pub flag : Bool → Value
+flag false = Int (pos 0)
+flag true = Int (pos 1)
+
+-- a row of `ace` belongs to the protected or the own list of the node with a number
+abbrev pub is_entry : Value → Bool → Row → Bool
+is_entry id protected row = has 1 id row && has 2 (flag protected) row
+
+abbrev pub by_place : Row → Row → Ordering
+by_place a b = value_cmp (column a 3) (column b 3)
+
+-- the rows of a list, in order of their places
+abbrev pub entries_of : List Row → Value → Bool → List Row
+entries_of entries id protected = sort_by by_place (filter (is_entry id protected) entries)
+
+-- ---- one statement each
+
+abbrev pub node_row : ℤ → List ℕ → Value → ℕ → Option (List ℕ) → List ℕ → Option (List ℕ) → ℕ → Row
+node_row id path parent kind owner label text number =
+    Int id ∷ Null ∷ Text path ∷ parent ∷ Int (pos kind) ∷ or_null owner ∷ Text label ∷ or_null text ∷ Int (pos number) ∷ []
+
+abbrev pub insert_node : List ℕ → Value → ℕ → Option (List ℕ) → List ℕ → Option (List ℕ) → ℕ → Rows → Rows
+insert_node path parent kind owner label text number rows =
+    record rows { nodes = rows.nodes ++ node_row (next_rowid rows.nodes) path parent kind owner label text number ∷ [] }
+
+abbrev pub with_number : ℕ → Row → Row
+with_number number row =
+    column row 0 ∷ Null ∷ column row 2 ∷ column row 3 ∷ column row 4 ∷ column row 5 ∷ column row 6 ∷ column row 7 ∷ Int (pos number) ∷ []
+
+abbrev pub with_text : List ℕ → ℕ → Row → Row
+with_text text number row =
+    column row 0 ∷ Null ∷ column row 2 ∷ column row 3 ∷ column row 4 ∷ column row 5 ∷ column row 6 ∷ Text text ∷ Int (pos number) ∷ []
+
+abbrev pub set_number : List ℕ → ℕ → Rows → Rows
+set_number path number rows = record rows { nodes = update_where (is_at path) (with_number number) rows.nodes }
+
+abbrev pub set_text : List ℕ → List ℕ → ℕ → Rows → Rows
+set_text path text number rows = record rows { nodes = update_where (is_at path) (with_text text number) rows.nodes }
+
+abbrev pub delete_gone_name : Value → List ℕ → Rows → Rows
+delete_gone_name id name rows = record rows { gone = delete_where (is_gone id name) rows.gone }
+
+abbrev pub delete_gone : Value → Rows → Rows
+delete_gone id rows = record rows { gone = delete_where (has 1 id) rows.gone }
+
+abbrev pub delete_entries : Value → Rows → Rows
+delete_entries id rows = record rows { entries = delete_where (has 1 id) rows.entries }
+
+-- an entry of a child of the node with a number
+abbrev pub is_below : Value → List Row → Row → Bool
+is_below id nodes entry = list_any (λ child. is_under id child && equal Binary (column child 0) (column entry 1)) nodes
+
+abbrev pub delete_entries_below : Value → Rows → Rows
+delete_entries_below id rows = record rows { entries = delete_where (is_below id rows.nodes) rows.entries }
+
+abbrev pub delete_children : Value → Rows → Rows
+delete_children id rows = record rows { nodes = delete_where (is_under id) rows.nodes }
+
+abbrev pub delete_node : Value → Rows → Rows
+delete_node id rows = record rows { nodes = delete_where (has 0 id) rows.nodes }
+
+abbrev pub with_epoch : ℕ → Row → Row
+with_epoch epoch row = column row 0 ∷ column row 1 ∷ Int (pos epoch) ∷ []
+
+abbrev pub set_epoch : ℕ → Rows → Rows
+set_epoch epoch rows = record rows { meta = update_where (λ _. true) (with_epoch epoch) rows.meta }
+
+-- a removed name of a book
+abbrev pub gone_row : ℤ → Value → List ℕ → ℕ → Row
+gone_row id book name number = Int id ∷ book ∷ Text name ∷ Int (pos number) ∷ []
+
+abbrev pub insert_gone : Value → List ℕ → ℕ → Rows → Rows
+insert_gone book name number rows = record rows { gone = rows.gone ++ gone_row (next_rowid rows.gone) book name number ∷ [] }
+
+-- an entry of a node: its list and its place there, and then what it says
+abbrev pub entry_row : ℤ → Value → Bool → ℕ → ℕ → Option (List ℕ) → Bool → Bool → ℕ → Row
+entry_row id node protected place form principal invert deny mask =
+    Int id ∷ node ∷ flag protected ∷ Int (pos place) ∷ Int (pos form) ∷ or_null principal ∷ flag invert ∷ flag deny ∷ Int (pos mask) ∷ []
+
+abbrev pub insert_entry : Value → Bool → ℕ → ℕ → Option (List ℕ) → Bool → Bool → ℕ → Rows → Rows
+insert_entry node protected place form principal invert deny mask rows =
+    record rows { entries = rows.entries ++ entry_row (next_rowid rows.entries) node protected place form principal invert deny mask ∷ [] }
+
+abbrev pub insert_member : List ℕ → List ℕ → Rows → Rows
+insert_member group member rows = record rows { members = rows.members ++ (Int (next_rowid rows.members) ∷ Text group ∷ Text member ∷ []) ∷ [] }
+
+abbrev pub insert_meta : ℕ → ℕ → Rows → Rows
+insert_meta version epoch rows = record rows { meta = rows.meta ++ (Int (next_rowid rows.meta) ∷ Int (pos version) ∷ Int (pos epoch) ∷ []) ∷ [] }
+
+abbrev pub delete_own : Value → Rows → Rows
+delete_own id rows = record rows { entries = delete_where (is_entry id false) rows.entries }
+
+abbrev pub delete_members : List ℕ → Rows → Rows
+delete_members group rows = record rows { members = delete_where (has 1 (Text group)) rows.members }
+
+abbrev pub with_label : List ℕ → ℕ → Row → Row
+with_label label number row =
+    column row 0 ∷ Null ∷ column row 2 ∷ column row 3 ∷ column row 4 ∷ column row 5 ∷ Text label ∷ column row 7 ∷ Int (pos number) ∷ []
+
+abbrev pub with_copy : List ℕ → List ℕ → ℕ → Row → Row
+with_copy label text number row =
+    column row 0 ∷ Null ∷ column row 2 ∷ column row 3 ∷ column row 4 ∷ column row 5 ∷ Text label ∷ Text text ∷ Int (pos number) ∷ []
+
+-- the row of a node at another path, under another node
+abbrev pub moved_to : List ℕ → Value → ℕ → Row → Row
+moved_to path parent number row =
+    column row 0 ∷ Null ∷ Text path ∷ parent ∷ column row 4 ∷ column row 5 ∷ column row 6 ∷ column row 7 ∷ Int (pos number) ∷ []
+
+abbrev pub set_label : List ℕ → List ℕ → ℕ → Rows → Rows
+set_label path label number rows = record rows { nodes = update_where (is_at path) (with_label label number) rows.nodes }
+
+abbrev pub set_copy : List ℕ → List ℕ → List ℕ → ℕ → Rows → Rows
+set_copy path label text number rows = record rows { nodes = update_where (is_at path) (with_copy label text number) rows.nodes }
+
+abbrev pub move_node : List ℕ → List ℕ → Value → ℕ → Rows → Rows
+move_node path destination parent number rows = record rows { nodes = update_where (is_at path) (moved_to destination parent number) rows.nodes }
+
+-- ---- the writes of an edit
+
+-- the card's row gets the text, or a row is added
+abbrev pub write_card : Value → Bool → List ℕ → Option (List ℕ) → List ℕ → ℕ → Rows → Rows
+write_card id false at owner text number rows = insert_node at id 5 owner [] (Some text) number rows
+write_card id true at owner text number rows = set_text at text number rows
+
+-- PUT of a card under the book whose row has a number: the card is written, its name is no removed one, and the book has the change number
+abbrev pub put_card : Value → Bool → List ℕ → List ℕ → List ℕ → Option (List ℕ) → List ℕ → ℕ → Rows → Rows
+put_card id is_mapped book_path card_path name owner text number rows =
+    set_number book_path number (delete_gone_name id name (write_card id is_mapped card_path owner text number rows))
+
+-- the cards of a book, and what refers to them
+abbrev pub remove_cards : Value → Rows → Rows
+remove_cards id rows = delete_children id (delete_gone id (delete_entries_below id rows))
+
+-- DELETE of the book whose row has a number: its cards, its removed names, its entries and its row are taken out, and the epoch is another
+abbrev pub remove_book : Value → ℕ → Rows → Rows
+remove_book id epoch rows = set_epoch epoch (delete_node id (delete_entries id (remove_cards id rows)))
+
+-- DELETE of the card whose row has a number: its entries and its row are taken out, its name is a removed one, and the book has the change number
+abbrev pub remove_card : Value → Value → List ℕ → List ℕ → ℕ → Rows → Rows
+remove_card book card book_path name number rows =
+    set_number book_path number (insert_gone book name number (delete_node card (delete_entries card rows)))
+
+-- MKCOL: a book under the node of all books, with an empty label, no text and the number 0
+abbrev pub add_book : Value → List ℕ → Option (List ℕ) → Rows → Rows
+add_book home path owner rows = insert_node path home 4 owner [] None 0 rows
+
+-- PROPPATCH of a card's displayname: the card has the label, and card and book have the change number
+abbrev pub label_card : List ℕ → List ℕ → List ℕ → ℕ → Rows → Rows
+label_card book_path card_path label number rows = set_number book_path number (set_label card_path label number rows)
+
+-- the card's row gets label and text, or a row is added
+abbrev pub write_copy : Value → Bool → List ℕ → Option (List ℕ) → List ℕ → List ℕ → ℕ → Rows → Rows
+write_copy id false at owner label text number rows = insert_node at id 5 owner label (Some text) number rows
+write_copy id true at owner label text number rows = set_copy at label text number rows
+
+-- COPY into the book whose row has a number: the card is written, its name is no removed one, and the book has the change number
+abbrev pub put_copy : Value → Bool → List ℕ → List ℕ → List ℕ → Option (List ℕ) → List ℕ → List ℕ → ℕ → Rows → Rows
+put_copy id is_mapped book_path card_path name owner label text number rows =
+    set_number book_path number (delete_gone_name id name (write_copy id is_mapped card_path owner label text number rows))
+
+-- a card that is there is taken out with its entries
+abbrev pub clear_at : Option Row → Rows → Rows
+clear_at None rows = rows
+clear_at (Some card) rows = delete_node (Int (id_in (rowid card))) (delete_entries (Int (id_in (rowid card))) rows)
+
+-- MOVE, at the source: the name is a removed one, and the book has the change number
+abbrev pub leave_book : Value → List ℕ → List ℕ → ℕ → Rows → Rows
+leave_book book book_path name number rows = set_number book_path number (insert_gone book name number rows)
+
+-- MOVE, at the destination: the card's row has another path and parent, its name is no removed one, and card and book have the change number
+abbrev pub arrive_in : Value → List ℕ → List ℕ → List ℕ → List ℕ → ℕ → Rows → Rows
+arrive_in book book_path card_path destination name number rows =
+    set_number book_path number (move_node card_path destination book number (delete_gone_name book name rows))
+
+-- ---- rows that a write fits
+
+-- no row refers to a node that passes, but for nodes that pass too
+pub record AreFree (p : Row → Bool) (rows : Rows) : Type 0 where
+  pub nodes : (node child : Row) → Has rows.nodes node → p node ≡ true → Has rows.nodes child → p child ≡ false → has 3 (rowid node) child ≡ false
+  pub entries : (node entry : Row) → Has rows.nodes node → p node ≡ true → Has rows.entries entry → has 1 (rowid node) entry ≡ false
+  pub gone : (node name : Row) → Has rows.nodes node → p node ≡ true → Has rows.gone name → has 1 (rowid node) name ≡ false
+
+-- one row, with version 1 and the epoch
+abbrev pub IsMeta : List Row → ℕ → Type 0
+IsMeta meta epoch = (id : Value) × (meta ≡ (id ∷ Int (pos 1) ∷ Int (pos epoch) ∷ []) ∷ [])
+
+abbrev pub HasMeta : Rows → Type 0
+HasMeta rows = (epoch : ℕ) × IsMeta rows.meta epoch

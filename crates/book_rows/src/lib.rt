@@ -1,0 +1,36 @@
+//! The tables of a store as lists of rows, and the fixed SQL texts that read and write them.
+//!
+//! It stands on `sqlite`, knows of tables alone, and nothing of an Office. The crate above uses two promises. A read
+//! inside a transaction leaves the five tables as they were and tells rows of them. An edit is one whole
+//! transaction: at `Ok` it is committed and has made of the five lists of rows what its change says; at an error an
+//! open connection shows what it showed; and a stop may leave the tables as before or as after it, and no third.
+//!
+//! Read `specs/Schema` first, the tables with their columns and rules; `specs/Writes`, what each statement and each
+//! edit makes of the rows; `specs/Steps`, what a call does to a connection; and `specs/Nodes` and `specs/Lists`, the
+//! changes that edits make and what reads tell. Of the code, `nodes`, `cards` and `epochs` have one statement a
+//! function; `putting`, `changing`, `removing`, `copying`, `moving` and `labels` the edits; `lists` and `counting`
+//! the reads of several rows.
+#![tactic(auto)]
+
+mod cards;
+mod changing;
+mod copying;
+mod counting;
+mod epochs;
+mod labels;
+mod lists;
+mod moving;
+mod nodes;
+mod putting;
+mod removing;
+
+pub use changing::{add_book, remove_card};
+pub use copying::copy_card;
+pub use counting::count_children;
+pub use epochs::read_epoch;
+pub use labels::{label_card, label_node};
+pub use lists::{changed_rows, child_rows, entry_rows, gone_rows, member_rows};
+pub use moving::move_card;
+pub use nodes::{Found, look_up};
+pub use putting::put_card;
+pub use removing::remove_book;

@@ -1,0 +1,108 @@
+//! Lists of entries, children, members and changes.
+
+ghost use Rattle.std.specs.Prelude.{◌≡◌, ◌<◌, ◌^◌, IfOk};
+ghost use Rattle.sqlite.specs.Held.{state};
+ghost use Rattle.sqlite.specs.State.{HasCleanDisk, Survives};
+ghost use Rattle.book_rows.specs.Lists.{ShowsList, ShowsRows, ShowsChildren, pairs_of, gone_after, changed_after};
+ghost use Rattle.book_rows.specs.Steps.{Keeps, Spares};
+
+use sqlite::{Alter, Error, Row, Transaction, params};
+
+/// The rows of the protected or the own list of the node with a number, in order of their places: form, principal,
+/// invert, deny and mask of each entry.
+pub fn entry_rows<S: Alter>(
+    transaction: &mut Transaction<'_, S>,
+    node: i64,
+    protected: bool,
+) -> Result<Vec<Row>, Error>
+    ensures same_reference { transaction.new.conn.ghost_name ≡ transaction.old.conn.ghost_name }
+    ensures survives { Survives (state S.Store transaction.old.conn.now) (state S.Store transaction.new.conn.now)
+        (λ _. ⊥) }
+    ensures kept { Keeps (state S.Store transaction.old.conn.now) (state S.Store transaction.new.conn.now) }
+    ensures stays { Spares (state S.Store transaction.old.conn.now) (state S.Store transaction.new.conn.now) result }
+    ensures shown { HasCleanDisk (state S.Store transaction.new.conn.now)
+        → IfOk result (λ rows. ShowsList (state S.Store transaction.old.conn.now) node protected rows.items) }
+{
+    transaction.query_all(
+        "SELECT form, principal, invert, deny, mask FROM ace WHERE node = ?1 AND protected = ?2 ORDER BY place",
+        params![node, protected],
+    )
+}
+
+/// The children of the node with a number, in order of their paths: number of the row, path, kind, owner, label and
+/// change number of each.
+pub fn child_rows<S: Alter>(
+    transaction: &mut Transaction<'_, S>,
+    node: i64,
+) -> Result<Vec<Row>, Error>
+    ensures same_reference { transaction.new.conn.ghost_name ≡ transaction.old.conn.ghost_name }
+    ensures survives { Survives (state S.Store transaction.old.conn.now) (state S.Store transaction.new.conn.now)
+        (λ _. ⊥) }
+    ensures kept { Keeps (state S.Store transaction.old.conn.now) (state S.Store transaction.new.conn.now) }
+    ensures stays { Spares (state S.Store transaction.old.conn.now) (state S.Store transaction.new.conn.now) result }
+    ensures shown { HasCleanDisk (state S.Store transaction.new.conn.now)
+        → IfOk result (λ rows. ShowsChildren (state S.Store transaction.old.conn.now) node rows.items) }
+{
+    transaction.query_all(
+        "SELECT id, path, kind, owner, label, number FROM node WHERE parent = ?1 ORDER BY path",
+        params![node],
+    )
+}
+
+/// The children of the node with a number that have a change number above another, in some order: number of the row,
+/// path, owner, label, text and change number of each.
+pub fn changed_rows<S: Alter>(
+    transaction: &mut Transaction<'_, S>,
+    node: i64,
+    number: u64,
+) -> Result<Vec<Row>, Error>
+    requires { number < 2 ^ 53 }
+    ensures same_reference { transaction.new.conn.ghost_name ≡ transaction.old.conn.ghost_name }
+    ensures survives { Survives (state S.Store transaction.old.conn.now) (state S.Store transaction.new.conn.now)
+        (λ _. ⊥) }
+    ensures kept { Keeps (state S.Store transaction.old.conn.now) (state S.Store transaction.new.conn.now) }
+    ensures stays { Spares (state S.Store transaction.old.conn.now) (state S.Store transaction.new.conn.now) result }
+    ensures shown { HasCleanDisk (state S.Store transaction.new.conn.now)
+        → IfOk result (λ rows. ShowsRows (state S.Store transaction.old.conn.now) (changed_after node number)
+        rows.items) }
+{
+    transaction.query_all(
+        "SELECT id, path, owner, label, text, number FROM node WHERE parent = ?1 AND number > ?2",
+        params![node, number as i64],
+    )
+}
+
+/// The removed names of the book with a number that have a change number above another, in some order: name and
+/// change number of each.
+pub fn gone_rows<S: Alter>(
+    transaction: &mut Transaction<'_, S>,
+    book: i64,
+    number: u64,
+) -> Result<Vec<Row>, Error>
+    requires { number < 2 ^ 53 }
+    ensures same_reference { transaction.new.conn.ghost_name ≡ transaction.old.conn.ghost_name }
+    ensures survives { Survives (state S.Store transaction.old.conn.now) (state S.Store transaction.new.conn.now)
+        (λ _. ⊥) }
+    ensures kept { Keeps (state S.Store transaction.old.conn.now) (state S.Store transaction.new.conn.now) }
+    ensures stays { Spares (state S.Store transaction.old.conn.now) (state S.Store transaction.new.conn.now) result }
+    ensures shown { HasCleanDisk (state S.Store transaction.new.conn.now)
+        → IfOk result (λ rows. ShowsRows (state S.Store transaction.old.conn.now) (gone_after book number) rows.items) }
+{
+    transaction.query_all(
+        "SELECT name, number FROM gone WHERE book = ?1 AND number > ?2",
+        params![book, number as i64],
+    )
+}
+
+/// The direct members of all groups, in some order: the paths of group and member of each pair.
+pub fn member_rows<S: Alter>(transaction: &mut Transaction<'_, S>) -> Result<Vec<Row>, Error>
+    ensures same_reference { transaction.new.conn.ghost_name ≡ transaction.old.conn.ghost_name }
+    ensures survives { Survives (state S.Store transaction.old.conn.now) (state S.Store transaction.new.conn.now)
+        (λ _. ⊥) }
+    ensures kept { Keeps (state S.Store transaction.old.conn.now) (state S.Store transaction.new.conn.now) }
+    ensures stays { Spares (state S.Store transaction.old.conn.now) (state S.Store transaction.new.conn.now) result }
+    ensures shown { HasCleanDisk (state S.Store transaction.new.conn.now)
+        → IfOk result (λ rows. ShowsRows (state S.Store transaction.old.conn.now) pairs_of rows.items) }
+{
+    transaction.query_all("SELECT grp, member FROM member", &[])
+}

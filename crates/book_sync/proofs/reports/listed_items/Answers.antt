@@ -1,0 +1,12 @@
+use Rattle.std.proofs.Common.{rules, ◌∙◌, sym, ap, filter, is_some}
+use Rattle.std.specs.Option.{option_copied}
+use Rattle.std.proofs.lemmas.List.Elements.{filter_from_retain}
+use Rattle.book_sync.specs.declared.messages.Item.{Item}
+use Rattle.book_sync.specs.Reading.{listed_items}
+use Rattle.book_sync.proofs.reports.listed_items.Goals as goal
+
+pub returns-in-None : goal.returns-in-None
+returns-in-None c =
+    let kept = filter_from_retain _ (λ (item : Item). is_some item.found) (λ f item b g called. search (rules, called)) _ c.into_vec-items.result.items c.retain.new.self.items c.retain.ensures.filtered in
+    c.from_vec.ensures ∙ kept ∙ ap (filter (λ (item : Item). is_some item.found)) c.into_vec-items.ensures
+    ∙ ap (λ token. listed_items (option_copied token) c.args.items) (sym c.in-None.is)

@@ -1,0 +1,33 @@
+//! Sets of leaves as masks (own profile): bit 0 is `read`, and each leaf has the bit of its place.
+
+use crate::entry_lines::leaves;
+use book_rights::LeafSet;
+
+/// Privileges, and the mask of their leaves.
+const MASKS: &[(&str, u16)] = &[
+    ("-", 0),
+    ("read", 1),
+    ("write-content", 2),
+    ("write-properties", 4),
+    ("bind", 8),
+    ("unbind", 16),
+    ("read-acl", 32),
+    ("write-acl", 64),
+    ("read-current-user-privilege-set", 128),
+    ("write", 30),
+    ("all", 255),
+    ("read+write-acl", 65),
+    ("write+bind+read-acl", 62),
+];
+
+#[test]
+fn sets_have_masks(rt: HostRuntime) {
+    for (names, mask) in MASKS {
+        let set = leaves(names).expect(&rt, names);
+        assert_eq!(rt; set.mask(), *mask, "{names}");
+        assert_eq!(rt; LeafSet::from_mask(*mask), Some(set), "{names}");
+    }
+    for mask in [256, 257, 511, 65_535] {
+        assert_eq!(rt; LeafSet::from_mask(mask), None, "{mask}");
+    }
+}
