@@ -34,15 +34,21 @@ fn members(rt: &impl Abort, alloc: Global, line: &str) -> Items<Principal> {
     members
 }
 
-/// So many persons, each so many times.
-fn persons(rt: &impl Abort, alloc: Global, count: u64, times: u64) -> Items<Principal> {
-    let mut persons = Items::new(alloc);
-    for turn in 0..times * count {
-        let number = turn % count;
+/// Adds so many persons.
+fn add_persons(rt: &impl Abort, alloc: Global, persons: &mut Items<Principal>, count: u64) {
+    for number in 0..count {
         let path = format!(in alloc; "/people/p{number}").expect(rt, "memory");
         persons
             .push(principal(rt, alloc, path.as_str()))
             .expect(rt, "memory");
+    }
+}
+
+/// So many persons, each so many times.
+fn persons(rt: &impl Abort, alloc: Global, count: u64, times: u64) -> Items<Principal> {
+    let mut persons = Items::new(alloc);
+    for _ in 0..times {
+        add_persons(rt, alloc, &mut persons, count);
     }
     persons
 }
