@@ -112,16 +112,16 @@ counted_any t f (r ∷ rows) = go (t r) (counted_any t f rows)
 
 module _ (db : Trees) (id : Value) where
   -- the child is under the node, and the entry is the child's
-  abbrev child_of : Row → Row → Bool
+  abbrev pub child_of : Row → Row → Bool
   child_of entry child = is_under id child && (equal Binary (column child 0) (column entry 1) && true)
 
-  abbrev counted_for : Row → Value
+  abbrev pub counted_for : Row → Value
   counted_for e = Int (pos (min 1 (length (flat_map (λ n. if child_of e n then ((id ∷ []) ∷ e ∷ n ∷ []) ∷ [] else []) (db 0)))))
 
-  abbrev env : Row → List Row
+  abbrev pub env : Row → List Row
   env e = (id ∷ []) ∷ e ∷ (counted_for e ∷ []) ∷ []
 
-  tests : (e : Row) → (is_true (counted_for e) && true) ≡ is_below id (db 0) e
+  pub tests : (e : Row) → (is_true (counted_for e) && true) ≡ is_below id (db 0) e
   tests e = and_true (is_true (counted_for e)) ∙ counted_any (child_of e) (λ n. (id ∷ []) ∷ e ∷ n ∷ []) (db 0) ∙ (λ i. list_any (λ n. is_under id n && and_true (equal Binary (column n 0) (column e 1)) i) (db 0))
 
   pub picks_below : (rows : List Row) → IsAnswer below_query db (id ∷ []) rows → IsPermutation (map key (filter (is_below id (db 0)) (db 2))) (ids_of rows)

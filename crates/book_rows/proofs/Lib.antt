@@ -25,3 +25,7 @@ pub mod CardCopies
 pub mod Reading
 pub mod CardMoves
 pub mod Counts
+pub mod ListSettings
+pub mod ChildEntries
+pub mod WrittenLists
+pub mod ListsShown

@@ -310,6 +310,26 @@ pub list_children_unlisted : reads_listing book_schema text.list_children ≡ fa
 unfolding understood everything
 list_children_unlisted = refl
 
+abbrev pub listed_terms : List Term
+listed_terms = col 1 1 ∷ col 1 2 ∷ col 1 4 ∷ col 1 5 ∷ col 1 6 ∷ col 1 7 ∷ col 1 8 ∷ []
+
+-- the entries of which some child of a node is the node, in order
+abbrev pub child_entries_query : Query
+child_entries_query = record below_query { project = listed_terms; order = (col 1 1, ascending Binary) ∷ (col 1 2, ascending Binary) ∷ (col 1 3, ascending Binary) ∷ [] }
+
+pub list_child_entries_is : command_of (understood book_schema text.list_child_entries)
+    ≡ Select (record { lets = []; body = child_entries_query }) (codes "node" ∷ codes "protected" ∷ codes "form" ∷ codes "principal" ∷ codes "invert" ∷ codes "deny" ∷ codes "mask" ∷ [])
+unfolding understood everything
+list_child_entries_is = refl
+
+pub list_child_entries_plain : IsPlain (understood book_schema text.list_child_entries)
+unfolding understood everything
+list_child_entries_plain = (refl, refl)
+
+pub list_child_entries_unlisted : reads_listing book_schema text.list_child_entries ≡ false
+unfolding understood everything
+list_child_entries_unlisted = refl
+
 pub read_epoch_is : command_of (understood book_schema text.read_epoch) ≡ Select (record { lets = []; body = record plain_query { from = inner 8 end; project = col 1 1 ∷ col 1 2 ∷ [] } }) (codes "version" ∷ codes "epoch" ∷ [])
 unfolding understood everything
 read_epoch_is = refl

@@ -20,7 +20,7 @@ use Rattle.book_rows.proofs.Statements.{passes, shown_by, map-map, matched}
 abbrev pub ordered_by : ℕ → List Term → List Term → ℕ → Query
 ordered_by tree terms project place = record plain_query { from = inner tree end; filter = terms; project = project; order = (col 1 place, ascending Binary) ∷ [] }
 
-then_equal : (o : Ordering) → ordering_then o Equal ≡ o
+pub then_equal : (o : Ordering) → ordering_then o Equal ≡ o
 then_equal Less = refl
 then_equal Equal = refl
 then_equal Greater = refl

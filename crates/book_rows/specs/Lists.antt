@@ -1,18 +1,20 @@
 -- What a look-up of a list shows.
-use Rattle.std.specs.Prelude.{◌≡◌, ℕ, ℤ, pos, Bool, ◌&&◌, List, [], ◌∷◌, map, filter, find, length, min, slice_get, option_map, unwrap_or, IsTrue, IsPermutation}
+use Rattle.std.specs.Prelude.{◌≡◌, ℕ, ℤ, pos, Bool, true, false, ◌&&◌, List, [], ◌∷◌, map, filter, find, length, min, slice_get, option_map, unwrap_or, IsTrue, IsPermutation}
+use Rattle.std.specs.Ordering.{ordering_then}
 use Rattle.std.specs.declared.cmp.Ordering.{Ordering}
 use Rattle.sqlite.specs.Collation.TheVariants.{Binary}
 use Rattle.sqlite.specs.Ops.{binary, is_true}
 use Rattle.sqlite_sql.specs.declared.ops.BinaryOp.TheVariants.{Compare}
 use Rattle.sqlite_sql.specs.declared.ops.CompareOp.TheVariants.{Gt}
 use Rattle.sqlite_keyed.specs.Lists.{sort_by}
+use Rattle.sqlite.specs.declared.types.Value.{Value}
 use Rattle.sqlite.specs.declared.types.Value.TheVariants.{Int}
 use Rattle.sqlite.specs.Order.{Row, column, value_cmp}
 use Rattle.sqlite.specs.State.{State}
 use Rattle.sqlite.specs.Tree.{rowid}
 use Rattle.book_rows.specs.Rows.{Rows, rows_of, has, IsBook}
 use Rattle.book_rows.specs.Nodes.{number_in}
-use Rattle.book_rows.specs.Writes.{is_at, is_under, entries_of}
+use Rattle.book_rows.specs.Writes.{Said, is_at, is_under, is_below, is_entry, entries_of, or_null, flag, write_list}
 
 -- form, principal, invert, deny and mask of an entry
 abbrev pub entry_columns : Row → Row
@@ -54,6 +56,22 @@ children_of id rows = map (λ row. column row 0 ∷ column row 2 ∷ column row 
 abbrev pub ShowsChildren : State → ℤ → List Row → Type 0
 ShowsChildren s id shown = IsTrue s.is_open × (IsBook s.now → shown ≡ children_of id (rows_of s.now.trees))
 
+-- in order of the node, of the list and of the place
+abbrev pub by_list : Row → Row → Ordering
+by_list a b = ordering_then (value_cmp (column a 1) (column b 1)) (ordering_then (value_cmp (column a 2) (column b 2)) (value_cmp (column a 3) (column b 3)))
+
+-- node, list, form, principal, invert, deny and mask of an entry
+abbrev pub listed_columns : Row → Row
+listed_columns row = column row 1 ∷ column row 2 ∷ column row 4 ∷ column row 5 ∷ column row 6 ∷ column row 7 ∷ column row 8 ∷ []
+
+-- the entries of all children of a node, the own list of each before its protected one, in order of their places
+abbrev pub child_entries : ℤ → Rows → List Row
+child_entries id rows = map listed_columns (sort_by by_list (filter (is_below (Int id) rows.nodes) rows.entries))
+
+-- an open connection shows the entries of the children of a node
+abbrev pub ShowsChildEntries : State → ℤ → List Row → Type 0
+ShowsChildEntries s id shown = IsTrue s.is_open × (IsBook s.now → shown ≡ child_entries id (rows_of s.now.trees))
+
 -- how many children the node at a path has, 0 where there is none; SQL counts no further than the last whole number
 abbrev pub count_at : List ℕ → Rows → ℕ
 count_at path rows = unwrap_or (option_map (λ node. min 9223372036854775807 (length (filter (is_under (rowid node)) rows.nodes))) (find (is_at path) rows.nodes)) 0
@@ -65,3 +83,18 @@ first_number rows = unwrap_or (option_map (λ row. number_in (column row 0)) (sl
 -- an open connection shows that count
 abbrev pub ShowsCount : State → List ℕ → ℕ → Type 0
 ShowsCount s path count = IsTrue s.is_open × (IsBook s.now → count ≡ count_at path (rows_of s.now.trees))
+
+-- ---- laws of own lists
+
+-- what the row of a written entry shows
+abbrev pub said_columns : Said → Row
+said_columns e = Int (pos e.form) ∷ or_null e.principal ∷ flag e.invert ∷ flag e.deny ∷ Int (pos e.mask) ∷ []
+
+-- an own list that was written is read as it was given
+abbrev pub WrittenListsAreRead : Type 0
+WrittenListsAreRead = (rows : Rows) (id : ℤ) (list : List Said) → map entry_columns (entries_of (write_list (Int id) list rows).entries (Int id) false) ≡ map said_columns list
+
+-- a list that has no entry in common with an own list stays as that one is written
+abbrev pub OtherListsStay : Type 0
+OtherListsStay = (rows : Rows) (id : ℤ) (list : List Said) (other : Value) (protected : Bool) → ((row : Row) → is_entry (Int id) false row ≡ true → is_entry other protected row ≡ false)
+    → entries_of (write_list (Int id) list rows).entries other protected ≡ entries_of rows.entries other protected

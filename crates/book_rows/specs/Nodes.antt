@@ -7,9 +7,10 @@ use Rattle.sqlite.specs.Order.{Row, column}
 use Rattle.sqlite.specs.State.{State}
 use Rattle.sqlite.specs.Tree.{rowid}
 use Rattle.book_rows.specs.declared.nodes.Found.{Found}
+use Rattle.book_rows.specs.declared.setting.EntryRow.{EntryRow}
 use Rattle.book_rows.specs.Rows.{Rows, rows_of, has, IsBook}
 use Rattle.book_rows.specs.Steps.{Change, change_of}
-use Rattle.book_rows.specs.Writes.{is_at, is_under, put_card, remove_book, remove_cards, remove_card, add_book, set_label, label_card, put_copy, clear_at, leave_book, arrive_in, delete_gone, delete_entries_below, delete_entries, AreFree, IsMeta, HasMeta}
+use Rattle.book_rows.specs.Writes.{is_at, is_under, put_card, remove_book, remove_cards, remove_card, add_book, set_label, label_card, put_copy, clear_at, leave_book, arrive_in, delete_gone, delete_entries_below, delete_entries, Said, set_list, set_members, AreFree, IsMeta, HasMeta}
 
 abbrev pub number_in : Value → ℕ
 number_in (Int (pos n)) = n
@@ -162,3 +163,31 @@ pub record MovesCard (rows after : Rows) (source_book card_path source_name targ
 abbrev pub moving_card : List ℕ → List ℕ → List ℕ → List ℕ → List ℕ → List ℕ → Change
 moving_card source_book card_path source_name target_book destination target_name =
     record { Fits = FitCardRemoval destination; Makes = λ rows after. MovesCard rows after source_book card_path source_name target_book destination target_name }
+
+-- what an entry says that is to be written
+abbrev pub said : EntryRow → Said
+said e = record { form = e.form; principal = option_map string_bytes e.principal; invert = e.invert; deny = e.deny; mask = e.mask }
+
+-- rows with an epoch that can be raised
+pub record FitEpoch (rows : Rows) : Type 0 where
+  pub meta : HasMeta rows
+
+-- the rows after the own list of a node was written, with the next epoch
+pub record SetsList (rows after : Rows) (path : List ℕ) (list : List Said) : Type 0 where
+  pub node : Row
+  pub there : find (is_at path) rows.nodes ≡ Some node
+  pub epoch : ℕ
+  pub meta : IsMeta rows.meta epoch
+  pub rows_are : after ≡ set_list (Int (id_in (rowid node))) list (epoch + 1) rows
+
+abbrev pub setting_list : List ℕ → List Said → Change
+setting_list path list = record { Fits = FitEpoch; Makes = λ rows after. SetsList rows after path list }
+
+-- the rows after the direct members of a group were written, with the next epoch
+pub record SetsMembers (rows after : Rows) (group : List ℕ) (members : List (List ℕ)) : Type 0 where
+  pub epoch : ℕ
+  pub meta : IsMeta rows.meta epoch
+  pub rows_are : after ≡ set_members group members (epoch + 1) rows
+
+abbrev pub setting_members : List ℕ → List (List ℕ) → Change
+setting_members group members = record { Fits = FitEpoch; Makes = λ rows after. SetsMembers rows after group members }

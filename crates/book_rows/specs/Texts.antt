@@ -113,5 +113,9 @@ list_gone = codes "SELECT name, number FROM gone WHERE book = ?1 AND number > ?2
 abbrev pub count_children : List ℕ
 count_children = codes "SELECT (SELECT count(*) FROM node AS child WHERE child.parent = node.id) FROM node WHERE path = ?1"
 
+-- the entries of all children of a node
+abbrev pub list_child_entries : List ℕ
+list_child_entries = codes "SELECT node, protected, form, principal, invert, deny, mask FROM ace WHERE EXISTS (SELECT 1 FROM node WHERE parent = ?1 AND id = ace.node) ORDER BY node, protected, place"
+
 abbrev pub list_children : List ℕ
 list_children = codes "SELECT id, path, kind, owner, label, number FROM node WHERE parent = ?1 ORDER BY path"

@@ -1,5 +1,5 @@
 -- What each statement makes of the rows.
-use Rattle.std.specs.Prelude.{◌≡◌, ℕ, ℤ, pos, Bool, true, false, ◌&&◌, List, [], ◌∷◌, ◌++◌, filter, Option, Some, None}
+use Rattle.std.specs.Prelude.{◌≡◌, ℕ, ◌+◌, ℤ, pos, Bool, true, false, ◌&&◌, List, [], ◌∷◌, ◌++◌, filter, Option, Some, None}
 use Rattle.sqlite.specs.declared.types.Value.{Value}
 use Rattle.sqlite.specs.declared.types.Value.TheVariants.{Null, Int, Text}
 use Rattle.sqlite.specs.Order.{Row, column, value_cmp}
@@ -203,6 +203,45 @@ leave_book book book_path name number rows = set_number book_path number (insert
 abbrev pub arrive_in : Value → List ℕ → List ℕ → List ℕ → List ℕ → ℕ → Rows → Rows
 arrive_in book book_path card_path destination name number rows =
     set_number book_path number (move_node card_path destination book number (delete_gone_name book name rows))
+
+-- ---- lists and members that are written anew
+
+-- what an entry of a list says
+pub record Said : Type 0 where
+  pub form : ℕ
+  pub principal : Option (List ℕ)
+  pub invert : Bool
+  pub deny : Bool
+  pub mask : ℕ
+
+-- an entry at a place of the own list of a node
+abbrev pub insert_own : Value → ℕ → Said → Rows → Rows
+insert_own node place entry rows = insert_entry node false place entry.form entry.principal entry.invert entry.deny entry.mask rows
+
+-- entries at the places from one on
+abbrev pub insert_entries : Value → ℕ → List Said → Rows → Rows
+insert_entries node place [] rows = rows
+insert_entries node place (entry ∷ more) rows = insert_entries node (place + 1) more (insert_own node place entry rows)
+
+-- the own list of the node whose row has a number is this one
+abbrev pub write_list : Value → List Said → Rows → Rows
+write_list node list rows = insert_entries node 0 list (delete_own node rows)
+
+-- ACL (RFC 3744, 8.1): the node has this own list, and the epoch is another
+abbrev pub set_list : Value → List Said → ℕ → Rows → Rows
+set_list node list epoch rows = set_epoch epoch (write_list node list rows)
+
+abbrev pub insert_members : List ℕ → List (List ℕ) → Rows → Rows
+insert_members group [] rows = rows
+insert_members group (member ∷ more) rows = insert_members group more (insert_member group member rows)
+
+-- the direct members of the group at a path are these
+abbrev pub write_members : List ℕ → List (List ℕ) → Rows → Rows
+write_members group members rows = insert_members group members (delete_members group rows)
+
+-- PROPPATCH of a group's members (RFC 3744, 4.3): the group has these, and the epoch is another
+abbrev pub set_members : List ℕ → List (List ℕ) → ℕ → Rows → Rows
+set_members group members epoch rows = set_epoch epoch (write_members group members rows)
 
 -- ---- rows that a write fits
 

@@ -6,10 +6,10 @@
 //! open connection shows what it showed; and a stop may leave the tables as before or as after it, and no third.
 //!
 //! Read `specs/Schema` first, the tables with their columns and rules; `specs/Writes`, what each statement and each
-//! edit makes of the rows; `specs/Steps`, what a call does to a connection; and `specs/Nodes` and `specs/Lists`, the
-//! changes that edits make and what reads tell. Of the code, `nodes`, `cards` and `epochs` have one statement a
-//! function; `putting`, `changing`, `removing`, `copying`, `moving` and `labels` the edits; `lists` and `counting`
-//! the reads of several rows.
+//! edit makes of the rows; `specs/Steps`, what a call does to a connection; and `specs/Nodes`, `specs/Lists` and
+//! `specs/Levels`, the changes that edits make and what reads tell. Of the code, `nodes`, `cards` and `epochs` have
+//! one statement a function; `putting`, `changing`, `removing`, `copying`, `moving`, `labels` and `setting` the edits;
+//! `lists`, `levels` and `counting` the reads of several rows.
 #![tactic(auto)]
 
 mod cards;
@@ -18,19 +18,23 @@ mod copying;
 mod counting;
 mod epochs;
 mod labels;
+mod levels;
 mod lists;
 mod moving;
 mod nodes;
 mod putting;
 mod removing;
+mod setting;
 
 pub use changing::{add_book, remove_card};
 pub use copying::copy_card;
 pub use counting::count_children;
 pub use epochs::read_epoch;
 pub use labels::{label_card, label_node};
-pub use lists::{changed_rows, child_rows, entry_rows, gone_rows, member_rows};
+pub use levels::{NodeLists, lists_at};
+pub use lists::{changed_rows, child_entry_rows, child_rows, entry_rows, gone_rows, member_rows};
 pub use moving::move_card;
-pub use nodes::{Found, look_up};
+pub use nodes::{Found, insert_node, look_up};
 pub use putting::put_card;
 pub use removing::remove_book;
+pub use setting::{EntryRow, set_list, set_members, written_lists_are_read};

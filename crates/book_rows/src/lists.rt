@@ -3,7 +3,7 @@
 ghost use Rattle.std.specs.Prelude.{◌≡◌, ◌<◌, ◌^◌, IfOk};
 ghost use Rattle.sqlite.specs.Held.{state};
 ghost use Rattle.sqlite.specs.State.{HasCleanDisk, Survives};
-ghost use Rattle.book_rows.specs.Lists.{ShowsList, ShowsRows, ShowsChildren, pairs_of, gone_after, changed_after};
+ghost use Rattle.book_rows.specs.Lists.{ShowsList, ShowsRows, ShowsChildren, ShowsChildEntries, pairs_of, gone_after, changed_after};
 ghost use Rattle.book_rows.specs.Steps.{Keeps, Spares};
 
 use sqlite::{Alter, Error, Row, Transaction, params};
@@ -45,6 +45,27 @@ pub fn child_rows<S: Alter>(
 {
     transaction.query_all(
         "SELECT id, path, kind, owner, label, number FROM node WHERE parent = ?1 ORDER BY path",
+        params![node],
+    )
+}
+
+/// The entries of all children of the node with a number, in order of the child's number, its own list before its
+/// protected one, and of their places: the child's number, whether the list is the protected one, form, principal,
+/// invert, deny and mask of each.
+pub fn child_entry_rows<S: Alter>(
+    transaction: &mut Transaction<'_, S>,
+    node: i64,
+) -> Result<Vec<Row>, Error>
+    ensures same_reference { transaction.new.conn.ghost_name ≡ transaction.old.conn.ghost_name }
+    ensures survives { Survives (state S.Store transaction.old.conn.now) (state S.Store transaction.new.conn.now)
+        (λ _. ⊥) }
+    ensures kept { Keeps (state S.Store transaction.old.conn.now) (state S.Store transaction.new.conn.now) }
+    ensures stays { Spares (state S.Store transaction.old.conn.now) (state S.Store transaction.new.conn.now) result }
+    ensures shown { HasCleanDisk (state S.Store transaction.new.conn.now)
+        → IfOk result (λ rows. ShowsChildEntries (state S.Store transaction.old.conn.now) node rows.items) }
+{
+    transaction.query_all(
+        "SELECT node, protected, form, principal, invert, deny, mask FROM ace WHERE EXISTS (SELECT 1 FROM node WHERE parent = ?1 AND id = ace.node) ORDER BY node, protected, place",
         params![node],
     )
 }

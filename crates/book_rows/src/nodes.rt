@@ -103,7 +103,7 @@ pub fn look_up<S: Alter>(
 }
 
 /// Adds the row of a node under the node with a number.
-pub(crate) fn insert_node<'x, S: Alter>(
+pub fn insert_node<'x, S: Alter>(
     transaction: &mut Transaction<'_, S>,
     path: &'x str,
     parent: i64,

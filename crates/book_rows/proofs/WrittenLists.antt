@@ -1,0 +1,103 @@
+-- An own list that was written is read as it was given, and no other list changes.
+use Rattle.std.proofs.Common.{◌≡◌, ℕ, ◌+◌, ℤ, pos, Bool, true, false, not, cond, List, [], ◌∷◌, ◌++◌, map, filter, refl, sym, ap, ◌∙◌, Less, arith}
+use Rattle.std.proofs.lemmas.Int.{ints}
+use Rattle.std.proofs.lemmas.Cmp.{tied_itself}
+use Rattle.std.proofs.lemmas.List.{append_assoc, append-nil}
+use Rattle.std.proofs.lemmas.List.Elements.{filter-append}
+use Rattle.sqlite.specs.declared.types.Value.TheVariants.{Int}
+use Rattle.sqlite.specs.Collation.TheVariants.{Binary}
+use Rattle.sqlite.specs.Edit.{next_rowid}
+use Rattle.sqlite.specs.Order.{Row, value_cmp}
+use Rattle.sqlite_schema.specs.Rules.{equal}
+use Rattle.sqlite_keyed.specs.Lists.{delete_where, sort_by, insert_sorted}
+use Rattle.sqlite_keyed.proofs.KeyedLemmas.{Less-from_lt}
+use Rattle.sqlite_value.proofs.OrderLemmas.{value_cmp_total, value_cmp-Int}
+use Rattle.book_rows.specs.Lists.{entry_columns, said_columns, WrittenListsAreRead, OtherListsStay}
+use Rattle.book_rows.specs.Rows.{Rows}
+use Rattle.book_rows.specs.Writes.{Said, entry_row, insert_own, insert_entries, delete_own, write_list, is_entry, by_place}
+use Rattle.book_rows.proofs.Entries.{equal_tied}
+
+-- ---- the rows that are added
+
+module _ (id : ℤ) where
+  abbrev row_at : ℕ → Said → Rows → Row
+  row_at place e rows = entry_row (next_rowid rows.entries) (Int id) false place e.form e.principal e.invert e.deny e.mask
+
+  abbrev added : ℕ → List Said → Rows → List Row
+  added place [] rows = []
+  added place (e ∷ more) rows = row_at place e rows ∷ added (place + 1) more (insert_own (Int id) place e rows)
+
+  are_added : (place : ℕ) (list : List Said) (rows : Rows) → (insert_entries (Int id) place list rows).entries ≡ rows.entries ++ added place list rows
+  are_added place [] rows = sym (append-nil rows.entries)
+  are_added place (e ∷ more) rows =
+      are_added (place + 1) more (insert_own (Int id) place e rows) ∙ append_assoc rows.entries (row_at place e rows ∷ []) (added (place + 1) more (insert_own (Int id) place e rows))
+
+  itself : (n : ℤ) → equal Binary (Int n) (Int n) ≡ true
+  itself n = equal_tied (Int n) (Int n) refl refl (tied_itself value_cmp_total (Int n))
+
+  is_own : (place : ℕ) (e : Said) (rows : Rows) → is_entry (Int id) false (row_at place e rows) ≡ true
+  is_own place e rows = rw (itself id, itself (pos 0)) refl
+
+  all_own : (place : ℕ) (list : List Said) (rows : Rows) → filter (is_entry (Int id) false) (added place list rows) ≡ added place list rows
+  all_own place [] rows = refl
+  all_own place (e ∷ more) rows = rw (is_own place e rows) (ap (λ rest. row_at place e rows ∷ rest) (all_own (place + 1) more (insert_own (Int id) place e rows)))
+
+  -- ---- they rise by their places
+
+  rises : (place : ℕ) → value_cmp (Int (pos place)) (Int (pos (place + 1))) ≡ Less
+  rises place = value_cmp-Int (pos place) (pos (place + 1)) ∙ Less-from_lt (pos place) (pos (place + 1)) (omega (arith, ints))
+
+  put_first : (place : ℕ) (e : Said) (rows : Rows) (more : List Said) (later : Rows) → insert_sorted by_place (row_at place e rows) (added (place + 1) more later) ≡ row_at place e rows ∷ added (place + 1) more later
+  put_first place e rows [] later = refl
+  put_first place e rows (f ∷ more) later = rw (rises place) refl
+
+  are_sorted : (place : ℕ) (list : List Said) (rows : Rows) → sort_by by_place (added place list rows) ≡ added place list rows
+  are_sorted place [] rows = refl
+  are_sorted place (e ∷ more) rows =
+      let later = insert_own (Int id) place e rows in
+      ap (insert_sorted by_place (row_at place e rows)) (are_sorted (place + 1) more later) ∙ put_first place e rows more later
+
+  are_shown : (place : ℕ) (list : List Said) (rows : Rows) → map entry_columns (added place list rows) ≡ map said_columns list
+  are_shown place [] rows = refl
+  are_shown place (e ∷ more) rows = ap (λ rest. said_columns e ∷ rest) (are_shown (place + 1) more (insert_own (Int id) place e rows))
+
+-- ---- those that were there
+
+none_left : (p : Row → Bool) (rows : List Row) → filter p (delete_where p rows) ≡ []
+none_left p [] = refl
+none_left p (r ∷ rows) = go (p r) refl (none_left p rows)
+  where
+    go : (b : Bool) → p r ≡ b → filter p (delete_where p rows) ≡ [] → filter p (cond (not b) (r ∷ delete_where p rows) (delete_where p rows)) ≡ []
+    go true e more = more
+    go false e more = rw e more
+
+all_left : (p q : Row → Bool) → ((r : Row) → p r ≡ true → q r ≡ false) → (rows : List Row) → filter q (delete_where p rows) ≡ filter q rows
+all_left p q apart [] = refl
+all_left p q apart (r ∷ rows) = go (p r) refl (all_left p q apart rows)
+  where
+    go : (b : Bool) → p r ≡ b → filter q (delete_where p rows) ≡ filter q rows → filter q (cond (not b) (r ∷ delete_where p rows) (delete_where p rows)) ≡ cond (q r) (r ∷ filter q rows) (filter q rows)
+    go true e more = rw (apart r e) more
+    go false e more = ap (λ rest. cond (q r) (r ∷ rest) rest) more
+
+none_of : (id : ℤ) (q : Row → Bool) → ((r : Row) → is_entry (Int id) false r ≡ true → q r ≡ false) → (place : ℕ) (list : List Said) (rows : Rows) → filter q (added id place list rows) ≡ []
+none_of id q apart place [] rows = refl
+none_of id q apart place (e ∷ more) rows = rw (apart (row_at id place e rows) (is_own id place e rows)) (none_of id q apart (place + 1) more (insert_own (Int id) place e rows))
+
+-- ---- the laws
+
+pub written_are_read : WrittenListsAreRead
+written_are_read rows id list =
+    let p = is_entry (Int id) false in
+    let left = delete_own (Int id) rows in
+    let picked : filter p (write_list (Int id) list rows).entries ≡ added id 0 list left =
+    ap (filter p) (are_added id 0 list left) ∙ filter-append p left.entries (added id 0 list left) ∙ ap (λ xs. xs ++ filter p (added id 0 list left)) (none_left p rows.entries) ∙ all_own id 0 list left in
+    ap (λ xs. map entry_columns (sort_by by_place xs)) picked ∙ ap (map entry_columns) (are_sorted id 0 list left) ∙ are_shown id 0 list left
+
+pub others_stay : OtherListsStay
+others_stay rows id list other protected apart =
+    let p = is_entry (Int id) false in
+    let q = is_entry other protected in
+    let left = delete_own (Int id) rows in
+    let picked : filter q (write_list (Int id) list rows).entries ≡ filter q rows.entries =
+    ap (filter q) (are_added id 0 list left) ∙ filter-append q left.entries (added id 0 list left) ∙ ap (λ xs. filter q left.entries ++ xs) (none_of id q apart 0 list left) ∙ append-nil (filter q left.entries) ∙ all_left p q apart rows.entries in
+    ap (sort_by by_place) picked

@@ -1,0 +1,50 @@
+-- Rows give one sound Office at most.
+use Rattle.std.proofs.Common.{◌≡◌, ℕ, List, Option, None, option_and_then, sym, ap, ◌∙◌}
+use Rattle.std.specs.FinMap.{get}
+use Rattle.sqlite.specs.Order.{Row}
+use Rattle.sqlite.specs.Tree.{Trees}
+use Rattle.book_values.specs.declared.offices.Book.{Book}
+use Rattle.book_values.specs.declared.offices.Office.{Office}
+use Rattle.book_values.specs.declared.paths.Path.{Path}
+use Rattle.book_values.specs.Paths.{IsPath}
+use Rattle.book_values.proofs.OneName.{by_option}
+use Rattle.book_adopting.proofs.KeptPairs.{both_within}
+use Rattle.book_office.specs.Keeping.{Leftover, whole, broken}
+use Rattle.book_office.specs.Resources.{resource_at, removed_at, unless_mapped}
+use Rattle.book_office.specs.Sound.{IsSound}
+use Rattle.book_office.proofs.SameOffices.{same_office}
+use Rattle.book_office.proofs.StandingResources.{resources_stand_in_place}
+use Rattle.book_rows.specs.Rows.{Rows, rows_of, in_store}
+use Rattle.book_rows.specs.Writes.{IsMeta}
+use Rattle.book_tables.specs.Stands.{Gives, Stands, LeftBy}
+
+pub epoch_is : (meta : List Row) (a b : ℕ) → IsMeta meta a → IsMeta meta b → a ≡ b
+epoch_is meta a b (i, e) (j, f) = let same = sym e ∙ f in cc
+
+-- what is at a path that is none, in a sound Office
+none_there : (o : Office) → IsSound o → (q : Path) → (IsPath q → ⊥) → resource_at o q ≡ None
+none_there o sound q none = by_option (resource_at o q) (λ e. e) (λ r e. absurd (none (resources_stand_in_place o sound q r e).named))
+
+abbrev removed_from : List ℕ → Book → Option ℕ
+removed_from name k = unless_mapped (get k.cards name) (get k.changes.last name)
+
+module _ (rows : Rows) (o p : Office) (gives : Gives rows o) (gives' : Gives rows p) (sound : IsSound o) (sound' : IsSound p) where
+  resources : (q : Path) → resource_at o q ≡ resource_at p q
+  resources q = by_option (resource_at o q)
+      (λ none. by_option (resource_at p q) (λ none'. none ∙ sym none')
+      (λ r e. let named = (resources_stand_in_place p sound' q r e).named in sym (gives.resources q named) ∙ gives'.resources q named))
+      (λ r e. let named = (resources_stand_in_place o sound q r e).named in sym (gives.resources q named) ∙ gives'.resources q named)
+
+  removed : (b name : List ℕ) → removed_at o b name ≡ removed_at p b name
+  removed b name = by_option (get o.books b)
+      (λ none. by_option (get p.books b)
+      (λ none'. ap (option_and_then (removed_from name)) none ∙ sym (ap (option_and_then (removed_from name)) none'))
+      (λ book e. let named = (sound'.books b book e).0 in sym (gives.gone b name named) ∙ gives'.gone b name named))
+      (λ book e. let named = (sound.books b book e).0 in sym (gives.gone b name named) ∙ gives'.gone b name named)
+
+  pub one_office : o ≡ p
+  one_office = same_office o p sound sound' resources (both_within o.pairs p.pairs (λ m h. sym (sym (gives.members m) ∙ gives'.members m) ∙ h) (λ m h. sym (gives.members m) ∙ gives'.members m ∙ h)) removed (epoch_is rows.meta o.epoch p.epoch gives.meta gives'.meta)
+
+pub only_left : (trees : Trees) (o : Office) (left : Leftover) → Stands (in_store trees) o → LeftBy trees left → left ≡ whole o
+only_left trees o (whole other) st by = ap whole (one_office (rows_of trees) other o by.gives st.gives by.sound st.sound)
+only_left trees o broken st by = absurd (by o st)

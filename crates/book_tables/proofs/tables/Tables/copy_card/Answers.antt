@@ -1,0 +1,48 @@
+use Rattle.std.proofs.Common.{rules, ◌≡◌}
+use Rattle.sqlite.specs.Held.{state}
+use Rattle.sqlite.specs.State.{HasCleanDisk, Survives}
+use Rattle.book_office.specs.declared.edits.Edit.TheVariants.{CopyCard}
+use Rattle.book_rows.specs.Steps.{Commits, MayLeave}
+use Rattle.book_rows.specs.Nodes.{copying_card}
+use Rattle.book_tables.proofs.Acting.{edit_made, edit_failed}
+use Rattle.book_tables.proofs.CardEdits.{copies_card}
+use Rattle.book_values.specs.Paths.{book_path, card_path}
+use Rattle.std.specs.Option.{option_copied}
+use Rattle.book_tables.proofs.tables.Tables.copy_card.Goals as goal
+
+pub returns-in-Ok : goal.returns-in-Ok
+returns-in-Ok g c =
+    let old = state g.S.Store c.args.self.now.connection in
+    let new = state g.S.Store c.copy_card.new.connection in
+    let from_book = c.args.from_book.now in
+    let from_card = c.args.from_card.now in
+    let b = c.args.to_book.now in
+    let name = c.args.to_card.now in
+    let source_text : c.as_str.result.now ≡ card_path from_book from_card = search rules in
+    let book_text : c.as_str-2.result.now ≡ book_path b = search rules in
+    let card_text : c.as_str-3.result.now ≡ card_path b name = search rules in
+    let name_text : c.text.result.now ≡ name = search rules in
+    let owner : option_copied c.map-owner.result ≡ c.args.owner.now = search rules in
+    let edit = CopyCard from_book from_card b name c.args.owner.now in
+    let change = copying_card (card_path from_book from_card) (book_path b) (card_path b name) name c.args.owner.now in
+    let survives : Survives old new (MayLeave old change) = rw (source_text, book_text, card_text, name_text, owner) at c.copy_card.ensures.left in
+    let commits : HasCleanDisk new → Commits old new change = rw (source_text, book_text, card_text, name_text, owner) at c.in-Ok.ensures.made in
+    edit_made old new edit change (copies_card from_book from_card b name c.args.owner.now) survives c.args.self.now.failures (g.met.S.Store.settled c.copy_card.new.connection.store) commits
+
+pub returns : goal.returns
+returns g c =
+    let old = state g.S.Store c.args.self.now.connection in
+    let new = state g.S.Store c.copy_card.new.connection in
+    let from_book = c.args.from_book.now in
+    let from_card = c.args.from_card.now in
+    let b = c.args.to_book.now in
+    let name = c.args.to_card.now in
+    let source_text : c.as_str.result.now ≡ card_path from_book from_card = search rules in
+    let book_text : c.as_str-2.result.now ≡ book_path b = search rules in
+    let card_text : c.as_str-3.result.now ≡ card_path b name = search rules in
+    let name_text : c.text.result.now ≡ name = search rules in
+    let owner : option_copied c.map-owner.result ≡ c.args.owner.now = search rules in
+    let edit = CopyCard from_book from_card b name c.args.owner.now in
+    let change = copying_card (card_path from_book from_card) (book_path b) (card_path b name) name c.args.owner.now in
+    let survives : Survives old new (MayLeave old change) = rw (source_text, book_text, card_text, name_text, owner) at c.copy_card.ensures.left in
+    edit_failed old new edit change (copies_card from_book from_card b name c.args.owner.now) survives c.args.self.now.failures _ _ c.fault_of.ensures c.in-Err.ensures.kept

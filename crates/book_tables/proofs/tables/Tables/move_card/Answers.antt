@@ -1,0 +1,49 @@
+use Rattle.std.proofs.Common.{rules, ◌≡◌}
+use Rattle.sqlite.specs.Held.{state}
+use Rattle.sqlite.specs.State.{HasCleanDisk, Survives}
+use Rattle.book_office.specs.declared.edits.Edit.TheVariants.{MoveCard}
+use Rattle.book_values.specs.Paths.{book_path, card_path}
+use Rattle.book_rows.specs.Steps.{Commits, MayLeave}
+use Rattle.book_rows.specs.Nodes.{moving_card}
+use Rattle.book_tables.proofs.Acting.{edit_made, edit_failed}
+use Rattle.book_tables.proofs.MovedCards.{moves_card}
+use Rattle.book_tables.proofs.tables.Tables.move_card.Goals as goal
+
+pub returns-in-Ok : goal.returns-in-Ok
+returns-in-Ok g c =
+    let old = state g.S.Store c.args.self.now.connection in
+    let new = state g.S.Store c.move_card.new.connection in
+    let sb = c.args.from_book.now in
+    let sc = c.args.from_card.now in
+    let tb = c.args.to_book.now in
+    let tc = c.args.to_card.now in
+    let source_book : c.as_str.result.now ≡ book_path sb = search rules in
+    let source : c.as_str-2.result.now ≡ card_path sb sc = search rules in
+    let source_name : c.text.result.now ≡ sc = search rules in
+    let target_book : c.as_str-3.result.now ≡ book_path tb = search rules in
+    let target : c.as_str-4.result.now ≡ card_path tb tc = search rules in
+    let target_name : c.text-2.result.now ≡ tc = search rules in
+    let edit = MoveCard sb sc tb tc in
+    let change = moving_card (book_path sb) (card_path sb sc) sc (book_path tb) (card_path tb tc) tc in
+    let survives : Survives old new (MayLeave old change) = rw (source_book, source, source_name, target_book, target, target_name) at c.move_card.ensures.left in
+    let commits : HasCleanDisk new → Commits old new change = rw (source_book, source, source_name, target_book, target, target_name) at c.in-Ok.ensures.made in
+    edit_made old new edit change (moves_card sb sc tb tc) survives c.args.self.now.failures (g.met.S.Store.settled c.move_card.new.connection.store) commits
+
+pub returns : goal.returns
+returns g c =
+    let old = state g.S.Store c.args.self.now.connection in
+    let new = state g.S.Store c.move_card.new.connection in
+    let sb = c.args.from_book.now in
+    let sc = c.args.from_card.now in
+    let tb = c.args.to_book.now in
+    let tc = c.args.to_card.now in
+    let source_book : c.as_str.result.now ≡ book_path sb = search rules in
+    let source : c.as_str-2.result.now ≡ card_path sb sc = search rules in
+    let source_name : c.text.result.now ≡ sc = search rules in
+    let target_book : c.as_str-3.result.now ≡ book_path tb = search rules in
+    let target : c.as_str-4.result.now ≡ card_path tb tc = search rules in
+    let target_name : c.text-2.result.now ≡ tc = search rules in
+    let edit = MoveCard sb sc tb tc in
+    let change = moving_card (book_path sb) (card_path sb sc) sc (book_path tb) (card_path tb tc) tc in
+    let survives : Survives old new (MayLeave old change) = rw (source_book, source, source_name, target_book, target, target_name) at c.move_card.ensures.left in
+    edit_failed old new edit change (moves_card sb sc tb tc) survives c.args.self.now.failures _ _ c.fault_of.ensures c.in-Err.ensures.kept

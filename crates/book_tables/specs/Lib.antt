@@ -1,0 +1,5 @@
+pub mod Rows
+pub mod Stands
+pub mod Keeps
+pub mod Reading
+pub mod Laws
