@@ -36,7 +36,8 @@ fn put(alloc: Global, index: usize) -> Result<Edit> {
     })
 }
 
-fn make(alloc: Global, keeper: &mut MemoryKeeper, edit: &Edit) -> Result<()> {
+/// Makes an edit, which is not refused.
+pub fn make(alloc: Global, keeper: &mut MemoryKeeper, edit: &Edit) -> Result<()> {
     ensure!(keeper.act(alloc, edit).is_ok(), "an edit is refused");
     Ok(())
 }

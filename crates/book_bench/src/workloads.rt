@@ -18,7 +18,8 @@ fn principal(alloc: Global, home: &str, number: usize) -> Result<Principal> {
     Principal::parse(alloc, path.as_str())?.context("a path of no principal")
 }
 
-fn group(alloc: Global, number: usize) -> Result<Principal> {
+/// The group of this number.
+pub fn group(alloc: Global, number: usize) -> Result<Principal> {
     principal(alloc, "groups", number)
 }
 
@@ -63,16 +64,28 @@ fn entry(who: Principal, deny: bool) -> Entry {
     }
 }
 
-/// Adds so many entries: the last grants all to the last of so many nested groups, the others deny it to groups of others.
+/// Adds so many entries, which deny all to groups of others.
+pub fn add_denials(
+    alloc: Global,
+    entries: &mut Items<Entry>,
+    size: usize,
+    groups: usize,
+) -> Result<()> {
+    for number in 0..size {
+        entries.push(entry(group(alloc, groups.saturating_add(number))?, true))?;
+    }
+    Ok(())
+}
+
+/// Adds so many entries: the last grants all to the last of so many nested groups, the others deny it to groups of
+/// others.
 pub fn add_entries(
     alloc: Global,
     entries: &mut Items<Entry>,
     size: usize,
     groups: usize,
 ) -> Result<()> {
-    for number in 1..size {
-        entries.push(entry(group(alloc, groups.saturating_add(number))?, true))?;
-    }
+    add_denials(alloc, entries, size.saturating_sub(1), groups)?;
     entries.push(entry(group(alloc, groups.saturating_sub(1))?, false))?;
     Ok(())
 }

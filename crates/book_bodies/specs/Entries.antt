@@ -9,7 +9,7 @@ use Rattle.book_machine.specs.declared.messages.Body.{Body}
 use Rattle.book_machine.specs.declared.messages.Body.TheVariants as body
 use Rattle.book_bodies.specs.Forms.{only_under, texts_in}
 use Rattle.book_bodies.specs.Principals.{IsFormIn}
-use Rattle.book_bodies.specs.Privileges.{AreLeaves}
+use Rattle.book_bodies.specs.Privileges.{AreLeavesIn}
 
 abbrev pub is_entry_key : List ℕ → Bool
 is_entry_key key =
@@ -90,7 +90,7 @@ pub record Means (w : Written) (entry : Submitted) : Type 0 where
   pub who : IsFormIn w.form.1 entry.who
   pub invert : entry.invert ≡ w.form.0
   pub deny : entry.deny ≡ w.action.0
-  pub set : AreLeaves w.action.1 entry.set
+  pub set : AreLeavesIn w.action.1 entry.set
   pub protected : entry.protected ≡ w.protected
   pub inherited : entry.inherited ≡ w.inherited
 

@@ -1,12 +1,12 @@
 -- The body of a PROPFIND: {"prop":[NAME, ..]} with 1 to 7 different names of properties (RFC 4918, section 9.1).
-use Rattle.std.specs.Prelude.{ℕ, Bool, ◌==◌, if◌then◌else◌, List, [], ◌∷◌, ◌++◌, codes, Option, Some, None, option_and_then}
-use Rattle.std.specs.List.{list_any}
+use Rattle.std.specs.Prelude.{ℕ, if◌then◌else◌, List, [], ◌∷◌, ◌++◌, codes, Option, Some, None, option_and_then}
 use Rattle.std.specs.Str.{bytes_eq}
 use Rattle.serde_json.specs.Data.{Data}
 use Rattle.book_machine.specs.declared.messages.Body.{Body}
 use Rattle.book_machine.specs.declared.messages.Body.TheVariants as body
-use Rattle.book_machine.specs.declared.messages.Property.{Property}
-use Rattle.book_machine.specs.declared.messages.Property.TheVariants.{DisplayName, ResourceType, Owner, Acl, CurrentUserPrivilegeSet, GroupMemberSet, SyncToken}
+use Rattle.book_listings.specs.Properties.{is_asked}
+use Rattle.book_listings.specs.declared.messages.Property.{Property}
+use Rattle.book_listings.specs.declared.messages.Property.TheVariants.{DisplayName, ResourceType, Owner, Acl, CurrentUserPrivilegeSet, GroupMemberSet, SyncToken}
 use Rattle.book_bodies.specs.Forms.{only_under, texts_in}
 
 -- names are compared with case
@@ -20,24 +20,11 @@ property_named name =
     if bytes_eq name (codes "group-member-set") then Some GroupMemberSet else (
     if bytes_eq name (codes "sync-token") then Some SyncToken else None))))))
 
--- the place of a property among the seven
-abbrev pub place_of : Property → ℕ
-place_of DisplayName = 0
-place_of ResourceType = 1
-place_of Owner = 2
-place_of Acl = 3
-place_of CurrentUserPrivilegeSet = 4
-place_of GroupMemberSet = 5
-place_of SyncToken = 6
-
-abbrev pub is_among : Property → List Property → Bool
-is_among p found = list_any (λ q. place_of q == place_of p) found
-
 -- the properties that were found, and those that the names after them have, if all are known and different
 abbrev pub properties_after : List Property → List (List ℕ) → Option (List Property)
 properties_after found [] = Some found
 properties_after found (name ∷ names) =
-    option_and_then (λ p. if is_among p found then None else properties_after (found ++ p ∷ []) names)
+    option_and_then (λ p. if is_asked p found then None else properties_after (found ++ p ∷ []) names)
     (property_named name)
 
 abbrev pub if_any : List Property → Option (List Property)

@@ -4,8 +4,8 @@ use Rattle.serde_json.specs.Data.{Data, null, number, string, object, member, no
 use Rattle.book_rights.specs.Privileges.{leaf_name}
 use Rattle.book_cards.specs.FaultTexts.{fault_name}
 use Rattle.book_values.specs.Paths.{path_text}
-use Rattle.book_machine.specs.declared.refusals.DecidingEntry.{DecidingEntry}
-use Rattle.book_machine.specs.declared.refusals.Denial.{Denial}
+use Rattle.book_listings.specs.declared.messages.Denial.{Denial}
+use Rattle.book_replies.specs.Denials.{entry_data}
 use Rattle.book_machine.specs.declared.refusals.Refusal.{Refusal}
 use Rattle.book_machine.specs.declared.refusals.Refusal.TheVariants.{BadRequest, UnknownCaller, BadCard, NeedPrivileges, NoProtectedAceConflict, NoInheritedAceConflict, LimitedNumberOfAces, NotSupportedPrivilege, RecognizedPrincipal, ValidSyncToken, NotFound, NotAllowed, NoParent, Overwrite, BodyOnMkcol, Full, Unavailable}
 
@@ -18,14 +18,6 @@ abbrev pub faulty_card : List ℕ → ℕ → Data
 faulty_card fault line =
     object (member (codes "error") (string (codes "bad-card")) (member (codes "fault") (string fault)
     (member (codes "line") (number (unsigned line)) no_members)))
-
--- {"from":PATH,"number":N}: where the entry stands, and its place in the effective list, from 1; null where no entry
--- decides
-abbrev pub entry_data : Option DecidingEntry → Data
-entry_data None = null
-entry_data (Some entry) =
-    object (member (codes "from") (string (path_text entry.from))
-    (member (codes "number") (number (unsigned entry.number)) no_members))
 
 -- {"entry":E,"error":"need-privileges","privilege":LEAF,"resource":PATH}
 abbrev pub denial_data : Denial → Data

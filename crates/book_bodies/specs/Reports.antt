@@ -11,7 +11,7 @@ use Rattle.book_machine.specs.declared.messages.ReportKind.{ReportKind}
 use Rattle.book_machine.specs.declared.messages.ReportKind.TheVariants as report
 use Rattle.book_machine.specs.declared.messages.SyncFrom.{SyncFrom}
 use Rattle.book_machine.specs.declared.messages.SyncFrom.TheVariants as from
-use Rattle.book_bodies.specs.Principals.{Names}
+use Rattle.book_explain.specs.Lines.{Names}
 
 -- {"report":"sync-collection","sync-token":TEXT}
 abbrev pub sync_collection : List ℕ → Data

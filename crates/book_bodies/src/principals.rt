@@ -2,7 +2,8 @@
 
 ghost use Rattle.std.specs.Prelude.{ℕ, List, IfOk, IfSome, IfNone, MatchOption, map};
 ghost use Rattle.book_lists.specs.Principals.{IsPerson};
-ghost use Rattle.book_bodies.specs.Principals.{Names, AllName, HasUnnamed, IsFormIn};
+ghost use Rattle.book_bodies.specs.Principals.{AllName, HasUnnamed, IsFormIn};
+ghost use Rattle.book_explain.specs.Lines.{Names};
 
 use book_lists::{Principal, Who};
 use book_values::Items;

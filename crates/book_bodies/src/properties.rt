@@ -2,10 +2,11 @@
 
 ghost use Rattle.std.specs.Prelude.{◌≡◌, [], IfOk, map, option_map};
 ghost use Rattle.serde_json.specs.View.{view};
-ghost use Rattle.book_bodies.specs.Properties.{property_named, properties_of, properties_asked, find_body, place_of, is_among};
+ghost use Rattle.book_bodies.specs.Properties.{property_named, properties_of, properties_asked, find_body};
 
 use crate::forms::{only_under, texts_in};
-use book_machine::{Body, Property};
+use book_listings::{Property, is_asked};
+use book_machine::Body;
 use book_values::Items;
 use serde_json::Value;
 use std::alloc::{AllocError, Global};
@@ -26,29 +27,6 @@ fn property_named(name: &str) -> Option<Property>
     }
 }
 
-/// The place of a property among the seven.
-fn place_of(property: Property) -> u8
-    ensures { result ≡ place_of property }
-{
-    match property {
-        Property::DisplayName => 0,
-        Property::ResourceType => 1,
-        Property::Owner => 2,
-        Property::Acl => 3,
-        Property::CurrentUserPrivilegeSet => 4,
-        Property::GroupMemberSet => 5,
-        Property::SyncToken => 6,
-    }
-}
-
-fn is_among(property: Property, found: &[Property]) -> bool
-    ensures { result ≡ is_among property found.now }
-{
-    found
-        .iter()
-        .any(|other| place_of(*other) == place_of(property))
-}
-
 /// The properties with these names, in order, if there are 1 to 7 different ones. An error is want of memory.
 fn properties_of(alloc: Global, names: &[&str]) -> Result<Option<Vec<Property>>, AllocError>
     ensures { IfOk result (λ found. option_map (λ properties. properties.items) found
@@ -58,7 +36,7 @@ fn properties_of(alloc: Global, names: &[&str]) -> Result<Option<Vec<Property>>,
     for name in names {
         match property_named(name) {
             Some(property) => {
-                if is_among(property, found.as_slice()) {
+                if is_asked(property, found.as_slice()) {
                     return Ok(None);
                 }
                 found.push(property)?;

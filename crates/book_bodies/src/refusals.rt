@@ -3,9 +3,10 @@
 ghost use Rattle.std.specs.Prelude.{◌≡◌, IfOk, string_bytes};
 ghost use Rattle.serde_json.specs.View.{view};
 ghost use Rattle.serde_json.specs.Written.{compact_text};
-ghost use Rattle.book_bodies.specs.Refusals.{named, faulty_card, entry_data, denial_data, refusal_data};
+ghost use Rattle.book_bodies.specs.Refusals.{named, faulty_card, denial_data, refusal_data};
 
-use book_machine::{DecidingEntry, Denial, Refusal};
+use book_machine::{Denial, Refusal};
+use book_replies::entry_value;
 use serde_json::{Value, json};
 use std::alloc::{AllocError, Global};
 
@@ -21,20 +22,6 @@ fn faulty_card(alloc: Global, fault: &str, line: u64) -> Result<Value, AllocErro
     ensures { IfOk result (λ value. view value ≡ faulty_card fault.now line) }
 {
     json!(in alloc; {"error": "bad-card", "fault": fault, "line": line})
-}
-
-/// The entry that decides a denial; null where none does. An error is want of memory.
-fn entry_value(alloc: Global, entry: &Option<DecidingEntry>) -> Result<Value, AllocError>
-    ensures { IfOk result (λ value. view value ≡ entry_data entry.now) }
-{
-    match entry {
-        Some(entry) => {
-            let from = entry.from.text(alloc)?;
-            let number = entry.number as u64;
-            json!(in alloc; {"from": from.as_str(), "number": number})
-        }
-        None => Ok(Value::Null),
-    }
 }
 
 /// A denial (RFC 3744, section 7.1.1). An error is want of memory.

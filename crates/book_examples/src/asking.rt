@@ -7,7 +7,7 @@ use book_office::{Changed, Items, Keeper, Kind, Level, Listed, Node, Text, effec
 use std::alloc::Global;
 use std::process::Abort;
 
-fn tell_who(who: &Who) -> &str {
+pub(crate) fn tell_who(who: &Who) -> &str {
     match who {
         Who::Href(principal) => principal.text(),
         Who::Everyone => "all",

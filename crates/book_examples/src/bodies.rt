@@ -1,18 +1,55 @@
 //! The bodies of requests, as the words of a line after its path say them.
 //!
+//! - `find NAME ..` are the properties that a PROPFIND asks for, at depth 0; `find-children NAME ..` at depth 1, and
+//!   `find-all NAME ..` at a depth that was not read; `children` is no body at depth 1;
 //! - nothing is no body, `unread` one that could not be read, and a name of `words` or any other word a text;
 //! - `label TEXT` and `label-of NUMBER`, so many bytes, are labels;
 //! - `members PATH ..`, `persons NUMBER` and `persons-twice NUMBER` are lists of members;
+//! - `sync` asks for the report on a book from the start, and `sync TOKEN` after a token; `group-members` and
+//!   `effective` ask for the other reports;
 //! - `list ENTRY ; ENTRY ..` is a list of entries, and `entries NUMBER` so many that let all read. An entry is
 //!   `grant WHO NAME ..` or `deny WHO NAME ..`, with `not WHO` for `WHO`, and perhaps `protected` or `inherited` before it.
 
 use crate::words::{form, number, principal, text, text_named, word};
-use book_lists::{Principal, Submitted, Who};
-use book_machine::{Body, Patch};
+use book_lists::{Caller, Principal, Submitted, Who};
+use book_machine::{Body, Depth, Patch, Property, ReportKind, SyncFrom, Token};
 use book_office::Items;
 use book_rights::{LeafSet, Privilege};
 use std::alloc::Global;
 use std::process::Abort;
+
+/// The depth of the request of a line.
+pub(crate) fn depth(line: &str) -> Depth {
+    match word(line, 3) {
+        "find-children" | "children" => Depth::One,
+        "find-all" => Depth::Unread,
+        _ => Depth::Zero,
+    }
+}
+
+/// The property of this name.
+fn property(word: &str) -> Option<Property> {
+    match word {
+        "displayname" => Some(Property::DisplayName),
+        "resourcetype" => Some(Property::ResourceType),
+        "owner" => Some(Property::Owner),
+        "acl" => Some(Property::Acl),
+        "current-user-privilege-set" => Some(Property::CurrentUserPrivilegeSet),
+        "group-member-set" => Some(Property::GroupMemberSet),
+        "sync-token" => Some(Property::SyncToken),
+        _ => None,
+    }
+}
+
+/// The properties that stand after the word `find`.
+fn properties(rt: &impl Abort, alloc: Global, line: &str) -> Items<Property> {
+    let mut properties = Items::new(alloc);
+    for word in line.split(' ').skip(4) {
+        let property = property(word).expect(rt, "a property");
+        properties.push(property).expect(rt, "memory");
+    }
+    properties
+}
 
 /// A label of so many bytes.
 fn long_label(rt: &impl Abort, alloc: Global, bytes: u64) -> String {
@@ -125,13 +162,38 @@ fn patch(rt: &impl Abort, alloc: Global, line: &str) -> Option<Patch> {
     }
 }
 
+/// From where a sync report is asked: from the start, after a token, or at a text that is none.
+fn place(rt: &impl Abort, alloc: Global, word: &str) -> SyncFrom {
+    if word.is_empty() {
+        return SyncFrom::Start;
+    }
+    match Token::parse(alloc, word).expect(rt, "memory") {
+        Some(token) => SyncFrom::After(token),
+        None => SyncFrom::Unknown,
+    }
+}
+
+/// The report that the line asks for, if it asks for one.
+fn report(rt: &impl Abort, alloc: Global, line: &str) -> Option<ReportKind> {
+    match word(line, 3) {
+        "sync" => Some(ReportKind::SyncCollection(place(rt, alloc, word(line, 4)))),
+        "group-members" => Some(ReportKind::GroupMembers),
+        "effective" => Some(ReportKind::Effective(Caller::Nobody)),
+        _ => None,
+    }
+}
+
 /// The body of the request of a line.
 pub(crate) fn body(rt: &impl Abort, alloc: Global, line: &str) -> Body {
     if let Some(patch) = patch(rt, alloc, line) {
         return Body::Patch(patch);
     }
+    if let Some(report) = report(rt, alloc, line) {
+        return Body::Report(report);
+    }
     match word(line, 3) {
-        "" => Body::Empty,
+        "" | "children" => Body::Empty,
+        "find" | "find-children" | "find-all" => Body::Find(properties(rt, alloc, line)),
         "unread" => Body::Unread,
         "list" => Body::List(list(rt, alloc, line)),
         "entries" => Body::List(entries(rt, alloc, number(rt, word(line, 4)))),

@@ -23,11 +23,19 @@ mod keepers;
 #[cfg(test)]
 mod limits;
 #[cfg(test)]
+mod listings;
+#[cfg(test)]
+mod moves;
+#[cfg(test)]
 mod offices;
 #[cfg(test)]
 mod policies;
 #[cfg(test)]
+mod reports;
+#[cfg(test)]
 mod requests;
+#[cfg(test)]
+mod responses;
 #[cfg(test)]
 mod scripts;
 #[cfg(test)]

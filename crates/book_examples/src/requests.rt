@@ -3,8 +3,9 @@
 use crate::scripts::{Step, follow, run_on, run_on_new};
 use crate::serving::{caller, request, tell};
 use book_machine::{
-    Machine, Reply, Request, refusals_change_nothing, requests_act_where_granted,
-    requests_are_full_at_limits, requests_have_one_step, runs_lead_on, unread_contents_stay_unseen,
+    Machine, Reply, Request, granted_reports_are_told, refusals_change_nothing,
+    requests_act_where_granted, requests_are_full_at_limits, requests_have_one_step, runs_lead_on,
+    unread_contents_stay_unseen,
 };
 use book_office::MemoryKeeper;
 use std::alloc::Global;
@@ -309,7 +310,12 @@ fn check_replies(rt: &impl Abort, alloc: Global, replies: &[Reply], steps: &[Ste
 }
 
 /// The machine under the policy of the office answers the calls of the steps in one call.
-fn check_all(rt: &impl Abort, alloc: Global, machine: &mut Machine<MemoryKeeper>, steps: &[Step]) {
+pub(crate) fn check_all(
+    rt: &impl Abort,
+    alloc: Global,
+    machine: &mut Machine<MemoryKeeper>,
+    steps: &[Step],
+) {
     follow(rt, alloc, machine, &[("adopt office", "changed, epoch 1")]);
     let calls = calls(rt, alloc, steps);
     let replies = machine.serve_all(alloc, calls.as_slice());
@@ -338,4 +344,5 @@ fn laws_are_called() {
     refusals_change_nothing();
     unread_contents_stay_unseen();
     runs_lead_on();
+    granted_reports_are_told();
 }

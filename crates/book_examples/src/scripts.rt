@@ -2,7 +2,8 @@
 //!
 //! A line is one of these, with single spaces between its words:
 //!
-//! - a request: `CALLER METHOD PATH BODY`, where `-` is nobody and the body is said as in `bodies`;
+//! - a request: `CALLER METHOD PATH BODY`, where `-` is nobody and the body is said as in `bodies`, or a COPY or MOVE as
+//!   in `moves`;
 //! - a policy to adopt: `adopt NAME`, named in `policies`;
 //! - a question to the keeper: `node PATH`, `children PATH`, `lists PATH`, `effective PATH`, `changes BOOK NUMBER`,
 //!   `epoch`, `failures`, `pairs` or `belongs PERSON PRINCIPAL`;

@@ -1,9 +1,11 @@
 //! Requests, and the texts of their replies.
 
-use crate::bodies::body;
+use crate::bodies::{body, depth};
+use crate::moves::{destination, overwrite};
+use crate::responses::{tell_listing, tell_report};
 use crate::words::{method, word};
 use book_cards::CardFault;
-use book_machine::{Content, Denial, Depth, Flag, Machine, Refusal, Reply, Request};
+use book_machine::{Content, Denial, Machine, Refusal, Reply, Request};
 use book_office::{Keeper, Path};
 use std::alloc::Global;
 use std::process::Abort;
@@ -20,15 +22,15 @@ pub(crate) fn request(rt: &impl Abort, alloc: Global, line: &str) -> Request {
     Request {
         method: method(word(line, 1)).expect(rt, "a method"),
         path: Path::parse(alloc, word(line, 2)).ok(),
-        destination: None,
-        overwrite: Flag::Yes,
-        depth: Depth::Zero,
+        destination: destination(alloc, line),
+        overwrite: overwrite(line),
+        depth: depth(line),
         body: body(rt, alloc, line),
     }
 }
 
 /// The privilege, the resource, and the entry: where it stands, and its number.
-fn tell_denial(rt: &impl Abort, alloc: Global, denial: &Denial) -> String {
+pub(crate) fn tell_denial(rt: &impl Abort, alloc: Global, denial: &Denial) -> String {
     let privilege = denial.privilege.name();
     let resource = denial.resource.text(alloc).expect(rt, "memory");
     match &denial.entry {
@@ -76,6 +78,8 @@ fn tell_content(rt: &impl Abort, alloc: Global, content: &Content) -> String {
             let methods = methods.text();
             format!(in alloc; " allow {methods}").expect(rt, "memory")
         }
+        Content::Listing(responses) => tell_listing(rt, alloc, responses.as_slice()),
+        Content::Synced(report) => tell_report(rt, alloc, report),
         Content::Refusal(refusal) => tell_refusal(rt, alloc, refusal),
     }
 }

@@ -1,9 +1,8 @@
 pub mod InTurn
-pub mod ScanLaws
-pub mod GrantLaws
 pub mod Leaves
 pub mod ReadingLaws
 pub mod ReadListings
 pub mod AlikeListings
 pub mod OneListing
+pub mod ToldResources
 pub mod ToldValues

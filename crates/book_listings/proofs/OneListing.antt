@@ -85,7 +85,7 @@ same_values w v circle p s list (property.SyncToken ∷ rest) m t = λ i.
     value_of (record { memberships = v.memberships; epoch = t refl i }) circle p s list property.SyncToken ∷ same_values w v circle p s list rest m (λ _. t refl) i
 
 -- ---- one denial, and none where the leaves are granted
-allowed_not_denied : (es : List Entry) (circle : CircleOf) (here : Here) (set : Leaf → Bool) (leaf : Leaf) (index : Option ℕ)
+pub allowed_not_denied : (es : List Entry) (circle : CircleOf) (here : Here) (set : Leaf → Bool) (leaf : Leaf) (index : Option ℕ)
     → IsAllowed es circle here set → IsDenial es circle here set leaf index → ⊥
 allowed_not_denied es circle here set leaf None allowed denial =
     let grant = allowed leaf denial.0 in denial.1 grant.0 grant.1 grant.2

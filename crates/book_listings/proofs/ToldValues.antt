@@ -1,5 +1,5 @@
 -- What the values of properties are.
-use Rattle.std.proofs.Common.{◌≡◌, ℕ, zero, suc, Bool, true, false, not, ◌&&◌, ◌||◌, List, [], ◌∷◌, map, filter, refl, sym, ap, ◌∙◌, arith}
+use Rattle.std.proofs.Common.{◌≡◌, ℕ, zero, suc, ◌<◌, Bool, true, false, not, ◌&&◌, ◌||◌, List, [], ◌∷◌, map, filter, slice_get, Some, refl, sym, ap, ◌∙◌, subst, arith}
 use Rattle.std.specs.Prelude.{if◌then◌else◌}
 use Rattle.std.specs.FinSet.{contains, contains-from_list}
 use Rattle.std.specs.List.{AllByRecursion, list_any}
@@ -22,7 +22,6 @@ use Rattle.book_sync.specs.Copies.{grants}
 use Rattle.book_listings.specs.Laws.{MembersToldAreDirect, PrivilegesToldAreGranted}
 use Rattle.book_listings.specs.Values.{members_in}
 use Rattle.book_listings.specs.Verdicts.{entries_of}
-use Rattle.book_listings.proofs.InTurn.{later_first}
 
 not_denied : (b : Bool) → not b ≡ true → b ≡ false
 not_denied true e = absurd cc
@@ -30,6 +29,12 @@ not_denied false e = refl
 
 -- ---- what is granted
 module _ (circle : CircleOf) (here : Here) (leaf : Leaf) where
+  later_first : (x : Entry) (xs : List Entry) (i : ℕ) → bears circle here leaf x ≡ false
+      → ((k : ℕ) (y : Entry) → k < i → slice_get xs k ≡ Some y → bears circle here leaf y ≡ false)
+      → (k : ℕ) (y : Entry) → k < suc i → slice_get (x ∷ xs) k ≡ Some y → bears circle here leaf y ≡ false
+  later_first x xs i f h zero y lt at = let same : x ≡ y = cc in subst (λ z. bears circle here leaf z ≡ false) same f
+  later_first x xs i f h (suc k) y lt at = h k y (omega (arith, lt)) at
+
   told_granted : (es : List Entry) → grants es circle here leaf ≡ true → Grants es circle here leaf
   told_granted [] e = absurd cc
   told_granted (x ∷ es) e =
@@ -37,7 +42,7 @@ module _ (circle : CircleOf) (here : Here) (leaf : Leaf) where
         | true ↦ λ t is. (0, x, record { there = refl; bearing = t; first = λ k y lt at. absurd (omega (arith, lt)) }, not_denied x.deny is)
         | false ↦ λ f is.
             let g = told_granted es is in
-            (suc g.0, g.1, record { there = g.2.there; bearing = g.2.bearing; first = later_first circle here leaf x es g.0 f g.2.first }, g.3)
+            (suc g.0, g.1, record { there = g.2.there; bearing = g.2.bearing; first = later_first x es g.0 f g.2.first }, g.3)
       ] refl e
 
   granted_told : (es : List Entry) (i : ℕ) (e : Entry) → Decides es circle here i leaf e → e.deny ≡ false → grants es circle here leaf ≡ true

@@ -1,5 +1,5 @@
 -- What the definitions of a listing imply.
-use Rattle.std.specs.Prelude.{◌≡◌, ℕ, true, List, is_some}
+use Rattle.std.specs.Prelude.{◌≡◌, ℕ, true, List, [], ◌∷◌, is_some}
 use Rattle.std.specs.FinSet.{contains}
 use Rattle.std.specs.List.Sorted.{IsStrictlySortedBy}
 use Rattle.book_rights.specs.Needs.{only}
@@ -19,6 +19,7 @@ use Rattle.book_listings.specs.Verdicts.{IsGrantedAt, entries_of, here_of}
 use Rattle.book_listings.specs.declared.messages.Find.{Find}
 use Rattle.book_listings.specs.declared.messages.Property.{Property}
 use Rattle.book_listings.specs.declared.messages.Response.{Response}
+use Rattle.book_listings.specs.declared.messages.Response.TheVariants.{Told, Denied}
 use Rattle.book_listings.specs.declared.subjects.Whole.{Whole}
 
 -- two Offices with the same lists, owners, children, memberships and epoch, and the same resources where `read` is granted: they
@@ -53,3 +54,14 @@ MembersToldAreDirect = (o : Office) (asked : List Property) (whole : Whole) → 
 abbrev pub ListingsHaveOneAnswer : Type 0
 ListingsHaveOneAnswer = (o : Office) (circle : CircleOf) (find : Find) (q : Path) (a b : List Response)
     → AreResponses find circle o q a → AreResponses find circle o q b → a ≡ b
+
+-- the first response tells the resource at a path: it is no denial
+abbrev pub TellsFirst : Path → List Response → Type 0
+TellsFirst p [] = ⊥
+TellsFirst p (Told told properties ∷ rest) = told ≡ p
+TellsFirst p (Denied denial ∷ rest) = ⊥
+
+-- where the needed leaves are granted at the resource itself, the first response tells it
+abbrev pub GrantedResourcesAreTold : Type 0
+GrantedResourcesAreTold = (o : Office) (circle : CircleOf) (find : Find) (q : Path) (responses : List Response)
+    → IsGrantedAt o circle q find.needed → AreResponses find circle o q responses → TellsFirst q responses

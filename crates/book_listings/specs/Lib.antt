@@ -1,3 +1,4 @@
+pub mod Properties
 pub mod Verdicts
 pub mod Values
 pub mod Listings

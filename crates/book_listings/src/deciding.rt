@@ -1,36 +1,27 @@
-//! Decisions over several lists in turn, joined nowhere.
+//! Decisions by one scan over several lists in turn, which are joined nowhere.
 
-ghost use Rattle.std.specs.Prelude.{◌≡◌, ◌+◌, ◌++◌, ◌∷◌, Bool, List, map, length, IfOk};
+ghost use Rattle.std.specs.Prelude.{◌≡◌, ◌+◌, ◌++◌, ◌∷◌, None, Some, Bool, List, MatchOption, map, slice_get, IfOk};
 ghost use Rattle.std.specs.List.{flat_map};
 ghost use Rattle.book_rights.specs.declared.privileges.Leaf.{Leaf};
-ghost use Rattle.book_lists.specs.Circles.{CircleOf};
-ghost use Rattle.book_lists.specs.declared.entries.Here.{Here};
-ghost use Rattle.book_office.specs.Levels.{effective_of, own_entries, protected_entries, standing_at};
+ghost use Rattle.book_office.specs.Levels.{effective_of, standing_at};
 ghost use Rattle.book_office.specs.declared.nodes.EffectiveEntry.{EffectiveEntry};
-ghost use Rattle.book_listings.specs.Scanning.{IsOpen, IsProgress, IsVerdict};
+ghost use Rattle.book_values.specs.declared.paths.Path.{Path as PathModel};
+ghost use Rattle.book_listings.specs.Scanning.{IsTurn, IsVerdict, list_in, standing_in};
+ghost use Rattle.book_listings.specs.Verdicts.{deciding_entry, paths_of};
 
 use crate::messages::{DecidingEntry, Denial};
-use book_lists::{Circle, Entry, Here, Outcome, decide, granted};
+use book_lists::{Circle, Entry, Here, Outcome, Scan};
 use book_office::Level;
-use book_rights::{Leaf, LeafSet};
+use book_rights::LeafSet;
 use book_values::Path;
 use std::alloc::AllocError;
+use std::slice;
 
-/// How far the decision on a set has come.
-#[derive(Debug, Drop)]
-pub(crate) enum Progress {
-    /// After so many entries these leaves remain to be decided; the others of the set are granted.
-    Open {
-        remaining: LeafSet,
-        passed: usize,
-    },
-    /// Every leaf is granted.
-    Allowed,
-    /// An entry denies a leaf.
-    Denied {
-        privilege: Leaf,
-        entry: DecidingEntry,
-    },
+/// A scan over lists in turn, and how many entries they have.
+#[derive(Clone, Copy, Debug)]
+pub(crate) struct Turn {
+    scan: Scan,
+    passed: usize,
 }
 
 /// The sum. An error is a sum past the last `usize`, which no Office has entries for.
@@ -47,121 +38,133 @@ fn copy_of(path: &Path) -> Result<Path, AllocError>
     path.clone()
 }
 
-/// Looks over one more list, which stands at the path, with leaves that remain after so many entries.
-fn look_on(
-    path: &Path,
-    list: &[Entry],
-    circle: &Circle,
-    here: &Here,
-    remaining: LeafSet,
-    passed: usize,
-) -> Result<Progress, AllocError>
-    ensures { IfOk result (λ next. (before : List EffectiveEntry) (protected : Bool) (set : Leaf → Bool)
-        → passed ≡ length before → IsOpen before circle.now here.now set remaining
-        → IsProgress (before ++ map (standing_at path.now protected) list.now) circle.now here.now set next) }
+/// The protected list of a level, or its own list.
+pub(crate) fn list_in(level: &Level, protected: bool) -> &[Entry]
+    ensures { result.now ≡ list_in protected level.now }
 {
-    match decide(list, circle, here, remaining) {
-        Outcome::Allowed => Ok(Progress::Allowed),
-        Outcome::Denied {
-            leaf,
-            entry: Some(index),
-        } => Ok(Progress::Denied {
-            privilege: leaf,
-            entry: DecidingEntry {
-                from: copy_of(path)?,
-                number: sum(sum(passed, index)?, 1)?,
-            },
-        }),
-        Outcome::Denied { entry: None, .. } => Ok(Progress::Open {
-            remaining: remaining.minus(granted(list, circle, here)),
-            passed: sum(passed, list.len())?,
-        }),
+    if protected {
+        level.protected.as_slice()
+    } else {
+        level.own.as_slice()
     }
 }
 
-/// Looks over one more list, which stands at the path, unless the decision is made.
-fn look_over(
-    path: &Path,
-    list: &[Entry],
-    circle: &Circle,
-    here: &Here,
-    progress: Progress,
-) -> Result<Progress, AllocError>
-    ensures { IfOk result (λ next. (before : List EffectiveEntry) (protected : Bool) (set : Leaf → Bool)
-        → IsProgress before circle.now here.now set progress
-        → IsProgress (before ++ map (standing_at path.now protected) list.now) circle.now here.now set next) }
+/// Goes over one more list, which stands at any path.
+fn go_over(list: &[Entry], circle: &Circle, here: &Here, turn: Turn) -> Result<Turn, AllocError>
+    ensures { IfOk result (λ next. (before : List EffectiveEntry) (p : PathModel) (protected : Bool) (set : Leaf → Bool)
+        → IsTurn before circle.now here.now set turn
+        → IsTurn (before ++ map (standing_at p protected) list.now) circle.now here.now set next) }
 {
-    match progress {
-        Progress::Open { remaining, passed } => look_on(
-            path, list, circle, here, remaining, passed,
-        ),
-        Progress::Allowed => Ok(Progress::Allowed),
-        Progress::Denied { privilege, entry } => Ok(Progress::Denied { privilege, entry }),
-    }
+    let mut scan = turn.scan;
+    scan.over(list, circle, here);
+    let passed = sum(turn.passed, list.len())?;
+    Ok(Turn { scan, passed })
 }
 
-/// Looks over the protected lists of levels in turn.
-fn look_over_protected(
+/// Goes over the protected lists of levels in turn, or over their own lists.
+fn go_over_levels(
     levels: &[Level],
+    protected: bool,
     circle: &Circle,
     here: &Here,
-    progress: Progress,
-) -> Result<Progress, AllocError>
+    turn: Turn,
+) -> Result<Turn, AllocError>
     ensures { IfOk result (λ next. (before : List EffectiveEntry) (set : Leaf → Bool)
-        → IsProgress before circle.now here.now set progress
-        → IsProgress (before ++ flat_map protected_entries levels.now) circle.now here.now set next) }
+        → IsTurn before circle.now here.now set turn
+        → IsTurn (before ++ flat_map (standing_in protected) levels.now) circle.now here.now set next) }
 {
-    let mut progress = progress;
+    let mut turn = turn;
     for level in levels {
-        progress = look_over(
-            &level.path,
-            level.protected.as_slice(),
-            circle,
-            here,
-            progress,
-        )?;
+        turn = go_over(list_in(level, protected), circle, here, turn)?;
     }
-    Ok(progress)
+    Ok(turn)
 }
 
-/// Looks over the own lists of levels in turn.
-fn look_over_own(
-    levels: &[Level],
-    circle: &Circle,
-    here: &Here,
-    progress: Progress,
-) -> Result<Progress, AllocError>
-    ensures { IfOk result (λ next. (before : List EffectiveEntry) (set : Leaf → Bool)
-        → IsProgress before circle.now here.now set progress
-        → IsProgress (before ++ flat_map own_entries levels.now) circle.now here.now set next) }
+/// Where the entry at an index stands, counted from the first of these lists. Where it stands in none of them, the
+/// index is then counted from the entries after them.
+fn place_among<'a>(levels: &'a [Level], protected: bool, index: &mut usize) -> Option<&'a Path>
+    ensures { (after : List EffectiveEntry) → MatchOption result
+        (slice_get (paths_of (flat_map (standing_in protected) levels.now ++ after)) index.old
+        ≡ slice_get (paths_of after) index.new)
+        (λ path. slice_get (paths_of (flat_map (standing_in protected) levels.now ++ after)) index.old
+        ≡ Some path.now) }
 {
-    let mut progress = progress;
     for level in levels {
-        progress = look_over(&level.path, level.own.as_slice(), circle, here, progress)?;
+        let count = list_in(level, protected).len();
+        if *index < count {
+            return Some(&level.path);
+        }
+        *index -= count;
     }
-    Ok(progress)
+    None
 }
 
-/// The decision, once all entries were looked at.
-fn verdict_of(path: &Path, progress: Progress) -> Result<Option<Denial>, AllocError>
-    ensures { IfOk result (λ denial. (list : List EffectiveEntry) (circle : CircleOf) (here : Here) (set : Leaf → Bool)
-        → IsProgress list circle here set progress → IsVerdict list circle here path.now set denial) }
+/// Where the entry at an index of the effective list stands.
+fn place<'a>(own: &'a [Level], above: &'a [Level], index: usize) -> Option<&'a Path>
+    ensures { MatchOption result (slice_get (paths_of (effective_of (own.now ++ above.now))) index ≡ None)
+        (λ path. slice_get (paths_of (effective_of (own.now ++ above.now))) index ≡ Some path.now) }
 {
-    match progress {
-        Progress::Allowed => Ok(None),
-        Progress::Denied { privilege, entry } => Ok(Some(Denial {
-            resource: path.clone()?,
-            privilege,
-            entry: Some(entry),
+    let mut rest = index;
+    if let Some(path) = place_among(own, true, &mut rest) {
+        return Some(path);
+    }
+    if let Some(path) = place_among(above, true, &mut rest) {
+        return Some(path);
+    }
+    if let Some(path) = place_among(own, false, &mut rest) {
+        return Some(path);
+    }
+    place_among(above, false, &mut rest)
+}
+
+/// The entry at an index of the effective list, if there is one, as a denial names it.
+fn deciding_entry(
+    own: &[Level],
+    above: &[Level],
+    index: Option<usize>,
+) -> Result<Option<DecidingEntry>, AllocError>
+    ensures { IfOk result (λ entry. entry ≡ deciding_entry (paths_of (effective_of (own.now ++ above.now))) index) }
+{
+    let Some(index) = index else {
+        return Ok(None);
+    };
+    match place(own, above, index) {
+        Some(path) => Ok(Some(DecidingEntry {
+            from: copy_of(path)?,
+            number: sum(index, 1)?,
         })),
-        Progress::Open { remaining, .. } => match remaining.least() {
-            Some(privilege) => Ok(Some(Denial {
-                resource: path.clone()?,
-                privilege,
-                entry: None,
-            })),
-            None => Ok(None),
-        },
+        None => Ok(None),
+    }
+}
+
+/// The decision on a set at the resource at a path, by its levels in two parts, of which the first is nearer to it:
+/// none where the set is granted (RFC 3744, section 6). It is one scan, over the protected lists of all levels and then
+/// over their own lists; no list is joined, and no path copied but for a denial. An error is want of memory.
+pub fn verdict(
+    path: &Path,
+    own: &[Level],
+    above: &[Level],
+    circle: &Circle,
+    here: &Here,
+    set: LeafSet,
+) -> Result<Option<Denial>, AllocError>
+    ensures { IfOk result (IsVerdict (effective_of (own.now ++ above.now)) circle.now here.now path.now set) }
+{
+    let turn = Turn {
+        scan: Scan::start(set),
+        passed: 0,
+    };
+    let turn = go_over_levels(own, true, circle, here, turn)?;
+    let turn = go_over_levels(above, true, circle, here, turn)?;
+    let turn = go_over_levels(own, false, circle, here, turn)?;
+    let turn = go_over_levels(above, false, circle, here, turn)?;
+    match turn.scan.outcome() {
+        Outcome::Allowed => Ok(None),
+        Outcome::Denied { leaf, entry } => Ok(Some(Denial {
+            resource: copy_of(path)?,
+            privilege: leaf,
+            entry: deciding_entry(own, above, entry)?,
+        })),
     }
 }
 
@@ -176,13 +179,5 @@ pub(crate) fn judge(
 ) -> Result<Option<Denial>, AllocError>
     ensures { IfOk result (IsVerdict (effective_of (own.now ∷ above.now)) circle.now here.now own.now.path set) }
 {
-    let start = Progress::Open {
-        remaining: set,
-        passed: 0,
-    };
-    let progress = look_over(&own.path, own.protected.as_slice(), circle, here, start)?;
-    let progress = look_over_protected(above, circle, here, progress)?;
-    let progress = look_over(&own.path, own.own.as_slice(), circle, here, progress)?;
-    let progress = look_over_own(above, circle, here, progress)?;
-    verdict_of(&own.path, progress)
+    verdict(&own.path, slice::from_ref(own), above, circle, here, set)
 }

@@ -1,6 +1,6 @@
 //! What the definitions imply.
 
-ghost use Rattle.book_listings.specs.Laws.{ListingsHaveOneAnswer, UnreadResourcesStayUnseen};
+ghost use Rattle.book_listings.specs.Laws.{GrantedResourcesAreTold, ListingsHaveOneAnswer, UnreadResourcesStayUnseen};
 ghost use Rattle.book_listings.specs.Laws.{MembersToldAreDirect, PrivilegesToldAreGranted};
 
 /// Contents stay unseen: of two Offices that differ only in what may not be read, a listing tells the same (own
@@ -12,6 +12,11 @@ pub fn unread_resources_stay_unseen()
 /// A listing is determined by the Office, the caller's circle and what is asked.
 pub fn listings_have_one_answer()
     ensures { ListingsHaveOneAnswer }
+{}
+
+/// Where the needed leaves are granted at the resource itself, the first response tells it.
+pub fn granted_resources_are_told()
+    ensures { GrantedResourcesAreTold }
 {}
 
 /// What the values of properties are: the leaves of `current-user-privilege-set` are those that are granted, and the

@@ -3,12 +3,15 @@
 //!
 //! It stands on `book_office`, on `book_sync` for tokens and on `book_explain` for short names. The crate above uses
 //! that `listing` tells, over any keeper, what the Office has (`AreResponses`), that there is one such answer, and that
-//! of a child nothing is told before its verdict.
+//! of a child nothing is told before its verdict; and that `verdict` is the decision on a set at a resource, by its levels
+//! (`IsVerdict`).
 //!
-//! Read `messages` first; then `deciding` and `granting`, which look over lists in turn; then `effective_lists` and
-//! `property_values`, which have the properties; then `subjects` and `listings`, and `laws`.
+//! Read `messages` first; then `deciding` and `granting`, one scan each over lists in turn; then `effective_lists` and
+//! `property_values`, which have the properties; then `subjects` and `listings`, and `laws`; and `asked_properties` by
+//! itself.
 #![tactic(auto)]
 
+mod asked_properties;
 mod deciding;
 mod effective_lists;
 mod granting;
@@ -18,8 +21,11 @@ mod messages;
 mod property_values;
 mod subjects;
 
+pub use asked_properties::is_asked;
+pub use deciding::verdict;
 pub use laws::{
-    listings_have_one_answer, unread_resources_stay_unseen, values_tell_grants_and_members,
+    granted_resources_are_told, listings_have_one_answer, unread_resources_stay_unseen,
+    values_tell_grants_and_members,
 };
 pub use listings::listing;
 pub use messages::{

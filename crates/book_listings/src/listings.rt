@@ -307,7 +307,7 @@ fn epoch_for<K: Keeper>(keeper: &mut K, asked: bool) -> Result<u64, StoreFault>
 /// path. An error is want of memory, or a store that failed.
 ///
 /// Beside the lists of the resource it reads the children, the memberships and the epoch at most once each, and nothing
-/// for a child. A child costs at most two looks at each entry in force, and more only for what is told of it.
+/// for a child. A child costs at most one look at each entry in force, and more only for what is told of it.
 pub fn listing<K: Keeper>(
     alloc: Global,
     keeper: &mut K,

@@ -3,15 +3,14 @@ use Rattle.std.proofs.Common.{◌≡◌, inl, inr, ℕ, List, [], ◌∷◌, Boo
 use Rattle.std.specs.Prelude.{if◌then◌else◌, map}
 use Rattle.std.specs.FinMap.{get}
 use Rattle.std.specs.List.{AllZip, flat_map}
+use Rattle.std.specs.Str.{bytes_eq}
 use Rattle.book_lists.specs.Callers.{IsCircle}
 use Rattle.book_lists.specs.Circles.{CircleOf}
 use Rattle.book_lists.specs.Principals.{person_path}
 use Rattle.book_lists.specs.declared.circles.Caller.{Caller}
 use Rattle.book_lists.specs.declared.circles.Caller.TheVariants.{Known}
-use Rattle.book_lists.specs.ListEdits.{entries_of}
 use Rattle.book_lists.specs.declared.submitted.Submitted.{Submitted}
 use Rattle.book_office.specs.Levels.{protected_entries, effective_at}
-use Rattle.book_office.specs.declared.edits.Edit.TheVariants.{SetList}
 use Rattle.book_office.specs.declared.nodes.EffectiveEntry.{EffectiveEntry}
 use Rattle.book_office.specs.Resources.{node_at}
 use Rattle.book_office.specs.declared.nodes.Node.{Node}
@@ -27,26 +26,35 @@ use Rattle.book_limits.specs.declared.TheConstants.{MAX_CARDS, MAX_BOOKS, LAST_N
 use Rattle.book_values.specs.declared.paths.Path.{Path}
 use Rattle.book_values.specs.declared.paths.Path.TheVariants as path
 use Rattle.book_values.specs.Paths.{kind_of, levels}
-use Rattle.book_machine.proofs.FittingPlans.{ready_is_target}
+use Rattle.book_machine.proofs.AlikeOffices.{alike_of}
+use Rattle.book_machine.proofs.AlikeReports.{AreReportedAlike, reports_alike}
+use Rattle.book_machine.proofs.FittingPlans.{IsShaped, ready_is_target, ready_shaped}
 use Rattle.book_machine.proofs.Outlines.{there_mapped, outline_of_node, book_there, count_same, nodes_alike, node_same, level_same, effective_same, here_same}
+use Rattle.book_listings.proofs.AlikeListings.{unread_unseen}
+use Rattle.book_listings.specs.Laws.{AreAlike}
+use Rattle.book_listings.specs.declared.messages.Find.{Find}
+use Rattle.book_listings.specs.declared.messages.Property.TheVariants as property
 use Rattle.book_machine.specs.Agreement.{named, MayRead, outline, Agree}
 use Rattle.book_machine.specs.AllowedMethods.{allowed_of, goes_on}
-use Rattle.book_machine.specs.Asked.{asked_of, method_of}
-use Rattle.book_machine.specs.Stages.{◌>>=◌, check, caller_of, at_unmapped, at_node, target_of, suits_target, ready_of, IsMembersAnswer, IsChecked, IsListAnswer, protected_entries_at, IsAclAnswer, IsBodyAnswer, can_change, put_limits, delete_limits, label_limits, keeps_limits, limits_of, text_of, refused_at, success_of, IsGrantedPlan, put_status, put_edit, delete_edit, mkcol_edit, patch_edit, replied}
+use Rattle.book_machine.specs.Asked.{asked_of, method_of, destination_in, destination_path}
+use Rattle.book_machine.specs.Stages.{◌>>=◌, check, caller_of, at_unmapped, at_node, target_of, suits_target, ready_of, IsMembersAnswer, IsChecked, IsListAnswer, protected_entries_at, IsAclAnswer, IsBodyAnswer, can_change, put_limits, delete_limits, label_limits, keeps_limits, limits_of, card_plan, allow_plan, put_plan, patch_plan, acl_plan, delete_plan, mkcol_plan, report_plan, sync_plan, body_then_limits, IsListed, IsSuccessOf, IsDone, IsGrantedPlan, put_status, put_edit, replied, replaceable, destination_of, can_change_twice, copy_limits, move_limits, copy_plan, move_plan, copy_edit, move_edit}
 use Rattle.book_machine.specs.Steps.{IsDecided, IsPlannedFrom, IsPlan}
-use Rattle.book_machine.specs.Verdicts.{IsGrantedBy, IsDeniedBy, IsGrantedAt, IsDeniedAt, AreGranted, IsFirstDenial, IsGranted, IsDenied, is_book, needs_at, shape_at, place_path, here_of}
+use Rattle.book_listings.specs.Verdicts.{IsGrantedBy, IsDeniedBy, IsGrantedAt, IsDeniedAt, here_of}
+use Rattle.book_machine.specs.Verdicts.{AreGranted, IsFirstDenial, IsGranted, IsDenied, asks_for, is_book, needs_at, shape_at, place_path}
 use Rattle.book_machine.specs.declared.allowed_methods.AllowedMethods.TheVariants.{OfNewCard}
 use Rattle.book_machine.specs.declared.asked.Asked.{Asked}
 use Rattle.book_machine.specs.declared.asked.Asked.TheVariants as asked
+use Rattle.book_machine.specs.declared.asked.Destination.{Destination}
 use Rattle.book_machine.specs.declared.messages.Content.TheVariants as content
 use Rattle.book_machine.specs.declared.messages.Patch.TheVariants as patch
 use Rattle.book_machine.specs.declared.messages.Request.{Request}
+use Rattle.book_machine.specs.declared.messages.SyncFrom.{SyncFrom}
 use Rattle.book_machine.specs.declared.plans.Plan.{Plan}
 use Rattle.book_machine.specs.declared.plans.Ready.{Ready}
 use Rattle.book_machine.specs.declared.plans.Target.{Target}
-use Rattle.book_machine.specs.declared.refusals.Denial.{Denial}
+use Rattle.book_listings.specs.declared.messages.Denial.{Denial}
 use Rattle.book_machine.specs.declared.refusals.Refusal.{Refusal}
-use Rattle.book_machine.specs.declared.refusals.Refusal.TheVariants.{UnknownCaller, Full, NotAllowed, NoParent}
+use Rattle.book_machine.specs.declared.refusals.Refusal.TheVariants.{UnknownCaller, Full, NotAllowed, NoParent, Overwrite}
 
 -- ---- results of stages
 abbrev told_of : {A B : Type 0} → (A → B) → Result A Refusal → Result B Refusal
@@ -62,27 +70,24 @@ bound : {A B C : Type 0} (h : B → C) (m n : Result A Refusal) (f g : A → Res
 bound h m (Ok x) f g e each = ap (λ r. told_of h (r >>= f)) e ∙ each x
 bound h m (Err r) f g e each = ap (λ r. told_of h (r >>= f)) e
 
--- ---- what is found out before the verdict, but for the label and the text of the target
+-- where the first stages tell alike, and so do those that follow
+bound_told : {A B C D : Type 0} (g : A → D) (h : B → C) (m n : Result A Refusal) (f k : A → Result B Refusal) → told_of g m ≡ told_of g n
+    → ((x y : A) → g x ≡ g y → told_of h (f x) ≡ told_of h (k y)) → told_of h (m >>= f) ≡ told_of h (n >>= k)
+bound_told g h (Ok x) (Ok y) f k e each = each x y (cc (e))
+bound_told g h (Ok x) (Err s) f k e each = absurd (cc (e))
+bound_told g h (Err r) (Ok y) f k e each = absurd (cc (e))
+bound_told g h (Err r) (Err s) f k e each = let same : r ≡ s = cc (e) in ap Err same
+
+-- ---- what is found out before the verdict, but for the labels and the texts of target and destination
 abbrev outline_of_target : Target → Target
-outline_of_target t = record { path = t.path; node = option_map outline_of_node t.node }
+outline_of_target t = record { path = t.path; node = option_map outline_of_node t.node; destination = option_map outline_of_node t.destination }
 
 abbrev outline_of_ready : Ready → Ready
 outline_of_ready r = record { caller = r.caller; asked = r.asked; target = outline_of_target r.target }
 
-abbrev made_ready : Caller → Asked → Target → Result Ready Refusal
-made_ready caller what target = Ok (record { caller = caller; asked = what; target = target })
-
-abbrev suited_ready : Caller → Asked → Target → Result Ready Refusal
-suited_ready caller what target = suits_target what target >>= λ _. made_ready caller what target
-
-ready_told : (caller : Caller) (what : Asked) (r : Result Target Refusal)
-    → told_of outline_of_ready (r >>= suited_ready caller what) ≡ (told_of outline_of_target r >>= suited_ready caller what)
-ready_told caller what (Ok target) = told_then_ok outline_of_ready (suits_target what target) (record { caller = caller; asked = what; target = target })
-ready_told caller what (Err e) = refl
-
 node_told : (o : Office) (m : Method) (q : Path) (r : Option Node) → told_of outline_of_target (at_node o m q r) ≡ at_node o m q (option_map outline_of_node r)
-node_told o m q None = told_then_ok outline_of_target (at_unmapped o m q) (record { path = q; node = None })
-node_told o m q (Some node) = told_then_ok outline_of_target (check (goes_on m node.kind) (NotAllowed (allowed_of node.kind))) (record { path = q; node = Some node })
+node_told o m q None = told_then_ok outline_of_target (at_unmapped o m q) (record { path = q; node = None; destination = None })
+node_told o m q (Some node) = told_then_ok outline_of_target (check (goes_on m node.kind) (NotAllowed (allowed_of node.kind))) (record { path = q; node = Some node; destination = None })
 
 -- ---- the verdict
 module _ (o p : Office) (same : outline o ≡ outline p) where
@@ -106,16 +111,16 @@ module _ (o p : Office) (same : outline o ≡ outline p) where
     granted = granted_same h.circle q (only Read) h.granted;
   }
 
-  module _ (circle : CircleOf) (request : Request) (target : Path) where
-    each_granted : (needs : List Need) → AreGranted o circle request target needs → AreGranted p circle request target needs
+  module _ (circle : CircleOf) (to : Option Destination) (target : Path) where
+    each_granted : (needs : List Need) → AreGranted o circle to target needs → AreGranted p circle to target needs
     each_granted [] h = tt
-    each_granted (need ∷ rest) h = (granted_same circle (place_path request target need.place) need.set h.0, each_granted rest h.1)
+    each_granted (need ∷ rest) h = (granted_same circle (place_path to target need.place) need.set h.0, each_granted rest h.1)
 
-    first_denied : (needs : List Need) (denial : Denial) → IsFirstDenial o circle request target needs denial → IsFirstDenial p circle request target needs denial
+    first_denied : (needs : List Need) (denial : Denial) → IsFirstDenial o circle to target needs denial → IsFirstDenial p circle to target needs denial
     first_denied [] denial h = absurd h
-    first_denied (need ∷ rest) denial (inl here) = inl (denied_same circle (place_path request target need.place) need.set denial here)
+    first_denied (need ∷ rest) denial (inl here) = inl (denied_same circle (place_path to target need.place) need.set denial here)
     first_denied (need ∷ rest) denial (inr later) =
-        inr (granted_same circle (place_path request target need.place) need.set later.0, first_denied rest denial later.1)
+        inr (granted_same circle (place_path to target need.place) need.set later.0, first_denied rest denial later.1)
 
   -- ---- the stages before the verdict
   new_card_same : (m : Method) (q : Path) → at_unmapped o m q ≡ at_unmapped p m q
@@ -153,7 +158,7 @@ module _ (o p : Office) (same : outline o ≡ outline p) where
   new_card_same Report q = refl
 
   at_node_same : (m : Method) (q : Path) (r : Option Node) → at_node o m q r ≡ at_node p m q r
-  at_node_same m q None = ap (λ r. r >>= λ _. Ok (record { path = q; node = None })) (new_card_same m q)
+  at_node_same m q None = ap (λ r. r >>= λ _. Ok (record { path = q; node = None; destination = None })) (new_card_same m q)
   at_node_same m q (Some node) = refl
 
   target_same : (m : Method) (q : Option Path) → told_of outline_of_target (target_of o m q) ≡ told_of outline_of_target (target_of p m q)
@@ -164,6 +169,20 @@ module _ (o p : Office) (same : outline o ≡ outline p) where
       ∙ at_node_same m q (option_map outline_of_node (node_at p q))
       ∙ sym (node_told p m q (node_at p q))
 
+  replaceable_told : (overwrite : Bool) (r : Option Node)
+      → told_of (option_map outline_of_node) (replaceable overwrite r) ≡ replaceable overwrite (option_map outline_of_node r)
+  replaceable_told overwrite None = refl
+  replaceable_told overwrite (Some node) = told_then_ok (option_map outline_of_node) (check overwrite Overwrite) (Some node)
+
+  destination_same : (to : Option Destination) → told_of (option_map outline_of_node) (destination_of o to) ≡ told_of (option_map outline_of_node) (destination_of p to)
+  destination_same None = refl
+  destination_same (Some to) =
+      bound (option_map outline_of_node) (check (is_some (get o.books to.book)) NoParent) (check (is_some (get p.books to.book)) NoParent) _ _
+      (ap (λ there. check there NoParent) (book_there o p same to.book)) (λ _.
+      replaceable_told to.overwrite (node_at o (destination_path to))
+      ∙ ap (replaceable to.overwrite) (nodes_alike o p same (destination_path to))
+      ∙ sym (replaceable_told to.overwrite (node_at p (destination_path to))))
+
   caller_same : (name : Option (List ℕ)) → caller_of o name ≡ caller_of p name
   caller_same None = refl
   caller_same (Some name) = ap (λ (x : Office). if is_some (get x.persons name) then Ok (Known (person_path name)) else Err UnknownCaller) same
@@ -171,10 +190,11 @@ module _ (o p : Office) (same : outline o ≡ outline p) where
   pub ready_same : (name : Option (List ℕ)) (request : Request) → told_of outline_of_ready (ready_of o name request) ≡ told_of outline_of_ready (ready_of p name request)
   ready_same name request =
       bound outline_of_ready (caller_of o name) (caller_of p name) _ _ (caller_same name) (λ caller.
-      bound outline_of_ready (asked_of request.method request.body) (asked_of request.method request.body) _ _ refl (λ what.
-      ready_told caller what (target_of o request.method request.path)
-      ∙ ap (λ r. r >>= suited_ready caller what) (target_same request.method request.path)
-      ∙ sym (ready_told caller what (target_of p request.method request.path))))
+      bound outline_of_ready (asked_of request.method request) (asked_of request.method request) _ _ refl (λ what.
+      bound_told outline_of_target outline_of_ready (target_of o request.method request.path) (target_of p request.method request.path) _ _ (target_same request.method request.path) (λ t u alike.
+      bound outline_of_ready (suits_target what t) (suits_target what u) _ _ (ap (suits_target what) alike) (λ _.
+      bound_told (option_map outline_of_node) outline_of_ready (destination_of o (destination_in what)) (destination_of p (destination_in what)) _ _ (destination_same (destination_in what)) (λ x y found.
+      λ i. Ok (record { caller = caller; asked = what; target = record (alike i) { destination = found i } }))))))
 
   -- ---- the limits
   book_changes_same : (b : List ℕ) → can_change (node_at o (path.Book b)) ≡ can_change (node_at p (path.Book b))
@@ -189,6 +209,19 @@ module _ (o p : Office) (same : outline o ≡ outline p) where
   put_limits_same (path.Group n) mapped = refl
   put_limits_same (path.Book b) mapped = refl
   put_limits_same (path.Card b c) mapped = λ i. book_changes_same b i && (mapped || nat_lt (count_same o p same (path.Book b) i) MAX_CARDS)
+
+  move_limits_same : (q : Path) (to : Destination) (taken : Bool) → move_limits o q to taken ≡ move_limits p q to taken
+  move_limits_same path.Root to taken = refl
+  move_limits_same path.People to taken = refl
+  move_limits_same path.Groups to taken = refl
+  move_limits_same path.Books to taken = refl
+  move_limits_same (path.Person n) to taken = refl
+  move_limits_same (path.Group n) to taken = refl
+  move_limits_same (path.Book b) to taken = refl
+  move_limits_same (path.Card b c) to taken =
+      λ i. if bytes_eq b to.book
+      then ap can_change_twice (node_same o p same (path.Book b) (λ b c is. absurd cc)) i
+      else book_changes_same b i && put_limits_same (destination_path to) taken i
 
   delete_limits_same : (q : Path) → delete_limits o q ≡ delete_limits p q
   delete_limits_same path.Root = refl
@@ -230,30 +263,30 @@ module _ (o p : Office) (same : outline o ≡ outline p) where
   body_answer_same asked.Head q answer is = is
   body_answer_same asked.Options q answer is = is
   body_answer_same (asked.Put text) q answer is = is
-  body_answer_same asked.Propfind q answer is = is
+  body_answer_same (asked.Propfind find) q answer is = is
   body_answer_same (asked.Proppatch (patch.DisplayName label)) q answer is = is
   body_answer_same (asked.Proppatch (patch.GroupMembers members)) q answer is = subst (λ (x : Office). IsMembersAnswer x members answer) same is
   body_answer_same (asked.Acl list) q answer is = acl_answer_same q list answer is
-  body_answer_same asked.Copy q answer is = is
-  body_answer_same asked.Move q answer is = is
+  body_answer_same (asked.Copy to) q answer is = is
+  body_answer_same (asked.Move to) q answer is = is
   body_answer_same asked.Delete q answer is = is
   body_answer_same asked.Mkcol q answer is = is
-  body_answer_same asked.Report q answer is = is
+  body_answer_same (asked.Report from) q answer is = is
 
-  keeps_limits_same : (what : Asked) (q : Path) (mapped : Bool) → keeps_limits o what q mapped ≡ keeps_limits p what q mapped
-  keeps_limits_same asked.Get q mapped = refl
-  keeps_limits_same asked.Head q mapped = refl
-  keeps_limits_same asked.Options q mapped = refl
-  keeps_limits_same (asked.Put text) q mapped = put_limits_same q mapped
-  keeps_limits_same asked.Propfind q mapped = refl
-  keeps_limits_same (asked.Proppatch (patch.DisplayName label)) q mapped = label_limits_same q
-  keeps_limits_same (asked.Proppatch (patch.GroupMembers members)) q mapped = ap (λ (x : Office). nat_lt x.epoch LAST_NUMBER) same
-  keeps_limits_same (asked.Acl list) q mapped = ap (λ (x : Office). nat_lt x.epoch LAST_NUMBER) same
-  keeps_limits_same asked.Copy q mapped = refl
-  keeps_limits_same asked.Move q mapped = refl
-  keeps_limits_same asked.Delete q mapped = delete_limits_same q
-  keeps_limits_same asked.Mkcol q mapped = ap (λ n. nat_lt n MAX_BOOKS) (count_same o p same path.Books)
-  keeps_limits_same asked.Report q mapped = refl
+  keeps_limits_same : (what : Asked) (q : Path) (mapped taken : Bool) → keeps_limits o what q mapped taken ≡ keeps_limits p what q mapped taken
+  keeps_limits_same asked.Get q mapped taken = refl
+  keeps_limits_same asked.Head q mapped taken = refl
+  keeps_limits_same asked.Options q mapped taken = refl
+  keeps_limits_same (asked.Put text) q mapped taken = put_limits_same q mapped
+  keeps_limits_same (asked.Propfind find) q mapped taken = refl
+  keeps_limits_same (asked.Proppatch (patch.DisplayName label)) q mapped taken = label_limits_same q
+  keeps_limits_same (asked.Proppatch (patch.GroupMembers members)) q mapped taken = ap (λ (x : Office). nat_lt x.epoch LAST_NUMBER) same
+  keeps_limits_same (asked.Acl list) q mapped taken = ap (λ (x : Office). nat_lt x.epoch LAST_NUMBER) same
+  keeps_limits_same (asked.Copy to) q mapped taken = put_limits_same (destination_path to) taken
+  keeps_limits_same (asked.Move to) q mapped taken = move_limits_same q to taken
+  keeps_limits_same asked.Delete q mapped taken = delete_limits_same q
+  keeps_limits_same asked.Mkcol q mapped taken = ap (λ n. nat_lt n MAX_BOOKS) (count_same o p same path.Books)
+  keeps_limits_same (asked.Report from) q mapped taken = refl
 
 -- ---- methods that need `read` at their target
 read_alone : (leaf : Leaf) → only Read leaf ≡ true → leaf ≡ Read
@@ -289,8 +322,8 @@ reads_target Delete = false
 reads_target Mkcol = false
 reads_target Report = true
 
-module _ (o : Office) (caller : Caller) (circle : CircleOf) (is_circle : IsCircle o.pairs caller circle) (request : Request) (target : Path) (shape : Shape) where
-  reads_granted : (m : Method) → reads_target m ≡ true → AreGranted o circle request target (needs_of m shape) → MayRead o caller target
+module _ (o : Office) (caller : Caller) (circle : CircleOf) (is_circle : IsCircle o.pairs caller circle) (to : Option Destination) (target : Path) (shape : Shape) where
+  reads_granted : (m : Method) → reads_target m ≡ true → AreGranted o circle to target (needs_of m shape) → MayRead o caller target
   reads_granted Get e h = reads_by o caller circle target (only Read) is_circle refl h.0
   reads_granted Head e h = reads_by o caller circle target (only Read) is_circle refl h.0
   reads_granted Options e h = reads_by o caller circle target (only Read) is_circle refl h.0
@@ -304,8 +337,8 @@ module _ (o : Office) (caller : Caller) (circle : CircleOf) (is_circle : IsCircl
   reads_granted Mkcol e h = absurd cc
   reads_granted Report e h = reads_by o caller circle target (read_and shape.effective false) is_circle refl h.0
 
-pub reads : (o : Office) (request : Request) (ready : Ready) → reads_target (method_of ready.asked) ≡ true → IsGranted o request ready → MayRead o ready.caller ready.target.path
-reads o request ready e h = reads_granted o ready.caller h.circle h.is_circle request ready.target.path (shape_at ready) (method_of ready.asked) e h.granted
+pub reads : (o : Office) (ready : Ready) → reads_target (method_of ready.asked) ≡ true → IsGranted o ready → MayRead o ready.caller ready.target.path
+reads o ready e h = reads_granted o ready.caller h.circle h.is_circle (destination_in ready.asked) ready.target.path (shape_at ready) (method_of ready.asked) e h.granted
 
 -- ---- two requests that are found out alike, but for the label and text of the target
 module _ (a b : Ready) (alike : outline_of_ready a ≡ outline_of_ready b) where
@@ -321,37 +354,45 @@ module _ (a b : Ready) (alike : outline_of_ready a ≡ outline_of_ready b) where
   mapped_is : is_some a.target.node ≡ is_some b.target.node
   mapped_is = sym (there_mapped outline_of_node a.target.node) ∙ ap (λ (r : Ready). is_some r.target.node) alike ∙ there_mapped outline_of_node b.target.node
 
+  taken_is : is_some a.target.destination ≡ is_some b.target.destination
+  taken_is =
+      sym (there_mapped outline_of_node a.target.destination)
+      ∙ ap (λ (r : Ready). is_some r.target.destination) alike
+      ∙ there_mapped outline_of_node b.target.destination
+
   needs_is : needs_at a ≡ needs_at b
   needs_is = λ i. needs_of (method_of (asked_is i)) (record {
     target_mapped = mapped_is i;
-    destination_mapped = false;
+    destination_mapped = taken_is i;
     book = is_book (kind_of (path_is i));
-    acl = false;
-    privileges = false;
+    acl = asks_for property.Acl (asked_is i);
+    privileges = asks_for property.CurrentUserPrivilegeSet (asked_is i);
     effective = false;
   })
 
   module _ (o p : Office) (same : outline o ≡ outline p) where
-    pub verdict_granted : (request : Request) → IsGranted o request a → IsGranted p request b
-    verdict_granted request h = record {
+    pub verdict_granted : IsGranted o a → IsGranted p b
+    verdict_granted h = record {
       circle = h.circle;
       is_circle = subst (λ c. IsCircle p.pairs c h.circle) caller_is (circle_same o p same a.caller h.circle h.is_circle);
-      granted = subst (λ needs. AreGranted p h.circle request b.target.path needs) needs_is
-          (subst (λ t. AreGranted p h.circle request t (needs_at a)) path_is
-          (each_granted o p same h.circle request a.target.path (needs_at a) h.granted));
+      granted = subst (λ needs. AreGranted p h.circle (destination_in b.asked) b.target.path needs) needs_is
+          (subst (λ t. AreGranted p h.circle (destination_in b.asked) t (needs_at a)) path_is
+          (subst (λ what. AreGranted p h.circle (destination_in what) a.target.path (needs_at a)) asked_is
+          (each_granted o p same h.circle (destination_in a.asked) a.target.path (needs_at a) h.granted)));
     }
 
-    pub verdict_denied : (request : Request) (denial : Denial) → IsDenied o request a denial → IsDenied p request b denial
-    verdict_denied request denial h = record {
+    pub verdict_denied : (denial : Denial) → IsDenied o a denial → IsDenied p b denial
+    verdict_denied denial h = record {
       circle = h.circle;
       is_circle = subst (λ c. IsCircle p.pairs c h.circle) caller_is (circle_same o p same a.caller h.circle h.is_circle);
-      denied = subst (λ needs. IsFirstDenial p h.circle request b.target.path needs denial) needs_is
-          (subst (λ t. IsFirstDenial p h.circle request t (needs_at a) denial) path_is
-          (first_denied o p same h.circle request a.target.path (needs_at a) denial h.denied));
+      denied = subst (λ needs. IsFirstDenial p h.circle (destination_in b.asked) b.target.path needs denial) needs_is
+          (subst (λ t. IsFirstDenial p h.circle (destination_in b.asked) t (needs_at a) denial) path_is
+          (subst (λ what. IsFirstDenial p h.circle (destination_in what) a.target.path (needs_at a) denial) asked_is
+          (first_denied o p same h.circle (destination_in a.asked) a.target.path (needs_at a) denial h.denied)));
     }
 
     limits_same : limits_of o a.asked a.target ≡ limits_of p b.asked b.target
-    limits_same = ap (λ t. check t Full) (keeps_limits_same o p same a.asked a.target.path (is_some a.target.node) ∙ (λ i. keeps_limits p (asked_is i) (path_is i) (mapped_is i)))
+    limits_same = ap (λ t. check t Full) (keeps_limits_same o p same a.asked a.target.path (is_some a.target.node) (is_some a.target.destination) ∙ (λ i. keeps_limits p (asked_is i) (path_is i) (mapped_is i) (taken_is i)))
 
   put_status_same : (r s : Option Node) → is_some r ≡ is_some s → put_status r ≡ put_status s
   put_status_same None None e = refl
@@ -360,30 +401,66 @@ module _ (a b : Ready) (alike : outline_of_ready a ≡ outline_of_ready b) where
   put_status_same (Some x) None e = absurd cc
 
   -- what is replied and done rests on the label and text of the target in methods alone that need `read` there
-  success_same : (what : Asked) → (reads_target (method_of what) ≡ true → a.target.node ≡ b.target.node) → success_of what a.caller a.target ≡ success_of what b.caller b.target
-  success_same asked.Get shown = let node = shown refl in λ i. text_of (node i) >>= λ text. Ok (replied 200 (content.Card text) None)
-  success_same asked.Head shown = let node = shown refl in λ i. text_of (node i) >>= λ text. Ok (replied 200 (content.Card text) None)
-  success_same asked.Options shown = λ i. Ok (replied 200 (content.Allow (allowed_of (kind_of (path_is i)))) None)
-  success_same (asked.Put text) shown =
-      let status = put_status_same a.target.node b.target.node mapped_is in
-      λ i. put_edit (caller_is i) text (path_is i) >>= λ edit. Ok (replied (status i) content.Empty (Some edit))
-  success_same asked.Propfind shown = λ i. refused_at (path_is i)
-  success_same (asked.Proppatch patched) shown = λ i. patch_edit (path_is i) patched >>= λ edit. Ok (replied 200 content.Empty (Some edit))
-  success_same (asked.Acl list) shown = λ i. Ok (replied 200 content.Empty (Some (SetList (path_is i) (entries_of list))))
-  success_same asked.Copy shown = λ i. refused_at (path_is i)
-  success_same asked.Move shown = λ i. refused_at (path_is i)
-  success_same asked.Delete shown = λ i. delete_edit (path_is i) >>= λ edit. Ok (replied 204 content.Empty (Some edit))
-  success_same asked.Mkcol shown = λ i. mkcol_edit (caller_is i) (path_is i) >>= λ edit. Ok (replied 201 content.Empty (Some edit))
-  success_same asked.Report shown = λ i. refused_at (path_is i)
+  module _ (o p : Office) (circle : CircleOf) (offices : AreAlike o p circle) (reports : AreReportedAlike o p circle) where
+    sync_same : (from : SyncFrom) (q : Path) → sync_plan o circle from q ≡ sync_plan p circle from q
+    sync_same from path.Root = refl
+    sync_same from path.People = refl
+    sync_same from path.Groups = refl
+    sync_same from path.Books = refl
+    sync_same from (path.Person n) = refl
+    sync_same from (path.Group n) = refl
+    sync_same from (path.Book b) = ap report_plan (reports b from)
+    sync_same from (path.Card b c) = refl
 
-  pub granted_plan_same : (o p : Office) → outline o ≡ outline p → (circle : CircleOf) → (reads_target (method_of a.asked) ≡ true → a.target.node ≡ b.target.node)
-      → (result : Result Plan Refusal) → IsGrantedPlan o circle a result → IsGrantedPlan p circle b result
-  granted_plan_same o p same circle shown result is =
-      let success = success_same a.asked shown ∙ ap (λ what. success_of what b.caller b.target) asked_is in
-      let limits = limits_same o p same in
-      let answers : IsBodyAnswer p b.asked b.target.path is.0 =
-      subst (λ q. IsBodyAnswer p b.asked q is.0) path_is (subst (λ what. IsBodyAnswer p what a.target.path is.0) asked_is (body_answer_same o p same a.asked a.target.path is.0 is.1)) in
-      (is.0, answers, is.2 ∙ (λ i. is.0 >>= λ _. limits i >>= λ _. success i))
+    listed_same : (find : Find) → find.needed Read ≡ true → (q : Path) (node : Option Node) (result : Result Plan Refusal)
+        → IsListed o circle find q node result → IsListed p circle find q node result
+    listed_same find needs q None result is = is
+    listed_same find needs q (Some node) result is = (is.0, unread_unseen o p circle offices find needs q is.0 is.1, is.2)
+
+    success_same : (what : Asked) → IsShaped what → (reads_target (method_of what) ≡ true → a.target.node ≡ b.target.node) → (result : Result Plan Refusal)
+        → IsSuccessOf o circle what a.caller a.target result → IsSuccessOf p circle what b.caller b.target result
+    success_same asked.Get shaped shown result is = sym (ap card_plan (shown refl)) ∙ is
+    success_same asked.Head shaped shown result is = sym (ap card_plan (shown refl)) ∙ is
+    success_same asked.Options shaped shown result is = sym (ap allow_plan path_is) ∙ is
+    success_same (asked.Put text) shaped shown result is =
+        let status = put_status_same a.target.node b.target.node mapped_is in
+        let plans : put_plan a.caller text a.target ≡ put_plan b.caller text b.target =
+        λ i. put_edit (caller_is i) text (path_is i) >>= λ edit. Ok (replied (status i) content.Empty (Some edit)) in
+        sym plans ∙ is
+    success_same (asked.Propfind find) shaped shown result is =
+        subst (λ q. IsListed p circle find q b.target.node result) path_is
+        (subst (λ node. IsListed p circle find a.target.path node result) (shown refl) (listed_same find (ap (λ (set : Leaf → Bool). set Read) shaped) a.target.path a.target.node result is))
+    success_same (asked.Proppatch patched) shaped shown result is = sym (ap (λ q. patch_plan q patched) path_is) ∙ is
+    success_same (asked.Acl list) shaped shown result is = sym (ap (λ q. acl_plan q list) path_is) ∙ is
+    success_same (asked.Copy to) shaped shown result is =
+        let status = put_status_same a.target.destination b.target.destination taken_is in
+        let plans : copy_plan a.caller to a.target ≡ copy_plan b.caller to b.target =
+        λ i. copy_edit (caller_is i) (path_is i) to >>= λ edit. Ok (replied (status i) content.Empty (Some edit)) in
+        sym plans ∙ is
+    success_same (asked.Move to) shaped shown result is =
+        let status = put_status_same a.target.destination b.target.destination taken_is in
+        let plans : move_plan to a.target ≡ move_plan to b.target =
+        λ i. move_edit (path_is i) to >>= λ edit. Ok (replied (status i) content.Empty (Some edit)) in
+        sym plans ∙ is
+    success_same asked.Delete shaped shown result is = sym (ap delete_plan path_is) ∙ is
+    success_same asked.Mkcol shaped shown result is =
+        let plans : mkcol_plan a.caller a.target.path ≡ mkcol_plan b.caller b.target.path = λ i. mkcol_plan (caller_is i) (path_is i) in
+        sym plans ∙ is
+    success_same (asked.Report from) shaped shown result is = sym (sync_same from a.target.path ∙ ap (sync_plan p circle from) path_is) ∙ is
+
+    done_same : IsShaped a.asked → (reads_target (method_of a.asked) ≡ true → a.target.node ≡ b.target.node) → (c : Result (Unit {0}) Refusal) (result : Result Plan Refusal)
+        → IsDone o circle a c result → IsDone p circle b c result
+    done_same shaped shown (Err e) result is = is
+    done_same shaped shown (Ok u) result is = subst (λ what. IsSuccessOf p circle what b.caller b.target result) asked_is (success_same a.asked shaped shown result is)
+
+    pub granted_plan_same : outline o ≡ outline p → IsShaped a.asked → (reads_target (method_of a.asked) ≡ true → a.target.node ≡ b.target.node)
+        → (result : Result Plan Refusal) → IsGrantedPlan o circle a result → IsGrantedPlan p circle b result
+    granted_plan_same same shaped shown result is =
+        let limits = limits_same o p same in
+        let answers : IsBodyAnswer p b.asked b.target.path is.0 =
+        subst (λ q. IsBodyAnswer p b.asked q is.0) path_is (subst (λ what. IsBodyAnswer p what a.target.path is.0) asked_is (body_answer_same o p same a.asked a.target.path is.0 is.1)) in
+        let checks : body_then_limits o a is.0 ≡ body_then_limits p b is.0 = λ i. is.0 >>= λ _. limits i in
+        (is.0, answers, done_same shaped shown (body_then_limits p b is.0) result (subst (λ c. IsDone o circle a c result) checks is.2))
 
 -- ---- the caller of a request that has passed is the one that it names
 answered_first : {A B : Type 0} (m : Result A Refusal) (f : A → Result B Refusal) (y : B) → (m >>= f) ≡ Ok y → (x : A) × (m ≡ Ok x) × (f x ≡ Ok y)
@@ -398,19 +475,27 @@ caller_named o (Some name) caller e =
       | false ↦ λ h. absurd cc
     ] e
 
+abbrev then_destination : Office → Caller → Asked → Target → Result Ready Refusal
+then_destination o caller what target =
+    destination_of o (destination_in what) >>= λ found. Ok (record { caller = caller; asked = what; target = record target { destination = found } })
+
+abbrev then_suited : Office → Caller → Asked → Target → Result Ready Refusal
+then_suited o caller what target = suits_target what target >>= λ _. then_destination o caller what target
+
 abbrev then_target : Office → Request → Caller → Asked → Result Ready Refusal
-then_target o request caller what = target_of o request.method request.path >>= suited_ready caller what
+then_target o request caller what = target_of o request.method request.path >>= then_suited o caller what
 
 abbrev then_asked : Office → Request → Caller → Result Ready Refusal
-then_asked o request caller = asked_of request.method request.body >>= then_target o request caller
+then_asked o request caller = asked_of request.method request >>= then_target o request caller
 
 pub ready_named : (o : Office) (name : Option (List ℕ)) (request : Request) (ready : Ready) → ready_of o name request ≡ Ok ready → ready.caller ≡ named name
 ready_named o name request ready is =
     let a = answered_first (caller_of o name) (then_asked o request) ready is in
-    let b = answered_first (asked_of request.method request.body) (then_target o request a.0) ready a.2 in
-    let c = answered_first (target_of o request.method request.path) (suited_ready a.0 b.0) ready b.2 in
-    let d = answered_first (suits_target b.0 c.0) (λ _. made_ready a.0 b.0 c.0) ready c.2 in
-    let made : record { caller = a.0; asked = b.0; target = c.0 } ≡ ready = cc (d.2) in
+    let b = answered_first (asked_of request.method request) (then_target o request a.0) ready a.2 in
+    let c = answered_first (target_of o request.method request.path) (then_suited o a.0 b.0) ready b.2 in
+    let d = answered_first (suits_target b.0 c.0) (λ _. then_destination o a.0 b.0 c.0) ready c.2 in
+    let f = answered_first (destination_of o (destination_in b.0)) _ ready d.2 in
+    let made : record { caller = a.0; asked = b.0; target = record c.0 { destination = f.0 } } ≡ ready = cc (f.2) in
     sym (ap (λ (r : Ready). r.caller) made) ∙ caller_named o name a.0 a.1
 
 -- ---- plans
@@ -426,16 +511,27 @@ module _ (o p : Office) (name : Option (List ℕ)) (request : Request) (agree : 
       ∙ ap (node_at p) (path_is a b alike)
       ∙ sym where_b
 
+  -- for the circle of a request that has passed
+  offices_alike : (a : Ready) → ready_of o name request ≡ Ok a → (granted : IsGranted o a) → AreAlike o p granted.circle
+  offices_alike a a_is granted =
+      alike_of o p (named name) agree granted.circle (subst (λ c. IsCircle o.pairs c granted.circle) (ready_named o name request a a_is) granted.is_circle)
+
+  books_reported_alike : (a : Ready) → ready_of o name request ≡ Ok a → (granted : IsGranted o a) → AreReportedAlike o p granted.circle
+  books_reported_alike a a_is granted =
+      reports_alike o p (named name) agree granted.circle (subst (λ c. IsCircle o.pairs c granted.circle) (ready_named o name request a a_is) granted.is_circle)
+
   decided_same : (a b : Ready) → ready_of o name request ≡ Ok a → ready_of p name request ≡ Ok b → outline_of_ready a ≡ outline_of_ready b
-      → (result : Result Plan Refusal) → IsDecided o request a result → IsDecided p request b result
+      → (result : Result Plan Refusal) → IsDecided o a result → IsDecided p b result
+  unfolding verdict_granted
   decided_same a b a_is b_is alike result (inl granted) = inl (
-    verdict_granted a b alike o p agree.outlines request granted.0,
-    granted_plan_same a b alike o p agree.outlines granted.0.circle (λ m. target_seen a b a_is b_is alike (reads o request a m granted.0)) result granted.1,
+    verdict_granted a b alike o p agree.outlines granted.0,
+    granted_plan_same a b alike o p granted.0.circle (offices_alike a a_is granted.0) (books_reported_alike a a_is granted.0) agree.outlines (ready_shaped o request name a a_is)
+        (λ m. target_seen a b a_is b_is alike (reads o a m granted.0)) result granted.1,
   )
-  decided_same a b a_is b_is alike result (inr denied) = inr (denied.0, verdict_denied a b alike o p agree.outlines request denied.0 denied.1, denied.2)
+  decided_same a b a_is b_is alike result (inr denied) = inr (denied.0, verdict_denied a b alike o p agree.outlines denied.0 denied.1, denied.2)
 
   planned_same : (r s : Result Ready Refusal) → ready_of o name request ≡ r → ready_of p name request ≡ s → told_of outline_of_ready r ≡ told_of outline_of_ready s
-      → (result : Result Plan Refusal) → IsPlannedFrom o request r result → IsPlannedFrom p request s result
+      → (result : Result Plan Refusal) → IsPlannedFrom o r result → IsPlannedFrom p s result
   planned_same (Err e) (Err f) r_is s_is alike result h = h ∙ (let same : e ≡ f = cc (alike) in ap Err same)
   planned_same (Err e) (Ok b) r_is s_is alike result h = absurd (cc (alike))
   planned_same (Ok a) (Err f) r_is s_is alike result h = absurd (cc (alike))

@@ -121,15 +121,15 @@ one_body_answer o asked.Get p a b x y = x ∙ sym y
 one_body_answer o asked.Head p a b x y = x ∙ sym y
 one_body_answer o asked.Options p a b x y = x ∙ sym y
 one_body_answer o (asked.Put text) p a b x y = x ∙ sym y
-one_body_answer o asked.Propfind p a b x y = x ∙ sym y
+one_body_answer o (asked.Propfind find) p a b x y = x ∙ sym y
 one_body_answer o (asked.Proppatch (patch.DisplayName label)) p a b x y = x ∙ sym y
 one_body_answer o (asked.Proppatch (patch.GroupMembers members)) p a b x y = one_members_answer o members a b x y
 one_body_answer o (asked.Acl list) p a b x y = one_acl_answer o p list a b x y
-one_body_answer o asked.Copy p a b x y = x ∙ sym y
-one_body_answer o asked.Move p a b x y = x ∙ sym y
+one_body_answer o (asked.Copy to) p a b x y = x ∙ sym y
+one_body_answer o (asked.Move to) p a b x y = x ∙ sym y
 one_body_answer o asked.Delete p a b x y = x ∙ sym y
 one_body_answer o asked.Mkcol p a b x y = x ∙ sym y
-one_body_answer o asked.Report p a b x y = x ∙ sym y
+one_body_answer o (asked.Report from) p a b x y = x ∙ sym y
 
 -- ---- the body is accepted, or refused by a refusal of its own
 abbrev IsAnswered : Answer → Type 0
@@ -163,15 +163,15 @@ body_answered o asked.Get p a is = inl is
 body_answered o asked.Head p a is = inl is
 body_answered o asked.Options p a is = inl is
 body_answered o (asked.Put text) p a is = card_answered a (card_fault text) is
-body_answered o asked.Propfind p a is = inl is
+body_answered o (asked.Propfind find) p a is = inl is
 body_answered o (asked.Proppatch (patch.DisplayName label)) p a is = inl is
 body_answered o (asked.Proppatch (patch.GroupMembers members)) p a is = members_answered o members a is
 body_answered o (asked.Acl list) p a is = acl_answered o p list a is
-body_answered o asked.Copy p a is = inl is
-body_answered o asked.Move p a is = inl is
+body_answered o (asked.Copy to) p a is = inl is
+body_answered o (asked.Move to) p a is = inl is
 body_answered o asked.Delete p a is = inl is
 body_answered o asked.Mkcol p a is = inl is
-body_answered o asked.Report p a is = inl is
+body_answered o (asked.Report from) p a is = inl is
 
 -- ---- a list that is accepted
 abbrev AllKnown : Office → List Entry → Type 0

@@ -11,7 +11,7 @@ use Rattle.book_values.specs.declared.paths.Kind.{Kind}
 use Rattle.book_values.specs.declared.paths.Kind.TheVariants as kind
 use Rattle.book_values.specs.declared.paths.Path.{Path}
 use Rattle.book_values.specs.declared.paths.Path.TheVariants as path
-use Rattle.book_machine.specs.Verdicts.{principal_of}
+use Rattle.book_listings.specs.Verdicts.{principal_of}
 
 same_person : (n m : List ℕ) → person_path n ≡ person_path m → n ≡ m
 same_person n m e = ap (drop 8) e

@@ -10,8 +10,9 @@ use Rattle.book_office.specs.Resources.{Resource, resource_at, node_of}
 use Rattle.book_office.specs.declared.nodes.EffectiveEntry.{EffectiveEntry}
 use Rattle.book_office.specs.declared.nodes.Node.{Node}
 use Rattle.book_values.specs.declared.offices.Office.{Office}
-use Rattle.book_machine.specs.Verdicts.{here_of, owner_at, place_path, Judges, JudgesNeed, JudgesNeeds, IsTarget}
-use Rattle.book_machine.specs.declared.messages.Request.{Request}
+use Rattle.book_listings.specs.Verdicts.{here_of, owner_at}
+use Rattle.book_machine.specs.Verdicts.{place_path, Judges, JudgesNeed, JudgesNeeds, IsTarget}
+use Rattle.book_machine.specs.declared.asked.Destination.{Destination}
 use Rattle.book_machine.specs.declared.plans.Target.{Target}
 use Rattle.book_machine.specs.declared.refusals.Refusal.{Refusal}
 
@@ -30,11 +31,11 @@ owner_of_node (Some r) = refl
 pub owner_of_target : (o : Office) (target : Target) → IsTarget o target → option_and_then (λ (n : Node). n.owner) target.node ≡ owner_at o target.path
 owner_of_target o target is = ap (option_and_then (λ (n : Node). n.owner)) is ∙ owner_of_node (resource_at o target.path)
 
-module _ (o : Office) (circle : CircleOf) (request : Request) (target : Path) where
+module _ (o : Office) (circle : CircleOf) (to : Option Destination) (target : Path) where
   -- a need that is granted, and then others
   pub then_needs : (need : Need) (rest : List Need) (u : Unit {0}) (r : Result (Unit {0}) Refusal)
-      → JudgesNeed o circle (place_path request target need.place) need.set (Ok u)
-      → JudgesNeeds o circle request target rest r → JudgesNeeds o circle request target (need ∷ rest) r
+      → JudgesNeed o circle (place_path to target need.place) need.set (Ok u)
+      → JudgesNeeds o circle to target rest r → JudgesNeeds o circle to target (need ∷ rest) r
   then_needs need rest u (Ok v) granted others = (granted, others)
   then_needs need rest u (Err e) granted (inl unavailable) = inl unavailable
   then_needs need rest u (Err e) granted (inr denied) = inr (denied.0, denied.1, inr (granted, denied.2))

@@ -1,9 +1,13 @@
+pub mod AlikeOffices
 pub mod AlikePlans
+pub mod AlikeReports
 pub mod Answering
 pub mod AnsweringAdoptions
 pub mod AskingEach
 pub mod AvailableSteps
 pub mod BodyAnswers
+pub mod CopiesOfRuns
+pub mod DestinedCards
 pub mod FittingPlans
 pub mod FoundPrincipals
 pub mod Judging
@@ -19,5 +23,7 @@ pub mod ServedPlans
 pub mod StagesInTurn
 pub mod StepLaws
 pub mod StillAgreeing
+pub mod SyncPlans
+pub mod ToldResources
 pub mod UnreadExample
 pub mod UnseenRuns

@@ -1,11 +1,14 @@
 -- A request is refused as full exactly where its edit would leave an Office beyond a limit.
-use Rattle.std.proofs.Common.{◌≡◌, inl, inr, ℕ, ◌+◌, ◌<◌, ◌≤◌, List, Bool, true, false, ◌&&◌, ◌||◌, cond, nat_lt, Option, Some, None, is_some, option_map, option_and_then, Result, Ok, Err, refl, sym, ap, ◌∙◌, subst, arith}
+use Rattle.std.proofs.Common.{◌≡◌, ◌≢◌, inl, inr, ℕ, ◌+◌, ◌<◌, ◌≤◌, List, Bool, true, false, ◌&&◌, ◌||◌, cond, nat_lt, Option, Some, None, is_some, option_map, option_and_then, Result, Ok, Err, refl, sym, ap, ◌∙◌, subst, arith}
 use Rattle.std.proofs.lemmas.Bool.{lt-ltb}
 use Rattle.std.specs.Cmp.Lexicographic.{nat_list_cmp_total}
 use Rattle.std.specs.FinMap.{get, insert, len, len-insert}
-use Rattle.book_values.proofs.OneName.{by_option, changed_here}
+use Rattle.std.specs.Prelude.{if◌then◌else◌}
+use Rattle.std.specs.Str.{bytes_eq}
+use Rattle.std.proofs.lemmas.Slice.Eq.{bytes_eq-Decides}
+use Rattle.book_values.proofs.OneName.{by_option, changed_here, changed_elsewhere, where_some}
 use Rattle.book_values.specs.Fresh.{new_book}
-use Rattle.book_values.specs.Names.{NamesTo}
+use Rattle.book_values.specs.Names.{NamesTo, changed_at}
 use Rattle.book_lists.specs.Circles.{CircleOf}
 use Rattle.book_lists.specs.declared.circles.Caller.{Caller}
 use Rattle.book_values.specs.declared.offices.Book.{Book}
@@ -17,26 +20,28 @@ use Rattle.book_values.specs.declared.paths.Path.TheVariants as path
 use Rattle.book_lists.specs.ListEdits.{entries_of}
 use Rattle.book_lists.specs.Principals.{group_path}
 use Rattle.book_lists.specs.declared.entries.Entry.{Entry}
-use Rattle.book_office.specs.Edits.{apply, put_card, card_put, remove_card, label_card}
-use Rattle.book_office.specs.Resources.{node_of, node_at, count_at, book_resource, card_in, card_resource, number_of}
-use Rattle.book_office.specs.Sound.{IsSound}
+use Rattle.book_office.specs.Edits.{apply, with_book, place_card, put_card, card_put, copy_from, card_copied, move_to, remove_card, label_card}
+use Rattle.book_office.specs.Resources.{node_of, node_at, count_at, book_resource, card_at, card_in, card_resource, number_of}
+use Rattle.book_office.specs.Sound.{IsSound, IsSoundBook}
 use Rattle.book_office.specs.declared.edits.Edit.{Edit}
-use Rattle.book_office.specs.declared.edits.Edit.TheVariants.{PutCard, RemoveCard, AddBook, RemoveBook, SetLabel, SetList, SetMembers}
+use Rattle.book_office.specs.declared.edits.Edit.TheVariants.{PutCard, RemoveCard, CopyCard, MoveCard, AddBook, RemoveBook, SetLabel, SetList, SetMembers}
 use Rattle.book_office.specs.declared.nodes.Node.{Node}
-use Rattle.book_rights.specs.declared.methods.Method.TheVariants.{Put, Proppatch, Delete, Mkcol}
+use Rattle.book_rights.specs.declared.methods.Method.TheVariants.{Put, Proppatch, Copy, Move, Delete, Mkcol}
 use Rattle.book_machine.proofs.BodyAnswers.{one_body_answer}
-use Rattle.book_machine.proofs.FittingPlans.{answered, passed, edit_told, no_mkcol_at, success_fits, ready_at, count_of_book, node_of_card, no_book, is_free, same_Some}
-use Rattle.book_machine.proofs.OnePlan.{verdicts_exclude}
+use Rattle.book_machine.proofs.FittingPlans.{answered, passed, edit_told, IsDestined, no_mkcol_at, success_fits, ready_at, count_of_book, node_of_card, no_book, is_free, same_Some}
+use Rattle.book_lists.proofs.OneOutcome.{one_circle}
+use Rattle.book_machine.proofs.OnePlan.{one_success, verdicts_exclude}
 use Rattle.book_machine.proofs.ServedPlans.{success_low}
 use Rattle.book_machine.proofs.StepLaws.{decided, limits_answers, not_success}
 use Rattle.book_machine.specs.Laws.{RequestsAreFullAtLimits}
 use Rattle.book_machine.specs.AllowedMethods.{goes_on}
-use Rattle.book_machine.specs.Asked.{method_of}
-use Rattle.book_machine.specs.Stages.{◌>>=◌, check, at_unmapped, can_change, put_limits, delete_limits, label_limits, limits_of, owner_of, replied, success, after_body, IsGrantedPlan}
+use Rattle.book_machine.specs.Asked.{destination_in, method_of, destination_path}
+use Rattle.book_machine.specs.Stages.{◌>>=◌, check, at_unmapped, can_change, can_change_twice, put_limits, copy_limits, move_limits, delete_limits, label_limits, limits_of, owner_of, replied, body_then_limits, IsBodyAnswer, IsSuccess, IsDone, IsGrantedPlan}
 use Rattle.book_machine.specs.Steps.{IsDecided, settled}
 use Rattle.book_machine.specs.Verdicts.{IsGranted}
 use Rattle.book_machine.specs.declared.asked.Asked.{Asked}
 use Rattle.book_machine.specs.declared.asked.Asked.TheVariants as asked
+use Rattle.book_machine.specs.declared.asked.Destination.{Destination}
 use Rattle.book_machine.specs.declared.messages.Content.{Content}
 use Rattle.book_machine.specs.declared.messages.Patch.TheVariants as patch
 use Rattle.book_machine.specs.declared.messages.Reply.{Reply}
@@ -58,6 +63,13 @@ changes_of None book is low = absurd cc
 changes_of (Some old) book is low =
     let same : old ≡ book = same_Some _ _ is in
     lt-ltb _ _ (subst (λ (k : Book). k.changes.number < LAST_NUMBER) (sym same) low)
+
+changes_twice_of : (found : Option Book) (book : Book) → found ≡ Some book → book.changes.number + 1 < LAST_NUMBER
+    → can_change_twice (option_map node_of (option_map book_resource found)) ≡ true
+changes_twice_of None book is low = absurd cc
+changes_twice_of (Some old) book is low =
+    let same : old ≡ book = same_Some _ _ is in
+    lt-ltb _ _ (subst (λ (k : Book). k.changes.number + 1 < LAST_NUMBER) (sym same) low)
 
 both : (a b : Bool) → a ≡ true → b ≡ true → (a && b) ≡ true
 both a b x y = λ i. x i && y i
@@ -88,6 +100,18 @@ module _ (o : Office) where
       no_parent : check false NoParent ≡ Ok tt → P
       no_parent e = absurd cc
 
+  -- a book with a card put into it stays within its limits
+  room_from : (b c : List ℕ) (book : Book) (card : StoredCard) → get o.books b ≡ Some book
+      → book.changes.number + 1 ≤ LAST_NUMBER → len (insert book.cards c card) ≤ MAX_CARDS → put_limits o (path.Card b c) (is_some (node_at o (path.Card b c))) ≡ true
+  room_from b c book card is last few =
+      let count : count_at o (path.Book b) ≡ len book.cards = count_of_book o b book is in
+      both _ _ (changes_of (get o.books b) book is (omega (arith, last)))
+      (by_option (get book.cards c)
+      (λ none.
+      let more = longer book.cards c card none in
+      or_true (is_some (node_at o (path.Card b c))) _ (lt-ltb (count_at o (path.Book b)) MAX_CARDS (omega (arith, few, more, count))))
+      (λ card some. ap (λ x. x || nat_lt (count_at o (path.Book b)) MAX_CARDS) (ap is_some (node_of_card o b c book is) ∙ ap (is_mapped book c) some)))
+
   put_room : (b c : List ℕ) (owner : Option (List ℕ)) (text : List ℕ) (book : Book) → get o.books b ≡ Some book
       → IsSound (apply o (PutCard b c owner text)) → put_limits o (path.Card b c) (is_some (node_at o (path.Card b c))) ≡ true
   put_room b c owner text book is after =
@@ -95,13 +119,7 @@ module _ (o : Office) where
       let there = (after.books b new (changed_here o.books b (put_card c owner text) ∙ ap (option_map (put_card c owner text)) is)).1 in
       let last : book.changes.number + 1 ≤ LAST_NUMBER = there.last in
       let few : len (insert book.cards c (card_put (get book.cards c) owner text)) ≤ MAX_CARDS = there.few in
-      let count : count_at o (path.Book b) ≡ len book.cards = count_of_book o b book is in
-      both _ _ (changes_of (get o.books b) book is (omega (arith, last)))
-      (by_option (get book.cards c)
-      (λ none.
-      let more = longer book.cards c (card_put (get book.cards c) owner text) none in
-      or_true (is_some (node_at o (path.Card b c))) _ (lt-ltb (count_at o (path.Book b)) MAX_CARDS (omega (arith, few, more, count))))
-      (λ card some. ap (λ x. x || nat_lt (count_at o (path.Book b)) MAX_CARDS) (ap is_some (node_of_card o b c book is) ∙ ap (is_mapped book c) some)))
+      room_from b c book (card_put (get book.cards c) owner text) is last few
 
   remove_room : (b c : List ℕ) (book : Book) → get o.books b ≡ Some book
       → IsSound (apply o (RemoveCard b c)) → delete_limits o (path.Card b c) ≡ true
@@ -130,6 +148,67 @@ module _ (o : Office) where
       (λ none. free (node_of_card o b c book found ∙ ap (λ r. option_map node_of (option_map (card_resource (number_of book c)) r)) none))
       (λ card held. some book card found held))
 
+  card_found : (b c : List ℕ) (book : Book) (card : StoredCard) → get o.books b ≡ Some book → get book.cards c ≡ Some card → card_at o b c ≡ Some card
+  card_found b c book card is held = ap (option_and_then (λ (k : Book). get k.cards c)) is ∙ held
+
+  copy_room : (fb fc : List ℕ) (to : Destination) (owner : Option (List ℕ)) (source : Book) (card : StoredCard) (target : Book)
+      → get o.books fb ≡ Some source → get source.cards fc ≡ Some card → get o.books to.book ≡ Some target
+      → IsSound (apply o (CopyCard fb fc to.book to.card owner)) → copy_limits o to (is_some (node_at o (destination_path to))) ≡ true
+  copy_room fb fc to owner source card target is held at after =
+      let change : Book → Book = copy_from (card_at o fb fc) to.card owner in
+      let new : StoredCard = card_copied (get target.cards to.card) owner card.label card.text in
+      let placed : change target ≡ place_card target to.card new = ap (λ r. copy_from r to.card owner target) (card_found fb fc source card is held) in
+      let there = subst (IsSoundBook (apply o (CopyCard fb fc to.book to.card owner))) placed
+      (after.books to.book (change target) (changed_here o.books to.book change ∙ ap (option_map change) at)).1 in
+      let last : target.changes.number + 1 ≤ LAST_NUMBER = there.last in
+      let few : len (insert target.cards to.card new) ≤ MAX_CARDS = there.few in
+      room_from to.book to.card target new at last few
+
+  -- a MOVE within a book, and one to another
+  move_within_room : (b fc tc : List ℕ) (source : Book) (card : StoredCard) → get o.books b ≡ Some source → get source.cards fc ≡ Some card
+      → IsSound (apply o (MoveCard b fc b tc)) → can_change_twice (node_at o (path.Book b)) ≡ true
+  move_within_room b fc tc source card is held after =
+      let change : Book → Book = move_to (card_at o b fc) tc in
+      let without = changed_at (remove_card fc) o.books b in
+      let at : get without b ≡ Some (remove_card fc source) = changed_here o.books b (remove_card fc) ∙ ap (option_map (remove_card fc)) is in
+      let placed : change (remove_card fc source) ≡ place_card (remove_card fc source) tc card = ap (λ r. move_to r tc (remove_card fc source)) (card_found b fc source card is held) in
+      let there = subst (IsSoundBook (apply o (MoveCard b fc b tc))) placed
+      (after.books b (change (remove_card fc source)) (changed_here without b change ∙ ap (option_map change) at)).1 in
+      let last : source.changes.number + 1 + 1 ≤ LAST_NUMBER = there.last in
+      changes_twice_of (get o.books b) source is (omega (arith, last))
+
+  move_across_room : (fb fc : List ℕ) (to : Destination) (source : Book) (card : StoredCard) (target : Book) → fb ≢ to.book
+      → get o.books fb ≡ Some source → get source.cards fc ≡ Some card → get o.books to.book ≡ Some target
+      → IsSound (apply o (MoveCard fb fc to.book to.card))
+      → (can_change (node_at o (path.Book fb)) && copy_limits o to (is_some (node_at o (destination_path to)))) ≡ true
+  move_across_room fb fc to source card target apart is held at after =
+      let whole : Office = apply o (MoveCard fb fc to.book to.card) in
+      let change : Book → Book = move_to (card_at o fb fc) to.card in
+      let without = changed_at (remove_card fc) o.books fb in
+      let still : get without to.book ≡ Some target = changed_elsewhere o.books fb (remove_card fc) to.book (λ same. apart (sym same)) ∙ at in
+      let placed : change target ≡ place_card target to.card card = ap (λ r. move_to r to.card target) (card_found fb fc source card is held) in
+      let there = subst (IsSoundBook whole) placed (after.books to.book (change target) (changed_here without to.book change ∙ ap (option_map change) still)).1 in
+      let behind = (after.books fb (remove_card fc source)
+      (changed_elsewhere without to.book change fb apart ∙ changed_here o.books fb (remove_card fc) ∙ ap (option_map (remove_card fc)) is)).1 in
+      let last : target.changes.number + 1 ≤ LAST_NUMBER = there.last in
+      let few : len (insert target.cards to.card card) ≤ MAX_CARDS = there.few in
+      let low : source.changes.number + 1 ≤ LAST_NUMBER = behind.last in
+      both _ _ (changes_of (get o.books fb) source is (omega (arith, low))) (room_from to.book to.card target card at last few)
+
+  move_room : (fb fc : List ℕ) (to : Destination) (source : Book) (card : StoredCard) (target : Book)
+      → get o.books fb ≡ Some source → get source.cards fc ≡ Some card → get o.books to.book ≡ Some target
+      → IsSound (apply o (MoveCard fb fc to.book to.card)) → move_limits o (path.Card fb fc) to (is_some (node_at o (destination_path to))) ≡ true
+  move_room fb fc to source card target is held at after =
+      elim (bytes_eq fb to.book) as (λ same. bytes_eq fb to.book ≡ same
+      → (if same then can_change_twice (node_at o (path.Book fb)) else can_change (node_at o (path.Book fb)) && copy_limits o to (is_some (node_at o (destination_path to)))) ≡ true) [
+        | true ↦ λ yes.
+            let one : to.book ≡ fb = sym ((bytes_eq-Decides fb to.book).0 yes) in
+            move_within_room fb fc to.card source card is held (subst (λ x. IsSound (apply o (MoveCard fb fc x to.card))) one after)
+        | false ↦ λ no.
+            let apart : fb ≢ to.book = λ same. let yes = (bytes_eq-Decides fb to.book).1 same in absurd (cc (sym no ∙ yes)) in
+            move_across_room fb fc to source card target apart is held at after
+      ] refl
+
   label_room : (b c label : List ℕ) (book : Book) (card : StoredCard) → get o.books b ≡ Some book → get book.cards c ≡ Some card
       → IsSound (apply o (SetLabel (path.Card b c) label)) → label_limits o (path.Card b c) ≡ true
   label_room b c label book card is held after =
@@ -156,9 +235,9 @@ refused_by r = Err r
 not_unmapped : {A : Type 0} (r : Refusal) → refused_by r ≡ Ok tt → A
 not_unmapped r e = absurd cc
 
-module _ (o : Office) (caller : Caller) (plan : Plan) (edit : Edit) (has : plan.edit ≡ Some edit) (after : IsSound (apply o edit)) where
+module _ (o : Office) (circle : CircleOf) (caller : Caller) (plan : Plan) (edit : Edit) (has : plan.edit ≡ Some edit) (after : IsSound (apply o edit)) where
   abbrev Within : Asked → Path → Type 0
-  Within what p = success (ready_at o p caller what) ≡ Ok plan → limits_of o what (ready_at o p caller what).target ≡ Ok tt
+  Within what p = IsSuccess o circle (ready_at o p caller what) (Ok plan) → limits_of o what (ready_at o p caller what).target ≡ Ok tt
 
   -- the Office after the edit that is told at once
   after_told : (status : ℕ) (what : Content) (made : Edit) → answered (replied status what (Some made)) ≡ Ok plan → IsSound (apply o made)
@@ -174,6 +253,30 @@ module _ (o : Office) (caller : Caller) (plan : Plan) (edit : Edit) (has : plan.
   put_within text (path.Book b) free is = absurd cc
   put_within text (path.Card b c) free is = book_for o b c _ free (λ book found.
       checked _ Full (put_room o b c (owner_of caller) text book found (after_told _ _ _ is)))
+
+  copy_within : (to : Destination) (p : Path) → IsDestined o p (Some to) → (node_at o p ≡ None → at_unmapped o Copy p ≡ Ok tt) → Within (asked.Copy to) p
+  copy_within to path.Root destined free is = absurd cc
+  copy_within to path.People destined free is = absurd cc
+  copy_within to path.Groups destined free is = absurd cc
+  copy_within to path.Books destined free is = absurd cc
+  copy_within to (path.Person n) destined free is = absurd cc
+  copy_within to (path.Group n) destined free is = absurd cc
+  copy_within to (path.Book b) destined free is = absurd cc
+  copy_within to (path.Card b c) destined free is = card_for o b c _ (λ none. not_unmapped NotFound (free none)) (λ book card found held.
+      where_some (get o.books to.book) destined.1 (λ target at.
+      checked _ Full (copy_room o b c to (owner_of caller) book card target found held at (after_told _ _ _ is))))
+
+  move_within : (to : Destination) (p : Path) → IsDestined o p (Some to) → (node_at o p ≡ None → at_unmapped o Move p ≡ Ok tt) → Within (asked.Move to) p
+  move_within to path.Root destined free is = absurd cc
+  move_within to path.People destined free is = absurd cc
+  move_within to path.Groups destined free is = absurd cc
+  move_within to path.Books destined free is = absurd cc
+  move_within to (path.Person n) destined free is = absurd cc
+  move_within to (path.Group n) destined free is = absurd cc
+  move_within to (path.Book b) destined free is = absurd cc
+  move_within to (path.Card b c) destined free is = card_for o b c _ (λ none. not_unmapped NotFound (free none)) (λ book card found held.
+      where_some (get o.books to.book) destined.1 (λ target at.
+      checked _ Full (move_room o b c to book card target found held at (after_told _ _ _ is))))
 
   delete_within : (p : Path) → (node_at o p ≡ None → at_unmapped o Delete p ≡ Ok tt) → Within asked.Delete p
   delete_within path.Root free is = absurd cc
@@ -219,45 +322,49 @@ module _ (o : Office) (caller : Caller) (plan : Plan) (edit : Edit) (has : plan.
   members_within members (path.Book b) is = absurd cc
   members_within members (path.Card b c) is = absurd cc
 
-  within : (what : Asked) (p : Path) → (node_at o p ≡ None → at_unmapped o (method_of what) p ≡ Ok tt) → ((n : Node) → node_at o p ≡ Some n → goes_on (method_of what) n.kind ≡ true) → Within what p
-  within asked.Get p free there is = refl
-  within asked.Head p free there is = refl
-  within asked.Options p free there is = refl
-  within (asked.Put text) p free there is = put_within text p free is
-  within asked.Propfind p free there is = refl
-  within (asked.Proppatch (patch.DisplayName label)) p free there is = label_within label p free is
-  within (asked.Proppatch (patch.GroupMembers members)) p free there is = members_within members p is
-  within (asked.Acl list) p free there is = checked _ Full (list_room o p (entries_of list) (after_told _ _ _ is))
-  within asked.Copy p free there is = refl
-  within asked.Move p free there is = refl
-  within asked.Delete p free there is = delete_within p free is
-  within asked.Mkcol p free there is = mkcol_within p there is
-  within asked.Report p free there is = refl
+  within : (what : Asked) (p : Path) → IsDestined o p (destination_in what) → (node_at o p ≡ None → at_unmapped o (method_of what) p ≡ Ok tt) → ((n : Node) → node_at o p ≡ Some n → goes_on (method_of what) n.kind ≡ true) → Within what p
+  within asked.Get p destined free there is = refl
+  within asked.Head p destined free there is = refl
+  within asked.Options p destined free there is = refl
+  within (asked.Put text) p destined free there is = put_within text p free is
+  within (asked.Propfind find) p destined free there is = refl
+  within (asked.Proppatch (patch.DisplayName label)) p destined free there is = label_within label p free is
+  within (asked.Proppatch (patch.GroupMembers members)) p destined free there is = members_within members p is
+  within (asked.Acl list) p destined free there is = checked _ Full (list_room o p (entries_of list) (after_told _ _ _ is))
+  within (asked.Copy to) p destined free there is = copy_within to p destined free is
+  within (asked.Move to) p destined free there is = move_within to p destined free is
+  within asked.Delete p destined free there is = delete_within p free is
+  within asked.Mkcol p destined free there is = mkcol_within p there is
+  within (asked.Report from) p destined free there is = refl
 
 -- ---- the reply
-granted_as : (o : Office) (request : Request) (ready : Ready) (result : Result Plan Refusal) → IsGranted o request ready → IsDecided o request ready result
-    → (circle : CircleOf) × IsGrantedPlan o circle ready result
-granted_as o request ready result granted (inl is) = (is.0.circle, is.1)
-granted_as o request ready result granted (inr denied) = absurd (verdicts_exclude o request ready denied.0 granted denied.1)
+pub granted_as : (o : Office) (ready : Ready) (result : Result Plan Refusal) (granted : IsGranted o ready) → IsDecided o ready result
+    → IsGrantedPlan o granted.circle ready result
+granted_as o ready result granted (inl is) =
+    subst (λ c. IsGrantedPlan o c ready result) (one_circle o.pairs ready.caller is.0.circle granted.circle is.0.is_circle granted.is_circle) is.1
+granted_as o ready result granted (inr denied) = absurd (verdicts_exclude o ready denied.0 granted denied.1)
 
-abbrev after_limits : Ready → Result (Unit {0}) Refusal → Result Plan Refusal
-after_limits ready r = r >>= λ _. success ready
+-- what follows an accepted body
+pub accepted_done : (o : Office) (circle : CircleOf) (ready : Ready) (result : Result Plan Refusal) → IsBodyAnswer o ready.asked ready.target.path (Ok tt)
+    → IsGrantedPlan o circle ready result → IsDone o circle ready (limits_of o ready.asked ready.target) result
+accepted_done o circle ready result body is =
+    subst (λ answer. IsDone o circle ready (body_then_limits o ready answer) result) (one_body_answer o ready.asked ready.target.path is.0 (Ok tt) is.1 body) is.2
 
 pub full_at_limits : RequestsAreFullAtLimits
 full_at_limits o name request ready edit reply after sound named is granted body plan succeeds has_edit step =
     let past = passed o request name ready is in
-    let decision = granted_as o request ready step.0 granted (decided o name request ready step.0 is step.1) in
-    let planned = decision.1.2 ∙ ap (after_body o ready) (one_body_answer o ready.asked ready.target.path decision.1.0 (Ok tt) decision.1.1 body) in
-    let told : reply ≡ (settled o (after_limits ready (limits_of o ready.asked ready.target))).0 =
-    ap (λ (x : Reply × Office). x.0) step.2 ∙ ap (λ r. (settled o r).0) planned in (
+    let circle = granted.circle in
+    let done = accepted_done o circle ready step.0 body (granted_as o ready step.0 granted (decided o name request ready step.0 is step.1)) in
+    let told : reply ≡ (settled o step.0).0 = ap (λ (x : Reply × Office). x.0) step.2 in (
       λ full sound_after.
-          let succeeds_at = subst (λ (x : Ready). success x ≡ Ok plan) past.is succeeds in
+          let succeeds_at = subst (λ (x : Ready). IsSuccess o circle x (Ok plan)) past.is succeeds in
           let room = subst (λ (x : Ready). limits_of o x.asked x.target ≡ Ok tt) (sym past.is)
-          (within o past.caller plan edit has_edit sound_after past.what past.at past.free past.there succeeds_at) in
-          not_success reply Full full (subst (λ (x : Reply). x.status < 300)
-          (sym (told ∙ ap (λ r. (settled o (after_limits ready r)).0) room ∙ ap (λ r. (settled o r).0) succeeds)) (success_low ready.asked ready plan succeeds)),
+          (within o circle past.caller plan edit has_edit sound_after past.what past.at (past.destined named.destination) past.free past.there succeeds_at) in
+          let same : step.0 ≡ Ok plan =
+          one_success o circle ready.asked ready.caller ready.target step.0 (Ok plan) (subst (λ c. IsDone o circle ready c step.0) room done) succeeds in
+          not_success reply Full full (subst (λ (x : Reply). x.status < 300) (sym (told ∙ ap (λ r. (settled o r).0) same)) (success_low o circle ready.asked ready plan succeeds)),
       λ beyond. elim (limits_answers o ready.asked ready.target) [
-        | inl room ↦ absurd (beyond (success_fits o request ready plan edit tt tt sound named.path past body room succeeds has_edit).sound)
-        | inr none ↦ told ∙ ap (λ r. (settled o (after_limits ready r)).0) none
+        | inl room ↦ absurd (beyond (success_fits o request circle ready plan edit tt tt sound named past body room succeeds has_edit).sound)
+        | inr none ↦ told ∙ ap (λ r. (settled o r).0) (sym (subst (λ c. IsDone o circle ready c step.0) none done))
       ],
     )

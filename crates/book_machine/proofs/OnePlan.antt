@@ -13,16 +13,26 @@ use Rattle.book_lists.proofs.OneLeaf.{denied_not_granted}
 use Rattle.book_office.specs.Levels.{effective_at}
 use Rattle.book_values.specs.declared.offices.Office.{Office}
 use Rattle.book_values.specs.declared.paths.Path.{Path}
+use Rattle.book_lists.specs.declared.circles.Caller.{Caller}
+use Rattle.book_listings.proofs.OneListing.{one_listing}
+use Rattle.book_listings.specs.declared.messages.Find.{Find}
+use Rattle.book_office.specs.declared.nodes.Node.{Node}
+use Rattle.book_machine.specs.declared.asked.Asked.{Asked}
+use Rattle.book_machine.specs.declared.asked.Asked.TheVariants as asked
+use Rattle.book_machine.specs.declared.asked.Destination.{Destination}
+use Rattle.book_machine.specs.declared.plans.Target.{Target}
 use Rattle.book_machine.specs.declared.messages.Request.{Request}
 use Rattle.book_machine.specs.declared.plans.Plan.{Plan}
 use Rattle.book_machine.specs.declared.plans.Ready.{Ready}
-use Rattle.book_machine.specs.declared.refusals.Denial.{Denial}
+use Rattle.book_listings.specs.declared.messages.Denial.{Denial}
 use Rattle.book_machine.specs.declared.refusals.Refusal.{Refusal}
 use Rattle.book_machine.specs.declared.refusals.Refusal.TheVariants.{NeedPrivileges}
 use Rattle.book_machine.proofs.BodyAnswers.{one_body_answer}
-use Rattle.book_machine.specs.Stages.{ready_of, after_body, IsBodyAnswer}
+use Rattle.book_machine.specs.Asked.{destination_in}
+use Rattle.book_machine.specs.Stages.{ready_of, body_then_limits, listed_plan, IsListed, IsSuccessOf, IsDone, IsGrantedPlan}
 use Rattle.book_machine.specs.Steps.{IsDecided, IsPlannedFrom, IsPlan}
-use Rattle.book_machine.specs.Verdicts.{entries_of, paths_of, here_of, deciding_entry, place_path, needs_at, IsGrantedAt, IsDeniedAt, AreGranted, IsFirstDenial, IsGranted, IsDenied}
+use Rattle.book_listings.specs.Verdicts.{entries_of, paths_of, here_of, deciding_entry, IsGrantedAt, IsDeniedAt}
+use Rattle.book_machine.specs.Verdicts.{place_path, needs_at, AreGranted, IsFirstDenial, IsGranted, IsDenied}
 
 -- a set that is allowed is not denied
 allowed_not_denied : (entries : List Entry) (circle : CircleOf) (here : Here) (set : Leaf → Bool) (leaf : Leaf) (index : Option ℕ)
@@ -57,47 +67,73 @@ module _ (o : Office) (circle : CircleOf) where
       let entry : a.entry ≡ b.entry = x.entry ∙ ap (λ outcome. deciding_entry (paths_of (effective_at o p)) (index_or_none outcome)) same ∙ sym y.entry in
       λ k. record { resource = resource k; privilege = privilege k; entry = entry k }
 
-  module _ (request : Request) (target : Path) where
-    first_denial_not_granted : (needs : List Need) (denial : Denial) → AreGranted o circle request target needs → IsFirstDenial o circle request target needs denial → ⊥
+  module _ (to : Option Destination) (target : Path) where
+    first_denial_not_granted : (needs : List Need) (denial : Denial) → AreGranted o circle to target needs → IsFirstDenial o circle to target needs denial → ⊥
     first_denial_not_granted [] denial granted denied = denied
-    first_denial_not_granted (need ∷ rest) denial granted (inl here) = granted_not_denied (place_path request target need.place) need.set denial granted.0 here
+    first_denial_not_granted (need ∷ rest) denial granted (inl here) = granted_not_denied (place_path to target need.place) need.set denial granted.0 here
     first_denial_not_granted (need ∷ rest) denial granted (inr later) = first_denial_not_granted rest denial granted.1 later.1
 
-    one_first_denial : (needs : List Need) (a b : Denial) → IsFirstDenial o circle request target needs a → IsFirstDenial o circle request target needs b → a ≡ b
+    one_first_denial : (needs : List Need) (a b : Denial) → IsFirstDenial o circle to target needs a → IsFirstDenial o circle to target needs b → a ≡ b
     one_first_denial [] a b x y = absurd x
-    one_first_denial (need ∷ rest) a b (inl x) (inl y) = one_denial_at (place_path request target need.place) need.set a b x y
-    one_first_denial (need ∷ rest) a b (inl x) (inr y) = absurd (granted_not_denied (place_path request target need.place) need.set a y.0 x)
-    one_first_denial (need ∷ rest) a b (inr x) (inl y) = absurd (granted_not_denied (place_path request target need.place) need.set b x.0 y)
+    one_first_denial (need ∷ rest) a b (inl x) (inl y) = one_denial_at (place_path to target need.place) need.set a b x y
+    one_first_denial (need ∷ rest) a b (inl x) (inr y) = absurd (granted_not_denied (place_path to target need.place) need.set a y.0 x)
+    one_first_denial (need ∷ rest) a b (inr x) (inl y) = absurd (granted_not_denied (place_path to target need.place) need.set b x.0 y)
     one_first_denial (need ∷ rest) a b (inr x) (inr y) = one_first_denial rest a b x.1 y.1
 
-module _ (o : Office) (request : Request) where
-  pub verdicts_exclude : (ready : Ready) (denial : Denial) → IsGranted o request ready → IsDenied o request ready denial → ⊥
+-- ---- success
+module _ (o : Office) (circle : CircleOf) where
+  one_listed : (find : Find) (p : Path) (node : Option Node) (a b : Result Plan Refusal) → IsListed o circle find p node a → IsListed o circle find p node b → a ≡ b
+  one_listed find p None a b x y = sym x ∙ y
+  one_listed find p (Some node) a b x y = sym x.2 ∙ ap listed_plan (one_listing o circle find p x.0 y.0 x.1 y.1) ∙ y.2
+
+  pub one_success : (what : Asked) (caller : Caller) (target : Target) (a b : Result Plan Refusal)
+      → IsSuccessOf o circle what caller target a → IsSuccessOf o circle what caller target b → a ≡ b
+  one_success asked.Get caller target a b x y = sym x ∙ y
+  one_success asked.Head caller target a b x y = sym x ∙ y
+  one_success asked.Options caller target a b x y = sym x ∙ y
+  one_success (asked.Put text) caller target a b x y = sym x ∙ y
+  one_success (asked.Propfind find) caller target a b x y = one_listed find target.path target.node a b x y
+  one_success (asked.Proppatch patched) caller target a b x y = sym x ∙ y
+  one_success (asked.Acl list) caller target a b x y = sym x ∙ y
+  one_success (asked.Copy to) caller target a b x y = sym x ∙ y
+  one_success (asked.Move to) caller target a b x y = sym x ∙ y
+  one_success asked.Delete caller target a b x y = sym x ∙ y
+  one_success asked.Mkcol caller target a b x y = sym x ∙ y
+  one_success (asked.Report from) caller target a b x y = sym x ∙ y
+
+  one_done : (ready : Ready) (c : Result (Unit {0}) Refusal) (a b : Result Plan Refusal) → IsDone o circle ready c a → IsDone o circle ready c b → a ≡ b
+  one_done ready (Ok u) a b x y = one_success ready.asked ready.caller ready.target a b x y
+  one_done ready (Err e) a b x y = sym x ∙ y
+
+module _ (o : Office) where
+  pub verdicts_exclude : (ready : Ready) (denial : Denial) → IsGranted o ready → IsDenied o ready denial → ⊥
   verdicts_exclude ready denial granted denied =
       let same = one_circle o.pairs ready.caller denied.circle granted.circle denied.is_circle granted.is_circle in
-      first_denial_not_granted o granted.circle request ready.target.path (needs_at ready) denial granted.granted
-      (subst (λ c. IsFirstDenial o c request ready.target.path (needs_at ready) denial) same denied.denied)
+      first_denial_not_granted o granted.circle (destination_in ready.asked) ready.target.path (needs_at ready) denial granted.granted
+      (subst (λ c. IsFirstDenial o c (destination_in ready.asked) ready.target.path (needs_at ready) denial) same denied.denied)
 
-  pub one_denial : (ready : Ready) (a b : Denial) → IsDenied o request ready a → IsDenied o request ready b → a ≡ b
+  pub one_denial : (ready : Ready) (a b : Denial) → IsDenied o ready a → IsDenied o ready b → a ≡ b
   one_denial ready a b x y =
       let same = one_circle o.pairs ready.caller x.circle y.circle x.is_circle y.is_circle in
-      one_first_denial o y.circle request ready.target.path (needs_at ready) a b
-      (subst (λ c. IsFirstDenial o c request ready.target.path (needs_at ready) a) same x.denied) y.denied
+      one_first_denial o y.circle (destination_in ready.asked) ready.target.path (needs_at ready) a b
+      (subst (λ c. IsFirstDenial o c (destination_in ready.asked) ready.target.path (needs_at ready) a) same x.denied) y.denied
 
-  one_granted_plan : (ready : Ready) (a b : Result Plan Refusal) → (x : (answer : Result (Unit {0}) Refusal) × IsBodyAnswer o ready.asked ready.target.path answer × (a ≡ after_body o ready answer))
-      → (y : (answer : Result (Unit {0}) Refusal) × IsBodyAnswer o ready.asked ready.target.path answer × (b ≡ after_body o ready answer)) → a ≡ b
-  one_granted_plan ready a b x y =
-      x.2 ∙ ap (after_body o ready) (one_body_answer o ready.asked ready.target.path x.0 y.0 x.1 y.1) ∙ sym y.2
+  one_granted_plan : (circle : CircleOf) (ready : Ready) (a b : Result Plan Refusal) → IsGrantedPlan o circle ready a → IsGrantedPlan o circle ready b → a ≡ b
+  one_granted_plan circle ready a b x y =
+      let same = one_body_answer o ready.asked ready.target.path x.0 y.0 x.1 y.1 in
+      one_done o circle ready (body_then_limits o ready y.0) a b (subst (λ answer. IsDone o circle ready (body_then_limits o ready answer) a) same x.2) y.2
 
-  one_decided : (ready : Ready) (a b : Result Plan Refusal) → IsDecided o request ready a → IsDecided o request ready b → a ≡ b
+  one_decided : (ready : Ready) (a b : Result Plan Refusal) → IsDecided o ready a → IsDecided o ready b → a ≡ b
   one_decided ready a b (inl x) (inl y) =
-      one_granted_plan ready a b x.1 y.1
+      let same = one_circle o.pairs ready.caller x.0.circle y.0.circle x.0.is_circle y.0.is_circle in
+      one_granted_plan y.0.circle ready a b (subst (λ c. IsGrantedPlan o c ready a) same x.1) y.1
   one_decided ready a b (inl x) (inr y) = absurd (verdicts_exclude ready y.0 x.0 y.1)
   one_decided ready a b (inr x) (inl y) = absurd (verdicts_exclude ready x.0 y.0 x.1)
   one_decided ready a b (inr x) (inr y) = x.2 ∙ ap (λ denial. Err (NeedPrivileges denial)) (one_denial ready x.0 y.0 x.1 y.1) ∙ sym y.2
 
-  one_planned : (ready : Result Ready Refusal) (a b : Result Plan Refusal) → IsPlannedFrom o request ready a → IsPlannedFrom o request ready b → a ≡ b
+  one_planned : (ready : Result Ready Refusal) (a b : Result Plan Refusal) → IsPlannedFrom o ready a → IsPlannedFrom o ready b → a ≡ b
   one_planned (Err refusal) a b x y = x ∙ sym y
   one_planned (Ok ready) a b x y = one_decided ready a b x y
 
-  pub one_plan : (name : Option (List ℕ)) (a b : Result Plan Refusal) → IsPlan o name request a → IsPlan o name request b → a ≡ b
-  one_plan name a b x y = one_planned (ready_of o name request) a b x y
+  pub one_plan : (request : Request) (name : Option (List ℕ)) (a b : Result Plan Refusal) → IsPlan o name request a → IsPlan o name request b → a ≡ b
+  one_plan request name a b x y = one_planned (ready_of o name request) a b x y

@@ -15,7 +15,7 @@ use Rattle.book_values.specs.declared.paths.Path.{Path}
 use Rattle.book_values.specs.declared.paths.Path.TheVariants as path
 use Rattle.book_machine.proofs.MappedEntries.{len_mapped}
 use Rattle.book_machine.specs.Agreement.{outline_of_card, outline_of_book, outline}
-use Rattle.book_machine.specs.Verdicts.{owner_at, here_of, principal_of}
+use Rattle.book_listings.specs.Verdicts.{owner_at, here_of, principal_of}
 
 -- ---- values that may be there
 pub fused : {A B C : Type 0} (f : B → C) (g : A → B) (r : Option A) → option_map f (option_map g r) ≡ option_map (λ x. f (g x)) r

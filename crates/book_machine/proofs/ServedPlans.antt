@@ -10,26 +10,34 @@ use Rattle.book_values.specs.declared.paths.Kind.{Kind}
 use Rattle.book_values.specs.declared.paths.Kind.TheVariants as kind
 use Rattle.book_values.specs.declared.paths.Path.{Path}
 use Rattle.book_values.specs.declared.paths.Path.TheVariants as path
+use Rattle.book_lists.specs.Circles.{CircleOf}
 use Rattle.book_lists.specs.declared.circles.Caller.{Caller}
+use Rattle.book_listings.specs.declared.messages.Find.{Find}
 use Rattle.book_office.specs.Resources.{node_of, node_at, book_resource, properties_resource, card_resource, card_in, number_of}
 use Rattle.book_office.specs.declared.edits.Edit.{Edit}
 use Rattle.book_office.specs.declared.nodes.Node.{Node}
 use Rattle.book_rights.specs.declared.methods.Method.{Method}
 use Rattle.book_rights.specs.declared.methods.Method.TheVariants as method
-use Rattle.book_machine.proofs.FittingPlans.{Passed, answered, bind_ok, ready_at, same_Ok, same_Some}
+use Rattle.book_sync.specs.declared.messages.Report.{Report}
+use Rattle.book_machine.proofs.FittingPlans.{Passed, answered, bind_ok, ready_at, same_Ok, same_Some, destined_node}
+use Rattle.book_machine.proofs.SyncPlans.{sync_told}
 use Rattle.book_machine.specs.AllowedMethods.{goes_on, is_among, methods_of, allowed_of}
 use Rattle.book_machine.specs.Asked.{method_of}
-use Rattle.book_machine.specs.Stages.{◌>>=◌, at_unmapped, suits, replied, text_of, put_status, put_edit, delete_edit, mkcol_edit, patch_edit, success, success_of}
+use Rattle.book_machine.specs.Laws.{is_late}
+use Rattle.book_machine.specs.Verdicts.{is_book}
+use Rattle.book_machine.specs.Stages.{◌>>=◌, at_unmapped, suits, replied, text_of, put_status, put_edit, delete_edit, mkcol_edit, patch_edit, report_from, report_plan, sync_plan, IsListed, IsSuccess, IsSuccessOf, copy_edit, move_edit}
 use Rattle.book_machine.specs.declared.asked.Asked.{Asked}
 use Rattle.book_machine.specs.declared.asked.Asked.TheVariants as asked
+use Rattle.book_machine.specs.declared.asked.Destination.{Destination}
 use Rattle.book_machine.specs.declared.messages.Content.{Content}
 use Rattle.book_machine.specs.declared.messages.Content.TheVariants as content
 use Rattle.book_machine.specs.declared.messages.Patch.TheVariants as patch
 use Rattle.book_machine.specs.declared.messages.Request.{Request}
+use Rattle.book_machine.specs.declared.messages.SyncFrom.{SyncFrom}
 use Rattle.book_machine.specs.declared.plans.Plan.{Plan}
 use Rattle.book_machine.specs.declared.plans.Ready.{Ready}
 use Rattle.book_machine.specs.declared.refusals.Refusal.{Refusal}
-use Rattle.book_machine.specs.declared.refusals.Refusal.TheVariants.{NotFound}
+use Rattle.book_machine.specs.declared.refusals.Refusal.TheVariants.{NotFound, ValidSyncToken}
 
 -- ---- the kind of what is mapped
 of_properties : (k : Kind) (found : Option Properties) (n : Node) → option_map node_of (option_map (properties_resource k 0) found) ≡ Some n → n.kind ≡ k
@@ -63,10 +71,6 @@ kind_at o (path.Book b) n e = of_book (get o.books b) n e
 kind_at o (path.Card b c) n e = (in_book c (get o.books b) n e).0
 
 -- ---- what the path stage lets through
-both_hold : (a : Bool) → (a && false) ≡ true → {A : Type 0} → A
-both_hold true e = absurd (cc (e))
-both_hold false e = absurd (cc (e))
-
 abbrev refused_then : Refusal → Unit {0} → Result (Unit {0}) Refusal
 refused_then r _ = Err r
 
@@ -77,20 +81,45 @@ then_refused : {A : Type 0} (m : Result (Unit {0}) Refusal) (r : Refusal) → (m
 then_refused (Ok u) r e = absurd (cc (e))
 then_refused (Err x) r e = absurd (cc (e))
 
--- a plan of a success
-pub record Served (ready : Ready) : Type 0 where
-  pub plan : Plan
-  pub is : success ready ≡ Ok plan
-  pub low : plan.reply.status < 300
+-- a plan that succeeds, or a refusal by the body
+abbrev pub IsServed : Result Plan Refusal → Type 0
+IsServed result = ((plan : Plan) × (result ≡ Ok plan) × (plan.reply.status < 300)) ⊎ ((refusal : Refusal) × (is_late refusal ≡ true) × (result ≡ Err refusal))
 
-at_once : (ready : Ready) (status : ℕ) (what : Content) (edit : Option Edit) → success ready ≡ Ok (replied status what edit) → status < 300 → Served ready
-at_once ready status what edit is low = record { plan = replied status what edit; is = is; low = low }
+-- a success has a plan, but for a sync report by a token that is not valid
+pub record Served (o : Office) (circle : CircleOf) (ready : Ready) : Type 0 where
+  pub told : (result : Result Plan Refusal) → IsSuccess o circle ready result → IsServed result
+
+at_once : (o : Office) (circle : CircleOf) (ready : Ready) (stage : Result Plan Refusal) (status : ℕ) (what : Content) (edit : Option Edit)
+    → stage ≡ answered (replied status what edit) → status < 300 → ((result : Result Plan Refusal) → IsSuccess o circle ready result → stage ≡ result)
+    → Served o circle ready
+at_once o circle ready stage status what edit is low all = record { told = λ result h. inl (replied status what edit, sym (all result h) ∙ is, low) }
+
+-- a listing of what is mapped
+listed_told : (o : Office) (circle : CircleOf) (find : Find) (p : Path) (node : Option Node) (n : Node) (result : Result Plan Refusal)
+    → node ≡ Some n → IsListed o circle find p node result → IsServed result
+listed_told o circle find p None n result mapped h = absurd (cc (mapped))
+listed_told o circle find p (Some node) n result mapped h = inl (replied 207 (content.Listing h.0) None, sym h.2, omega arith)
+
+-- a sync report on a book
+report_served : (report : Option Report) (result : Result Plan Refusal) → report_plan report ≡ result → IsServed result
+report_served None result is = inr (ValidSyncToken, refl, sym is)
+report_served (Some report) result is = inl (replied 207 (content.Synced report) None, sym is, omega arith)
+
+sync_served : (o : Office) (circle : CircleOf) (from : SyncFrom) (p : Path) (result : Result Plan Refusal) → is_book (kind_of p) ≡ true → sync_plan o circle from p ≡ result → IsServed result
+sync_served o circle from path.Root result suited is = absurd (cc (suited))
+sync_served o circle from path.People result suited is = absurd (cc (suited))
+sync_served o circle from path.Groups result suited is = absurd (cc (suited))
+sync_served o circle from path.Books result suited is = absurd (cc (suited))
+sync_served o circle from (path.Person n) result suited is = absurd (cc (suited))
+sync_served o circle from (path.Group n) result suited is = absurd (cc (suited))
+sync_served o circle from (path.Book b) result suited is = report_served (report_from o circle b from) result is
+sync_served o circle from (path.Card b c) result suited is = absurd (cc (suited))
 
 put_low : (node : Option Node) → put_status node < 300
 put_low None = omega arith
 put_low (Some node) = omega arith
 
-module _ (o : Office) (caller : Caller) where
+module _ (o : Office) (circle : CircleOf) (caller : Caller) where
   -- a method goes on at a path where its stage for unmapped paths does, or by the kind of the path
   let_through : (m : Method) (p : Path) → (node_at o p ≡ None → at_unmapped o m p ≡ Ok tt) → ((n : Node) → node_at o p ≡ Some n → goes_on m n.kind ≡ true)
       → (at_unmapped o m p ≡ Ok tt) ⊎ ((n : Node) × (node_at o p ≡ Some n) × (goes_on m (kind_of p) ≡ true))
@@ -101,7 +130,7 @@ module _ (o : Office) (caller : Caller) where
       go (Some n) is = inr (n, is, subst (λ k. goes_on m k ≡ true) (kind_at o p n is) (there n is))
 
   abbrev ServedAt : Asked → Path → Type 0
-  ServedAt what p = (at_unmapped o (method_of what) p ≡ Ok tt) ⊎ ((n : Node) × (node_at o p ≡ Some n) × (goes_on (method_of what) (kind_of p) ≡ true)) → Served (ready_at o p caller what)
+  ServedAt what p = (at_unmapped o (method_of what) p ≡ Ok tt) ⊎ ((n : Node) × (node_at o p ≡ Some n) × (goes_on (method_of what) (kind_of p) ≡ true)) → Served o circle (ready_at o p caller what)
 
   -- a card has a text
   text_there : (b c : List ℕ) (n : Node) → node_at o (path.Card b c) ≡ Some n → (text : List ℕ) × (text_of (node_at o (path.Card b c)) ≡ Ok text)
@@ -120,7 +149,7 @@ module _ (o : Office) (caller : Caller) where
   get_served (path.Book b) (inr there) = let h = there.2 in absurd (cc (h))
   get_served (path.Card b c) (inr there) =
       let text = text_there b c there.0 there.1 in
-      at_once _ 200 _ None (ap (λ r. r >>= λ t. Ok (replied 200 (content.Card t) None)) text.1) (omega arith)
+      at_once o circle _ _ 200 _ None (ap (λ r. r >>= λ t. Ok (replied 200 (content.Card t) None)) text.1) (omega arith) (λ result h. h)
 
   head_served : (p : Path) → ServedAt asked.Head p
   head_served p (inl free) = absurd (cc (free))
@@ -133,7 +162,7 @@ module _ (o : Office) (caller : Caller) where
   head_served (path.Book b) (inr there) = let h = there.2 in absurd (cc (h))
   head_served (path.Card b c) (inr there) =
       let text = text_there b c there.0 there.1 in
-      at_once _ 200 _ None (ap (λ r. r >>= λ t. Ok (replied 200 (content.Card t) None)) text.1) (omega arith)
+      at_once o circle _ _ 200 _ None (ap (λ r. r >>= λ t. Ok (replied 200 (content.Card t) None)) text.1) (omega arith) (λ result h. h)
 
   put_served : (text : List ℕ) (p : Path) → ServedAt (asked.Put text) p
   put_served text path.Root (inl free) = absurd (cc (free))
@@ -150,7 +179,31 @@ module _ (o : Office) (caller : Caller) where
   put_served text (path.Group n) (inr there) = let h = there.2 in absurd (cc (h))
   put_served text (path.Book b) (inl free) = absurd (cc (free))
   put_served text (path.Book b) (inr there) = let h = there.2 in absurd (cc (h))
-  put_served text (path.Card b c) through = at_once _ (put_status (node_at o (path.Card b c))) _ _ refl (put_low (node_at o (path.Card b c)))
+  put_served text (path.Card b c) through = at_once o circle _ _ (put_status (node_at o (path.Card b c))) _ _ refl (put_low (node_at o (path.Card b c))) (λ result h. h)
+
+  copy_served : (to : Destination) (p : Path) → ServedAt (asked.Copy to) p
+  copy_served to p (inl free) = absurd (cc (free))
+  copy_served to path.Root (inr there) = let h = there.2 in absurd (cc (h))
+  copy_served to path.People (inr there) = let h = there.2 in absurd (cc (h))
+  copy_served to path.Groups (inr there) = let h = there.2 in absurd (cc (h))
+  copy_served to path.Books (inr there) = let h = there.2 in absurd (cc (h))
+  copy_served to (path.Person n) (inr there) = let h = there.2 in absurd (cc (h))
+  copy_served to (path.Group n) (inr there) = let h = there.2 in absurd (cc (h))
+  copy_served to (path.Book b) (inr there) = let h = there.2 in absurd (cc (h))
+  copy_served to (path.Card b c) (inr there) =
+      at_once o circle _ _ (put_status (destined_node o (Some to))) _ _ refl (put_low (destined_node o (Some to))) (λ result h. h)
+
+  move_served : (to : Destination) (p : Path) → ServedAt (asked.Move to) p
+  move_served to p (inl free) = absurd (cc (free))
+  move_served to path.Root (inr there) = let h = there.2 in absurd (cc (h))
+  move_served to path.People (inr there) = let h = there.2 in absurd (cc (h))
+  move_served to path.Groups (inr there) = let h = there.2 in absurd (cc (h))
+  move_served to path.Books (inr there) = let h = there.2 in absurd (cc (h))
+  move_served to (path.Person n) (inr there) = let h = there.2 in absurd (cc (h))
+  move_served to (path.Group n) (inr there) = let h = there.2 in absurd (cc (h))
+  move_served to (path.Book b) (inr there) = let h = there.2 in absurd (cc (h))
+  move_served to (path.Card b c) (inr there) =
+      at_once o circle _ _ (put_status (destined_node o (Some to))) _ _ refl (put_low (destined_node o (Some to))) (λ result h. h)
 
   delete_served : (p : Path) → ServedAt asked.Delete p
   delete_served p (inl free) = absurd (cc (free))
@@ -160,8 +213,8 @@ module _ (o : Office) (caller : Caller) where
   delete_served path.Books (inr there) = let h = there.2 in absurd (cc (h))
   delete_served (path.Person n) (inr there) = let h = there.2 in absurd (cc (h))
   delete_served (path.Group n) (inr there) = let h = there.2 in absurd (cc (h))
-  delete_served (path.Book b) (inr there) = at_once _ 204 _ _ refl (omega arith)
-  delete_served (path.Card b c) (inr there) = at_once _ 204 _ _ refl (omega arith)
+  delete_served (path.Book b) (inr there) = at_once o circle _ _ 204 _ _ refl (omega arith) (λ result h. h)
+  delete_served (path.Card b c) (inr there) = at_once o circle _ _ 204 _ _ refl (omega arith) (λ result h. h)
 
   mkcol_served : (p : Path) → ServedAt asked.Mkcol p
   mkcol_served path.Root (inl free) = absurd (cc (free))
@@ -176,7 +229,7 @@ module _ (o : Office) (caller : Caller) where
   mkcol_served (path.Person n) (inr there) = let h = there.2 in absurd (cc (h))
   mkcol_served (path.Group n) (inl free) = absurd (cc (free))
   mkcol_served (path.Group n) (inr there) = let h = there.2 in absurd (cc (h))
-  mkcol_served (path.Book b) through = at_once _ 201 _ _ refl (omega arith)
+  mkcol_served (path.Book b) through = at_once o circle _ _ 201 _ _ refl (omega arith) (λ result h. h)
   mkcol_served (path.Card b c) (inl free) = then_refused _ _ free
   mkcol_served (path.Card b c) (inr there) = let h = there.2 in absurd (cc (h))
 
@@ -187,48 +240,51 @@ module _ (o : Office) (caller : Caller) where
   members_served members path.Groups suited through = absurd (cc (suited))
   members_served members path.Books suited through = absurd (cc (suited))
   members_served members (path.Person n) suited through = absurd (cc (suited))
-  members_served members (path.Group n) suited through = at_once _ 200 _ _ refl (omega arith)
+  members_served members (path.Group n) suited through = at_once o circle _ _ 200 _ _ refl (omega arith) (λ result h. h)
   members_served members (path.Book b) suited through = absurd (cc (suited))
   members_served members (path.Card b c) suited through = absurd (cc (suited))
 
-  -- a method that is not served goes on nowhere
-  none_served : (what : Asked) (p : Path) (listed : Bool) → at_unmapped o (method_of what) p ≡ Err NotFound → goes_on (method_of what) (kind_of p) ≡ (listed && false) → ServedAt what p
-  none_served what p listed unmapped mapped (inl free) = let none : Err NotFound ≡ passes = sym unmapped ∙ free in absurd cc
-  none_served what p listed unmapped mapped (inr there) = both_hold listed (sym mapped ∙ there.2)
+  propfind_served : (find : Find) (p : Path) → ServedAt (asked.Propfind find) p
+  propfind_served find p (inl free) = absurd (cc (free))
+  propfind_served find p (inr there) = record { told = λ result h. listed_told o circle find p (node_at o p) there.0 result there.1 h }
 
   served_at : (what : Asked) (p : Path) → suits what (kind_of p) ≡ true → ServedAt what p
   served_at asked.Get p suited = get_served p
   served_at asked.Head p suited = head_served p
-  served_at asked.Options p suited = λ _. at_once _ 200 _ None refl (omega arith)
+  served_at asked.Options p suited = λ _. at_once o circle _ _ 200 _ None refl (omega arith) (λ result h. h)
   served_at (asked.Put text) p suited = put_served text p
-  served_at asked.Propfind p suited = none_served asked.Propfind p (is_among method.Propfind (methods_of (allowed_of (kind_of p)))) refl refl
-  served_at (asked.Proppatch (patch.DisplayName label)) p suited = λ _. at_once _ 200 _ _ refl (omega arith)
+  served_at (asked.Propfind find) p suited = propfind_served find p
+  served_at (asked.Proppatch (patch.DisplayName label)) p suited = λ _. at_once o circle _ _ 200 _ _ refl (omega arith) (λ result h. h)
   served_at (asked.Proppatch (patch.GroupMembers members)) p suited = members_served members p suited
-  served_at (asked.Acl list) p suited = λ _. at_once _ 200 _ _ refl (omega arith)
-  served_at asked.Copy p suited = none_served asked.Copy p (is_among method.Copy (methods_of (allowed_of (kind_of p)))) refl refl
-  served_at asked.Move p suited = none_served asked.Move p (is_among method.Move (methods_of (allowed_of (kind_of p)))) refl refl
+  served_at (asked.Acl list) p suited = λ _. at_once o circle _ _ 200 _ _ refl (omega arith) (λ result h. h)
+  served_at (asked.Copy to) p suited = copy_served to p
+  served_at (asked.Move to) p suited = move_served to p
   served_at asked.Delete p suited = delete_served p
   served_at asked.Mkcol p suited = mkcol_served p
-  served_at asked.Report p suited = none_served asked.Report p (is_among method.Report (methods_of (allowed_of (kind_of p)))) refl refl
+  served_at (asked.Report from) p suited = λ _. record { told = λ result h. sync_served o circle from p result suited h }
 
-pub served : (o : Office) (request : Request) (ready : Ready) → Passed o request ready → Served ready
-served o request ready past =
-    subst Served (sym past.is) (served_at o past.caller past.what past.at past.suited (let_through o past.caller (method_of past.what) past.at past.free past.there))
+pub served : (o : Office) (circle : CircleOf) (request : Request) (ready : Ready) → Passed o request ready → Served o circle ready
+served o circle request ready past =
+    subst (Served o circle) (sym past.is) (served_at o circle past.caller past.what past.at past.suited (let_through o circle past.caller (method_of past.what) past.at past.free past.there))
 
 -- ---- any plan of a success
 low_at_once : (status : ℕ) (what : Content) (edit : Option Edit) (plan : Plan) → answered (replied status what edit) ≡ Ok plan → status < 300 → plan.reply.status < 300
 low_at_once status what edit plan is low = subst (λ (p : Plan). p.reply.status < 300) (same_Ok _ plan is) low
 
-pub success_low : (what : Asked) (ready : Ready) (plan : Plan) → success_of what ready.caller ready.target ≡ Ok plan → plan.reply.status < 300
-success_low asked.Get ready plan is = let told = bind_ok (text_of ready.target.node) _ plan is in low_at_once 200 _ _ plan told.2 (omega arith)
-success_low asked.Head ready plan is = let told = bind_ok (text_of ready.target.node) _ plan is in low_at_once 200 _ _ plan told.2 (omega arith)
-success_low asked.Options ready plan is = low_at_once 200 _ _ plan is (omega arith)
-success_low (asked.Put text) ready plan is = let told = bind_ok (put_edit ready.caller text ready.target.path) _ plan is in low_at_once (put_status ready.target.node) _ _ plan told.2 (put_low ready.target.node)
-success_low asked.Propfind ready plan is = absurd (cc (is))
-success_low (asked.Proppatch patched) ready plan is = let told = bind_ok (patch_edit ready.target.path patched) _ plan is in low_at_once 200 _ _ plan told.2 (omega arith)
-success_low (asked.Acl list) ready plan is = low_at_once 200 _ _ plan is (omega arith)
-success_low asked.Copy ready plan is = absurd (cc (is))
-success_low asked.Move ready plan is = absurd (cc (is))
-success_low asked.Delete ready plan is = let told = bind_ok (delete_edit ready.target.path) _ plan is in low_at_once 204 _ _ plan told.2 (omega arith)
-success_low asked.Mkcol ready plan is = let told = bind_ok (mkcol_edit ready.caller ready.target.path) _ plan is in low_at_once 201 _ _ plan told.2 (omega arith)
-success_low asked.Report ready plan is = absurd (cc (is))
+listed_low : (o : Office) (circle : CircleOf) (find : Find) (p : Path) (node : Option Node) (plan : Plan) → IsListed o circle find p node (Ok plan) → plan.reply.status < 300
+listed_low o circle find p None plan is = absurd (cc (is))
+listed_low o circle find p (Some node) plan is = low_at_once 207 _ _ plan is.2 (omega arith)
+
+pub success_low : (o : Office) (circle : CircleOf) (what : Asked) (ready : Ready) (plan : Plan) → IsSuccessOf o circle what ready.caller ready.target (Ok plan) → plan.reply.status < 300
+success_low o circle asked.Get ready plan is = let told = bind_ok (text_of ready.target.node) _ plan is in low_at_once 200 _ _ plan told.2 (omega arith)
+success_low o circle asked.Head ready plan is = let told = bind_ok (text_of ready.target.node) _ plan is in low_at_once 200 _ _ plan told.2 (omega arith)
+success_low o circle asked.Options ready plan is = low_at_once 200 _ _ plan is (omega arith)
+success_low o circle (asked.Put text) ready plan is = let told = bind_ok (put_edit ready.caller text ready.target.path) _ plan is in low_at_once (put_status ready.target.node) _ _ plan told.2 (put_low ready.target.node)
+success_low o circle (asked.Propfind find) ready plan is = listed_low o circle find ready.target.path ready.target.node plan is
+success_low o circle (asked.Proppatch patched) ready plan is = let told = bind_ok (patch_edit ready.target.path patched) _ plan is in low_at_once 200 _ _ plan told.2 (omega arith)
+success_low o circle (asked.Acl list) ready plan is = low_at_once 200 _ _ plan is (omega arith)
+success_low o circle (asked.Copy to) ready plan is = let told = bind_ok (copy_edit ready.caller ready.target.path to) _ plan is in low_at_once (put_status ready.target.destination) _ _ plan told.2 (put_low ready.target.destination)
+success_low o circle (asked.Move to) ready plan is = let told = bind_ok (move_edit ready.target.path to) _ plan is in low_at_once (put_status ready.target.destination) _ _ plan told.2 (put_low ready.target.destination)
+success_low o circle asked.Delete ready plan is = let told = bind_ok (delete_edit ready.target.path) _ plan is in low_at_once 204 _ _ plan told.2 (omega arith)
+success_low o circle asked.Mkcol ready plan is = let told = bind_ok (mkcol_edit ready.caller ready.target.path) _ plan is in low_at_once 201 _ _ plan told.2 (omega arith)
+success_low o circle (asked.Report from) ready plan is = low_at_once 207 _ _ plan (sync_told o circle from ready.target.path plan is).1 (omega arith)

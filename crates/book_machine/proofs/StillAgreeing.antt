@@ -24,7 +24,7 @@ use Rattle.book_values.specs.declared.paths.Path.{Path}
 use Rattle.book_values.specs.declared.paths.Path.TheVariants as path
 use Rattle.book_machine.proofs.Outlines.{told, told_then, fused, then_fused, books_alike}
 use Rattle.book_machine.specs.Agreement.{MayRead, outline_of_card, outline_of_book, Agree}
-use Rattle.book_machine.specs.Verdicts.{IsGrantedBy, here_of, owner_at}
+use Rattle.book_listings.specs.Verdicts.{IsGrantedBy, here_of, owner_at}
 
 -- ---- what makes a card readable: the lists from the root to it, and its owner
 pub own_of_card : (c : List ℕ) (r : Option Book)
@@ -397,7 +397,7 @@ module _ (o p : Office) (caller : Caller) (agree : Agree o p caller) where
   pub addition_agrees : (b : List ℕ) (owner : Option (List ℕ)) → Agree (apply o (AddBook b owner)) (apply p (AddBook b owner)) caller
   addition_agrees b owner = new_books_agree b (new_book owner)
 
-  -- those of methods still to come: COPY of a card that the caller may read, and PROPPATCH of a displayname
+  -- COPY of a card that the caller may read, and PROPPATCH of a displayname
   pub copy_agrees : (from_book from_card to_book to_card : List ℕ) (owner : Option (List ℕ)) → MayRead o caller (path.Card from_book from_card)
       → Agree (copy_card from_book from_card to_book to_card owner o) (copy_card from_book from_card to_book to_card owner p) caller
   copy_agrees from_book from_card to_book to_card owner may =

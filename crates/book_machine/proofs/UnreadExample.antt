@@ -21,7 +21,7 @@ use Rattle.book_values.specs.declared.paths.Path.TheVariants as path
 use Rattle.book_machine.proofs.StillAgreeing.{own_of_card, protected_of_card, place_outline, put_cases}
 use Rattle.book_machine.specs.Agreement.{MayRead, outline_of_book, outline}
 use Rattle.book_machine.specs.Unseen.{AgreeingOfficesMayDiffer}
-use Rattle.book_machine.specs.Verdicts.{entries_of}
+use Rattle.book_listings.specs.Verdicts.{entries_of}
 
 none_grants : (entries : List Entry) (i : ℕ) (entry : Entry) → entries ≡ [] → slice_get entries i ≡ Some entry → ⊥
 none_grants [] i entry e there = absurd cc

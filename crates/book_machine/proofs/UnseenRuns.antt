@@ -7,6 +7,8 @@ use Rattle.book_office.specs.Edits.{raises_epoch}
 use Rattle.book_office.specs.Keeping.{Standing}
 use Rattle.book_office.proofs.Epochs.{epoch_after}
 use Rattle.book_office.specs.declared.edits.Edit.{Edit}
+use Rattle.book_office.specs.declared.nodes.Node.{Node}
+use Rattle.book_listings.specs.declared.messages.Find.{Find}
 use Rattle.book_rights.specs.declared.methods.Method.TheVariants.{Move}
 use Rattle.book_values.specs.declared.offices.Office.{Office}
 use Rattle.book_values.specs.declared.paths.Path.{Path}
@@ -14,16 +16,18 @@ use Rattle.book_values.specs.declared.paths.Path.TheVariants as path
 use Rattle.book_machine.proofs.AlikePlans.{plan_same, may_read_same, ready_named, reads_target, reads}
 use Rattle.book_machine.proofs.FittingPlans.{answered, asked_by_request, bind_ok, same_Ok}
 use Rattle.book_machine.proofs.StepLaws.{plan_of_success}
-use Rattle.book_machine.proofs.StillAgreeing.{put_agrees, removal_agrees, addition_agrees, label_agrees}
+use Rattle.book_machine.proofs.SyncPlans.{sync_told}
+use Rattle.book_machine.proofs.StillAgreeing.{put_agrees, removal_agrees, addition_agrees, label_agrees, copy_agrees}
 use Rattle.book_machine.specs.Agreement.{named, MayRead, Agree}
 use Rattle.book_machine.specs.Promises.{ServePromise, ServeHidesUnread}
 use Rattle.book_machine.specs.Runs.{Call, last_office}
 use Rattle.book_machine.specs.Asked.{method_of}
-use Rattle.book_machine.specs.Stages.{ready_of, replied, text_of, success_of, IsGrantedPlan, put_edit, delete_edit, mkcol_edit, patch_edit, members_edit}
+use Rattle.book_machine.specs.Stages.{ready_of, replied, text_of, IsListed, IsSuccessOf, IsGrantedPlan, put_edit, copy_edit, delete_edit, mkcol_edit, patch_edit, members_edit}
 use Rattle.book_machine.specs.Steps.{IsPlannedFrom, apply_any, settled, Serves}
 use Rattle.book_machine.specs.Unseen.{AgreementIsAnEquivalence, AgreeingOfficesStepAlike, EpochsNeverFall, RunsNeverLowerTheEpoch, AreByOne, AgreeingOfficesRunAlike}
 use Rattle.book_machine.specs.declared.asked.Asked.{Asked}
 use Rattle.book_machine.specs.declared.asked.Asked.TheVariants as asked
+use Rattle.book_machine.specs.declared.asked.Destination.{Destination}
 use Rattle.book_machine.specs.declared.messages.Content.{Content}
 use Rattle.book_machine.specs.declared.messages.Patch.{Patch}
 use Rattle.book_machine.specs.declared.messages.Patch.TheVariants as patch
@@ -57,11 +61,11 @@ module _ (o p : Office) (caller : Caller) (agree : Agree o p caller) where
   told_still : (status : ℕ) (what : Content) (made : Option Edit) (plan : Plan) → answered (replied status what made) ≡ Ok plan → StillAgrees made → StillAgrees plan.edit
   told_still status what made plan is still = subst (λ (q : Plan). StillAgrees q.edit) (same_Ok _ plan is) still
 
-  abbrev SucceedsStill : Asked → Target → Caller → Plan → Type 0
-  SucceedsStill what target who plan = success_of what who target ≡ Ok plan → StillAgrees plan.edit
+  abbrev SucceedsStill : CircleOf → Asked → Target → Caller → Plan → Type 0
+  SucceedsStill circle what target who plan = IsSuccessOf o circle what who target (Ok plan) → StillAgrees plan.edit
 
-  put_still : (who : Caller) (text : List ℕ) (t : Target) (plan : Plan) → SucceedsStill (asked.Put text) t who plan
-  put_still who text t plan is = let told = bind_ok (put_edit who text t.path) _ plan is in told_still _ _ _ plan told.2 (made t.path told.0 told.1)
+  put_still : (circle : CircleOf) (who : Caller) (text : List ℕ) (t : Target) (plan : Plan) → SucceedsStill circle (asked.Put text) t who plan
+  put_still circle who text t plan is = let told = bind_ok (put_edit who text t.path) _ plan is in told_still _ _ _ plan told.2 (made t.path told.0 told.1)
     where
       made : (q : Path) (edit : Edit) → put_edit who text q ≡ Ok edit → StillAgrees (Some edit)
       made path.Root edit e = absurd (cc (e))
@@ -73,8 +77,21 @@ module _ (o p : Office) (caller : Caller) (agree : Agree o p caller) where
       made (path.Book b) edit e = absurd (cc (e))
       made (path.Card b c) edit e = subst (λ x. StillAgrees (Some x)) (same_Ok _ edit e) (λ _. put_agrees o p caller agree b c _ text)
 
-  delete_still : (who : Caller) (t : Target) (plan : Plan) → SucceedsStill asked.Delete t who plan
-  delete_still who t plan is = let told = bind_ok (delete_edit t.path) _ plan is in told_still _ _ _ plan told.2 (made t.path told.0 told.1)
+  copy_still : (circle : CircleOf) (who : Caller) (to : Destination) (t : Target) (plan : Plan) → MayRead o caller t.path → SucceedsStill circle (asked.Copy to) t who plan
+  copy_still circle who to t plan may is = let told = bind_ok (copy_edit who t.path to) _ plan is in told_still _ _ _ plan told.2 (made t.path told.0 may told.1)
+    where
+      made : (q : Path) (edit : Edit) → MayRead o caller q → copy_edit who q to ≡ Ok edit → StillAgrees (Some edit)
+      made path.Root edit may e = absurd (cc (e))
+      made path.People edit may e = absurd (cc (e))
+      made path.Groups edit may e = absurd (cc (e))
+      made path.Books edit may e = absurd (cc (e))
+      made (path.Person n) edit may e = absurd (cc (e))
+      made (path.Group n) edit may e = absurd (cc (e))
+      made (path.Book b) edit may e = absurd (cc (e))
+      made (path.Card b c) edit may e = subst (λ x. StillAgrees (Some x)) (same_Ok _ edit e) (λ _. copy_agrees o p caller agree b c to.book to.card _ may)
+
+  delete_still : (circle : CircleOf) (who : Caller) (t : Target) (plan : Plan) → SucceedsStill circle asked.Delete t who plan
+  delete_still circle who t plan is = let told = bind_ok (delete_edit t.path) _ plan is in told_still _ _ _ plan told.2 (made t.path told.0 told.1)
     where
       made : (q : Path) (edit : Edit) → delete_edit q ≡ Ok edit → StillAgrees (Some edit)
       made path.Root edit e = absurd (cc (e))
@@ -86,8 +103,8 @@ module _ (o p : Office) (caller : Caller) (agree : Agree o p caller) where
       made (path.Book b) edit e = subst (λ x. StillAgrees (Some x)) (same_Ok _ edit e) (λ risen. absurd (omega (arith, risen)))
       made (path.Card b c) edit e = subst (λ x. StillAgrees (Some x)) (same_Ok _ edit e) (λ _. removal_agrees o p caller agree b c)
 
-  mkcol_still : (who : Caller) (t : Target) (plan : Plan) → SucceedsStill asked.Mkcol t who plan
-  mkcol_still who t plan is = let told = bind_ok (mkcol_edit who t.path) _ plan is in told_still _ _ _ plan told.2 (made t.path told.0 told.1)
+  mkcol_still : (circle : CircleOf) (who : Caller) (t : Target) (plan : Plan) → SucceedsStill circle asked.Mkcol t who plan
+  mkcol_still circle who t plan is = let told = bind_ok (mkcol_edit who t.path) _ plan is in told_still _ _ _ plan told.2 (made t.path told.0 told.1)
     where
       made : (q : Path) (edit : Edit) → mkcol_edit who q ≡ Ok edit → StillAgrees (Some edit)
       made path.Root edit e = absurd (cc (e))
@@ -99,8 +116,8 @@ module _ (o p : Office) (caller : Caller) (agree : Agree o p caller) where
       made (path.Book b) edit e = subst (λ x. StillAgrees (Some x)) (same_Ok _ edit e) (λ _. addition_agrees o p caller agree b _)
       made (path.Card b c) edit e = absurd (cc (e))
 
-  patch_still : (who : Caller) (patched : Patch) (t : Target) (plan : Plan) → SucceedsStill (asked.Proppatch patched) t who plan
-  patch_still who patched t plan is = let told = bind_ok (patch_edit t.path patched) _ plan is in told_still _ _ _ plan told.2 (made patched told.0 told.1)
+  patch_still : (circle : CircleOf) (who : Caller) (patched : Patch) (t : Target) (plan : Plan) → SucceedsStill circle (asked.Proppatch patched) t who plan
+  patch_still circle who patched t plan is = let told = bind_ok (patch_edit t.path patched) _ plan is in told_still _ _ _ plan told.2 (made patched told.0 told.1)
     where
       members : (q : Path) (list : List (List ℕ)) (edit : Edit) → members_edit q list ≡ Ok edit → StillAgrees (Some edit)
       members path.Root list edit e = absurd (cc (e))
@@ -116,21 +133,25 @@ module _ (o p : Office) (caller : Caller) (agree : Agree o p caller) where
       made (patch.DisplayName label) edit e = subst (λ x. StillAgrees (Some x)) (same_Ok _ edit e) (λ _. label_agrees o p caller agree t.path label)
       made (patch.GroupMembers list) edit e = members t.path list edit e
 
+  listed_still : (circle : CircleOf) (find : Find) (q : Path) (node : Option Node) (plan : Plan) → IsListed o circle find q node (Ok plan) → StillAgrees plan.edit
+  listed_still circle find q None plan is = absurd (cc (is))
+  listed_still circle find q (Some node) plan is = told_still _ _ None plan is.2 (λ _. agree)
+
   -- a row for each method: what a MOVE does isn't asked, and a method that needs `read` at its target had it
-  success_still : (what : Asked) (who : Caller) (t : Target) (plan : Plan) → method_of what ≢ Move → (reads_target (method_of what) ≡ true → MayRead o caller t.path)
-      → SucceedsStill what t who plan
-  success_still asked.Get who t plan moves may is = let told = bind_ok (text_of t.node) _ plan is in told_still _ _ None plan told.2 (λ _. agree)
-  success_still asked.Head who t plan moves may is = let told = bind_ok (text_of t.node) _ plan is in told_still _ _ None plan told.2 (λ _. agree)
-  success_still asked.Options who t plan moves may is = told_still _ _ None plan is (λ _. agree)
-  success_still (asked.Put text) who t plan moves may is = put_still who text t plan is
-  success_still asked.Propfind who t plan moves may is = absurd (cc (is))
-  success_still (asked.Proppatch patched) who t plan moves may is = patch_still who patched t plan is
-  success_still (asked.Acl list) who t plan moves may is = told_still _ _ _ plan is (λ risen. absurd (omega (arith, risen)))
-  success_still asked.Copy who t plan moves may is = absurd (cc (is))
-  success_still asked.Move who t plan moves may is = absurd (moves refl)
-  success_still asked.Delete who t plan moves may is = delete_still who t plan is
-  success_still asked.Mkcol who t plan moves may is = mkcol_still who t plan is
-  success_still asked.Report who t plan moves may is = absurd (cc (is))
+  success_still : (circle : CircleOf) (what : Asked) (who : Caller) (t : Target) (plan : Plan) → method_of what ≢ Move → (reads_target (method_of what) ≡ true → MayRead o caller t.path)
+      → SucceedsStill circle what t who plan
+  success_still circle asked.Get who t plan moves may is = let told = bind_ok (text_of t.node) _ plan is in told_still _ _ None plan told.2 (λ _. agree)
+  success_still circle asked.Head who t plan moves may is = let told = bind_ok (text_of t.node) _ plan is in told_still _ _ None plan told.2 (λ _. agree)
+  success_still circle asked.Options who t plan moves may is = told_still _ _ None plan is (λ _. agree)
+  success_still circle (asked.Put text) who t plan moves may is = put_still circle who text t plan is
+  success_still circle (asked.Propfind find) who t plan moves may is = listed_still circle find t.path t.node plan is
+  success_still circle (asked.Proppatch patched) who t plan moves may is = patch_still circle who patched t plan is
+  success_still circle (asked.Acl list) who t plan moves may is = told_still _ _ _ plan is (λ risen. absurd (omega (arith, risen)))
+  success_still circle (asked.Copy to) who t plan moves may is = copy_still circle who to t plan (may refl) is
+  success_still circle (asked.Move to) who t plan moves may is = absurd (moves refl)
+  success_still circle asked.Delete who t plan moves may is = delete_still circle who t plan is
+  success_still circle asked.Mkcol who t plan moves may is = mkcol_still circle who t plan is
+  success_still circle (asked.Report from) who t plan moves may is = told_still _ _ None plan (sync_told o circle from t.path plan is).1 (λ _. agree)
 
   abbrev SettlesAlike : Result Plan Refusal → Type 0
   SettlesAlike result = (settled o result).1.epoch ≡ o.epoch → Agree (settled o result).1 (settled p result).1 caller
@@ -138,14 +159,14 @@ module _ (o p : Office) (caller : Caller) (agree : Agree o p caller) where
   granted_still : (circle : CircleOf) (ready : Ready) (result : Result Plan Refusal) → method_of ready.asked ≢ Move → (reads_target (method_of ready.asked) ≡ true → MayRead o caller ready.target.path)
       → IsGrantedPlan o circle ready result → SettlesAlike result
   granted_still circle ready (Err refusal) moves may is = λ _. agree
-  granted_still circle ready (Ok plan) moves may is = success_still ready.asked ready.caller ready.target plan moves may (plan_of_success o circle ready plan is)
+  granted_still circle ready (Ok plan) moves may is = success_still circle ready.asked ready.caller ready.target plan moves may (plan_of_success o circle ready plan is)
 
   planned_still : (request : Request) (ready : Result Ready Refusal) (result : Result Plan Refusal) → request.method ≢ Move
-      → ((r : Ready) → ready ≡ Ok r → (r.caller ≡ caller) × (method_of r.asked ≡ request.method)) → IsPlannedFrom o request ready result → SettlesAlike result
+      → ((r : Ready) → ready ≡ Ok r → (r.caller ≡ caller) × (method_of r.asked ≡ request.method)) → IsPlannedFrom o ready result → SettlesAlike result
   planned_still request (Err refusal) result moves who is = subst SettlesAlike (sym is) (λ _. agree)
   planned_still request (Ok ready) result moves who (inl granted) =
       granted_still granted.0.circle ready result (λ is. moves (sym (who ready refl).1 ∙ is))
-      (λ e. subst (λ c. MayRead o c ready.target.path) (who ready refl).0 (reads o request ready e granted.0)) granted.1
+      (λ e. subst (λ c. MayRead o c ready.target.path) (who ready refl).0 (reads o ready e granted.0)) granted.1
   planned_still request (Ok ready) result moves who (inr denied) = subst SettlesAlike (sym denied.2) (λ _. agree)
 
 -- ---- one step

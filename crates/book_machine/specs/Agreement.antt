@@ -14,7 +14,7 @@ use Rattle.book_values.specs.declared.offices.Office.{Office}
 use Rattle.book_values.specs.declared.paths.Path.{Path}
 use Rattle.book_values.specs.declared.paths.Path.TheVariants as path
 use Rattle.book_office.specs.Resources.{card_at}
-use Rattle.book_machine.specs.Verdicts.{IsGrantedAt}
+use Rattle.book_listings.specs.Verdicts.{IsGrantedAt}
 
 -- the caller that a request names
 abbrev pub named : Option (List ℕ) → Caller

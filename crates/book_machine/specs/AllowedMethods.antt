@@ -24,21 +24,6 @@ methods_of OfCard = Acl ∷ Copy ∷ Delete ∷ Get ∷ Head ∷ Move ∷ Option
 methods_of OfNewBook = Mkcol ∷ []
 methods_of OfNewCard = Put ∷ []
 
--- the methods that the machine does not serve yet
-abbrev pub not_served : Method → Bool
-not_served Get = false
-not_served Head = false
-not_served Options = false
-not_served Put = false
-not_served Propfind = true
-not_served Proppatch = false
-not_served Acl = false
-not_served Copy = true
-not_served Move = true
-not_served Delete = false
-not_served Mkcol = false
-not_served Report = true
-
 -- the name of a method (RFC 9110, section 9; RFC 4918, section 9; RFC 3744, section 8; RFC 3253, section 3.6)
 abbrev pub method_name : Method → List ℕ
 method_name Get = codes "GET"
@@ -85,6 +70,6 @@ abbrev pub is_among : Method → List Method → Bool
 is_among m [] = false
 is_among m (x ∷ xs) = method_number m == method_number x || is_among m xs
 
--- a method goes on at a mapped resource where it is in the list of the kind, and is served
+-- a method goes on at a mapped resource where it is in the list of the kind
 abbrev pub goes_on : Method → Kind → Bool
-goes_on m k = is_among m (methods_of (allowed_of k)) && not (not_served m)
+goes_on m k = is_among m (methods_of (allowed_of k))

@@ -11,7 +11,7 @@ use Rattle.book_values.specs.declared.paths.Path.{Path}
 use Rattle.book_values.specs.Paths.{IsPath}
 use Rattle.book_machine.specs.Stages.{IsChecked}
 use Rattle.book_machine.specs.Steps.{IsPlan}
-use Rattle.book_machine.specs.Verdicts.{principal_of}
+use Rattle.book_listings.specs.Verdicts.{principal_of}
 use Rattle.book_machine.specs.declared.machine.Machine.{Machine}
 use Rattle.book_machine.specs.declared.messages.Request.{Request}
 use Rattle.book_machine.specs.declared.plans.Plan.{Plan}

@@ -4,9 +4,13 @@ use Rattle.book_values.specs.declared.offices.Office.{Office}
 use Rattle.book_office.specs.Edits.{apply}
 use Rattle.book_office.specs.Sound.{IsSound}
 use Rattle.book_office.specs.declared.edits.Edit.{Edit}
+use Rattle.book_listings.specs.Laws.{TellsFirst}
+use Rattle.book_listings.specs.declared.messages.Response.{Response}
+use Rattle.book_rights.specs.declared.methods.Method.TheVariants as method
+use Rattle.book_values.specs.declared.paths.Path.{Path}
 use Rattle.book_machine.specs.Asking.{HasPaths}
 use Rattle.book_machine.specs.Refusals.{refused}
-use Rattle.book_machine.specs.Stages.{ready_of, IsBodyAnswer, success}
+use Rattle.book_machine.specs.Stages.{ready_of, IsBodyAnswer, IsSuccess}
 use Rattle.book_machine.specs.Steps.{Steps}
 use Rattle.book_machine.specs.Verdicts.{IsGranted, IsDenied}
 use Rattle.book_machine.specs.declared.messages.Content.TheVariants as content
@@ -14,7 +18,7 @@ use Rattle.book_machine.specs.declared.messages.Reply.{Reply}
 use Rattle.book_machine.specs.declared.messages.Request.{Request}
 use Rattle.book_machine.specs.declared.plans.Plan.{Plan}
 use Rattle.book_machine.specs.declared.plans.Ready.{Ready}
-use Rattle.book_machine.specs.declared.refusals.Denial.{Denial}
+use Rattle.book_listings.specs.declared.messages.Denial.{Denial}
 use Rattle.book_machine.specs.declared.refusals.Refusal.{Refusal}
 use Rattle.book_machine.specs.declared.refusals.Refusal.TheVariants.{BadRequest, UnknownCaller, BadCard, NeedPrivileges, NoProtectedAceConflict, NoInheritedAceConflict, LimitedNumberOfAces, NotSupportedPrivilege, RecognizedPrincipal, ValidSyncToken, NotFound, NotAllowed, NoParent, Overwrite, BodyOnMkcol, Full, Unavailable}
 
@@ -23,7 +27,7 @@ abbrev pub RequestsHaveOneStep : Type 0
 RequestsHaveOneStep = (o : Office) (name : Option (List ℕ)) (request : Request) (reply other : Reply) (after later : Office)
     → Steps o name request reply after → Steps o name request other later → (reply ≡ other) × (after ≡ later)
 
--- the refusals by the body and by the limits, and no others
+-- the refusals that come after the verdict, by the body, by the token of a report or by the limits, and no others
 abbrev pub is_late : Refusal → Bool
 is_late BadRequest = false
 is_late UnknownCaller = false
@@ -43,7 +47,7 @@ is_late BodyOnMkcol = false
 is_late Full = true
 is_late Unavailable = false
 
--- a success, or a refusal by the body or by the limits
+-- a success, or a refusal that comes after the verdict
 abbrev pub IsPastVerdict : Reply → Type 0
 IsPastVerdict reply = (reply.status < 300) ⊎ ((refusal : Refusal) × (is_late refusal ≡ true) × (reply ≡ refused refusal))
 
@@ -51,13 +55,13 @@ IsPastVerdict reply = (reply.status < 300) ⊎ ((refusal : Refusal) × (is_late 
 abbrev pub RequestsActWhereGranted : Type 0
 RequestsActWhereGranted = (o : Office) (name : Option (List ℕ)) (request : Request) (ready : Ready) (reply : Reply) (after : Office)
     → ready_of o name request ≡ Ok ready → Steps o name request reply after
-    → IsGranted o request ready ↔ IsPastVerdict reply
+    → IsGranted o ready ↔ IsPastVerdict reply
 
 -- the others are told the denial, which is the one of the verdict
 abbrev pub DenialsAreTold : Type 0
 DenialsAreTold = (o : Office) (name : Option (List ℕ)) (request : Request) (ready : Ready) (reply : Reply) (after : Office) (denial : Denial)
     → ready_of o name request ≡ Ok ready → Steps o name request reply after
-    → IsDenied o request ready denial ↔ (reply ≡ refused (NeedPrivileges denial))
+    → IsDenied o ready denial ↔ (reply ≡ refused (NeedPrivileges denial))
 
 -- a refusal leaves the Office as it was
 abbrev pub RefusalsChangeNothing : Type 0
@@ -76,6 +80,12 @@ StepsAreAvailable = (o : Office) (name : Option (List ℕ)) (request : Request) 
 -- a request that is granted, with a body that is accepted, is refused as full exactly where its edit would leave an Office beyond a limit
 abbrev pub RequestsAreFullAtLimits : Type 0
 RequestsAreFullAtLimits = (o : Office) (name : Option (List ℕ)) (request : Request) (ready : Ready) (edit : Edit) (reply : Reply) (after : Office)
-    → IsSound o → HasPaths request → ready_of o name request ≡ Ok ready → IsGranted o request ready
-    → IsBodyAnswer o ready.asked ready.target.path (Ok tt) → (plan : Plan) → success ready ≡ Ok plan → plan.edit ≡ Some edit → Steps o name request reply after
+    → IsSound o → HasPaths request → ready_of o name request ≡ Ok ready → (granted : IsGranted o ready)
+    → IsBodyAnswer o ready.asked ready.target.path (Ok tt) → (plan : Plan) → IsSuccess o granted.circle ready (Ok plan) → plan.edit ≡ Some edit → Steps o name request reply after
     → (reply ≡ refused Full) ↔ (IsSound (apply o edit) → ⊥)
+
+-- the first response to a PROPFIND tells the resource that was asked for: where that may not be told, the request is denied
+abbrev pub ListingsTellTheResource : Type 0
+ListingsTellTheResource = (o : Office) (name : Option (List ℕ)) (request : Request) (p : Path) (reply : Reply) (responses : List Response) (after : Office)
+    → request.method ≡ method.Propfind → request.path ≡ Some p → Steps o name request reply after
+    → reply.content ≡ content.Listing responses → TellsFirst p responses

@@ -3,6 +3,7 @@ pub mod Agreement
 pub mod AllowedMethods
 pub mod Asked
 pub mod Asking
+pub mod Finding
 pub mod Laws
 pub mod LeadingRuns
 pub mod Promises
@@ -10,5 +11,6 @@ pub mod Refusals
 pub mod Runs
 pub mod Stages
 pub mod Steps
+pub mod SyncedCopies
 pub mod Unseen
 pub mod Verdicts

@@ -1,7 +1,8 @@
 -- What the machine does for one request before its verdict, and after it.
-use Rattle.std.specs.Prelude.{◌≡◌, ◌⊎◌, ℕ, ◌<◌, ◌≤◌, length, Bool, true, false, ◌&&◌, ◌||◌, List, map, All, nat_lt, is_some, Option, Some, None, Result, Ok, Err, if◌then◌else◌}
+use Rattle.std.specs.Prelude.{◌≡◌, ◌⊎◌, ℕ, ◌+◌, ◌<◌, ◌≤◌, length, Bool, true, false, ◌&&◌, ◌||◌, List, map, All, nat_lt, is_some, Option, Some, None, Result, Ok, Err, if◌then◌else◌}
 use Rattle.std.specs.FinMap.{get}
 use Rattle.std.specs.List.{AllZip}
+use Rattle.std.specs.Str.{bytes_eq}
 use Rattle.book_cards.specs.CardText.{card_fault}
 use Rattle.book_cards.specs.declared.fault.CardFault.{CardFault}
 use Rattle.book_lists.specs.Circles.{CircleOf}
@@ -15,7 +16,7 @@ use Rattle.book_lists.specs.declared.list_edits.EditFault.{EditFault}
 use Rattle.book_lists.specs.declared.list_edits.EditFault.TheVariants as fault
 use Rattle.book_lists.specs.declared.submitted.Submitted.{Submitted}
 use Rattle.book_office.specs.declared.edits.Edit.{Edit}
-use Rattle.book_office.specs.declared.edits.Edit.TheVariants.{PutCard, RemoveCard, AddBook, RemoveBook, SetLabel, SetList, SetMembers}
+use Rattle.book_office.specs.declared.edits.Edit.TheVariants.{PutCard, RemoveCard, CopyCard, MoveCard, AddBook, RemoveBook, SetLabel, SetList, SetMembers}
 use Rattle.book_office.specs.declared.nodes.EffectiveEntry.{EffectiveEntry}
 use Rattle.book_office.specs.declared.nodes.Node.{Node}
 use Rattle.book_limits.specs.declared.TheConstants.{MAX_ENTRIES, MAX_CARDS, MAX_BOOKS, LAST_NUMBER}
@@ -28,23 +29,32 @@ use Rattle.book_values.specs.Paths.{kind_of}
 use Rattle.book_office.specs.OwnLists.{protected_in_force}
 use Rattle.book_office.specs.Resources.{node_at, count_at}
 use Rattle.book_office.specs.Sound.{IsMapped, IsKnownForm}
+use Rattle.book_listings.specs.Listings.{AreResponses}
+use Rattle.book_listings.specs.declared.messages.Find.{Find}
+use Rattle.book_listings.specs.declared.messages.Response.{Response}
 use Rattle.book_rights.specs.declared.methods.Method.{Method}
 use Rattle.book_rights.specs.declared.methods.Method.TheVariants as method
+use Rattle.book_sync.specs.Copies.{sync}
+use Rattle.book_sync.specs.declared.messages.Report.{Report}
 use Rattle.book_machine.specs.AllowedMethods.{allowed_of, goes_on}
-use Rattle.book_machine.specs.Asked.{asked_of}
+use Rattle.book_machine.specs.Asked.{asked_of, destination_in, destination_path}
 use Rattle.book_machine.specs.declared.allowed_methods.AllowedMethods.TheVariants.{OfNewBook, OfNewCard}
 use Rattle.book_machine.specs.declared.asked.Asked.{Asked}
 use Rattle.book_machine.specs.declared.asked.Asked.TheVariants as asked
+use Rattle.book_machine.specs.declared.asked.Destination.{Destination}
 use Rattle.book_machine.specs.declared.messages.Content.{Content}
 use Rattle.book_machine.specs.declared.messages.Content.TheVariants as content
 use Rattle.book_machine.specs.declared.messages.Patch.{Patch}
 use Rattle.book_machine.specs.declared.messages.Patch.TheVariants as patch
 use Rattle.book_machine.specs.declared.messages.Request.{Request}
+use Rattle.book_machine.specs.declared.messages.SyncFrom.{SyncFrom}
+use Rattle.book_machine.specs.declared.messages.SyncFrom.TheVariants.{Start, After, Unknown}
 use Rattle.book_machine.specs.declared.plans.Plan.{Plan}
 use Rattle.book_machine.specs.declared.plans.Ready.{Ready}
 use Rattle.book_machine.specs.declared.plans.Target.{Target}
 use Rattle.book_machine.specs.declared.refusals.Refusal.{Refusal}
-use Rattle.book_machine.specs.declared.refusals.Refusal.TheVariants.{UnknownCaller, BadCard, NoProtectedAceConflict, NoInheritedAceConflict, LimitedNumberOfAces, NotSupportedPrivilege, RecognizedPrincipal, NotFound, NotAllowed, NoParent, Full}
+use Rattle.book_machine.specs.declared.refusals.Refusal.TheVariants.{UnknownCaller, BadCard, NoProtectedAceConflict, NoInheritedAceConflict, LimitedNumberOfAces, NotSupportedPrivilege, RecognizedPrincipal, ValidSyncToken, NotFound, NotAllowed, NoParent, Overwrite, Full}
+use Rattle.book_machine.specs.Verdicts.{is_book}
 
 -- a stage after one that may refuse
 infixl 10 ◌>>=◌
@@ -100,14 +110,14 @@ at_unmapped o method.Report p = Err NotFound
 
 -- the path: the target, with what is mapped there
 abbrev pub at_node : Office → Method → Path → Option Node → Result Target Refusal
-at_node o m p None = at_unmapped o m p >>= λ _. Ok (record { path = p; node = None })
-at_node o m p (Some node) = check (goes_on m node.kind) (NotAllowed (allowed_of node.kind)) >>= λ _. Ok (record { path = p; node = Some node })
+at_node o m p None = at_unmapped o m p >>= λ _. Ok (record { path = p; node = None; destination = None })
+at_node o m p (Some node) = check (goes_on m node.kind) (NotAllowed (allowed_of node.kind)) >>= λ _. Ok (record { path = p; node = Some node; destination = None })
 
 abbrev pub target_of : Office → Method → Option Path → Result Target Refusal
 target_of o m None = Err NotFound
 target_of o m (Some p) = at_node o m p (node_at o p)
 
--- what is asked is asked of a resource of this kind: members are those of a group
+-- what is asked is asked of a resource of this kind: members are those of a group, and a sync report is one on a book
 abbrev pub is_group : Kind → Bool
 is_group kind.Root = false
 is_group kind.Home = false
@@ -125,26 +135,37 @@ suits asked.Get k = true
 suits asked.Head k = true
 suits asked.Options k = true
 suits (asked.Put text) k = true
-suits asked.Propfind k = true
+suits (asked.Propfind find) k = true
 suits (asked.Proppatch p) k = patch_suits p k
 suits (asked.Acl list) k = true
-suits asked.Copy k = true
-suits asked.Move k = true
+suits (asked.Copy to) k = true
+suits (asked.Move to) k = true
 suits asked.Delete k = true
 suits asked.Mkcol k = true
-suits asked.Report k = true
+suits (asked.Report from) k = is_book k
 
 abbrev pub suits_target : Asked → Target → Result (Unit {0}) Refusal
 suits_target a target = check (suits a (kind_of target.path)) (NotAllowed (allowed_of (kind_of target.path)))
+
+-- what is mapped may be replaced, or nothing is mapped (RFC 4918, section 10.6)
+abbrev pub replaceable : Bool → Option Node → Result (Option Node) Refusal
+replaceable overwrite None = Ok None
+replaceable overwrite (Some node) = check overwrite Overwrite >>= λ _. Ok (Some node)
+
+-- what is mapped at the destination of COPY and MOVE, whose book is there (RFC 4918, section 9.8.5); other methods have none
+abbrev pub destination_of : Office → Option Destination → Result (Option Node) Refusal
+destination_of o None = Ok None
+destination_of o (Some to) = check (is_some (get o.books to.book)) NoParent >>= λ _. replaceable to.overwrite (node_at o (destination_path to))
 
 -- the stages before the verdict
 abbrev pub ready_of : Office → Option (List ℕ) → Request → Result Ready Refusal
 ready_of o name request =
     caller_of o name >>= λ caller.
-    asked_of request.method request.body >>= λ asked.
+    asked_of request.method request >>= λ asked.
     target_of o request.method request.path >>= λ target.
     suits_target asked target >>= λ _.
-    Ok (record { caller = caller; asked = asked; target = target })
+    destination_of o (destination_in asked) >>= λ destination.
+    Ok (record { caller = caller; asked = asked; target = record target { destination = destination } })
 
 -- the body: the text of a card that is put is a card
 abbrev pub bad_card : Option CardFault → Result (Unit {0}) Refusal
@@ -196,14 +217,14 @@ IsBodyAnswer o asked.Get p answer = answer ≡ Ok tt
 IsBodyAnswer o asked.Head p answer = answer ≡ Ok tt
 IsBodyAnswer o asked.Options p answer = answer ≡ Ok tt
 IsBodyAnswer o (asked.Put text) p answer = answer ≡ bad_card (card_fault text)
-IsBodyAnswer o asked.Propfind p answer = answer ≡ Ok tt
+IsBodyAnswer o (asked.Propfind find) p answer = answer ≡ Ok tt
 IsBodyAnswer o (asked.Proppatch patched) p answer = IsPatchAnswer o patched answer
 IsBodyAnswer o (asked.Acl list) p answer = IsAclAnswer o p list answer
-IsBodyAnswer o asked.Copy p answer = answer ≡ Ok tt
-IsBodyAnswer o asked.Move p answer = answer ≡ Ok tt
+IsBodyAnswer o (asked.Copy to) p answer = answer ≡ Ok tt
+IsBodyAnswer o (asked.Move to) p answer = answer ≡ Ok tt
 IsBodyAnswer o asked.Delete p answer = answer ≡ Ok tt
 IsBodyAnswer o asked.Mkcol p answer = answer ≡ Ok tt
-IsBodyAnswer o asked.Report p answer = answer ≡ Ok tt
+IsBodyAnswer o (asked.Report from) p answer = answer ≡ Ok tt
 
 -- the limits: the number of a book can rise
 abbrev pub can_change : Option Node → Bool
@@ -247,22 +268,44 @@ abbrev pub patch_limits : Office → Patch → Path → Bool
 patch_limits o (patch.DisplayName label) p = label_limits o p
 patch_limits o (patch.GroupMembers members) p = nat_lt o.epoch LAST_NUMBER
 
-abbrev pub keeps_limits : Office → Asked → Path → Bool → Bool
-keeps_limits o asked.Get p mapped = true
-keeps_limits o asked.Head p mapped = true
-keeps_limits o asked.Options p mapped = true
-keeps_limits o (asked.Put text) p mapped = put_limits o p mapped
-keeps_limits o asked.Propfind p mapped = true
-keeps_limits o (asked.Proppatch patched) p mapped = patch_limits o patched p
-keeps_limits o (asked.Acl list) p mapped = nat_lt o.epoch LAST_NUMBER
-keeps_limits o asked.Copy p mapped = true
-keeps_limits o asked.Move p mapped = true
-keeps_limits o asked.Delete p mapped = delete_limits o p
-keeps_limits o asked.Mkcol p mapped = nat_lt (count_at o path.Books) MAX_BOOKS
-keeps_limits o asked.Report p mapped = true
+-- COPY puts a card at the destination
+abbrev pub copy_limits : Office → Destination → Bool → Bool
+copy_limits o to taken = put_limits o (destination_path to) taken
+
+-- the number of a book can rise twice
+abbrev pub can_change_twice : Option Node → Bool
+can_change_twice None = false
+can_change_twice (Some book) = nat_lt (book.number + 1) LAST_NUMBER
+
+-- MOVE: within a book it takes two numbers, and adds no card; else the number of the source's book can rise too
+abbrev pub move_limits : Office → Path → Destination → Bool → Bool
+move_limits o path.Root to taken = true
+move_limits o path.People to taken = true
+move_limits o path.Groups to taken = true
+move_limits o path.Books to taken = true
+move_limits o (path.Person n) to taken = true
+move_limits o (path.Group n) to taken = true
+move_limits o (path.Book b) to taken = true
+move_limits o (path.Card b c) to taken =
+    if bytes_eq b to.book then can_change_twice (node_at o (path.Book b)) else can_change (node_at o (path.Book b)) && copy_limits o to taken
+
+-- by what is asked of a path, whether it is mapped, and whether the name at the destination is taken
+abbrev pub keeps_limits : Office → Asked → Path → Bool → Bool → Bool
+keeps_limits o asked.Get p mapped taken = true
+keeps_limits o asked.Head p mapped taken = true
+keeps_limits o asked.Options p mapped taken = true
+keeps_limits o (asked.Put text) p mapped taken = put_limits o p mapped
+keeps_limits o (asked.Propfind find) p mapped taken = true
+keeps_limits o (asked.Proppatch patched) p mapped taken = patch_limits o patched p
+keeps_limits o (asked.Acl list) p mapped taken = nat_lt o.epoch LAST_NUMBER
+keeps_limits o (asked.Copy to) p mapped taken = copy_limits o to taken
+keeps_limits o (asked.Move to) p mapped taken = move_limits o p to taken
+keeps_limits o asked.Delete p mapped taken = delete_limits o p
+keeps_limits o asked.Mkcol p mapped taken = nat_lt (count_at o path.Books) MAX_BOOKS
+keeps_limits o (asked.Report from) p mapped taken = true
 
 abbrev pub limits_of : Office → Asked → Target → Result (Unit {0}) Refusal
-limits_of o a target = check (keeps_limits o a target.path (is_some target.node)) Full
+limits_of o a target = check (keeps_limits o a target.path (is_some target.node) (is_some target.destination)) Full
 
 -- who owns what is made
 abbrev pub owner_of : Caller → Option (List ℕ)
@@ -295,6 +338,26 @@ put_edit caller text (path.Person n) = Err NotFound
 put_edit caller text (path.Group n) = Err NotFound
 put_edit caller text (path.Book b) = Err NotFound
 put_edit caller text (path.Card b c) = Ok (PutCard b c (owner_of caller) text)
+
+abbrev pub copy_edit : Caller → Path → Destination → Result Edit Refusal
+copy_edit caller path.Root to = Err NotFound
+copy_edit caller path.People to = Err NotFound
+copy_edit caller path.Groups to = Err NotFound
+copy_edit caller path.Books to = Err NotFound
+copy_edit caller (path.Person n) to = Err NotFound
+copy_edit caller (path.Group n) to = Err NotFound
+copy_edit caller (path.Book b) to = Err NotFound
+copy_edit caller (path.Card b c) to = Ok (CopyCard b c to.book to.card (owner_of caller))
+
+abbrev pub move_edit : Path → Destination → Result Edit Refusal
+move_edit path.Root to = Err NotFound
+move_edit path.People to = Err NotFound
+move_edit path.Groups to = Err NotFound
+move_edit path.Books to = Err NotFound
+move_edit (path.Person n) to = Err NotFound
+move_edit (path.Group n) to = Err NotFound
+move_edit (path.Book b) to = Err NotFound
+move_edit (path.Card b c) to = Ok (MoveCard b c to.book to.card)
 
 abbrev pub delete_edit : Path → Result Edit Refusal
 delete_edit path.Root = Err NotFound
@@ -330,34 +393,93 @@ abbrev pub patch_edit : Path → Patch → Result Edit Refusal
 patch_edit p (patch.DisplayName label) = Ok (SetLabel p label)
 patch_edit p (patch.GroupMembers members) = members_edit p members
 
--- a method that is not served does nothing, whatever the stages before let through
-abbrev pub refused_at : Path → Result Plan Refusal
-refused_at p = Err (NotAllowed (allowed_of (kind_of p)))
+-- the text of a card
+abbrev pub card_plan : Option Node → Result Plan Refusal
+card_plan node = text_of node >>= λ text. Ok (replied 200 (content.Card text) None)
 
-abbrev pub success_of : Asked → Caller → Target → Result Plan Refusal
-success_of asked.Get caller target = text_of target.node >>= λ text. Ok (replied 200 (content.Card text) None)
-success_of asked.Head caller target = text_of target.node >>= λ text. Ok (replied 200 (content.Card text) None)
-success_of asked.Options caller target = Ok (replied 200 (content.Allow (allowed_of (kind_of target.path))) None)
-success_of (asked.Put text) caller target = put_edit caller text target.path >>= λ edit. Ok (replied (put_status target.node) content.Empty (Some edit))
-success_of asked.Propfind caller target = refused_at target.path
-success_of (asked.Proppatch patched) caller target = patch_edit target.path patched >>= λ edit. Ok (replied 200 content.Empty (Some edit))
-success_of (asked.Acl list) caller target = Ok (replied 200 content.Empty (Some (SetList target.path (entries_of list))))
-success_of asked.Copy caller target = refused_at target.path
-success_of asked.Move caller target = refused_at target.path
-success_of asked.Delete caller target = delete_edit target.path >>= λ edit. Ok (replied 204 content.Empty (Some edit))
-success_of asked.Mkcol caller target = mkcol_edit caller target.path >>= λ edit. Ok (replied 201 content.Empty (Some edit))
-success_of asked.Report caller target = refused_at target.path
+-- the methods that the resource allows
+abbrev pub allow_plan : Path → Result Plan Refusal
+allow_plan p = Ok (replied 200 (content.Allow (allowed_of (kind_of p))) None)
 
-abbrev pub success : Ready → Result Plan Refusal
-success ready = success_of ready.asked ready.caller ready.target
+abbrev pub put_plan : Caller → List ℕ → Target → Result Plan Refusal
+put_plan caller text target = put_edit caller text target.path >>= λ edit. Ok (replied (put_status target.node) content.Empty (Some edit))
 
--- the stages after a body that the answer accepts or refuses
-abbrev pub after_body : Office → Ready → Result (Unit {0}) Refusal → Result Plan Refusal
-after_body o ready answer =
-    answer >>= λ _.
-    limits_of o ready.asked ready.target >>= λ _.
-    success ready
+abbrev pub patch_plan : Path → Patch → Result Plan Refusal
+patch_plan p patched = patch_edit p patched >>= λ edit. Ok (replied 200 content.Empty (Some edit))
+
+abbrev pub acl_plan : Path → List Submitted → Result Plan Refusal
+acl_plan p list = Ok (replied 200 content.Empty (Some (SetList p (entries_of list))))
+
+-- a new card at the destination, or one in the place of a card that is there (RFC 4918, sections 9.8.5 and 9.9.4)
+abbrev pub copy_plan : Caller → Destination → Target → Result Plan Refusal
+copy_plan caller to target = copy_edit caller target.path to >>= λ edit. Ok (replied (put_status target.destination) content.Empty (Some edit))
+
+abbrev pub move_plan : Destination → Target → Result Plan Refusal
+move_plan to target = move_edit target.path to >>= λ edit. Ok (replied (put_status target.destination) content.Empty (Some edit))
+
+abbrev pub delete_plan : Path → Result Plan Refusal
+delete_plan p = delete_edit p >>= λ edit. Ok (replied 204 content.Empty (Some edit))
+
+abbrev pub mkcol_plan : Caller → Path → Result Plan Refusal
+mkcol_plan caller p = mkcol_edit caller p >>= λ edit. Ok (replied 201 content.Empty (Some edit))
+
+-- a listing of what is mapped at a path: each resource in it is decided by itself (RFC 4918, sections 9.1 and 11.1)
+abbrev pub listed_plan : List Response → Result Plan Refusal
+listed_plan responses = Ok (replied 207 (content.Listing responses) None)
+
+abbrev pub IsListed : Office → CircleOf → Find → Path → Option Node → Result Plan Refusal → Type 0
+IsListed o circle find p None result = Err NotFound ≡ result
+IsListed o circle find p (Some node) result = (responses : List Response) × AreResponses find circle o p responses × (listed_plan responses ≡ result)
+
+-- the report on a book from a place in its history, where the token is valid; a text that is no token names no place
+abbrev pub report_from : Office → CircleOf → List ℕ → SyncFrom → Option Report
+report_from o circle b Start = sync o circle b None None
+report_from o circle b (After token) = sync o circle b (Some token) None
+report_from o circle b Unknown = None
+
+-- a token that is not valid is refused (RFC 6578, section 3.2, precondition valid-sync-token)
+abbrev pub report_plan : Option Report → Result Plan Refusal
+report_plan None = Err ValidSyncToken
+report_plan (Some report) = Ok (replied 207 (content.Synced report) None)
+
+abbrev pub sync_plan : Office → CircleOf → SyncFrom → Path → Result Plan Refusal
+sync_plan o circle from path.Root = Err NotFound
+sync_plan o circle from path.People = Err NotFound
+sync_plan o circle from path.Groups = Err NotFound
+sync_plan o circle from path.Books = Err NotFound
+sync_plan o circle from (path.Person n) = Err NotFound
+sync_plan o circle from (path.Group n) = Err NotFound
+sync_plan o circle from (path.Book b) = report_plan (report_from o circle b from)
+sync_plan o circle from (path.Card b c) = Err NotFound
+
+-- what is replied and done, by what is asked
+abbrev pub IsSuccessOf : Office → CircleOf → Asked → Caller → Target → Result Plan Refusal → Type 0
+IsSuccessOf o circle asked.Get caller target result = card_plan target.node ≡ result
+IsSuccessOf o circle asked.Head caller target result = card_plan target.node ≡ result
+IsSuccessOf o circle asked.Options caller target result = allow_plan target.path ≡ result
+IsSuccessOf o circle (asked.Put text) caller target result = put_plan caller text target ≡ result
+IsSuccessOf o circle (asked.Propfind find) caller target result = IsListed o circle find target.path target.node result
+IsSuccessOf o circle (asked.Proppatch patched) caller target result = patch_plan target.path patched ≡ result
+IsSuccessOf o circle (asked.Acl list) caller target result = acl_plan target.path list ≡ result
+IsSuccessOf o circle (asked.Copy to) caller target result = copy_plan caller to target ≡ result
+IsSuccessOf o circle (asked.Move to) caller target result = move_plan to target ≡ result
+IsSuccessOf o circle asked.Delete caller target result = delete_plan target.path ≡ result
+IsSuccessOf o circle asked.Mkcol caller target result = mkcol_plan caller target.path ≡ result
+IsSuccessOf o circle (asked.Report from) caller target result = sync_plan o circle from target.path ≡ result
+
+abbrev pub IsSuccess : Office → CircleOf → Ready → Result Plan Refusal → Type 0
+IsSuccess o circle ready result = IsSuccessOf o circle ready.asked ready.caller ready.target result
+
+-- the limits, after a body that the answer accepts or refuses
+abbrev pub body_then_limits : Office → Ready → Result (Unit {0}) Refusal → Result (Unit {0}) Refusal
+body_then_limits o ready answer = answer >>= λ _. limits_of o ready.asked ready.target
+
+-- what follows body and limits: success where both have passed, else the refusal
+abbrev pub IsDone : Office → CircleOf → Ready → Result (Unit {0}) Refusal → Result Plan Refusal → Type 0
+IsDone o circle ready (Ok u) result = IsSuccess o circle ready result
+IsDone o circle ready (Err e) result = Err e ≡ result
 
 -- the stages after a verdict that grants; the circle holds the principals to which the caller belongs
 abbrev pub IsGrantedPlan : Office → CircleOf → Ready → Result Plan Refusal → Type 0
-IsGrantedPlan o circle ready result = (answer : Result (Unit {0}) Refusal) × IsBodyAnswer o ready.asked ready.target.path answer × (result ≡ after_body o ready answer)
+IsGrantedPlan o circle ready result =
+    (answer : Result (Unit {0}) Refusal) × IsBodyAnswer o ready.asked ready.target.path answer × IsDone o circle ready (body_then_limits o ready answer) result

@@ -10,23 +10,23 @@ use Rattle.book_machine.specs.declared.messages.Reply.{Reply}
 use Rattle.book_machine.specs.declared.messages.Request.{Request}
 use Rattle.book_machine.specs.declared.plans.Plan.{Plan}
 use Rattle.book_machine.specs.declared.plans.Ready.{Ready}
-use Rattle.book_machine.specs.declared.refusals.Denial.{Denial}
+use Rattle.book_listings.specs.declared.messages.Denial.{Denial}
 use Rattle.book_machine.specs.declared.refusals.Refusal.{Refusal}
 use Rattle.book_machine.specs.declared.refusals.Refusal.TheVariants.{NeedPrivileges, Unavailable}
 
 -- where each need is granted the request goes on; else the denial is its refusal
-abbrev pub IsDecided : Office → Request → Ready → Result Plan Refusal → Type 0
-IsDecided o request ready result = ((granted : IsGranted o request ready) × IsGrantedPlan o granted.circle ready result)
-    ⊎ ((denial : Denial) × IsDenied o request ready denial × (result ≡ Err (NeedPrivileges denial)))
+abbrev pub IsDecided : Office → Ready → Result Plan Refusal → Type 0
+IsDecided o ready result = ((granted : IsGranted o ready) × IsGrantedPlan o granted.circle ready result)
+    ⊎ ((denial : Denial) × IsDenied o ready denial × (result ≡ Err (NeedPrivileges denial)))
 
 -- the first stage that refuses decides
-abbrev pub IsPlannedFrom : Office → Request → Result Ready Refusal → Result Plan Refusal → Type 0
-IsPlannedFrom o request (Err refusal) result = result ≡ Err refusal
-IsPlannedFrom o request (Ok ready) result = IsDecided o request ready result
+abbrev pub IsPlannedFrom : Office → Result Ready Refusal → Result Plan Refusal → Type 0
+IsPlannedFrom o (Err refusal) result = result ≡ Err refusal
+IsPlannedFrom o (Ok ready) result = IsDecided o ready result
 
 -- what is to be done for a request: caller, shape, path, verdict, body, limits, success
 abbrev pub IsPlan : Office → Option (List ℕ) → Request → Result Plan Refusal → Type 0
-IsPlan o name request result = IsPlannedFrom o request (ready_of o name request) result
+IsPlan o name request result = IsPlannedFrom o (ready_of o name request) result
 
 -- the Office after an edit, if there is one
 abbrev pub apply_any : Office → Option Edit → Office

@@ -1,7 +1,7 @@
 //! The methods that a resource allows.
 
 ghost use Rattle.std.specs.Prelude.{◌≡◌};
-ghost use Rattle.book_machine.specs.AllowedMethods.{allowed_of, allowed_text, goes_on, is_among, methods_of, not_served};
+ghost use Rattle.book_machine.specs.AllowedMethods.{allowed_of, allowed_text, goes_on, is_among, methods_of};
 
 use book_office::Kind;
 use book_rights::Method;
@@ -75,26 +75,9 @@ impl AllowedMethods {
     }
 }
 
-/// Whether the machine does not serve the method yet.
-fn not_served(method: Method) -> bool
-    ensures { result ≡ not_served method }
-{
-    match method {
-        Method::Get
-        | Method::Head
-        | Method::Options
-        | Method::Put
-        | Method::Proppatch
-        | Method::Acl
-        | Method::Delete
-        | Method::Mkcol => false,
-        Method::Propfind | Method::Copy | Method::Move | Method::Report => true,
-    }
-}
-
-/// Whether the method goes on at a mapped resource of this kind: it is one of the kind's methods, and is served.
+/// Whether the method goes on at a mapped resource of this kind: it is one of the kind's methods.
 pub(crate) fn goes_on(method: Method, kind: Kind) -> bool
     ensures { result ≡ goes_on method kind }
 {
-    AllowedMethods::of(kind).has(method) && !not_served(method)
+    AllowedMethods::of(kind).has(method)
 }

@@ -1,17 +1,40 @@
 //! What a request asks, read from its method and its body.
 
 ghost use Rattle.std.specs.Prelude.{◌≡◌, [], IfOk};
-ghost use Rattle.book_machine.specs.Asked.{acl_asked, asked_of, each_once, is_empty, method_of, mkcol_asked, patch_asked, proppatch_asked, put_asked};
+ghost use Rattle.book_machine.specs.Asked.{acl_asked, asked_of, copy_asked, destination_asked, destination_by, each_once, find_asked, find_asked_to, is_card, is_empty, kind_asked, method_of, mkcol_asked, move_asked, patch_asked, properties_asked, proppatch_asked, put_asked, report_asked, destination_path};
 ghost use Rattle.book_machine.specs.Asking.{Meets};
 
-use crate::messages::{Body, Patch};
+use crate::finding::{find_of, may_be_asked, usual_find};
+use crate::messages::{Body, Depth, Flag, Patch, ReportKind, Request, SyncFrom};
 use crate::refusals::Refusal;
 use book_limits::{MAX_LABEL_BYTES, MAX_MEMBERS};
-use book_lists::{Principal, Submitted};
-use book_office::{Items, Text};
+use book_listings::{Extent, Find, Property};
+use book_lists::{Name, Principal, Submitted};
+use book_office::{Items, Path, Text};
 use book_rights::Method;
+use book_sync::Token;
 use std::alloc::{AllocError, Global};
 use std::collections::BTreeSet;
+
+/// The card that a COPY or MOVE makes or replaces (RFC 4918, sections 9.8 and 9.9).
+#[derive(Debug, Drop)]
+pub struct Destination {
+    /// The name of its book.
+    pub book: Name,
+    /// The name of the card.
+    pub card: Name,
+    /// Whether a card of that name may be replaced (RFC 4918, section 10.6).
+    pub overwrite: bool,
+}
+
+impl Destination {
+    /// The path of the card. An error is want of memory.
+    pub(crate) fn path(&self) -> Result<Path, AllocError>
+        ensures { IfOk result (λ p. p ≡ destination_path self.now) }
+    {
+        Ok(Path::Card(self.book.clone()?, self.card.clone()?))
+    }
+}
 
 /// What a request asks, by its method. No later stage looks at the body again.
 #[derive(Debug, Drop)]
@@ -24,22 +47,22 @@ pub enum Asked {
     Options,
     /// PUT: the text of a card.
     Put(Text),
-    /// PROPFIND, which is not served yet.
-    Propfind,
+    /// PROPFIND: properties of a resource, and perhaps of its children.
+    Propfind(Find),
     /// PROPPATCH: the label of a resource, or the direct members of a group.
     Proppatch(Patch),
     /// ACL: the list that takes the place of the own list.
     Acl(Items<Submitted>),
-    /// COPY, which is not served yet.
-    Copy,
-    /// MOVE, which is not served yet.
-    Move,
+    /// COPY: of a card.
+    Copy(Destination),
+    /// MOVE: of a card.
+    Move(Destination),
     /// DELETE: of a card or a book.
     Delete,
     /// MKCOL: a new book.
     Mkcol,
-    /// REPORT, which is not served yet.
-    Report,
+    /// REPORT: from where in its history what changed in a book. It is the one report that is served yet.
+    Report(SyncFrom),
 }
 
 impl Asked {
@@ -52,14 +75,14 @@ impl Asked {
             Asked::Head => Method::Head,
             Asked::Options => Method::Options,
             Asked::Put(_) => Method::Put,
-            Asked::Propfind => Method::Propfind,
+            Asked::Propfind(_) => Method::Propfind,
             Asked::Proppatch(_) => Method::Proppatch,
             Asked::Acl(_) => Method::Acl,
-            Asked::Copy => Method::Copy,
-            Asked::Move => Method::Move,
+            Asked::Copy(_) => Method::Copy,
+            Asked::Move(_) => Method::Move,
             Asked::Delete => Method::Delete,
             Asked::Mkcol => Method::Mkcol,
-            Asked::Report => Method::Report,
+            Asked::Report(_) => Method::Report,
         }
     }
 }
@@ -74,6 +97,44 @@ fn put_asked(alloc: Global, body: &Body) -> Result<Asked, Refusal>
         Body::Find(_) | Body::Patch(_) | Body::List(_) | Body::Report(_) | Body::Unread => {
             Err(Refusal::BadRequest)
         }
+    }
+}
+
+/// The properties of a PROPFIND, within their bounds.
+fn properties_asked(
+    alloc: Global,
+    extent: Extent,
+    properties: &[Property],
+) -> Result<Asked, Refusal>
+    ensures { Meets result (properties_asked extent properties.now) }
+{
+    if !may_be_asked(properties) {
+        return Err(Refusal::BadRequest);
+    }
+    Ok(Asked::Propfind(find_of(alloc, extent, properties)?))
+}
+
+/// A PROPFIND of some depth: its properties; the usual ones where there is no body (RFC 4918, section 9.1).
+fn find_asked_to(alloc: Global, extent: Extent, body: &Body) -> Result<Asked, Refusal>
+    ensures { Meets result (find_asked_to extent body.now) }
+{
+    match body {
+        Body::Empty => Ok(Asked::Propfind(usual_find(alloc, extent)?)),
+        Body::Find(properties) => properties_asked(alloc, extent, properties.as_slice()),
+        Body::Text(_) | Body::Patch(_) | Body::List(_) | Body::Report(_) | Body::Unread => {
+            Err(Refusal::BadRequest)
+        }
+    }
+}
+
+/// A PROPFIND: its depth is 0 or 1 (RFC 4918, section 10.2).
+fn find_asked(alloc: Global, depth: Depth, body: &Body) -> Result<Asked, Refusal>
+    ensures { Meets result (find_asked depth body.now) }
+{
+    match depth {
+        Depth::Zero => find_asked_to(alloc, Extent::Resource, body),
+        Depth::One => find_asked_to(alloc, Extent::Children, body),
+        Depth::Unread => Err(Refusal::BadRequest),
     }
 }
 
@@ -194,23 +255,150 @@ fn mkcol_asked(body: &Body) -> Result<Asked, Refusal>
     }
 }
 
-/// What a request asks: its body is one that its method takes. Bodies of methods that take none are not looked at, but for
-/// MKCOL.
-pub(crate) fn asked_of(alloc: Global, method: Method, body: &Body) -> Result<Asked, Refusal>
-    ensures { Meets result (asked_of method body.now) }
+/// A copy of a token.
+fn copy_of_token(token: &Token) -> Result<Token, AllocError>
+    ensures { IfOk result (λ copy. copy ≡ token.now) }
+{
+    Ok(Token {
+        book: token.book.clone()?,
+        epoch: token.epoch,
+        number: token.number,
+    })
+}
+
+/// A copy of the place from which a sync report is asked.
+fn copy_of_place(from: &SyncFrom) -> Result<SyncFrom, AllocError>
+    ensures { IfOk result (λ copy. copy ≡ from.now) }
+{
+    match from {
+        SyncFrom::Start => Ok(SyncFrom::Start),
+        SyncFrom::After(token) => Ok(SyncFrom::After(copy_of_token(token)?)),
+        SyncFrom::Unknown => Ok(SyncFrom::Unknown),
+    }
+}
+
+/// The report that is asked: `sync-collection` (RFC 6578, section 3.2). The reports `group-members` and `effective` are
+/// not served yet: they are refused.
+fn kind_asked(kind: &ReportKind) -> Result<Asked, Refusal>
+    ensures { Meets result (kind_asked kind.now) }
+{
+    match kind {
+        ReportKind::SyncCollection(from) => Ok(Asked::Report(copy_of_place(from)?)),
+        ReportKind::GroupMembers | ReportKind::Effective(_) => Err(Refusal::BadRequest),
+    }
+}
+
+/// A REPORT names a report (RFC 3253, section 3.6).
+fn report_asked(body: &Body) -> Result<Asked, Refusal>
+    ensures { Meets result (report_asked body.now) }
+{
+    match body {
+        Body::Report(kind) => kind_asked(kind),
+        Body::Empty
+        | Body::Text(_)
+        | Body::Find(_)
+        | Body::Patch(_)
+        | Body::List(_)
+        | Body::Unread => Err(Refusal::BadRequest),
+    }
+}
+
+/// Whether a path is that of the card.
+fn is_card(book: &Name, card: &Name, path: &Option<Path>) -> bool
+    ensures { result ≡ is_card book.now card.now path.now }
+{
+    match path {
+        Some(Path::Card(b, c)) => b == book && c == card,
+        None
+        | Some(Path::Root)
+        | Some(Path::People)
+        | Some(Path::Groups)
+        | Some(Path::Books)
+        | Some(Path::Person(_))
+        | Some(Path::Group(_))
+        | Some(Path::Book(_)) => false,
+    }
+}
+
+/// A card as a destination.
+fn destination_to(book: &Name, card: &Name, overwrite: bool) -> Result<Destination, AllocError>
+    ensures { IfOk result (λ to. to ≡ record { book = book.now; card = card.now; overwrite = overwrite }) }
+{
+    Ok(Destination {
+        book: book.clone()?,
+        card: card.clone()?,
+        overwrite,
+    })
+}
+
+/// A card as a destination, where the field Overwrite was read (RFC 4918, section 10.6).
+fn destination_by(book: &Name, card: &Name, overwrite: Flag) -> Result<Destination, Refusal>
+    ensures { Meets result (destination_by book.now card.now overwrite) }
+{
+    match overwrite {
+        Flag::Yes => Ok(destination_to(book, card, true)?),
+        Flag::No => Ok(destination_to(book, card, false)?),
+        Flag::Unread => Err(Refusal::BadRequest),
+    }
+}
+
+/// A destination is the path of a card, other than the source (RFC 4918, section 10.3).
+fn destination_asked(
+    source: &Option<Path>,
+    overwrite: Flag,
+    destination: &Option<Path>,
+) -> Result<Destination, Refusal>
+    ensures { Meets result (destination_asked source.now overwrite destination.now) }
+{
+    match destination {
+        Some(Path::Card(book, card)) => {
+            if is_card(book, card, source) {
+                return Err(Refusal::BadRequest);
+            }
+            destination_by(book, card, overwrite)
+        }
+        None
+        | Some(Path::Root)
+        | Some(Path::People)
+        | Some(Path::Groups)
+        | Some(Path::Books)
+        | Some(Path::Person(_))
+        | Some(Path::Group(_))
+        | Some(Path::Book(_)) => Err(Refusal::BadRequest),
+    }
+}
+
+/// A COPY: where to.
+fn copy_asked(request: &Request) -> Result<Asked, Refusal>
+    ensures { Meets result (copy_asked (destination_asked request.now.path request.now.overwrite request.now.destination)) }
+{
+    Ok(Asked::Copy(destination_asked(&request.path, request.overwrite, &request.destination)?))
+}
+
+/// A MOVE: where to.
+fn move_asked(request: &Request) -> Result<Asked, Refusal>
+    ensures { Meets result (move_asked (destination_asked request.now.path request.now.overwrite request.now.destination)) }
+{
+    Ok(Asked::Move(destination_asked(&request.path, request.overwrite, &request.destination)?))
+}
+
+/// What a request asks: its body is one that its method takes, the depth of a PROPFIND one that was read, and the
+/// destination of a COPY or MOVE another card. Bodies of methods that take none are not looked at, but for MKCOL.
+pub(crate) fn asked_of(alloc: Global, method: Method, request: &Request) -> Result<Asked, Refusal>
+    ensures { Meets result (asked_of method request.now) }
 {
     match method {
         Method::Get => Ok(Asked::Get),
         Method::Head => Ok(Asked::Head),
         Method::Options => Ok(Asked::Options),
-        Method::Put => put_asked(alloc, body),
-        Method::Propfind => Ok(Asked::Propfind),
-        Method::Proppatch => proppatch_asked(alloc, body),
-        Method::Acl => acl_asked(alloc, body),
-        Method::Copy => Ok(Asked::Copy),
-        Method::Move => Ok(Asked::Move),
+        Method::Put => put_asked(alloc, &request.body),
+        Method::Propfind => find_asked(alloc, request.depth, &request.body),
+        Method::Proppatch => proppatch_asked(alloc, &request.body),
+        Method::Acl => acl_asked(alloc, &request.body),
+        Method::Copy => copy_asked(request),
+        Method::Move => move_asked(request),
         Method::Delete => Ok(Asked::Delete),
-        Method::Mkcol => mkcol_asked(body),
-        Method::Report => Ok(Asked::Report),
+        Method::Mkcol => mkcol_asked(&request.body),
+        Method::Report => report_asked(&request.body),
     }
 }

@@ -1,7 +1,8 @@
 //! What the definition of a step implies, stated on public functions since only what a contract names is proved.
 
+ghost use Rattle.book_machine.specs.SyncedCopies.{GrantedReportsAreTold};
 ghost use Rattle.book_machine.specs.Unseen.{AgreeingOfficesMayDiffer, AgreeingOfficesRunAlike, AgreeingOfficesStepAlike, AgreementIsAnEquivalence, EpochsNeverFall, RunsNeverLowerTheEpoch};
-ghost use Rattle.book_machine.specs.Laws.{DenialsAreTold, RefusalsChangeNothing, RequestsActWhereGranted, RequestsAreFullAtLimits, RequestsHaveOneStep, StepsAreAvailable, TellingRepliesChangeNothing};
+ghost use Rattle.book_machine.specs.Laws.{DenialsAreTold, ListingsTellTheResource, RefusalsChangeNothing, RequestsActWhereGranted, RequestsAreFullAtLimits, RequestsHaveOneStep, StepsAreAvailable, TellingRepliesChangeNothing};
 
 /// In an Office a request has one reply, and leaves one Office.
 pub fn requests_have_one_step()
@@ -16,6 +17,12 @@ pub fn requests_act_where_granted()
     ensures denied { DenialsAreTold }
 {}
 
+/// The first response to a PROPFIND tells the resource that was asked for, and is no denial: a request whose needs are
+/// not granted at it is denied as a whole (RFC 3744, section 7.1.1).
+pub fn listings_tell_the_resource()
+    ensures { ListingsTellTheResource }
+{}
+
 /// Where the needs are granted and the body is accepted, a request is refused as full (RFC 4918, section 11.5) exactly where
 /// its edit would leave an Office beyond a limit (own profile).
 pub fn requests_are_full_at_limits()
@@ -27,6 +34,12 @@ pub fn refusals_change_nothing()
     ensures unchanged { RefusalsChangeNothing }
     ensures telling { TellingRepliesChangeNothing }
     ensures available { StepsAreAvailable }
+{}
+
+/// A request for a sync report that is granted is told the report on the Office that it finds, or is refused by
+/// valid-sync-token where the token is not valid (RFC 6578, section 3.2), and changes nothing.
+pub fn granted_reports_are_told()
+    ensures { GrantedReportsAreTold }
 {}
 
 /// Contents that a caller may not read stay unseen (own profile). Two Offices agree for a caller where they are equal but for

@@ -1,17 +1,21 @@
 //! The machine: from a request to its reply (RFC 3744, section 6; RFC 4918).
 //!
-//! It stands on `book_office` and the crates below. The crate above uses that `Machine::serve` answers as the machine's step
-//! says, or that the store is unavailable with the Office as it was; that `serve_all` is a run of such steps; and that
-//! `Machine::adopt` leaves the Office that adopts the policy, or tells why it does not.
+//! It stands on `book_office` and the crates below, on `book_listings` for what PROPFIND tells, and on `book_sync` for
+//! sync reports. The crate above uses
+//! that `Machine::serve` answers as the machine's step says, or that the store is unavailable with the Office as it was;
+//! that `serve_all` is a run of such steps; and that `Machine::adopt` leaves the Office that adopts the policy, or tells
+//! why it does not.
 //!
-//! Read `messages`, `refusals`, `allowed_methods` and `asked` first; then `plans`, `stages`, `entries_in_force` and `machine`; and
-//! `adoptions` by itself.
+//! Read `messages`, `refusals`, `allowed_methods`, `finding` and `asked` first; then `plans`, `stages`,
+//! `entries_in_force`, `destinations`, `syncing` and `machine`; and `adoptions` by itself.
 #![tactic(auto)]
 
 mod adoptions;
 mod allowed_methods;
 mod asked;
+mod destinations;
 mod entries_in_force;
+mod finding;
 mod laws;
 mod leading;
 mod machine;
@@ -19,18 +23,22 @@ mod messages;
 mod plans;
 mod refusals;
 mod stages;
+mod syncing;
 
 pub use adoptions::{AdoptFault, Adopted};
 pub use allowed_methods::AllowedMethods;
-pub use asked::Asked;
+pub use asked::{Asked, Destination};
+pub use book_listings::{
+    AclEntry, DecidingEntry, Denial, Extent, Find, Property, PropertyValue, Response,
+};
+pub use book_sync::{Found, Item, Report, Token};
 pub use laws::{
-    refusals_change_nothing, requests_act_where_granted, requests_are_full_at_limits,
-    requests_have_one_step, unread_contents_stay_unseen,
+    granted_reports_are_told, listings_tell_the_resource, refusals_change_nothing,
+    requests_act_where_granted, requests_are_full_at_limits, requests_have_one_step,
+    unread_contents_stay_unseen,
 };
 pub use leading::runs_lead_on;
 pub use machine::Machine;
-pub use messages::{
-    Body, Content, Depth, Flag, Patch, Property, Reply, ReportKind, Request, SyncFrom,
-};
+pub use messages::{Body, Content, Depth, Flag, Patch, Reply, ReportKind, Request, SyncFrom};
 pub use plans::{Plan, Ready, Target};
-pub use refusals::{DecidingEntry, Denial, Refusal};
+pub use refusals::Refusal;

@@ -4,31 +4,35 @@ ghost use Rattle.std.specs.Prelude.{◌≡◌, [], Ok, IfOk, OnOk, OnErr, is_som
 ghost use Rattle.std.specs.FinMap.{get};
 ghost use Rattle.std.specs.Option.{option_copied};
 ghost use Rattle.book_rights.specs.Needs.{listed_others, listed_too};
-ghost use Rattle.book_rights.specs.declared.places.Place.TheVariants as at;
 ghost use Rattle.book_office.specs.Resources.{count_at, node_at};
 ghost use Rattle.book_office.specs.Sound.{IsMapped};
 ghost use Rattle.book_office.specs.declared.nodes.Node.{Node};
 ghost use Rattle.book_values.specs.declared.paths.Path.TheVariants as path;
+ghost use Rattle.book_machine.specs.Asked.{destination_in};
 ghost use Rattle.book_machine.specs.Asking.{HasPath, HasPaths, Meets, MeetsAny, MeetsItems, MeetsPlan, StageAsks, TellsChecked, TellsCheckedEntry, TellsWhether};
 ghost use Rattle.book_machine.specs.LeadingRuns.{HavePaths};
 ghost use Rattle.book_machine.specs.Promises.{ServeAllPromise, ServeHidesUnread, ServePromise};
 ghost use Rattle.book_machine.specs.Runs.{calls_of, name_of};
-ghost use Rattle.book_machine.specs.Stages.{at_node, at_unmapped, can_change, caller_of, delete_limits, keeps_limits, label_limits, limits_of, new_book_at, new_card, patch_limits, put_limits, ready_of, target_of, IsAclAnswer, IsBodyAnswer, IsGrantedPlan, IsKnownWho, IsMembersAnswer, IsPatchAnswer, protected_entries_at};
-ghost use Rattle.book_machine.specs.Verdicts.{IsTarget, JudgesNeed, JudgesNeeds, needs_at, owner_at, place_path};
+ghost use Rattle.book_machine.specs.SyncedCopies.{Synced};
+ghost use Rattle.book_machine.specs.Stages.{at_node, at_unmapped, can_change, caller_of, delete_limits, keeps_limits, label_limits, limits_of, new_book_at, new_card, patch_limits, put_limits, ready_of, target_of, IsAclAnswer, IsBodyAnswer, IsGrantedPlan, IsKnownWho, IsListed, IsMembersAnswer, IsPatchAnswer, IsSuccess, protected_entries_at};
+ghost use Rattle.book_listings.specs.Verdicts.{owner_at};
+ghost use Rattle.book_machine.specs.Verdicts.{IsTarget, JudgesNeed, JudgesNeeds, needs_at, place_path};
 
 use crate::allowed_methods::AllowedMethods;
 use crate::asked::{Asked, asked_of, copy_of_entry};
 use crate::entries_in_force::{judge, protected_in};
-use crate::messages::{Patch, Reply, Request};
+use crate::messages::{Content, Patch, Reply, Request};
 use crate::plans::{Plan, Ready, Target};
 use crate::refusals::{Refusal, refused};
 use crate::stages::{
-    can_change, check_card, check_kind, check_suits, copy_of, list_refusal, path_of, place_path,
-    principal_of, shape_at, success,
+    acl_plan, allow_plan, can_change, card_plan, check_card, check_kind, check_suits, copy_of,
+    copy_plan, delete_plan, list_refusal, mkcol_plan, move_plan, patch_plan, path_of, place_path,
+    principal_of, put_plan, replied, shape_at,
 };
 use book_limits::{LAST_NUMBER, MAX_BOOKS, MAX_CARDS, MAX_ENTRIES};
+use book_listings::{Find, listing};
 use book_lists::{Caller, Circle, Entry, Here, Name, Principal, Submitted, Who, check_edit};
-use book_office::{Items, Keeper, Node, Path, effective};
+use book_office::{Items, Keeper, Node, Path};
 use book_rights::{LeafSet, Method, Need, Needs, Place, needs};
 use std::alloc::{AllocError, Global};
 
@@ -73,7 +77,7 @@ impl<K: Keeper> Machine<K> {
     }
 
     /// Whether a book is there.
-    fn has_book(&mut self, alloc: Global, book: &Name) -> Result<bool, Refusal>
+    pub(crate) fn has_book(&mut self, alloc: Global, book: &Name) -> Result<bool, Refusal>
         ensures { StageAsks K.standing self.old self.new result (λ o r. Meets r (Ok (is_some (get o.books book.now)))) }
     {
         let path = Path::Book(book.clone()?);
@@ -151,13 +155,18 @@ impl<K: Keeper> Machine<K> {
         match node {
             None => {
                 self.check_unmapped(alloc, method, &path)?;
-                Ok(Target { path, node: None })
+                Ok(Target {
+                    path,
+                    node: None,
+                    destination: None,
+                })
             }
             Some(node) => {
                 check_kind(method, node.kind)?;
                 Ok(Target {
                     path,
                     node: Some(node),
+                    destination: None,
                 })
             }
         }
@@ -187,13 +196,17 @@ impl<K: Keeper> Machine<K> {
             (λ o r. Meets r (ready_of o (option_copied name.entry) request.now)) }
     {
         let caller = self.caller(alloc, name)?;
-        let asked = asked_of(alloc, request.method, &request.body)?;
+        let asked = asked_of(alloc, request.method, request)?;
         let target = self.target(alloc, request)?;
         check_suits(&asked, &target)?;
+        let destination = self.destination(alloc, &asked)?;
         Ok(Ready {
             caller,
             asked,
-            target,
+            target: Target {
+                destination,
+                ..target
+            },
         })
     }
 
@@ -212,57 +225,37 @@ impl<K: Keeper> Machine<K> {
         &mut self,
         alloc: Global,
         circle: &Circle,
-        path: Path,
+        path: &Path,
         owner: Option<Principal>,
         set: LeafSet,
     ) -> Result<(), Refusal>
         ensures { StageAsks K.standing self.old self.new result
-            (λ o r. owner ≡ owner_at o path → JudgesNeed o circle.now path set r) }
+            (λ o r. owner ≡ owner_at o path.now → JudgesNeed o circle.now path.now set r) }
     {
-        let principal = principal_of(alloc, &path)?;
-        let effective = effective(alloc, &mut self.keeper, &path)?;
-        judge(
-            alloc,
-            circle,
-            path,
-            Here { owner, principal },
-            set,
-            effective,
-        )
+        let principal = principal_of(alloc, path)?;
+        let lists = self.keeper.lists(alloc, path)?;
+        let here = Here { owner, principal };
+        judge(lists.levels.as_slice(), circle, path, &here, set)
     }
 
-    /// The owner of the resource at which a need is checked; of the target it is known.
-    fn owner_for(
-        &mut self,
-        alloc: Global,
-        path: &Path,
-        target: &Target,
-        place: Place,
-    ) -> Result<Option<Principal>, Refusal>
-        ensures { StageAsks K.standing self.old self.new result
-            (λ o r. IsTarget o target.now → (place ≡ at.Target → path.now ≡ target.now.path) → Meets r (Ok (owner_at o path.now))) }
-    {
-        if place == Place::Target {
-            return Ok(owner_in(&target.node)?);
-        }
-        self.owner(alloc, path)
-    }
-
-    /// The verdict on one need.
+    /// The verdict on one need. Of the target the owner is known, and no path is copied.
     fn check_need(
         &mut self,
         alloc: Global,
         circle: &Circle,
-        request: &Request,
-        target: &Target,
+        ready: &Ready,
         need: Need,
     ) -> Result<(), Refusal>
         ensures { StageAsks K.standing self.old self.new result
-            (λ o r. IsTarget o target.now → JudgesNeed o circle.now (place_path request.now target.now.path need.place) need.set r) }
+            (λ o r. IsTarget o ready.now.target → JudgesNeed o circle.now (place_path (destination_in ready.now.asked) ready.now.target.path need.place) need.set r) }
     {
-        let path = place_path(request, &target.path, need.place)?;
-        let owner = self.owner_for(alloc, &path, target, need.place)?;
-        self.check_owned(alloc, circle, path, owner, need.set)
+        if need.place == Place::Target {
+            let owner = owner_in(&ready.target.node)?;
+            return self.check_owned(alloc, circle, &ready.target.path, owner, need.set);
+        }
+        let path = place_path(ready, need.place)?;
+        let owner = self.owner(alloc, &path)?;
+        self.check_owned(alloc, circle, &path, owner, need.set)
     }
 
     /// The verdict on a need, if there is one.
@@ -270,15 +263,14 @@ impl<K: Keeper> Machine<K> {
         &mut self,
         alloc: Global,
         circle: &Circle,
-        request: &Request,
-        target: &Target,
+        ready: &Ready,
         need: Option<Need>,
     ) -> Result<(), Refusal>
         ensures { StageAsks K.standing self.old self.new result
-            (λ o r. IsTarget o target.now → JudgesNeeds o circle.now request.now target.now.path (listed_too need []) r) }
+            (λ o r. IsTarget o ready.now.target → JudgesNeeds o circle.now (destination_in ready.now.asked) ready.now.target.path (listed_too need []) r) }
     {
         match need {
-            Some(need) => self.check_need(alloc, circle, request, target, need),
+            Some(need) => self.check_need(alloc, circle, ready, need),
             None => Ok(()),
         }
     }
@@ -288,38 +280,31 @@ impl<K: Keeper> Machine<K> {
         &mut self,
         alloc: Global,
         circle: &Circle,
-        request: &Request,
-        target: &Target,
+        ready: &Ready,
         others: Option<(Need, Option<Need>)>,
     ) -> Result<(), Refusal>
         ensures { StageAsks K.standing self.old self.new result
-            (λ o r. IsTarget o target.now → JudgesNeeds o circle.now request.now target.now.path (listed_others others) r) }
+            (λ o r. IsTarget o ready.now.target → JudgesNeeds o circle.now (destination_in ready.now.asked) ready.now.target.path (listed_others others) r) }
     {
         let Some((second, third)) = others else {
             return Ok(());
         };
-        self.check_need(alloc, circle, request, target, second)?;
-        self.check_any(alloc, circle, request, target, third)
+        self.check_need(alloc, circle, ready, second)?;
+        self.check_any(alloc, circle, ready, third)
     }
 
     /// The verdict: each need of the request in turn.
-    fn check_needs(
-        &mut self,
-        alloc: Global,
-        circle: &Circle,
-        request: &Request,
-        ready: &Ready,
-    ) -> Result<(), Refusal>
+    fn check_needs(&mut self, alloc: Global, circle: &Circle, ready: &Ready) -> Result<(), Refusal>
         ensures { StageAsks K.standing self.old self.new result
-            (λ o r. IsTarget o ready.now.target → JudgesNeeds o circle.now request.now ready.now.target.path (needs_at ready.now) r) }
+            (λ o r. IsTarget o ready.now.target → JudgesNeeds o circle.now (destination_in ready.now.asked) ready.now.target.path (needs_at ready.now) r) }
     {
         let Needs { first, others } = needs(ready.asked.method(), shape_at(ready));
-        self.check_need(alloc, circle, request, &ready.target, first)?;
-        self.check_others(alloc, circle, request, &ready.target, others)
+        self.check_need(alloc, circle, ready, first)?;
+        self.check_others(alloc, circle, ready, others)
     }
 
     /// Whether the number of a book can rise.
-    fn can_change(&mut self, alloc: Global, book: &Name) -> Result<bool, Refusal>
+    pub(crate) fn can_change(&mut self, alloc: Global, book: &Name) -> Result<bool, Refusal>
         ensures { StageAsks K.standing self.old self.new result
             (λ o r. Meets r (Ok (can_change (node_at o (path.Book book.now))))) }
     {
@@ -374,7 +359,7 @@ impl<K: Keeper> Machine<K> {
     }
 
     /// Whether the limits are kept where a text is put.
-    fn keeps_put_limits(
+    pub(crate) fn keeps_put_limits(
         &mut self,
         alloc: Global,
         path: &Path,
@@ -426,21 +411,21 @@ impl<K: Keeper> Machine<K> {
         target: &Target,
     ) -> Result<bool, Refusal>
         ensures { StageAsks K.standing self.old self.new result
-            (λ o r. Meets r (Ok (keeps_limits o asked.now target.now.path (is_some target.now.node)))) }
+            (λ o r. Meets r (Ok (keeps_limits o asked.now target.now.path (is_some target.now.node) (is_some target.now.destination)))) }
     {
         match asked {
             Asked::Put(_) => self.keeps_put_limits(alloc, &target.path, target.node.is_some()),
             Asked::Proppatch(patch) => self.keeps_patch_limits(alloc, patch, &target.path),
             Asked::Acl(_) => self.epoch_can_rise(),
+            Asked::Copy(to) => self.keeps_copy_limits(alloc, to, target.destination.is_some()),
+            Asked::Move(to) => {
+                self.keeps_move_limits(alloc, &target.path, to, target.destination.is_some())
+            }
             Asked::Delete => self.keeps_delete_limits(alloc, &target.path),
             Asked::Mkcol => self.has_room(alloc, &Path::Books, MAX_BOOKS),
-            Asked::Get
-            | Asked::Head
-            | Asked::Options
-            | Asked::Propfind
-            | Asked::Copy
-            | Asked::Move
-            | Asked::Report => Ok(true),
+            Asked::Get | Asked::Head | Asked::Options | Asked::Propfind(_) | Asked::Report(_) => Ok(
+                true,
+            ),
         }
     }
 
@@ -561,22 +546,66 @@ impl<K: Keeper> Machine<K> {
             Asked::Get
             | Asked::Head
             | Asked::Options
-            | Asked::Propfind
-            | Asked::Copy
-            | Asked::Move
+            | Asked::Propfind(_)
+            | Asked::Copy(_)
+            | Asked::Move(_)
             | Asked::Delete
             | Asked::Mkcol
-            | Asked::Report => Ok(()),
+            | Asked::Report(_) => Ok(()),
+        }
+    }
+
+    /// What a PROPFIND tells: a listing of what is mapped at the target.
+    fn listed(
+        &mut self,
+        alloc: Global,
+        circle: &Circle,
+        target: &Target,
+        find: &Find,
+    ) -> Result<Plan, Refusal>
+        ensures { StageAsks K.standing self.old self.new result (λ o r. IsTarget o target.now
+            → MeetsAny (IsListed o circle.now find.now target.now.path target.now.node) r) }
+    {
+        let Some(node) = &target.node else {
+            return Err(Refusal::NotFound);
+        };
+        let responses = listing(alloc, &mut self.keeper, circle, &target.path, node, find)?;
+        Ok(replied(207, Content::Listing(responses), None))
+    }
+
+    /// The reply, and the edit that is to be made.
+    fn success(&mut self, alloc: Global, circle: &Circle, ready: Ready) -> Result<Plan, Refusal>
+        ensures { StageAsks K.standing self.old self.new result
+            (λ o r. IsTarget o ready.target → MeetsAny (IsSuccess o circle.now ready) r) }
+    {
+        let Ready {
+            caller,
+            asked,
+            target,
+        } = ready;
+        match asked {
+            Asked::Get | Asked::Head => card_plan(target.node),
+            Asked::Options => allow_plan(&target.path),
+            Asked::Put(text) => put_plan(caller, text, target),
+            Asked::Propfind(find) => self.listed(alloc, circle, &target, &find),
+            Asked::Proppatch(patch) => patch_plan(alloc, target.path, patch),
+            Asked::Acl(list) => acl_plan(alloc, target.path, list),
+            Asked::Copy(to) => copy_plan(caller, to, target),
+            Asked::Move(to) => move_plan(to, target),
+            Asked::Delete => delete_plan(target.path),
+            Asked::Mkcol => mkcol_plan(caller, target.path),
+            Asked::Report(from) => self.synced(alloc, circle, &target.path, &from),
         }
     }
 
     /// The stages after a verdict that grants.
     fn granted(&mut self, alloc: Global, circle: &Circle, ready: Ready) -> Result<Plan, Refusal>
-        ensures { StageAsks K.standing self.old self.new result (λ o r. MeetsAny (IsGrantedPlan o circle.now ready) r) }
+        ensures { StageAsks K.standing self.old self.new result
+            (λ o r. IsTarget o ready.target → MeetsAny (IsGrantedPlan o circle.now ready) r) }
     {
         self.check_body(alloc, &ready.asked, &ready.target.path)?;
         self.check_limits(alloc, &ready.asked, &ready.target)?;
-        success(alloc, ready)
+        self.success(alloc, circle, ready)
     }
 
     /// What is to be done for a request.
@@ -591,7 +620,7 @@ impl<K: Keeper> Machine<K> {
     {
         let ready = self.ready(alloc, name, request)?;
         let circle = self.keeper.circle(alloc, &ready.caller)?;
-        self.check_needs(alloc, &circle, request, &ready)?;
+        self.check_needs(alloc, &circle, &ready)?;
         self.granted(alloc, &circle, ready)
     }
 
@@ -621,12 +650,16 @@ impl<K: Keeper> Machine<K> {
 
     /// Serves requests in order, each with the caller's bare name. All replies are reserved first: an error is want of
     /// memory for them, and none was served then.
+    ///
+    /// A copy that a caller keeps by its sync reports is what the caller may read of the book (RFC 6578, section 3),
+    /// whatever others asked in between; and a token from before a change of access is refused.
     pub fn serve_all(
         &mut self,
         alloc: Global,
         calls: &[(Option<String>, Request)],
     ) -> Result<Vec<Reply>, AllocError>
         ensures served { IfOk result (λ replies. ServeAllPromise (K.standing self.old.keeper) (K.standing self.new.keeper) (calls_of calls.now) replies.items) }
+        ensures copies { IfOk result (λ replies. Synced (K.standing self.old.keeper) (calls_of calls.now) replies.items) }
         ensures paths { OnOk result (HavePaths (calls_of calls.now)) }
         ensures err { OnErr result (self.new ≡ self.old) }
     {

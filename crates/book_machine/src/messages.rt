@@ -2,10 +2,11 @@
 
 use crate::allowed_methods::AllowedMethods;
 use crate::refusals::Refusal;
+use book_listings::{Property, Response};
 use book_lists::{Caller, Principal, Submitted};
 use book_office::{Items, Path, Text};
 use book_rights::Method;
-use book_sync::Token;
+use book_sync::{Report, Token};
 
 /// The field Overwrite (RFC 4918, section 10.6), as it was read.
 #[derive(Clone, Copy, Debug, PartialEq, Eq)]
@@ -27,25 +28,6 @@ pub enum Depth {
     One,
     /// Anything else.
     Unread,
-}
-
-/// A property that a request may ask for (RFC 4918, section 9.1; RFC 3744, section 5; RFC 6578, section 4).
-#[derive(Clone, Copy, Debug, PartialEq, Eq)]
-pub enum Property {
-    /// `displayname`: the label.
-    DisplayName,
-    /// `resourcetype`: the kind.
-    ResourceType,
-    /// `owner`: the person or group that owns the resource.
-    Owner,
-    /// `acl`: the effective list.
-    Acl,
-    /// `current-user-privilege-set`: what the caller is granted.
-    CurrentUserPrivilegeSet,
-    /// `group-member-set`: the direct members of a group.
-    GroupMemberSet,
-    /// `sync-token`: the token of a book's present contents.
-    SyncToken,
 }
 
 /// What a PROPPATCH sets (RFC 4918, section 9.2).
@@ -124,6 +106,10 @@ pub enum Content {
     Card(Text),
     /// The methods that the resource allows.
     Allow(AllowedMethods),
+    /// What a PROPFIND tells of each resource, in order (RFC 4918, section 9.1).
+    Listing(Items<Response>),
+    /// What changed in a book (RFC 6578, section 3.2).
+    Synced(Report),
     /// Why the request was refused.
     Refusal(Refusal),
 }

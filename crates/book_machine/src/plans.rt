@@ -5,13 +5,15 @@ use crate::messages::Reply;
 use book_lists::Caller;
 use book_office::{Edit, Node, Path};
 
-/// The resource that a request asks for.
+/// The resource that a request asks for, and what it finds at its destination.
 #[derive(Debug, Drop)]
 pub struct Target {
     /// Where it is.
     pub path: Path,
     /// What is mapped there, if anything is.
     pub node: Option<Node>,
+    /// What is mapped at the destination of a COPY or MOVE, if anything is.
+    pub destination: Option<Node>,
 }
 
 /// A request that has passed the stages before its verdict: caller, what is asked, and path.

@@ -7,29 +7,9 @@ ghost use Rattle.book_machine.specs.declared.refusals.Refusal.TheVariants.{Unava
 use crate::allowed_methods::AllowedMethods;
 use crate::messages::{Content, Reply};
 use book_cards::CardFault;
-use book_office::{Path, StoreFault};
-use book_rights::Leaf;
+use book_listings::Denial;
+use book_office::StoreFault;
 use std::alloc::AllocError;
-
-/// The entry that decides a denial: where it stands, and its number in the effective list.
-#[derive(Debug, Drop)]
-pub struct DecidingEntry {
-    /// The resource at which the entry stands.
-    pub from: Path,
-    /// Its number in the effective list of the resource that was asked, from 1.
-    pub number: usize,
-}
-
-/// A need that is not granted (RFC 3744, section 7.1.1).
-#[derive(Debug, Drop)]
-pub struct Denial {
-    /// The resource at which the privilege is needed.
-    pub resource: Path,
-    /// The privilege.
-    pub privilege: Leaf,
-    /// The entry that denies it; none where no entry decides it.
-    pub entry: Option<DecidingEntry>,
-}
 
 /// Why a request is refused. Every refusal leaves the Office as it was.
 #[derive(Debug, Drop)]

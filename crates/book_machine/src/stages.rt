@@ -1,23 +1,27 @@
 //! The stages of a request that ask no keeper.
 
-ghost use Rattle.std.specs.Prelude.{◌≡◌, ◌⊎◌, IfOk};
+ghost use Rattle.std.specs.Prelude.{◌≡◌, ◌⊎◌, IfOk, option_and_then, option_map};
 ghost use Rattle.book_cards.specs.CardText.{card_fault};
 ghost use Rattle.book_cards.specs.declared.fault.CardFaultKind.TheVariants.{Memory};
 ghost use Rattle.book_values.specs.Paths.{parent_of};
 ghost use Rattle.book_machine.specs.AllowedMethods.{allowed_of, goes_on};
+ghost use Rattle.book_machine.specs.Asked.{destination_in, destination_path};
 ghost use Rattle.book_machine.specs.Asking.{Meets, PathOf};
 ghost use Rattle.book_lists.specs.ListEdits.{entries_of};
-ghost use Rattle.book_machine.specs.Stages.{bad_card, can_change, check, delete_edit, list_refusal, members_edit, mkcol_edit, owner_of, patch_edit, put_edit, put_status, replied, success, suits, suits_target, text_of};
+ghost use Rattle.book_machine.specs.Stages.{bad_card, can_change, can_change_twice, check, copy_edit, delete_edit, list_refusal, members_edit, mkcol_edit, move_edit, owner_of, patch_edit, put_edit, put_status, replaceable, replied, suits, suits_target, text_of};
+ghost use Rattle.book_machine.specs.Stages.{acl_plan, allow_plan, card_plan, copy_plan, delete_plan, mkcol_plan, move_plan, patch_plan, put_plan};
 ghost use Rattle.book_machine.specs.declared.refusals.Refusal.TheVariants.{BadCard, NotAllowed, Unavailable};
-ghost use Rattle.book_machine.specs.Verdicts.{or_itself, place_path, principal_of, shape_at};
+ghost use Rattle.book_listings.specs.Verdicts.{principal_of};
+ghost use Rattle.book_machine.specs.Verdicts.{asks_for, or_itself, place_path, shape_at};
 
 use crate::allowed_methods::{AllowedMethods, goes_on};
-use crate::asked::Asked;
-use crate::messages::{Content, Patch, Reply, Request};
+use crate::asked::{Asked, Destination};
+use crate::messages::{Content, Patch, Reply};
 use crate::plans::{Plan, Ready, Target};
 use crate::refusals::Refusal;
 use book_cards::{CardFault, CardFaultKind, read_card};
 use book_limits::LAST_NUMBER;
+use book_listings::{Property, is_asked};
 use book_lists::{Caller, EditFault, Entry, Principal, Submitted};
 use book_office::{Edit, Items, Kind, Node, Path, Text};
 use book_rights::{Method, Place, Shape};
@@ -40,16 +44,36 @@ pub(crate) fn check_kind(method: Method, kind: Kind) -> Result<(), Refusal>
     )
 }
 
+/// Whether a PROPFIND asks for a property.
+fn asks_for(property: Property, asked: &Asked) -> bool
+    ensures { result ≡ asks_for property asked.now }
+{
+    match asked {
+        Asked::Propfind(find) => is_asked(property, find.properties.as_slice()),
+        Asked::Get
+        | Asked::Head
+        | Asked::Options
+        | Asked::Put(_)
+        | Asked::Proppatch(_)
+        | Asked::Acl(_)
+        | Asked::Copy(_)
+        | Asked::Move(_)
+        | Asked::Delete
+        | Asked::Mkcol
+        | Asked::Report(_) => false,
+    }
+}
+
 /// What decides the row of needs.
 pub(crate) fn shape_at(ready: &Ready) -> Shape
     ensures { result ≡ shape_at ready.now }
 {
     Shape {
         target_mapped: ready.target.node.is_some(),
-        destination_mapped: false,
+        destination_mapped: ready.target.destination.is_some(),
         book: ready.target.path.kind() == Kind::Book,
-        acl: false,
-        privileges: false,
+        acl: asks_for(Property::Acl, &ready.asked),
+        privileges: asks_for(Property::CurrentUserPrivilegeSet, &ready.asked),
         effective: false,
     }
 }
@@ -71,24 +95,56 @@ pub(crate) fn copy_of(path: &Path) -> Result<Path, AllocError>
     path.clone()
 }
 
-/// The resource that a place of the request names.
-pub(crate) fn place_path(request: &Request, target: &Path, place: Place) -> Result<Path, AllocError>
-    ensures { IfOk result (λ p. p ≡ place_path request.now target.now place) }
+/// The path at the destination of what is asked; of a request without one the path itself.
+fn destination_or(asked: &Asked, path: &Path) -> Result<Path, AllocError>
+    ensures { IfOk result (λ p. p ≡ or_itself path.now (option_map destination_path (destination_in asked.now))) }
 {
+    match asked {
+        Asked::Copy(to) => to.path(),
+        Asked::Move(to) => to.path(),
+        Asked::Get
+        | Asked::Head
+        | Asked::Options
+        | Asked::Put(_)
+        | Asked::Propfind(_)
+        | Asked::Proppatch(_)
+        | Asked::Acl(_)
+        | Asked::Delete
+        | Asked::Mkcol
+        | Asked::Report(_) => path.clone(),
+    }
+}
+
+/// The path of the book of the destination; of a request without one the path itself.
+fn destination_book_or(asked: &Asked, path: &Path) -> Result<Path, AllocError>
+    ensures { IfOk result (λ p. p ≡ or_itself path.now (option_and_then (λ to. parent_of (destination_path to)) (destination_in asked.now))) }
+{
+    match asked {
+        Asked::Copy(to) => Ok(Path::Book(to.book.clone()?)),
+        Asked::Move(to) => Ok(Path::Book(to.book.clone()?)),
+        Asked::Get
+        | Asked::Head
+        | Asked::Options
+        | Asked::Put(_)
+        | Asked::Propfind(_)
+        | Asked::Proppatch(_)
+        | Asked::Acl(_)
+        | Asked::Delete
+        | Asked::Mkcol
+        | Asked::Report(_) => path.clone(),
+    }
+}
+
+/// The resource that a place of what is asked names.
+pub(crate) fn place_path(ready: &Ready, place: Place) -> Result<Path, AllocError>
+    ensures { IfOk result (λ p. p ≡ place_path (destination_in ready.now.asked) ready.now.target.path place) }
+{
+    let path = &ready.target.path;
     match place {
-        Place::Target => target.clone(),
-        Place::Parent => parent_or_itself(target),
-        Place::Destination => match &request.destination {
-            Some(destination) => destination.clone(),
-            None => target.clone(),
-        },
-        Place::DestinationParent => match &request.destination {
-            Some(destination) => match destination.parent()? {
-                Some(parent) => Ok(parent),
-                None => target.clone(),
-            },
-            None => target.clone(),
-        },
+        Place::Target => path.clone(),
+        Place::Parent => parent_or_itself(path),
+        Place::Destination => destination_or(&ready.asked, path),
+        Place::DestinationParent => destination_book_or(&ready.asked, path),
     }
 }
 
@@ -149,24 +205,25 @@ pub(crate) fn list_refusal(fault: EditFault) -> Refusal
     }
 }
 
-/// Whether what is asked is asked of a resource of this kind: members are those of a group.
+/// Whether what is asked is asked of a resource of this kind: members are those of a group, and a sync report is one on
+/// a book.
 fn suits(asked: &Asked, kind: Kind) -> bool
     ensures { result ≡ suits asked.now kind }
 {
     match asked {
         Asked::Proppatch(Patch::GroupMembers(_)) => kind == Kind::Group,
+        Asked::Report(_) => kind == Kind::Book,
         Asked::Get
         | Asked::Head
         | Asked::Options
         | Asked::Put(_)
-        | Asked::Propfind
+        | Asked::Propfind(_)
         | Asked::Proppatch(Patch::DisplayName(_))
         | Asked::Acl(_)
-        | Asked::Copy
-        | Asked::Move
+        | Asked::Copy(_)
+        | Asked::Move(_)
         | Asked::Delete
-        | Asked::Mkcol
-        | Asked::Report => true,
+        | Asked::Mkcol => true,
     }
 }
 
@@ -181,12 +238,38 @@ pub(crate) fn check_suits(asked: &Asked, target: &Target) -> Result<(), Refusal>
     )
 }
 
+/// What is mapped at a destination may be replaced, or nothing is mapped there.
+pub(crate) fn replaceable(overwrite: bool, node: Option<Node>) -> Result<Option<Node>, Refusal>
+    ensures { result ≡ replaceable overwrite node }
+{
+    match node {
+        None => Ok(None),
+        Some(node) => {
+            if overwrite {
+                Ok(Some(node))
+            } else {
+                Err(Refusal::Overwrite)
+            }
+        }
+    }
+}
+
 /// Whether the number of a book can rise.
 pub(crate) fn can_change(book: &Option<Node>) -> bool
     ensures { result ≡ can_change book.now }
 {
     match book {
         Some(book) => book.number < LAST_NUMBER,
+        None => false,
+    }
+}
+
+/// Whether the number of a book can rise twice.
+pub(crate) fn can_change_twice(book: &Option<Node>) -> bool
+    ensures { result ≡ can_change_twice book.now }
+{
+    match book {
+        Some(book) => book.number < LAST_NUMBER - 1,
         None => false,
     }
 }
@@ -234,6 +317,47 @@ fn put_edit(caller: Caller, text: Text, path: Path) -> Result<Edit, Refusal>
     }
 }
 
+fn copy_edit(caller: Caller, path: Path, to: Destination) -> Result<Edit, Refusal>
+    ensures { result ≡ copy_edit caller path to }
+{
+    match path {
+        Path::Card(book, card) => Ok(Edit::CopyCard {
+            from_book: book,
+            from_card: card,
+            to_book: to.book,
+            to_card: to.card,
+            owner: owner_of(caller),
+        }),
+        Path::Root
+        | Path::People
+        | Path::Groups
+        | Path::Books
+        | Path::Person(_)
+        | Path::Group(_)
+        | Path::Book(_) => Err(Refusal::NotFound),
+    }
+}
+
+fn move_edit(path: Path, to: Destination) -> Result<Edit, Refusal>
+    ensures { result ≡ move_edit path to }
+{
+    match path {
+        Path::Card(book, card) => Ok(Edit::MoveCard {
+            from_book: book,
+            from_card: card,
+            to_book: to.book,
+            to_card: to.card,
+        }),
+        Path::Root
+        | Path::People
+        | Path::Groups
+        | Path::Books
+        | Path::Person(_)
+        | Path::Group(_)
+        | Path::Book(_) => Err(Refusal::NotFound),
+    }
+}
+
 fn delete_edit(path: Path) -> Result<Edit, Refusal>
     ensures { result ≡ delete_edit path }
 {
@@ -263,7 +387,8 @@ fn mkcol_edit(caller: Caller, path: Path) -> Result<Edit, Refusal>
     }
 }
 
-fn replied(status: u16, content: Content, edit: Option<Edit>) -> Plan
+/// A plan with this reply and this edit.
+pub(crate) fn replied(status: u16, content: Content, edit: Option<Edit>) -> Plan
     ensures { result ≡ replied status content edit }
 {
     Plan {
@@ -319,37 +444,85 @@ fn entries_of(alloc: Global, list: Items<Submitted>) -> Result<Items<Entry>, All
     Ok(Items::from_vec(entries))
 }
 
-/// The reply, and the edit that is to be made. A method that is not served is refused, whatever the stages before let
-/// through.
-pub(crate) fn success(alloc: Global, ready: Ready) -> Result<Plan, Refusal>
-    ensures { Meets result (success ready) }
+/// The text of a card.
+pub(crate) fn card_plan(node: Option<Node>) -> Result<Plan, Refusal>
+    ensures { Meets result (card_plan node) }
 {
-    let Ready {
-        caller,
-        asked,
-        target,
-    } = ready;
-    let Target { path, node } = target;
-    match asked {
-        Asked::Get | Asked::Head => Ok(replied(200, Content::Card(text_of(node)?), None)),
-        Asked::Options => Ok(replied(200, Content::Allow(AllowedMethods::of(path.kind())), None)),
-        Asked::Put(text) => {
-            let status = put_status(&node);
-            let edit = put_edit(caller, text, path)?;
-            Ok(replied(status, Content::Empty, Some(edit)))
-        }
-        Asked::Proppatch(patch) => {
-            let edit = patch_edit(alloc, path, patch)?;
-            Ok(replied(200, Content::Empty, Some(edit)))
-        }
-        Asked::Acl(list) => {
-            let entries = entries_of(alloc, list)?;
-            Ok(replied(200, Content::Empty, Some(Edit::SetList { path, entries })))
-        }
-        Asked::Delete => Ok(replied(204, Content::Empty, Some(delete_edit(path)?))),
-        Asked::Mkcol => Ok(replied(201, Content::Empty, Some(mkcol_edit(caller, path)?))),
-        Asked::Propfind | Asked::Copy | Asked::Move | Asked::Report => Err(Refusal::NotAllowed(
-            AllowedMethods::of(path.kind()),
-        )),
-    }
+    Ok(replied(200, Content::Card(text_of(node)?), None))
+}
+
+/// The methods that the resource allows.
+pub(crate) fn allow_plan(path: &Path) -> Result<Plan, Refusal>
+    ensures { Meets result (allow_plan path.now) }
+{
+    let methods = AllowedMethods::of(path.kind());
+    Ok(replied(200, Content::Allow(methods), None))
+}
+
+/// A card is put.
+pub(crate) fn put_plan(caller: Caller, text: Text, target: Target) -> Result<Plan, Refusal>
+    ensures { Meets result (put_plan caller text target) }
+{
+    let Target { path, node, .. } = target;
+    let status = put_status(&node);
+    let edit = put_edit(caller, text, path)?;
+    Ok(replied(status, Content::Empty, Some(edit)))
+}
+
+/// A property is set.
+pub(crate) fn patch_plan(alloc: Global, path: Path, patch: Patch) -> Result<Plan, Refusal>
+    ensures { Meets result (patch_plan path patch) }
+{
+    let edit = patch_edit(alloc, path, patch)?;
+    Ok(replied(200, Content::Empty, Some(edit)))
+}
+
+/// An own list is set.
+pub(crate) fn acl_plan(alloc: Global, path: Path, list: Items<Submitted>) -> Result<Plan, Refusal>
+    ensures { Meets result (acl_plan path list) }
+{
+    let entries = entries_of(alloc, list)?;
+    let edit = Edit::SetList { path, entries };
+    Ok(replied(200, Content::Empty, Some(edit)))
+}
+
+/// A card is copied.
+pub(crate) fn copy_plan(caller: Caller, to: Destination, target: Target) -> Result<Plan, Refusal>
+    ensures { Meets result (copy_plan caller to target) }
+{
+    let Target {
+        path,
+        destination,
+        ..
+    } = target;
+    let edit = copy_edit(caller, path, to)?;
+    Ok(replied(put_status(&destination), Content::Empty, Some(edit)))
+}
+
+/// A card is moved.
+pub(crate) fn move_plan(to: Destination, target: Target) -> Result<Plan, Refusal>
+    ensures { Meets result (move_plan to target) }
+{
+    let Target {
+        path,
+        destination,
+        ..
+    } = target;
+    let edit = move_edit(path, to)?;
+    Ok(replied(put_status(&destination), Content::Empty, Some(edit)))
+}
+
+/// A card or a book is removed.
+pub(crate) fn delete_plan(path: Path) -> Result<Plan, Refusal>
+    ensures { Meets result (delete_plan path) }
+{
+    Ok(replied(204, Content::Empty, Some(delete_edit(path)?)))
+}
+
+/// A book is made.
+pub(crate) fn mkcol_plan(caller: Caller, path: Path) -> Result<Plan, Refusal>
+    ensures { Meets result (mkcol_plan caller path) }
+{
+    let edit = mkcol_edit(caller, path)?;
+    Ok(replied(201, Content::Empty, Some(edit)))
 }

@@ -1,4 +1,4 @@
-//! Worked examples of targets, phrases and JSON bodies, and nothing else: a crate with tests is proved twice,
+//! Worked examples of targets, phrases, JSON bodies and streams, and nothing else: a crate with tests is proved twice,
 //! so they stand here, and the crates below have none.
 //!
 //! The wanted answers are those of the rules (RFC 9110, RFC 4918, RFC 3744, RFC 6578, RFC 8259 and own profile), worked
@@ -8,9 +8,17 @@
 #[cfg(test)]
 mod bodies;
 #[cfg(test)]
+mod hostile;
+#[cfg(test)]
 mod limits;
 #[cfg(test)]
+mod offices;
+#[cfg(test)]
 mod refusals;
+#[cfg(test)]
+mod replies;
+#[cfg(test)]
+mod streams;
 #[cfg(test)]
 mod targets;
 #[cfg(test)]

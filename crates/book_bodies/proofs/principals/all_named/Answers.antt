@@ -1,7 +1,8 @@
 use Rattle.std.proofs.Common.{◌≡◌, ℕ, List, [], ◌∷◌, ◌++◌, ◌+◌, ◌<◌, length, take, get_or, sym, ap, ◌∙◌, subst, arith}
 use Rattle.std.proofs.lemmas.List.{take_more, map-append}
-use Rattle.book_bodies.specs.Principals.{Names, AllName}
-use Rattle.book_bodies.proofs.Wording.{no_word, word_at, texts, at_texts, length_texts}
+use Rattle.book_bodies.specs.Principals.{AllName}
+use Rattle.book_explain.specs.Lines.{Names}
+use Rattle.book_explain.proofs.LineFaults.{no_word, word_at, texts, at_texts, length_texts}
 use Rattle.book_bodies.proofs.Naming.{names_more}
 use Rattle.book_bodies.proofs.principals.all_named.Goals as goal
 

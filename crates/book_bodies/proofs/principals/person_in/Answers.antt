@@ -1,6 +1,7 @@
 use Rattle.std.proofs.Common.{sym, ◌∙◌}
 use Rattle.std.proofs.lemmas.Bool.{false≢true}
-use Rattle.book_bodies.proofs.Naming.{person_or_group, no_person}
+use Rattle.book_bodies.proofs.Naming.{no_person}
+use Rattle.book_explain.proofs.LineFaults.{person_or_group}
 use Rattle.book_bodies.proofs.principals.person_in.Goals as goal
 
 pub returns-else-is_group-clause-named : goal.returns-else-is_group-clause-named

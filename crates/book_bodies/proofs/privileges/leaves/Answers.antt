@@ -2,9 +2,8 @@ use Rattle.std.proofs.Common.{◌≡◌, List, ℕ, Bool, Some, sym, ap, ◌∙�
 use Rattle.std.proofs.lemmas.List.{take_more, map-append}
 use Rattle.book_rights.specs.declared.privileges.Leaf.{Leaf}
 use Rattle.book_rights.specs.Leaves.{union}
-use Rattle.book_bodies.specs.Privileges.{AreLeaves}
-use Rattle.book_bodies.proofs.Wording.{no_word, word_at, texts}
-use Rattle.book_bodies.proofs.Naming.{leaves_more}
+use Rattle.book_bodies.specs.Privileges.{AreLeavesIn}
+use Rattle.book_explain.proofs.LineFaults.{no_word, word_at, texts, leaves_more}
 use Rattle.book_bodies.proofs.privileges.leaves.Goals as goal
 
 pub loop-name-preserved : goal.loop-name-preserved
@@ -16,6 +15,6 @@ loop-name-preserved c =
     let same : texts (take (i + 1) names) ≡ before ++ name ∷ [] =
     ap texts (take_more names i no_word (omega arith)) ∙ map-append (λ w. w.now) (take i names) (get_or names i no_word ∷ []) in
     let more = leaves_more before c.loop-name.set name c.in-Some.privilege c.in-Some.ensures.found c.loop-name.invariant in
-    let A : List (List ℕ) → Type 0 = λ ns. AreLeaves ns (Some c.union-set.result) in
-    let B : (Leaf → Bool) → Type 0 = λ s. AreLeaves (before ++ name ∷ []) (Some s) in
+    let A : List (List ℕ) → Type 0 = λ ns. AreLeavesIn ns (Some c.union-set.result) in
+    let B : (Leaf → Bool) → Type 0 = λ s. AreLeavesIn (before ++ name ∷ []) (Some s) in
     subst A (sym same) (subst B (sym (c.union-set.ensures ∙ ap (λ s. union c.loop-name.set s) c.leaves.ensures)) more)

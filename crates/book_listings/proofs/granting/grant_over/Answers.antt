@@ -1,16 +1,29 @@
-use Rattle.std.proofs.Common.{◌≡◌, ◌++◌, ◌∷◌, [], ◌+◌, take, append_assoc, sym, ap, ◌∙◌, subst, arith}
-use Rattle.std.proofs.lemmas.List.{take_more}
-use Rattle.book_listings.specs.Scanning.{AreGrants}
-use Rattle.book_listings.proofs.GrantLaws.{are_grants_more}
+use Rattle.std.proofs.Common.{◌++◌, take, ap, ◌∙◌, subst, arith}
+use Rattle.std.specs.List.{flat_map}
+use Rattle.std.proofs.lemmas.List.{take_all}
+use Rattle.book_lists.specs.Scans.{IsGrantScan, read_by}
+use Rattle.book_listings.specs.Scanning.{standing_in}
+use Rattle.book_listings.specs.Verdicts.{entries_of}
+use Rattle.book_listings.proofs.InTurn.{read_standing, levels_more}
 use Rattle.book_listings.proofs.granting.grant_over.Goals as goal
 
-pub loop-entry-preserved : goal.loop-entry-preserved
-loop-entry-preserved c = λ before told.
-    let i = c.loop-entry.entry-index in
-    let xs = c.args.list.now in
-    let entry = c.entry-item.result in
-    let more : take (i + 1) xs ≡ take i xs ++ entry ∷ [] = take_more xs i entry (omega arith) ∙ ap (λ x. take i xs ++ x ∷ []) (sym c.entry-item.is) in
-    subst (λ list. AreGrants list c.args.circle.now c.args.here.now c.grant-grants.result)
-    (append_assoc before (take i xs) (entry ∷ []) ∙ ap (λ list. before ++ list) (sym more))
-    (are_grants_more (before ++ take i xs) entry c.args.circle.now c.args.here.now c.loop-entry.grants c.grant-grants.result
-    c.grant-grants.ensures.undecided c.grant-grants.ensures.granted (c.loop-entry.invariant before told))
+pub loop-level-preserved : goal.loop-level-preserved
+loop-level-preserved c = λ before begun.
+    let i = c.loop-level.level-index in
+    let levels = c.args.levels.now in
+    let level = c.level-item.result in
+    let protected = c.args.protected in
+    let circle = c.args.circle.now in
+    let here = c.args.here.now in
+    let so_far = before ++ flat_map (standing_in protected) (take i levels) in
+    subst (λ readings. IsGrantScan readings c.over.new.self)
+    (ap (λ list. read_by circle here (entries_of so_far) ++ read_by circle here list) c.list_in.ensures
+    ∙ read_standing level.path protected circle here so_far _
+    ∙ ap (λ list. read_by circle here (entries_of list)) (levels_more protected levels i level (omega arith) c.level-item.is before))
+    (c.over.ensures (read_by circle here (entries_of so_far)) (c.loop-level.invariant before begun))
+
+pub returns : goal.returns
+returns c = λ before begun.
+    subst (λ levels. IsGrantScan (read_by c.args.circle.now c.args.here.now (entries_of (before ++ flat_map (standing_in c.args.protected) levels))) c.loop-level.scan)
+    (take_all c.loop-level.level-index c.args.levels.now c.loop-level-test.false)
+    (c.loop-level.invariant before begun)

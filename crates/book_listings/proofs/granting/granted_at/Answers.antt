@@ -1,39 +1,28 @@
-use Rattle.std.proofs.Common.{◌≡◌, ◌++◌, ◌∷◌, [], List, true, false, append_assoc, sym, ap, ◌∙◌}
-use Rattle.std.specs.List.{flat_map}
-use Rattle.book_office.specs.Levels.{own_entries, protected_entries, effective_of}
-use Rattle.book_office.specs.declared.nodes.EffectiveEntry.{EffectiveEntry}
-use Rattle.book_rights.specs.Leaves.{same_set}
-use Rattle.book_sync.specs.Copies.{grants}
-use Rattle.book_listings.specs.Scanning.{AreGrants}
+use Rattle.std.proofs.Common.{◌++◌, ◌∷◌, [], ap, ◌∙◌, subst}
+use Rattle.book_lists.specs.Scans.{IsGrantScan, read_by}
+use Rattle.book_lists.proofs.OneReader.{granted_one}
+use Rattle.book_lists.proofs.OneOutcome.{one_grant}
+use Rattle.book_office.specs.Levels.{effective_of}
+use Rattle.book_listings.specs.Values.{granted_by}
 use Rattle.book_listings.specs.Verdicts.{entries_of}
-use Rattle.book_listings.specs.declared.granting.Grants.{Grants as GrantsSoFar}
-use Rattle.book_listings.proofs.ScanLaws.{entries_joined, entries_standing}
+use Rattle.book_listings.proofs.InTurn.{protected_of, own_of, four_parts}
+use Rattle.book_listings.proofs.ToldValues.{told_privileges}
 use Rattle.book_listings.proofs.granting.granted_at.Goals as goal
 
 pub returns : goal.returns
 returns c =
     let circle = c.args.circle.now in
     let here = c.args.here.now in
-    let own = c.args.own.now in
+    let own = c.from_ref-own.result.now in
     let above = c.args.above.now in
-    let first = c.as_slice.result.now in
-    let third = c.as_slice-2.result.now in
-    let a = protected_entries own in
-    let b : List EffectiveEntry = flat_map protected_entries above in
-    let d = own_entries own in
-    let e : List EffectiveEntry = flat_map own_entries above in
-    let start : GrantsSoFar = record { undecided = c.all.result; granted = c.empty.result } in
-    let begun : AreGrants [] circle here start = record {
-      undecided = λ leaf. λ k. c.all.ensures k leaf;
-      granted = λ leaf. λ k. c.empty.ensures k leaf;
-    } in
-    let one = c.grant_over-grants.ensures [] begun in
-    let two = c.grant_over_protected-grants.ensures first one in
-    let three = c.grant_over-grants-2.ensures (first ++ entries_of b) two in
-    let four = c.grant_over_own-grants.ensures ((first ++ entries_of b) ++ third) three in
-    let whole : ((first ++ entries_of b) ++ third) ++ entries_of e ≡ entries_of (effective_of (own ∷ above)) =
-    append_assoc (first ++ entries_of b) third (entries_of e)
-    ∙ (λ k. ((c.as_slice.ensures ∙ sym (entries_standing own.path true own.protected)) k ++ entries_of b) ++ ((c.as_slice-2.ensures ∙ sym (entries_standing own.path false own.own)) k ++ entries_of e))
-    ∙ (λ k. sym (entries_joined a b) k ++ sym (entries_joined d e) k)
-    ∙ sym (entries_joined (a ++ b) (d ++ e)) in
-    same_set c.grant_over_own-grants.result.granted _ (λ leaf. four.granted leaf ∙ ap (λ list. grants list circle here leaf) whole)
+    let list = effective_of (c.args.own.now ∷ above) in
+    let one = c.grant_over-scan.ensures [] c.start.ensures in
+    let two = c.grant_over-scan-2.ensures (protected_of own) one in
+    let three = c.grant_over-scan-3.ensures (protected_of own ++ protected_of above) two in
+    let four = c.grant_over-scan-4.ensures ((protected_of own ++ protected_of above) ++ own_of own) three in
+    let whole : IsGrantScan (read_by circle here (entries_of list)) c.grant_over-scan-4.result =
+    subst (λ es. IsGrantScan (read_by circle here (entries_of es)) c.grant_over-scan-4.result)
+    (four_parts own above ∙ ap (λ levels. effective_of (levels ++ above)) c.from_ref-own.ensures.value) four in
+    one_grant (entries_of list) circle here c.granted.result (granted_by list circle here)
+    (granted_one circle here (entries_of list) c.granted.result (c.granted.ensures (read_by circle here (entries_of list)) whole))
+    (told_privileges list circle here)

@@ -1,9 +1,28 @@
-use Rattle.std.proofs.Common.{◌∙◌, Err, option_copied}
+use Rattle.std.proofs.Common.{◌∙◌, Err, inl, inr, refl, ap, option_copied}
+use Rattle.book_machine.proofs.Answering.{failed_once}
 use Rattle.book_machine.proofs.StagesInTurn.{counted_after, refused_on}
 use Rattle.book_machine.proofs.Planning.{refused_by_needs, planned, target_of_ready}
 use Rattle.book_machine.specs.Asking.{MeetsPlan, Counted}
 use Rattle.book_machine.specs.declared.plans.Plan.{Plan}
+use Rattle.book_machine.specs.declared.refusals.Refusal.TheVariants.{Unavailable}
+use Rattle.book_office.specs.Keeping.{one_more}
 use Rattle.book_machine.proofs.machine.Machine.plan.Goals as goal
+
+pub returns-in_err-circle : goal.returns-in_err-circle
+returns-in_err-circle g c =
+    let is = c.from_residual-in_err-circle.ensures.1 in
+    let r = c.from_residual-in_err-circle.result in
+    record {
+      was_honest = λ h. c.in_ok-ready.ensures.was_honest (c.in_err-circle.ensures.was_honest h);
+      tells = λ h o stands. refused_on r Unavailable (λ x. MeetsPlan o (option_copied c.args.name) c.args.request.now x) is (inl refl);
+      kept = λ h o stands. c.in_err-circle.ensures.kept h o (c.in_ok-ready.ensures.kept (c.in_err-circle.ensures.was_honest h) o stands);
+      left = λ h x left. c.in_ok-ready.ensures.left (c.in_err-circle.ensures.was_honest h) x (c.in_err-circle.ensures.left h x left);
+      counted = refused_on r Unavailable (λ x. Counted {A = Plan} x (g.K.Keeper.standing c.args.self.now.keeper).failures (g.K.Keeper.standing c.circle.new.self).failures) is
+          (elim (failed_once c.in_err-circle.field-0.0 _ _ c.in_err-circle.ensures.counted) [
+            | inl same ↦ inl (same ∙ c.in_ok-ready.ensures.counted)
+            | inr failed ↦ inr (refl, failed ∙ ap one_more c.in_ok-ready.ensures.counted)
+          ]);
+    }
 
 pub returns-in_err-check_needs : goal.returns-in_err-check_needs
 returns-in_err-check_needs g c =
@@ -46,7 +65,7 @@ returns g c = record {
       let ready_is = c.in_ok-ready.ensures.tells h1 o stands in
       planned o (option_copied c.args.name) c.args.request.now c.in_ok-ready.ready ready_is _ (c.in_ok-circle.ensures.value h2 o s1) c.in_ok-check_needs.field-0 c.granted.result
       (c.in_ok-check_needs.ensures.tells h3 o s2 (target_of_ready o (option_copied c.args.name) c.args.request.now c.in_ok-ready.ready ready_is))
-      (c.granted.ensures.tells h o s3);
+      (c.granted.ensures.tells h o s3 (target_of_ready o (option_copied c.args.name) c.args.request.now c.in_ok-ready.ready ready_is));
   kept = λ h o stands.
       let h3 = c.granted.ensures.was_honest h in
       let h2 = c.in_ok-check_needs.ensures.was_honest h3 in

@@ -1,9 +1,10 @@
-use Rattle.std.proofs.Common.{◌≡◌, Ok, inr, sym, option_copied}
-use Rattle.book_machine.proofs.AskingEach.{asked_first, asked_then, one_more_asked}
-use Rattle.book_machine.proofs.Planning.{refused_by_kind}
-use Rattle.book_machine.proofs.StagesInTurn.{counted_same, refused_on}
+use Rattle.std.proofs.Common.{◌≡◌, Ok, Err, inr, refl, sym, ap, ◌∙◌, subst, option_copied}
+use Rattle.book_machine.proofs.AskingEach.{HasAsked, asked_first, asked_refused, asked_then, one_more_asked}
+use Rattle.book_machine.proofs.Planning.{at_its_destination, ready_with, refused_by_kind}
+use Rattle.book_machine.proofs.StagesInTurn.{counted_same, first_refuses, refused_on}
+use Rattle.book_machine.specs.Asked.{destination_in}
 use Rattle.book_machine.specs.Asking.{Meets}
-use Rattle.book_machine.specs.Stages.{caller_of, target_of, ready_of}
+use Rattle.book_machine.specs.Stages.{◌>>=◌, caller_of, destination_of, target_of, ready_of}
 use Rattle.book_machine.proofs.machine.Machine.ready.Goals as goal
 
 pub returns-in_err-check_suits : goal.returns-in_err-check_suits
@@ -20,3 +21,42 @@ returns-in_err-check_suits g c =
     (λ n. counted_same r n)
     (λ o told. refused_on r e (λ x. Meets x (ready_of o name request)) c.from_residual-in_err-check_suits.ensures.1
     (inr (refused_by_kind o name request c.in_ok-caller.caller c.in_ok-asked.asked c.in_ok-target.target e told.0 c.in_ok-asked.ensures told.1 (sym c.in_err-check_suits.ensures))))
+
+pub returns-in_err-destination : goal.returns-in_err-destination
+returns-in_err-destination g c =
+    let name = option_copied c.args.name in
+    let request = c.args.request.now in
+    let caller = c.in_ok-caller.caller in
+    let what = c.in_ok-asked.asked in
+    let target = c.in_ok-target.target in
+    let e = c.in_err-destination.field-0.0 in
+    asked_refused _ _ _ e c.from_residual-in_err-destination.result _ (λ o x. Meets x (destination_of o (destination_in what))) (λ o x. Meets x (ready_of o name request))
+    (one_more_asked _ _ _ target _ (λ o. (caller_of o name ≡ Ok caller) × (target_of o request.method request.path ≡ Ok target))
+    (λ o x. Meets x (target_of o request.method request.path))
+    (asked_first _ _ caller (λ o x. Meets x (caller_of o name)) c.in_ok-caller.ensures)
+    c.in_ok-target.ensures (λ o first second. (first, second)))
+    c.in_err-destination.ensures c.from_residual-in_err-destination.ensures.1
+    (λ o told refused. subst (λ stage. Meets (Err e) stage)
+    (sym (at_its_destination o name request caller what target c.in_ok-check_suits.field-0 told.0 c.in_ok-asked.ensures told.1 (sym c.in_ok-check_suits.ensures)))
+    (first_refuses (destination_of o (destination_in what)) (ready_with o name request caller what target) e refused))
+
+pub returns : goal.returns
+returns g c =
+    let name = option_copied c.args.name in
+    let request = c.args.request.now in
+    let caller = c.in_ok-caller.caller in
+    let what = c.in_ok-asked.asked in
+    let target = c.in_ok-target.target in
+    let found = c.in_ok-destination.destination in
+    asked_then _ _ _ _ (λ o x. Meets x (ready_of o name request))
+    (one_more_asked _ _ _ found _
+    (λ o. (caller_of o name ≡ Ok caller) × (target_of o request.method request.path ≡ Ok target) × (destination_of o (destination_in what) ≡ Ok found))
+    (λ o x. Meets x (destination_of o (destination_in what)))
+    (one_more_asked _ _ _ target _ (λ o. (caller_of o name ≡ Ok caller) × (target_of o request.method request.path ≡ Ok target))
+    (λ o x. Meets x (target_of o request.method request.path))
+    (asked_first _ _ caller (λ o x. Meets x (caller_of o name)) c.in_ok-caller.ensures)
+    c.in_ok-target.ensures (λ o first second. (first, second)))
+    c.in_ok-destination.ensures (λ o told third. (told.0, told.1, third)))
+    (λ n. refl)
+    (λ o told. at_its_destination o name request caller what target c.in_ok-check_suits.field-0 told.0 c.in_ok-asked.ensures told.1 (sym c.in_ok-check_suits.ensures)
+    ∙ ap (λ s. s >>= ready_with o name request caller what target) told.2)

@@ -1,7 +1,9 @@
-use Rattle.std.proofs.Common.{arith, rules, ◌∙◌, ap, take}
-use Rattle.std.proofs.lemmas.List.{take_more}
+use Rattle.std.proofs.Common.{◌≡◌, arith, rules, ◌∙◌, ap, subst, take}
+use Rattle.std.proofs.lemmas.List.{take_all, take_more}
+use Rattle.book_machine.proofs.CopiesOfRuns.{synced}
 use Rattle.book_machine.proofs.LeadingRuns.{calls_more, paths_more}
 use Rattle.book_machine.proofs.RunLemmas.{no_calls, one_more_call}
+use Rattle.book_machine.specs.LeadingRuns.{HavePaths}
 use Rattle.book_machine.specs.Runs.{calls_of, call_of}
 use Rattle.book_machine.proofs.machine.Machine.serve_all.Goals as goal
 
@@ -18,3 +20,11 @@ loop-call-preserved g c =
       count = omega (arith, c.push_reserved.ensures.len);
       room = c.push_reserved.ensures.capacity ∙ c.loop-call.invariant.room;
     }
+
+pub returns-clause-copies : goal.returns-clause-copies
+returns-clause-copies g c =
+    let n = c.loop-call.call-index in
+    let xs = c.args.calls.now in
+    let whole : take n xs ≡ xs = take_all n xs c.loop-call-test.false in
+    let paths : HavePaths (calls_of xs) = subst (λ calls. HavePaths (calls_of calls)) whole c.loop-call.invariant.paths in
+    synced (g.K.Keeper.standing c.args.self.now.keeper) (calls_of xs) c.loop-call.replies.items paths

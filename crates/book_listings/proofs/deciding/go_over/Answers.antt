@@ -1,0 +1,15 @@
+use Rattle.std.proofs.Common.{◌+◌, length, map, sym, ap, ◌∙◌, subst}
+use Rattle.std.proofs.lemmas.List.{length-append, length-map}
+use Rattle.book_lists.specs.Scans.{IsScan, read_by}
+use Rattle.book_office.specs.Levels.{standing_at}
+use Rattle.book_listings.specs.Verdicts.{entries_of}
+use Rattle.book_listings.proofs.InTurn.{read_standing}
+use Rattle.book_listings.proofs.deciding.go_over.Goals as goal
+
+pub returns : goal.returns
+returns c = λ before p protected set turn. record {
+  scanned = subst (λ rs. IsScan set rs c.over.new.self) (read_standing p protected c.args.circle.now c.args.here.now before c.args.list.now)
+      (c.over.ensures.scanned set (read_by c.args.circle.now c.args.here.now (entries_of before)) turn.scanned);
+  counted = c.in_ok-passed.ensures ∙ ap (λ n. n + length c.args.list.now) turn.counted
+      ∙ sym (length-append before (map (standing_at p protected) c.args.list.now) ∙ ap (λ n. length before + n) (length-map c.args.list.now (standing_at p protected)));
+}

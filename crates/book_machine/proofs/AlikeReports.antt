@@ -1,0 +1,173 @@
+-- Offices that agree for a caller tell the same in sync reports.
+use Rattle.std.proofs.Common.{◌≡◌, ℕ, ◌<◌, zero, suc, Bool, true, false, not, List, [], ◌∷◌, map, filter, Option, Some, None, is_some, option_map, option_and_then, unwrap_or, slice_get, refl, sym, ap, ◌∙◌, subst, arith}
+use Rattle.std.specs.Prelude.{if◌then◌else◌}
+use Rattle.std.specs.FinMap.{get}
+use Rattle.book_rights.specs.Leaves.{each_leaf}
+use Rattle.book_rights.specs.Needs.{only}
+use Rattle.book_rights.specs.declared.privileges.Leaf.{Leaf}
+use Rattle.book_rights.specs.declared.privileges.Leaf.TheVariants.{Read}
+use Rattle.book_lists.specs.Callers.{IsCircle}
+use Rattle.book_lists.specs.Circles.{CircleOf}
+use Rattle.book_lists.specs.Decisions.{bears, Grants}
+use Rattle.book_lists.specs.declared.circles.Caller.{Caller}
+use Rattle.book_lists.specs.declared.entries.Entry.{Entry}
+use Rattle.book_lists.specs.declared.entries.Here.{Here}
+use Rattle.book_values.proofs.OneName.{some_apart, same_some}
+use Rattle.book_values.specs.Changes.{Change, changes_after}
+use Rattle.book_values.specs.declared.collections.changes.Numbers.{Numbers}
+use Rattle.book_values.specs.declared.offices.Book.{Book}
+use Rattle.book_values.specs.declared.offices.Office.{Office}
+use Rattle.book_values.specs.declared.offices.StoredCard.{StoredCard}
+use Rattle.book_values.specs.declared.paths.Path.TheVariants as path
+use Rattle.book_office.specs.OwnLists.{entries_in_force}
+use Rattle.book_office.specs.Resources.{Resource, card_at, card_in, card_resource, number_of}
+use Rattle.book_office.specs.declared.nodes.EffectiveEntry.{EffectiveEntry}
+use Rattle.book_listings.specs.Verdicts.{here_of}
+use Rattle.book_sync.specs.Copies.{grants, here_of_card, can_read, shown, seen_in, seen, found_of, first_of, last_number, is_cut, start_of, sync_of, sync}
+use Rattle.book_sync.specs.Reading.{names_place}
+use Rattle.book_sync.specs.declared.messages.Item.{Item}
+use Rattle.book_sync.specs.declared.messages.Report.{Report}
+use Rattle.book_sync.specs.declared.messages.Seen.{Seen}
+use Rattle.book_sync.specs.declared.messages.Token.{Token}
+use Rattle.book_machine.proofs.Outlines.{books_alike, cards_alike, effective_same}
+use Rattle.book_machine.specs.Agreement.{MayRead, outline_of_book, outline_of_card, Agree}
+use Rattle.book_machine.specs.Stages.{report_from}
+use Rattle.book_machine.specs.declared.messages.SyncFrom.{SyncFrom}
+use Rattle.book_machine.specs.declared.messages.SyncFrom.TheVariants.{Start, After, Unknown}
+
+-- two Offices tell the same in each sync report
+abbrev pub AreReportedAlike : Office → Office → CircleOf → Type 0
+AreReportedAlike o p circle = (b : List ℕ) (from : SyncFrom) → report_from o circle b from ≡ report_from p circle b from
+
+-- ---- what entries grant
+not_true : (b : Bool) → not b ≡ true → b ≡ false
+not_true true e = absurd cc
+not_true false e = refl
+
+module _ (circle : CircleOf) (here : Here) (leaf : Leaf) where
+  -- no earlier entry bears on the leaf
+  none_earlier : (x : Entry) (es : List Entry) (i k : ℕ) (earlier : Entry) → bears circle here leaf x ≡ false
+      → ((k : ℕ) (earlier : Entry) → k < i → slice_get es k ≡ Some earlier → bears circle here leaf earlier ≡ false)
+      → k < suc i → slice_get (x ∷ es) k ≡ Some earlier → bears circle here leaf earlier ≡ false
+  none_earlier x es i zero earlier here_not rest before at = subst (λ e. bears circle here leaf e ≡ false) (same_some x earlier at) here_not
+  none_earlier x es i (suc k) earlier here_not rest before at = rest k earlier (omega (arith, before)) at
+
+  granted_by : (es : List Entry) → grants es circle here leaf ≡ true → Grants es circle here leaf
+  granted_by [] e = absurd cc
+  granted_by (x ∷ es) e =
+      elim (bears circle here leaf x) as (λ b. bears circle here leaf x ≡ b → (if b then not x.deny else grants es circle here leaf) ≡ true → Grants (x ∷ es) circle here leaf) [
+        | true ↦ λ is h. (0, x, record { there = refl; bearing = is; first = λ k earlier before at. absurd (omega (arith, before)) }, not_true x.deny h)
+        | false ↦ λ is h.
+            let rest = granted_by es h in
+            (suc rest.0, rest.1, record { there = rest.2.there; bearing = rest.2.bearing; first = λ k earlier before at. none_earlier x es rest.0 k earlier is rest.2.first before at }, rest.3)
+      ] refl e
+
+-- ---- what is seen of a card
+owner_is : (c : List ℕ) (found : Option Book) (s : StoredCard) → option_and_then (λ (book : Book). get book.cards c) found ≡ Some s
+    → s.owner ≡ option_and_then (λ (r : Resource). r.owner) (option_and_then (λ (book : Book). card_in book c) found)
+owner_is c None s at = some_apart (sym at)
+owner_is c (Some x) s at = sym (ap (λ r. option_and_then (λ (r : Resource). r.owner) (option_map (card_resource (number_of x c)) r)) at)
+
+module _ (o p : Office) (caller : Caller) (agree : Agree o p caller) (circle : CircleOf) (is_circle : IsCircle o.pairs caller circle) (b : List ℕ) where
+  module _ (c : List ℕ) where
+    entries_same : entries_in_force o (path.Card b c) ≡ entries_in_force p (path.Card b c)
+    entries_same = ap (map (λ (e : EffectiveEntry). e.entry)) (effective_same o p agree.outlines (path.Card b c))
+
+    here_is : (s : StoredCard) → card_at o b c ≡ Some s → here_of_card s ≡ here_of o (path.Card b c)
+    here_is s at = let owner = owner_is c (get o.books b) s at in λ i. record { owner = owner i; principal = None }
+
+    -- a card that the report tells may be read
+    may_read : (s : StoredCard) → card_at o b c ≡ Some s → can_read o circle b c s ≡ true → MayRead o caller (path.Card b c)
+    may_read s at reads =
+        let es = entries_in_force o (path.Card b c) in
+        let here = here_of o (path.Card b c) in
+        let granted : Grants es circle here Read = subst (λ h. Grants es circle h Read) (here_is s at) (granted_by circle (here_of_card s) Read es reads) in
+        record {
+          circle = circle;
+          is_circle = is_circle;
+          granted = λ leaf is. each_leaf (λ l. only Read l ≡ true → Grants es circle here l) (λ _. granted)
+              (λ e. absurd cc) (λ e. absurd cc) (λ e. absurd cc) (λ e. absurd cc) (λ e. absurd cc) (λ e. absurd cc) (λ e. absurd cc) leaf is;
+        }
+
+    reads_same : (s t : StoredCard) → outline_of_card s ≡ outline_of_card t → can_read o circle b c s ≡ can_read p circle b c t
+    reads_same s t alike = λ i. grants (entries_same i) circle (record { owner = (alike i).owner; principal = None }) Read
+
+    card_seen : (m n : ℕ) (s t : StoredCard) → m ≡ n → outline_of_card s ≡ outline_of_card t → card_at o b c ≡ Some s → card_at p b c ≡ Some t
+        → (if can_read o circle b c s then Some (shown m s) else None) ≡ (if can_read p circle b c t then Some (shown n t) else None)
+    card_seen m n s t number alike at_o at_p =
+        elim (can_read o circle b c s) as (λ r. can_read o circle b c s ≡ r → (if r then Some (shown m s) else None) ≡ (if can_read p circle b c t then Some (shown n t) else None)) [
+          | true ↦ λ reads.
+              let card : s ≡ t = same_some s t (sym at_o ∙ agree.readable b c (may_read s at_o reads) ∙ at_p) in
+              let both : true ≡ can_read p circle b c t = sym reads ∙ reads_same s t alike in
+              λ i. if both i then Some (shown (number i) (card i)) else None
+          | false ↦ λ reads.
+              let both : false ≡ can_read p circle b c t = sym reads ∙ reads_same s t alike in
+              λ i. if both i then Some (shown n t) else None
+        ] refl
+
+    cards_seen : (m n : ℕ) (r s : Option StoredCard) → m ≡ n → option_map outline_of_card r ≡ option_map outline_of_card s → card_at o b c ≡ r → card_at p b c ≡ s
+        → option_and_then (λ (card : StoredCard). if can_read o circle b c card then Some (shown m card) else None) r
+        ≡ option_and_then (λ (card : StoredCard). if can_read p circle b c card then Some (shown n card) else None) s
+    cards_seen m n None None number alike at_o at_p = refl
+    cards_seen m n None (Some t) number alike at_o at_p = some_apart (sym alike)
+    cards_seen m n (Some s) None number alike at_o at_p = some_apart alike
+    cards_seen m n (Some s) (Some t) number alike at_o at_p = card_seen m n s t number (same_some (outline_of_card s) (outline_of_card t) alike) at_o at_p
+
+    books_seen : (r s : Option Book) → option_map outline_of_book r ≡ option_map outline_of_book s → get o.books b ≡ r → get p.books b ≡ s
+        → option_and_then (seen_in o circle b c) r ≡ option_and_then (seen_in p circle b c) s
+    books_seen None None alike at_o at_p = refl
+    books_seen None (Some y) alike at_o at_p = some_apart (sym alike)
+    books_seen (Some x) None alike at_o at_p = some_apart alike
+    books_seen (Some x) (Some y) alike at_o at_p =
+        let changes : x.changes ≡ y.changes = ap (λ (book : Book). book.changes) (same_some (outline_of_book x) (outline_of_book y) alike) in
+        let card_o : card_at o b c ≡ get x.cards c = ap (option_and_then (λ (book : Book). get book.cards c)) at_o in
+        let card_p : card_at p b c ≡ get y.cards c = ap (option_and_then (λ (book : Book). get book.cards c)) at_p in
+        let cards : option_map outline_of_card (get x.cards c) ≡ option_map outline_of_card (get y.cards c) =
+        ap (option_map outline_of_card) (sym card_o) ∙ cards_alike o p agree.outlines b c ∙ ap (option_map outline_of_card) card_p in
+        cards_seen (number_of x c) (number_of y c) (get x.cards c) (get y.cards c) (ap (λ (n : Numbers). unwrap_or (get n.last c) 0) changes) cards card_o card_p
+
+    seen_same : seen o circle b c ≡ seen p circle b c
+    seen_same = books_seen (get o.books b) (get p.books b) (books_alike o p agree.outlines b) refl refl
+
+  -- ---- the report, by what is seen
+  abbrev item_by : (List ℕ → Option Seen) → Change → Item
+  item_by sees change = record { name = change.1; number = change.0; found = option_map found_of (sees change.1) }
+
+  abbrev reported_by : (List ℕ → Option Seen) → Numbers → Option Token → List Change
+  reported_by sees numbers None = filter (λ (c : Change). is_some (sees c.1)) (changes_after numbers.last 0)
+  reported_by sees numbers (Some token) = changes_after numbers.last token.number
+
+  abbrev report_by : (List ℕ → Option Seen) → ℕ → Numbers → Option Token → Option ℕ → List Change → Report
+  report_by sees epoch numbers token limit changes = record {
+    items = map (item_by sees) (first_of limit changes);
+    truncated = is_cut limit changes;
+    token = record { book = b; epoch = epoch; number = if is_cut limit changes then last_number (start_of token) (first_of limit changes) else numbers.number };
+  }
+
+  abbrev sync_by : (List ℕ → Option Seen) → ℕ → Numbers → Option Token → Option ℕ → Option Report
+  sync_by sees epoch numbers token limit =
+      if names_place b epoch numbers.number token then Some (report_by sees epoch numbers token limit (reported_by sees numbers token)) else None
+
+  sync_is : (q : Office) (x : Book) (token : Option Token) (limit : Option ℕ) → sync_of q circle b token limit x ≡ sync_by (λ c. seen q circle b c) q.epoch x.changes token limit
+  sync_is q x None limit = refl
+  sync_is q x (Some token) limit = refl
+
+  books_synced : (token : Option Token) (limit : Option ℕ) (r s : Option Book) → option_map outline_of_book r ≡ option_map outline_of_book s
+      → option_and_then (sync_of o circle b token limit) r ≡ option_and_then (sync_of p circle b token limit) s
+  books_synced token limit None None alike = refl
+  books_synced token limit None (Some y) alike = some_apart (sym alike)
+  books_synced token limit (Some x) None alike = some_apart alike
+  books_synced token limit (Some x) (Some y) alike =
+      let changes : x.changes ≡ y.changes = ap (λ (book : Book). book.changes) (same_some (outline_of_book x) (outline_of_book y) alike) in
+      let epoch : o.epoch ≡ p.epoch = ap (λ (q : Office). q.epoch) agree.outlines in
+      let same : sync_by (λ c. seen o circle b c) o.epoch x.changes token limit ≡ sync_by (λ c. seen p circle b c) p.epoch y.changes token limit =
+      λ i. sync_by (λ c. seen_same c i) (epoch i) (changes i) token limit in
+      sync_is o x token limit ∙ same ∙ sym (sync_is p y token limit)
+
+  sync_same : (token : Option Token) (limit : Option ℕ) → sync o circle b token limit ≡ sync p circle b token limit
+  sync_same token limit = books_synced token limit (get o.books b) (get p.books b) (books_alike o p agree.outlines b)
+
+pub reports_alike : (o p : Office) (caller : Caller) → Agree o p caller → (circle : CircleOf) → IsCircle o.pairs caller circle → AreReportedAlike o p circle
+reports_alike o p caller agree circle is_circle b Start = sync_same o p caller agree circle is_circle b None None
+reports_alike o p caller agree circle is_circle b (After token) = sync_same o p caller agree circle is_circle b (Some token) None
+reports_alike o p caller agree circle is_circle b Unknown = refl

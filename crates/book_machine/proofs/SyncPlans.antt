@@ -1,0 +1,47 @@
+-- What a sync report answers.
+use Rattle.std.proofs.Common.{◌≡◌, ℕ, Option, Some, None, List, Result, Ok, Err, refl, sym, ap}
+use Rattle.book_lists.specs.Circles.{CircleOf}
+use Rattle.book_sync.specs.declared.messages.Report.{Report}
+use Rattle.book_values.specs.declared.offices.Office.{Office}
+use Rattle.book_values.specs.declared.paths.Path.{Path}
+use Rattle.book_values.specs.declared.paths.Path.TheVariants as path
+use Rattle.book_machine.specs.Stages.{replied, report_from, report_plan, sync_plan}
+use Rattle.book_machine.specs.declared.messages.Content.TheVariants as content
+use Rattle.book_machine.specs.declared.messages.SyncFrom.{SyncFrom}
+use Rattle.book_machine.specs.declared.plans.Plan.{Plan}
+use Rattle.book_machine.specs.declared.refusals.Refusal.{Refusal}
+use Rattle.book_machine.specs.declared.refusals.Refusal.TheVariants.{Unavailable}
+
+-- the plan that tells a report
+abbrev pub telling : Report → Result Plan Refusal
+telling report = Ok (replied 207 (content.Synced report) None)
+
+-- a plan tells a report
+report_told : (found : Option Report) (plan : Plan) → report_plan found ≡ Ok plan → (report : Report) × (telling report ≡ Ok plan)
+report_told None plan is = absurd (cc (is))
+report_told (Some report) plan is = (report, is)
+
+pub sync_told : (o : Office) (circle : CircleOf) (from : SyncFrom) (p : Path) (plan : Plan) → sync_plan o circle from p ≡ Ok plan → (report : Report) × (telling report ≡ Ok plan)
+sync_told o circle from path.Root plan is = absurd (cc (is))
+sync_told o circle from path.People plan is = absurd (cc (is))
+sync_told o circle from path.Groups plan is = absurd (cc (is))
+sync_told o circle from path.Books plan is = absurd (cc (is))
+sync_told o circle from (path.Person n) plan is = absurd (cc (is))
+sync_told o circle from (path.Group n) plan is = absurd (cc (is))
+sync_told o circle from (path.Book b) plan is = report_told (report_from o circle b from) plan is
+sync_told o circle from (path.Card b c) plan is = absurd (cc (is))
+
+-- no sync report is unavailable
+report_available : (found : Option Report) → report_plan found ≡ Err Unavailable → ⊥
+report_available None is = absurd (cc (is))
+report_available (Some report) is = absurd (cc (is))
+
+pub sync_available : (o : Office) (circle : CircleOf) (from : SyncFrom) (p : Path) → sync_plan o circle from p ≡ Err Unavailable → ⊥
+sync_available o circle from path.Root is = absurd (cc (is))
+sync_available o circle from path.People is = absurd (cc (is))
+sync_available o circle from path.Groups is = absurd (cc (is))
+sync_available o circle from path.Books is = absurd (cc (is))
+sync_available o circle from (path.Person n) is = absurd (cc (is))
+sync_available o circle from (path.Group n) is = absurd (cc (is))
+sync_available o circle from (path.Book b) is = report_available (report_from o circle b from) is
+sync_available o circle from (path.Card b c) is = absurd (cc (is))

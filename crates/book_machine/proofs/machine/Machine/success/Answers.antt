@@ -1,0 +1,64 @@
+use Rattle.std.proofs.Common.{◌≡◌, sym, subst}
+use Rattle.book_machine.proofs.Planning.{meets_any}
+use Rattle.book_machine.proofs.StagesInTurn.{asks_nothing}
+use Rattle.book_machine.specs.Asking.{Asks, MeetsAny}
+use Rattle.book_machine.specs.Stages.{IsSuccessOf, allow_plan, delete_plan, mkcol_plan, sync_plan}
+use Rattle.book_machine.specs.Verdicts.{IsTarget}
+use Rattle.book_machine.proofs.machine.Machine.success.Goals as goal
+
+pub returns-in-Propfind : goal.returns-in-Propfind
+returns-in-Propfind g c =
+    let old = g.K.Keeper.standing c.args.self.now.keeper in
+    let new = g.K.Keeper.standing c.listed.new.self.keeper in
+    let ready = c.args.ready in
+    let circle = c.args.circle.now in
+    subst (λ what. Asks old new c.listed.result (λ o r. IsTarget o ready.target → MeetsAny (λ x. IsSuccessOf o circle what ready.caller ready.target x) r))
+    (sym c.in-Propfind.is) c.listed.ensures
+
+pub returns-in-Options : goal.returns-in-Options
+returns-in-Options g c =
+    let old = g.K.Keeper.standing c.args.self.now.keeper in
+    let ready = c.args.ready in
+    let circle = c.args.circle.now in
+    let r = c.allow_plan.result in
+    let row : Asks old old r (λ o x. IsTarget o ready.target → MeetsAny (λ y. allow_plan ready.target.path ≡ y) x) =
+    asks_nothing old r _ (λ h o stands there. meets_any (allow_plan ready.target.path) r c.allow_plan.ensures) in
+    subst (λ what. Asks old old r (λ o x. IsTarget o ready.target → MeetsAny (λ y. IsSuccessOf o circle what ready.caller ready.target y) x)) (sym c.in-Options.is) row
+
+pub returns-in-Delete : goal.returns-in-Delete
+returns-in-Delete g c =
+    let old = g.K.Keeper.standing c.args.self.now.keeper in
+    let ready = c.args.ready in
+    let circle = c.args.circle.now in
+    let r = c.delete_plan.result in
+    let row : Asks old old r (λ o x. IsTarget o ready.target → MeetsAny (λ y. delete_plan ready.target.path ≡ y) x) =
+    asks_nothing old r _ (λ h o stands there. meets_any (delete_plan ready.target.path) r c.delete_plan.ensures) in
+    subst (λ what. Asks old old r (λ o x. IsTarget o ready.target → MeetsAny (λ y. IsSuccessOf o circle what ready.caller ready.target y) x)) (sym c.in-Delete.is) row
+
+pub returns-in-Mkcol : goal.returns-in-Mkcol
+returns-in-Mkcol g c =
+    let old = g.K.Keeper.standing c.args.self.now.keeper in
+    let ready = c.args.ready in
+    let circle = c.args.circle.now in
+    let r = c.mkcol_plan.result in
+    let row : Asks old old r (λ o x. IsTarget o ready.target → MeetsAny (λ y. mkcol_plan ready.caller ready.target.path ≡ y) x) =
+    asks_nothing old r _ (λ h o stands there. meets_any (mkcol_plan ready.caller ready.target.path) r c.mkcol_plan.ensures) in
+    subst (λ what. Asks old old r (λ o x. IsTarget o ready.target → MeetsAny (λ y. IsSuccessOf o circle what ready.caller ready.target y) x)) (sym c.in-Mkcol.is) row
+
+pub returns-in-Report : goal.returns-in-Report
+returns-in-Report g c =
+    let old = g.K.Keeper.standing c.args.self.now.keeper in
+    let new = g.K.Keeper.standing c.synced.new.self.keeper in
+    let ready = c.args.ready in
+    let circle = c.args.circle.now in
+    let r = c.synced.result in
+    let asked = c.synced.ensures in
+    let row : Asks old new r (λ o x. IsTarget o ready.target → MeetsAny (λ y. sync_plan o circle c.in-Report.from ready.target.path ≡ y) x) =
+    record {
+      was_honest = asked.was_honest;
+      tells = λ h o stands there. meets_any (sync_plan o circle c.in-Report.from ready.target.path) r (asked.tells h o stands);
+      kept = asked.kept;
+      left = asked.left;
+      counted = asked.counted;
+    } in
+    subst (λ what. Asks old new r (λ o x. IsTarget o ready.target → MeetsAny (λ y. IsSuccessOf o circle what ready.caller ready.target y) x)) (sym c.in-Report.is) row

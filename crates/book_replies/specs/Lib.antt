@@ -1,0 +1,4 @@
+pub mod Denials
+pub mod Properties
+pub mod Listings
+pub mod Reports

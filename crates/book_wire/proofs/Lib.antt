@@ -1,0 +1,7 @@
+pub mod Known
+pub mod CommaLists
+pub mod Servings
+pub mod Unspelled
+pub mod Heads
+pub mod Exchanges
+pub mod Streams

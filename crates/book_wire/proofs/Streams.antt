@@ -1,0 +1,418 @@
+-- Streams, an exchange at a time.
+use Rattle.std.proofs.Common.{◌≡◌, ◌≢◌, ℕ, ◌+◌, ◌-◌, ◌^◌, ◌<◌, ◌≤◌, ◌⊎◌, min, Bool, true, false, List, [], ◌∷◌, ◌++◌, map, length, Option, Some, None, refl, sym, ap, subst, ◌∙◌, inl, inr, append_assoc, append-nil, length-append, arith}
+use Rattle.std.proofs.lemmas.List.{map-append}
+use Rattle.std.proofs.lemmas.List.Concat.{flat_map-append}
+use Rattle.std.specs.List.{flat_map, AllByRecursion}
+use Rattle.std.specs.Io.KnownBytes.{Consumes, IsAtEnd}
+use Rattle.std.specs.Prelude.{codes, Result, Ok, Err}
+use Rattle.std.proofs.lemmas.Bool.{false≢true}
+use Rattle.std.proofs.lemmas.Bool.Decides.{nat_tests}
+use Rattle.httparse.specs.Grammar.{print_request}
+use Rattle.httparse.specs.Spans.{name_and_value}
+use Rattle.book_office.specs.Keeping.{Standing}
+use Rattle.book_targets.specs.Targets.{method_named}
+use Rattle.book_wire.specs.declared.head.WireRefusal.{WireRefusal}
+use Rattle.book_wire.specs.declared.head.WireRefusal.TheVariants.{BadHead, HeadTooLarge, BodyTooLarge, NotImplemented}
+use Rattle.book_wire.specs.declared.stream.Ended.{Ended}
+use Rattle.book_wire.specs.declared.stream.Ended.TheVariants.{Clean, Cut, Closed}
+use Rattle.book_wire.specs.Requests.{caller_name}
+use Rattle.book_wire.specs.Serving.{Answered, Runs, Stays}
+use Rattle.book_wire.specs.Spelling.{refusal_text}
+use Rattle.book_wire.specs.Stream.{Exchange, IsExchange, IsOpen, IsLast, Answers, SoFar, IsServed, Ends, EndsOpen, IsPartial, IsPartOfBodyOf, IsInput, Waits, WaitsFor, Refuses, FrontRefuses, text_of, reply_text, answered_of}
+use Rattle.book_wire.specs.Turn.{Takes, IsPending, IsProgress, StopsAt, StopsWriting}
+use Rattle.book_wire.specs.Head.{Asked, Fields, ◌>>=◌, lone, values_of, length_of, implemented, within, asked_of}
+use Rattle.book_wire.proofs.Servings.{stays, runs_none, runs_one, runs_then, runs_stay}
+
+all_append : {X : Type 0} (P : X → Type 0) (xs ys : List X) → AllByRecursion P xs → AllByRecursion P ys → AllByRecursion P (xs ++ ys)
+all_append P [] ys all p = p
+all_append P (x ∷ xs) ys all p = (all.0, all_append P xs ys all.1 p)
+
+-- ---- whole requests, each answered
+
+pub answers_none : (b a : Standing) → Stays b a → Answers b [] [] [] a
+answers_none b a s = record { input_is = refl; written_is = refl; runs = runs_none b a s }
+
+pub answers_one : (b a : Standing) (unread written left : List ℕ) (e : Exchange) → Takes b unread written e a left → Answers b (e ∷ []) e.text written a
+answers_one b a unread written left e t = record {
+  input_is = sym (append-nil e.text);
+  written_is = t.written_is ∙ sym (append-nil (reply_text e));
+  runs = runs_one b a (caller_name e.asked.caller) e.request e.reply t.serves;
+}
+
+pub answers_then : (b m a : Standing) (es fs : List Exchange) (input more written text : List ℕ)
+    → Answers b es input written m → Answers m fs more text a → Answers b (es ++ fs) (input ++ more) (written ++ text) a
+answers_then b m a es fs input more written text x y = record {
+  input_is =
+      ap (λ (z : List ℕ). z ++ more) x.input_is ∙ ap (λ (z : List ℕ). flat_map text_of es ++ z) y.input_is ∙ sym (flat_map-append text_of es fs);
+  written_is =
+      ap (λ (z : List ℕ). z ++ text) x.written_is ∙ ap (λ (z : List ℕ). flat_map reply_text es ++ z) y.written_is
+      ∙ sym (flat_map-append reply_text es fs);
+  runs =
+      let P : List Answered → Type 0 = λ calls. Runs b a calls in
+      subst P (sym (map-append answered_of es fs)) (runs_then b m a (map answered_of es) (map answered_of fs) x.runs y.runs);
+}
+
+-- ---- so far
+
+pub SoFar-none : (b : Standing) (unread : List ℕ) → SoFar b unread [] 0 b unread
+SoFar-none b unread = record {
+  exchanges = [];
+  taken = [];
+  input_is = refl;
+  opened = tt;
+  answers = answers_none b b (stays b);
+  count = refl;
+}
+
+split_then : (input taken unread more left : List ℕ) → input ≡ taken ++ unread → unread ≡ more ++ left → input ≡ (taken ++ more) ++ left
+split_then input taken unread more left x y = x ∙ ap (λ (z : List ℕ). taken ++ z) y ∙ sym (append_assoc taken more left)
+
+pub SoFar-then : (b m a : Standing) (input written unread more left : List ℕ) (n k : ℕ)
+    → SoFar b input written n m unread → SoFar m unread more k a left → SoFar b input (written ++ more) (n + k) a left
+SoFar-then b m a input written unread more left n k x y = record {
+  exchanges = x.exchanges ++ y.exchanges;
+  taken = x.taken ++ y.taken;
+  input_is = split_then input x.taken unread y.taken left x.input_is y.input_is;
+  opened = all_append IsOpen x.exchanges y.exchanges x.opened y.opened;
+  answers = answers_then b m a x.exchanges y.exchanges x.taken y.taken written more x.answers y.answers;
+  count = (let was = x.count in let now = y.count in omega (arith, was, now, length-append x.exchanges y.exchanges));
+}
+
+pub SoFar-one : (b a : Standing) (unread more left : List ℕ) (e : Exchange) → IsOpen e → Takes b unread more e a left → SoFar b unread more 1 a left
+SoFar-one b a unread more left e is t = record {
+  exchanges = e ∷ [];
+  taken = e.text;
+  input_is = t.unread_is;
+  opened = (is, tt);
+  answers = answers_one b a unread more left e t;
+  count = refl;
+}
+
+pub so_far_answered : (b m a : Standing) (input written more unread left : List ℕ) (n : ℕ) (e : Exchange)
+    → SoFar b input written n m unread → IsOpen e → Takes m unread more e a left → SoFar b input (written ++ more) (n + 1) a left
+so_far_answered b m a input written more unread left n e x is t =
+    SoFar-then b m a input written unread more left n 1 x (SoFar-one m a unread more left e is t)
+
+-- more bytes came, into a buffer that holds what was unread
+pub so_far_read : (b a : Standing) (input written unread came now : List ℕ) (n : ℕ)
+    → SoFar b input written n a unread → now ≡ unread ++ came → SoFar b (input ++ came) written n a now
+so_far_read b a input written unread came now n x now_is = record {
+  exchanges = x.exchanges;
+  taken = x.taken;
+  input_is = ap (λ (z : List ℕ). z ++ came) x.input_is ∙ append_assoc x.taken unread came ∙ ap (λ (z : List ℕ). x.taken ++ z) (sym now_is);
+  opened = x.opened;
+  answers = x.answers;
+  count = x.count;
+}
+
+-- nothing more was done
+pub SoFar-same : (b m a : Standing) (input written more unread left : List ℕ) (n : ℕ)
+    → SoFar b input written n m unread → Stays m a → left ≡ unread → more ≡ written → SoFar b input more n a left
+SoFar-same b m a input written more unread left n x s same_rest same_text = record {
+  exchanges = x.exchanges;
+  taken = x.taken;
+  input_is = x.input_is ∙ ap (λ (z : List ℕ). x.taken ++ z) (sym same_rest);
+  opened = x.opened;
+  answers = record {
+    input_is = x.answers.input_is;
+    written_is = same_text ∙ x.answers.written_is;
+    runs = runs_stay b m a (map answered_of x.exchanges) x.answers.runs s;
+  };
+  count = x.count;
+}
+
+-- ---- the end
+
+pub served_last : (b m a : Standing) (input written more unread left : List ℕ) (n : ℕ) (e : Exchange)
+    → SoFar b input written n m unread → IsLast e → Takes m unread more e a left → IsServed b input (written ++ more) (n + 1) Closed a
+served_last b m a input written more unread left n e x is t = record {
+  exchanges = x.exchanges ++ e ∷ [];
+  taken = x.taken ++ e.text;
+  rest = left;
+  replies = written ++ more;
+  refusal = [];
+  input_is = split_then input x.taken unread e.text left x.input_is t.unread_is;
+  written_is = sym (append-nil (written ++ more));
+  answers = answers_then b m a x.exchanges (e ∷ []) x.taken e.text written more x.answers (answers_one m a unread more left e t);
+  ends = inr (x.exchanges, e, refl, x.opened, is, refl, refl);
+  count = (let was = x.count in omega (arith, was, length-append x.exchanges (e ∷ [])));
+}
+
+-- the connection was left open
+pub served_open : (b a : Standing) (input written unread refusal : List ℕ) (n : ℕ) (ended : Ended)
+    → SoFar b input written n a unread → EndsOpen unread refusal ended → IsServed b input (written ++ refusal) n ended a
+served_open b a input written unread refusal n ended x ends = record {
+  exchanges = x.exchanges;
+  taken = x.taken;
+  rest = unread;
+  replies = written;
+  refusal = refusal;
+  input_is = x.input_is;
+  written_is = refl;
+  answers = x.answers;
+  ends = inl (x.opened, ends);
+  count = x.count;
+}
+
+-- a stream that goes on from what is unread
+ends_then : (es fs : List Exchange) (rest refusal : List ℕ) (ended : Ended) → AllByRecursion IsOpen es → Ends fs rest refusal ended → Ends (es ++ fs) rest refusal ended
+ends_then es fs rest refusal ended opened (inl x) = inl (all_append IsOpen es fs opened x.0, x.1)
+ends_then es fs rest refusal ended opened (inr x) =
+    inr (
+      es ++ x.0,
+      x.1,
+      ap (λ (z : List Exchange). es ++ z) x.2 ∙ sym (append_assoc es x.0 (x.1 ∷ [])),
+      all_append IsOpen es x.0 opened x.3,
+      x.4,
+      x.5,
+      x.6,
+    )
+
+pub served_then : (b m a : Standing) (input written unread more : List ℕ) (n k : ℕ) (ended : Ended)
+    → SoFar b input written n m unread → IsServed m unread more k ended a → IsServed b input (written ++ more) (n + k) ended a
+served_then b m a input written unread more n k ended x y = record {
+  exchanges = x.exchanges ++ y.exchanges;
+  taken = x.taken ++ y.taken;
+  rest = y.rest;
+  replies = written ++ y.replies;
+  refusal = y.refusal;
+  input_is = split_then input x.taken unread y.taken y.rest x.input_is y.input_is;
+  written_is = ap (λ (z : List ℕ). written ++ z) y.written_is ∙ sym (append_assoc written y.replies y.refusal);
+  answers = answers_then b m a x.exchanges y.exchanges x.taken y.taken written y.replies x.answers y.answers;
+  ends = ends_then x.exchanges y.exchanges y.rest y.refusal ended x.opened y.ends;
+  count = (let was = x.count in let now = y.count in omega (arith, was, now, length-append x.exchanges y.exchanges));
+}
+
+-- what follows a refused front or head changes nothing
+Refuses-append : (rest more : List ℕ) (r : WireRefusal) (bare : Bool) → Refuses rest r bare → Refuses (rest ++ more) r bare
+Refuses-append rest more r bare (inl x) = inl (front r x.0, x.1)
+  where
+    front : (r : WireRefusal) → FrontRefuses rest r → FrontRefuses (rest ++ more) r
+    front BadHead y = (y.0, y.1 ++ more, ap (λ (z : List ℕ). z ++ more) y.2 ∙ append_assoc y.0 y.1 more, y.3, y.4)
+    front HeadTooLarge y = (y.0, y.1 ++ more, ap (λ (z : List ℕ). z ++ more) y.2 ∙ append_assoc y.0 y.1 more, y.3, y.4)
+    front BodyTooLarge y = absurd y
+    front NotImplemented y = absurd y
+Refuses-append rest more r bare (inr x) =
+    inr (x.0, x.1 ++ more, x.2, ap (λ (z : List ℕ). z ++ more) x.3 ∙ append_assoc _ x.1 more, x.4, x.5)
+
+-- a stream that closed takes no more
+pub IsServed-append : (b a : Standing) (input more written : List ℕ) (n : ℕ)
+    → IsServed b input written n Closed a → IsServed b (input ++ more) written n Closed a
+IsServed-append b a input more written n x = record {
+  exchanges = x.exchanges;
+  taken = x.taken;
+  rest = x.rest ++ more;
+  replies = x.replies;
+  refusal = x.refusal;
+  input_is = ap (λ (z : List ℕ). z ++ more) x.input_is ∙ append_assoc x.taken x.rest more;
+  written_is = x.written_is;
+  answers = x.answers;
+  ends = elim x.ends [
+    | inl y ↦ inl (y.0, (y.1.0, y.1.1, Refuses-append x.rest more y.1.0 y.1.1 y.1.2, y.1.3))
+    | inr y ↦ inr y
+  ];
+  count = x.count;
+}
+
+-- what is left of the input
+pub input_left : (u v : Option (List ℕ)) (got : List ℕ) → Consumes u v got → (left : List ℕ) × IsInput u (got ++ left)
+input_left None v got x = ([], tt)
+input_left (Some xs) None got x = absurd x
+input_left (Some xs) (Some ys) got x = (ys, sym x)
+
+pub input_whole : (u v : Option (List ℕ)) (got : List ℕ) → Consumes u v got → IsAtEnd v → IsInput u got
+input_whole None v got x y = tt
+input_whole (Some xs) None got x y = absurd x
+input_whole (Some xs) (Some ys) got x y = sym (x ∙ ap (λ (z : List ℕ). got ++ z) y ∙ append-nil got)
+
+-- ---- what the loop over the whole requests says
+
+pub progress_waits : (b m a : Standing) (input more none unread left : List ℕ) (n before wanted : ℕ)
+    → SoFar b input more n m unread → IsPartial unread → WaitsFor unread wanted → none ≡ [] → Stays m a → left ≡ unread
+    → IsProgress b input (more ++ none) n (record { requests = before; closed = false; wanted = wanted }) a left
+progress_waits b m a input more none unread left n before wanted x partial waits no_text same_office same_rest = record {
+  waits = λ _. (
+    SoFar-same b m a input more (more ++ none) unread left n x same_office same_rest
+        (ap (λ (z : List ℕ). more ++ z) no_text ∙ append-nil more),
+    let P : List ℕ → Type 0 = λ u. IsPartial u in subst P (sym same_rest) partial,
+    let W : List ℕ → Type 0 = λ u. WaitsFor u wanted in subst W (sym same_rest) waits,
+  );
+  closed = λ (e : false ≡ true). absurd (false≢true e);
+}
+
+pub progress_last : (b m a : Standing) (input more text unread left : List ℕ) (n before : ℕ) (e : Exchange)
+    → SoFar b input more n m unread → IsLast e → Takes m unread text e a left
+    → IsProgress b input (more ++ text) (n + 1) (record { requests = before; closed = true; wanted = 0 }) a left
+progress_last b m a input more text unread left n before e x is t = record {
+  waits = λ (f : true ≡ false). absurd (false≢true (sym f));
+  closed = λ _. served_last b m a input more text unread left n e x is t;
+}
+
+pub progress_refused : (b m a : Standing) (input more text unread left : List ℕ) (n before : ℕ) (r : WireRefusal) (bare : Bool)
+    → SoFar b input more n m unread → Refuses unread r bare → text ≡ refusal_text r bare → Stays m a
+    → IsProgress b input (more ++ text) n (record { requests = before; closed = true; wanted = 0 }) a left
+progress_refused b m a input more text unread left n before r bare x is text_is same_office = record {
+  waits = λ (f : true ≡ false). absurd (false≢true (sym f));
+  closed = λ _. served_open b a input more unread text n Closed (SoFar-same b m a input more more unread unread n x same_office refl refl) (r, bare, is, text_is);
+}
+
+-- a write that failed after more exchanges
+stops_then : (b m a : Standing) (es fs : List Exchange) (unread pending : List ℕ)
+    → Runs b m (map answered_of es) → StopsAt m fs unread pending a → StopsAt b (es ++ fs) unread pending a
+stops_then b m a es fs unread pending r (inl p) =
+    inl (
+      p.0,
+      p.1,
+      p.2,
+      p.3,
+      p.4,
+      let P : List Answered → Type 0 = λ calls. Runs b a calls in
+          subst P
+          (sym (map-append answered_of es (fs ++ p.0 ∷ [])) ∙ ap (λ (z : List Exchange). map answered_of z) (sym (append_assoc es fs (p.0 ∷ []))))
+          (runs_then b m a (map answered_of es) (map answered_of (fs ++ p.0 ∷ [])) r p.5),
+    )
+stops_then b m a es fs unread pending r (inr p) =
+    inr (
+      p.0,
+      p.1,
+      p.2,
+      p.3,
+      let P : List Answered → Type 0 = λ calls. Runs b a calls in
+          subst P (sym (map-append answered_of es fs)) (runs_then b m a (map answered_of es) (map answered_of fs) r p.4),
+    )
+
+pub writing_then : (b m a : Standing) (input written unread more : List ℕ) (n : ℕ)
+    → SoFar b input written n m unread → StopsWriting m unread more a → StopsWriting b input (written ++ more) a
+writing_then b m a input written unread more n x y = record {
+  exchanges = x.exchanges ++ y.exchanges;
+  taken = x.taken ++ y.taken;
+  unread = y.unread;
+  replies = written ++ y.replies;
+  pending = y.pending;
+  front = y.front;
+  left = y.left;
+  input_is = split_then input x.taken unread y.taken y.unread x.input_is y.input_is;
+  opened = all_append IsOpen x.exchanges y.exchanges x.opened y.opened;
+  taken_is =
+      ap (λ (z : List ℕ). z ++ y.taken) x.answers.input_is ∙ ap (λ (z : List ℕ). flat_map text_of x.exchanges ++ z) y.taken_is
+      ∙ sym (flat_map-append text_of x.exchanges y.exchanges);
+  replies_are =
+      ap (λ (z : List ℕ). z ++ y.replies) x.answers.written_is ∙ ap (λ (z : List ℕ). flat_map reply_text x.exchanges ++ z) y.replies_are
+      ∙ sym (flat_map-append reply_text x.exchanges y.exchanges);
+  stops = stops_then b m a x.exchanges y.exchanges y.unread y.pending x.answers.runs y.stops;
+  cut = y.cut;
+  written_is = ap (λ (z : List ℕ). written ++ z) y.written_is ∙ sym (append_assoc written y.replies y.front);
+}
+
+stops_here : (m a : Standing) (unread pending front left : List ℕ) → IsPending m unread pending a → pending ≡ front ++ left → StopsWriting m unread front a
+stops_here m a unread pending front left is cut = record {
+  exchanges = [];
+  taken = [];
+  unread = unread;
+  replies = [];
+  pending = pending;
+  front = front;
+  left = left;
+  input_is = refl;
+  opened = tt;
+  taken_is = refl;
+  replies_are = refl;
+  stops = elim is [
+    | inl p ↦ inl (p.0, p.1, p.2, p.3.unread_is, p.3.written_is, runs_one m a (caller_name p.0.asked.caller) p.0.request p.0.reply p.3.serves)
+    | inr r ↦ inr (r.0, r.1, r.2, r.3, runs_none m a r.4)
+  ];
+  cut = cut;
+  written_is = refl;
+}
+
+pub stops_writing : (b m a : Standing) (input more unread pending front left : List ℕ) (n : ℕ)
+    → SoFar b input more n m unread → IsPending m unread pending a → pending ≡ front ++ left → StopsWriting b input (more ++ front) a
+stops_writing b m a input more unread pending front left n x is cut =
+    writing_then b m a input more unread front n x (stops_here m a unread pending front left is cut)
+
+-- ---- what the loop over the reads says
+
+pub stream_ends : (b a : Standing) (input written unread : List ℕ) (n : ℕ) (ended : Ended)
+    → SoFar b input written n a unread → Waits unread
+    → ((unread ≡ []) × (ended ≡ Clean)) ⊎ ((unread ≢ []) × (ended ≡ Cut))
+    → IsServed b input written n ended a
+stream_ends b a input written unread n ended x waits how =
+    let P : List ℕ → Type 0 = λ w. IsServed b input w n ended a in
+    subst P (append-nil written) (served_open b a input written unread [] n ended x (ends waits how))
+  where
+    ends : Waits unread → ((unread ≡ []) × (ended ≡ Clean)) ⊎ ((unread ≢ []) × (ended ≡ Cut)) → EndsOpen unread [] ended
+    ends waits (inl y) = let E : Ended → Type 0 = λ e. EndsOpen unread [] e in subst E (sym y.1) (y.0, refl)
+    ends (inl none) (inr y) = absurd (y.0 none)
+    ends (inr partial) (inr y) = let E : Ended → Type 0 = λ e. EndsOpen unread [] e in subst E (sym y.1) (y.0, partial, refl)
+
+-- ---- how much waits
+
+bind_ok : {A B : Type 0} (r : Result A WireRefusal) (f : A → Result B WireRefusal) (y : B) → (r >>= f) ≡ Ok y → (x : A) × (r ≡ Ok x) × (f x ≡ Ok y)
+bind_ok (Ok x) f y e = (x, refl, e)
+bind_ok (Err d) f y e = cc
+
+within_is : (n m : ℕ) → within n ≡ Ok m → m ≤ 262144
+within_is n m e = grind (arith, nat_tests)
+
+length_in : Result Asked WireRefusal → ℕ
+length_in (Ok asked) = asked.length
+length_in (Err e) = 0
+
+pub asked_length : (method target : List ℕ) (minor : ℕ) (fields : Fields) (asked : Asked)
+    → asked_of method target minor fields ≡ Ok asked → asked.length ≤ 262144
+unfolding asked_of length_in
+asked_length method target minor fields asked e =
+    let a = bind_ok (lone (values_of (codes "x-office-caller") fields)) _ asked e in
+    let d = bind_ok (lone (values_of (codes "destination") fields)) _ asked a.2 in
+    let w = bind_ok (lone (values_of (codes "overwrite") fields)) _ asked d.2 in
+    let p = bind_ok (lone (values_of (codes "depth") fields)) _ asked w.2 in
+    let b = bind_ok (lone (values_of (codes "transfer-encoding") fields)) _ asked p.2 in
+    let c = bind_ok (lone (values_of (codes "content-length") fields)) _ asked b.2 in
+    let l = bind_ok (length_of c.0) _ asked c.2 in
+    let f = bind_ok (implemented b.0 (method_named method)) _ asked l.2 in
+    let h = bind_ok (within l.0) _ asked f.2 in
+    let n : h.0 ≡ asked.length = ap length_in h.2 in
+    let small : h.0 ≤ 262144 = within_is l.0 h.0 h.1 in
+    omega arith
+
+part_within : (unread : List ℕ) (wanted : ℕ) → IsPartOfBodyOf unread wanted → length unread < 278528
+part_within unread wanted x =
+    let small : x.2.length ≤ 262144 = asked_length x.0.method x.0.target x.0.minor (map name_and_value x.0.fields) x.2 x.5 in
+    omega (arith, ap length x.4, length-append (print_request x.0) x.1, x.3.size, x.6)
+
+few_waits : (unread : List ℕ) → Waits unread → length unread < 278528
+few_waits unread (inl none) = omega (arith, ap length none)
+few_waits unread (inr (inl x)) = omega (arith, x.0)
+few_waits unread (inr (inr x)) = part_within unread x.0 x.1
+
+pub waits_within : (unread : List ℕ) (wanted : ℕ) → WaitsFor unread wanted → length unread < 278528
+waits_within unread wanted (inl x) = few_waits unread x.0
+waits_within unread wanted (inr x) = part_within unread wanted x
+
+pub waits_of : (unread : List ℕ) (wanted : ℕ) → WaitsFor unread wanted → Waits unread
+waits_of unread wanted (inl x) = x.0
+waits_of unread wanted (inr x) = inr (inr (wanted, x))
+
+pub waits_none : (unread : List ℕ) → unread ≡ [] → WaitsFor unread 0
+waits_none unread none = inl (inl none, omega arith)
+
+-- with fewer bytes than are wanted it waits still
+pub waits_still : (unread came now : List ℕ) (wanted : ℕ) → WaitsFor unread wanted → now ≡ unread ++ came → 0 < length came
+    → length now < wanted → WaitsFor now wanted
+waits_still unread came now wanted (inl x) is some few =
+    let size : length now ≡ length unread + length came = ap length is ∙ length-append unread came in
+    let most = x.1 in
+    absurd (omega (arith, size, most, some, few))
+waits_still unread came now wanted (inr x) is some few =
+    let whole : now ≡ print_request x.0 ++ (x.1 ++ came) = is ∙ ap (λ (z : List ℕ). z ++ came) x.4 ∙ append_assoc (print_request x.0) x.1 came in
+    let wanted_is = x.7 in
+    inr (
+      x.0,
+      x.1 ++ came,
+      x.2,
+      x.3,
+      whole,
+      x.5,
+      omega (arith, ap length whole, length-append (print_request x.0) (x.1 ++ came), few, wanted_is),
+      x.7,
+    )

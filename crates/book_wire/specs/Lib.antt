@@ -1,0 +1,9 @@
+pub mod Members
+pub mod Head
+pub mod Requests
+pub mod Spelling
+pub mod Sending
+pub mod Serving
+pub mod Stream
+pub mod Turn
+pub mod Reading

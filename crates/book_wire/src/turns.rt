@@ -1,0 +1,173 @@
+//! One whole request, and its reply.
+
+ghost use Rattle.std.specs.Prelude.{◌≡◌, ℕ, Option, Some, List, ◌++◌, IfOk, IfErr, OnOk, OnErr};
+ghost use Rattle.std.specs.Io.KnownBytes.{Appends};
+ghost use Rattle.book_machine.specs.declared.messages.Reply.{Reply as ReplyOf};
+ghost use Rattle.book_machine.specs.declared.messages.Request.{Request as RequestOf};
+ghost use Rattle.book_targets.specs.Targets.{HasHomes};
+ghost use Rattle.book_wire.specs.Reading.{asked_view};
+ghost use Rattle.book_wire.specs.Requests.{caller_name};
+ghost use Rattle.book_machine.specs.Laws.{TellingRepliesChangeNothing};
+ghost use Rattle.book_wire.specs.Serving.{ServesAny};
+ghost use Rattle.book_wire.specs.Spelling.{spelling};
+ghost use Rattle.book_wire.specs.Stream.{IsAskedBy, is_head_method};
+ghost use Rattle.book_wire.specs.Turn.{IsTurn, IsPending};
+
+use crate::buffer::Buffer;
+use crate::head::{Asked, Reading, read_head};
+use crate::reply::{refuse, send, write_unavailable};
+use crate::requests::{caller_name, request_of};
+use crate::stream::StreamFault;
+use book_machine::{Machine, Request, refusals_change_nothing};
+use book_office::Keeper;
+use book_rights::Method;
+use book_targets::Home;
+use matchit::Router;
+use std::alloc::Global;
+use std::io::Write;
+
+/// What became of the bytes at the front.
+#[derive(Clone, Copy, Debug, PartialEq, Eq)]
+pub(crate) enum Turn {
+    /// They are less than a whole request, and stay so with fewer than these.
+    Wait(usize),
+    /// A request was answered, and the connection stays.
+    Answered,
+    /// A request was answered, and the connection closes.
+    Last,
+    /// No request: the refusal was written, and the connection closes.
+    Refused,
+}
+
+/// Whether a reply to the method has its head alone (RFC 9110, section 9.3.2).
+fn is_bare(method: Method) -> bool
+    ensures { result ≡ is_head_method method }
+{
+    match method {
+        Method::Head => true,
+        Method::Get
+        | Method::Options
+        | Method::Put
+        | Method::Propfind
+        | Method::Proppatch
+        | Method::Acl
+        | Method::Copy
+        | Method::Move
+        | Method::Delete
+        | Method::Mkcol
+        | Method::Report => false,
+    }
+}
+
+/// Hands out that a reply with a content changed nothing, so that `Unavailable` may be told in its place.
+fn telling_changes_nothing()
+    ensures { TellingRepliesChangeNothing }
+{
+    refusals_change_nothing();
+}
+
+/// Serves a request and writes the reply.
+fn reply_to<K: Keeper, W: Write>(
+    alloc: Global,
+    machine: &mut Machine<K>,
+    writer: &mut W,
+    out: &mut [u8],
+    asked: Asked<'_>,
+    request: &Request,
+) -> Result<(), StreamFault>
+    ensures ok { OnOk result ((reply : ReplyOf)
+        × ServesAny (K.standing machine.old.keeper) (K.standing machine.new.keeper) (caller_name (asked_view asked.entry).caller) (Some request.now) reply
+        × Appends (W.contents writer.old) (W.contents writer.new) (spelling reply (is_head_method asked.entry.method) asked.entry.closes)) }
+    ensures err { IfErr result (λ e. (e ≡ StreamFault.Write) × ((reply : ReplyOf) × (front left : List ℕ)
+        × ServesAny (K.standing machine.old.keeper) (K.standing machine.new.keeper) (caller_name (asked_view asked.entry).caller) (Some request.now) reply
+        × (spelling reply (is_head_method asked.entry.method) asked.entry.closes ≡ front ++ left)
+        × Appends (W.contents writer.old) (W.contents writer.new) front)) }
+{
+    telling_changes_nothing();
+    let reply = machine.serve(alloc, caller_name(asked.caller), request);
+    send(
+        alloc,
+        writer,
+        out,
+        &reply,
+        is_bare(asked.method),
+        asked.closes,
+    )
+}
+
+/// Serves the request that a head and a body spell, and writes the reply: unavailable where memory is refused before the
+/// request is read.
+fn answer<K: Keeper, W: Write>(
+    alloc: Global,
+    machine: &mut Machine<K>,
+    router: &Router<Home>,
+    writer: &mut W,
+    out: &mut [u8],
+    asked: Asked<'_>,
+    body: &[u8],
+) -> Result<(), StreamFault>
+    requires { HasHomes router.now }
+    ensures ok { OnOk result ((request : Option RequestOf) × (reply : ReplyOf)
+        × IsAskedBy (asked_view asked.entry) body.now request reply
+        × ServesAny (K.standing machine.old.keeper) (K.standing machine.new.keeper) (caller_name (asked_view asked.entry).caller) request reply
+        × Appends (W.contents writer.old) (W.contents writer.new) (spelling reply (is_head_method asked.entry.method) asked.entry.closes)) }
+    ensures err { IfErr result (λ e. (e ≡ StreamFault.Write) × ((request : Option RequestOf) × (reply : ReplyOf) × (front left : List ℕ)
+        × IsAskedBy (asked_view asked.entry) body.now request reply
+        × ServesAny (K.standing machine.old.keeper) (K.standing machine.new.keeper) (caller_name (asked_view asked.entry).caller) request reply
+        × (spelling reply (is_head_method asked.entry.method) asked.entry.closes ≡ front ++ left)
+        × Appends (W.contents writer.old) (W.contents writer.new) front)) }
+{
+    match request_of(alloc, router, &asked, body) {
+        Ok(request) => reply_to(alloc, machine, writer, out, asked, &request),
+        Err(_) => write_unavailable(writer, out, is_bare(asked.method), asked.closes),
+    }
+}
+
+/// Answers the request at the front, if it is whole.
+pub(crate) fn answer_one<K: Keeper, W: Write>(
+    alloc: Global,
+    machine: &mut Machine<K>,
+    router: &Router<Home>,
+    writer: &mut W,
+    out: &mut [u8],
+    buffer: &mut Buffer,
+) -> Result<Turn, StreamFault>
+    requires { HasHomes router.now }
+    ensures ok { IfOk result (λ turn. (written : List ℕ) × Appends (W.contents writer.old) (W.contents writer.new) written
+        × IsTurn (K.standing machine.old.keeper) buffer.old written turn (K.standing machine.new.keeper) buffer.new) }
+    ensures err { IfErr result (λ e. (e ≡ StreamFault.Write) × ((pending front left : List ℕ)
+        × IsPending (K.standing machine.old.keeper) buffer.old pending (K.standing machine.new.keeper)
+        × (pending ≡ front ++ left) × Appends (W.contents writer.old) (W.contents writer.new) front)) }
+    ensures kept { OnErr result (buffer.new ≡ buffer.old) }
+{
+    let unread = buffer.unread();
+    match read_head(unread) {
+        Reading::Partial => Ok(Turn::Wait(unread.len() + 1)),
+        Reading::Refused(refusal, bare) => match refuse(writer, out, refusal, bare) {
+            Ok(()) => Ok(Turn::Refused),
+            Err(fault) => Err(fault),
+        },
+        Reading::Whole(asked, head) => {
+            if unread.len() - head < asked.length {
+                return Ok(Turn::Wait(head + asked.length));
+            }
+            let whole = head + asked.length;
+            let closes = asked.closes;
+            match answer(
+                alloc,
+                machine,
+                router,
+                writer,
+                out,
+                asked,
+                &unread[head..whole],
+            ) {
+                Ok(()) => {
+                    buffer.consume(whole);
+                    Ok(if closes { Turn::Last } else { Turn::Answered })
+                }
+                Err(fault) => Err(fault),
+            }
+        }
+    }
+}

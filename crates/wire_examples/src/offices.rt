@@ -1,0 +1,140 @@
+//! The machine of the examples, and what it answers to streams.
+
+use book_machine::Machine;
+use book_office::MemoryKeeper;
+use book_policy::read_policy;
+use book_wire::{Served, StreamFault, serve_stream};
+use std::alloc::Global;
+use std::io;
+use std::io::{ErrorKind, Read, Write};
+use std::process::Abort;
+
+/// Ann owns the book of sales and may do all there; the staff, ann and bob, may read it and put new cards into it.
+const POLICY: &str = "\
+version = 1
+[[person]]
+name = \"ann\"
+[[person]]
+name = \"bob\"
+[[person]]
+name = \"gus\"
+[[group]]
+name = \"staff\"
+members = [\"/people/ann\", \"/people/bob\"]
+[[book]]
+name = \"sales\"
+label = \"Sales\"
+owner = \"/people/ann\"
+[[entry]]
+at = \"/books/sales\"
+who = \"/people/ann\"
+grant = [\"all\"]
+protected = true
+[[entry]]
+at = \"/books/sales\"
+who = \"/groups/staff\"
+grant = [\"read\", \"bind\"]
+";
+
+/// A machine in memory that has adopted the policy.
+pub(crate) fn machine(rt: &impl Abort, alloc: Global) -> Machine<MemoryKeeper> {
+    let policy = read_policy(alloc, POLICY).ok().expect(rt, "a policy");
+    let mut machine = Machine::new(MemoryKeeper::new(alloc));
+    machine
+        .adopt(alloc, &policy)
+        .ok()
+        .expect(rt, "room for the policy");
+    machine
+}
+
+/// Gives its bytes in pieces of one size; after so many reads each fails.
+#[derive(Drop)]
+struct Input<'a> {
+    rest: &'a [u8],
+    size: usize,
+    reads: u64,
+}
+
+impl Read for Input<'_> {
+    fn read(&mut self, buf: &mut [u8]) -> io::Result<usize> {
+        if self.reads == 0 {
+            return Err(ErrorKind::Other.into());
+        }
+        self.reads -= 1;
+        let count = self.size.min(self.rest.len()).min(buf.len());
+        buf[..count].copy_from_slice(&self.rest[..count]);
+        self.rest = &self.rest[count..];
+        Ok(count)
+    }
+}
+
+/// Takes at most so many bytes a write; after so many writes each fails.
+#[derive(Drop)]
+struct Output {
+    taken: Vec<u8>,
+    size: usize,
+    writes: u64,
+}
+
+impl Write for Output {
+    fn write(&mut self, buf: &[u8]) -> io::Result<usize> {
+        if self.writes == 0 {
+            return Err(ErrorKind::Other.into());
+        }
+        self.writes -= 1;
+        let count = self.size.min(buf.len());
+        self.taken.extend_from_slice(&buf[..count])?;
+        Ok(count)
+    }
+
+    fn flush(&mut self) -> io::Result<()> {
+        Ok(())
+    }
+}
+
+/// How a stream is cut, and when it fails.
+#[derive(Clone, Copy)]
+pub(crate) struct Cutting {
+    /// The most bytes of a read.
+    pub(crate) read: usize,
+    /// The most bytes of a write.
+    pub(crate) write: usize,
+    /// How many reads succeed.
+    pub(crate) reads: u64,
+    /// How many writes succeed.
+    pub(crate) writes: u64,
+}
+
+/// Pieces of at most so many bytes, and no failure.
+pub(crate) fn pieces(read: usize, write: usize) -> Cutting {
+    Cutting {
+        read,
+        write,
+        reads: u64::MAX,
+        writes: u64::MAX,
+    }
+}
+
+/// What is written for a stream that is cut so, and how it ends.
+pub(crate) fn answered(
+    rt: &impl Abort,
+    alloc: Global,
+    machine: &mut Machine<MemoryKeeper>,
+    input: &[u8],
+    cutting: Cutting,
+) -> (String, Result<Served, StreamFault>) {
+    let mut reader = Input {
+        rest: input,
+        size: cutting.read,
+        reads: cutting.reads,
+    };
+    let mut writer = Output {
+        taken: Vec::new(alloc),
+        size: cutting.write,
+        writes: cutting.writes,
+    };
+    let served = serve_stream(alloc, machine, &mut reader, &mut writer);
+    let Output { taken, .. } = writer;
+    let text = String::from_utf8(taken).ok().expect(rt, "UTF-8");
+    (text, served)
+}
