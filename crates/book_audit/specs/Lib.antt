@@ -1,0 +1,3 @@
+pub mod EntryLines
+pub mod Audits
+pub mod Laws

@@ -1,0 +1,4 @@
+pub mod Searches
+pub mod Linking
+pub mod Steps
+pub mod Determined

@@ -1,0 +1,187 @@
+-- The search for what chains of links lead to from some texts.
+use Rattle.std.proofs.Common.{◌≡◌, ℕ, ◌+◌, ◌≤◌, Bool, true, false, cond, ◌||◌, List, [], ◌∷◌, ◌++◌, ◌⊎◌, inl, inr, ◌↔◌, refl, sym, ap, ◌∙◌, arith, unwrap_or, Some}
+use Rattle.std.specs.BTreeMap.{is_at}
+use Rattle.std.specs.FinSet as set
+use Rattle.std.specs.Map.{lookup}
+use Rattle.std.specs.Str.{bytes_eq}
+use Rattle.std.proofs.lemmas.Bool.{or_cases, false≢true}
+use Rattle.std.proofs.lemmas.Cmp.{nat_list_cmp_total, nat_list_eq_equiv}
+use Rattle.std.proofs.lemmas.List.Folds.{list_any-append}
+use Rattle.std.proofs.lemmas.Map.Text.{is_eq-slice_cmp}
+use Rattle.book_lists.specs.Circles.{has_path}
+use Rattle.book_lists.specs.GroupEntries.{GroupEntries, groups_at}
+use Rattle.book_lists.specs.Memberships.{Memberships, IsDirect, Descends, Belongs}
+use Rattle.book_lists.specs.Principals.{path_cmp}
+use Rattle.book_lists.proofs.Pairing.{same_path, path_itself}
+use Rattle.book_links.specs.Reaching.{FromStarts}
+
+-- ---- what is found, with one text more
+found_more : (found : set.FinSet path_cmp) (p q : List ℕ) → set.contains (set.insert found p) q ≡ (bytes_eq p q || set.contains found q)
+found_more found p q = set.contains-insert nat_list_cmp_total found p q ∙ ap (λ b. b || set.contains found q) (is_eq-slice_cmp q p ∙ nat_list_eq_equiv.symm q p)
+
+or_left : (a b : Bool) → a ≡ true → (a || b) ≡ true
+or_left true b h = refl
+or_left false b h = absurd (false≢true h)
+
+or_right : (a b : Bool) → b ≡ true → (a || b) ≡ true
+or_right true b h = refl
+or_right false b h = h
+
+module _ (pairs : Memberships) (starts : List (List ℕ)) where
+  -- found, or still to be looked at
+  abbrev pub IsReached : set.FinSet path_cmp → List (List ℕ) → List ℕ → Type 0
+  IsReached found work q = (set.contains found q ≡ true) ⊎ (has_path work q ≡ true)
+
+  -- a search so far: it began at the start, reaches only what the start belongs to, and of what is found it has reached
+  -- the groups
+  pub record Searches (found : set.FinSet path_cmp) (work : List (List ℕ)) : Type 0 where
+    pub begun : (s : List ℕ) → has_path starts s ≡ true → IsReached found work s
+    pub sound : (q : List ℕ) → IsReached found work q → FromStarts pairs starts q
+    pub closed : (group member : List ℕ) → IsDirect pairs group member → set.contains found member ≡ true → IsReached found work group
+
+  pub search_begins : Searches set.empty starts
+  search_begins = record {
+    begun = λ s has. inr has;
+    sound = λ q r. from_start q r;
+    closed = λ group member direct has. absurd (false≢true (sym (set.contains-empty path_cmp member) ∙ has));
+  }
+    where
+      from_start : (q : List ℕ) → IsReached set.empty starts q → FromStarts pairs starts q
+      from_start q (inl has) = absurd (false≢true (sym (set.contains-empty path_cmp q) ∙ has))
+      from_start q (inr has) = (q, has, inl refl)
+
+  module _ (found : set.FinSet path_cmp) (work : List (List ℕ)) (member : List ℕ) where
+    split : (q : List ℕ) → has_path (work ++ member ∷ []) q ≡ true → (has_path work q ≡ true) ⊎ (bytes_eq member q ≡ true)
+    split q has = elim (or_cases (has_path work q) (bytes_eq member q || false) (sym (list_any-append (λ p. bytes_eq p q) work (member ∷ [])) ∙ has)) [
+      | inl old ↦ inl old
+      | inr new ↦ elim (or_cases (bytes_eq member q) false new) [ inl same ↦ inr same | inr never ↦ absurd (false≢true never) ]
+    ]
+
+    in_work : has_path (work ++ member ∷ []) member ≡ true
+    in_work = list_any-append (λ p. bytes_eq p member) work (member ∷ []) ∙ or_right (has_path work member) _ (or_left _ _ (path_itself member))
+
+    still_in_work : (q : List ℕ) → has_path work q ≡ true → has_path (work ++ member ∷ []) q ≡ true
+    still_in_work q has = list_any-append (λ p. bytes_eq p q) work (member ∷ []) ∙ or_left _ _ has
+
+    -- the last text of the work is found already
+    pub seen_again : set.contains found member ≡ true → Searches found (work ++ member ∷ []) → Searches found work
+    seen_again there s = record {
+      begun = λ q has. kept q (s.begun q has);
+      sound = λ q r. s.sound q (wider q r);
+      closed = λ group p direct has. kept group (s.closed group p direct has);
+    }
+      where
+        kept : (q : List ℕ) → IsReached found (work ++ member ∷ []) q → IsReached found work q
+        kept q (inl has) = inl has
+        kept q (inr has) = elim (split q has) [
+          | inl old ↦ inr old
+          | inr same ↦ inl (ap (set.contains found) (sym (same_path member q same)) ∙ there)
+        ]
+
+        wider : (q : List ℕ) → IsReached found work q → IsReached found (work ++ member ∷ []) q
+        wider q (inl has) = inl has
+        wider q (inr has) = inr (still_in_work q has)
+
+    -- it is new: it is found, and its groups are work
+    pub seen_first : (added : List (List ℕ)) → ((q : List ℕ) → (has_path added q ≡ true) ↔ IsDirect pairs q member)
+        → Searches found (work ++ member ∷ []) → Searches (set.insert found member) (work ++ added)
+    seen_first added direct s = record {
+      begun = λ q has. kept q (s.begun q has);
+      sound = λ q r. reached q r;
+      closed = λ group p pair has. elim (or_cases _ _ (sym (found_more found member p) ∙ has)) [
+        | inl same ↦ inr (of_added group ((direct group).1 (ap (λ m. set.contains pairs (record { group = group; member = m })) (same_path member p same) ∙ pair)))
+        | inr old ↦ kept group (s.closed group p pair old)
+      ];
+    }
+      where
+        of_added : (q : List ℕ) → has_path added q ≡ true → has_path (work ++ added) q ≡ true
+        of_added q has = list_any-append (λ p. bytes_eq p q) work added ∙ or_right (has_path work q) (has_path added q) has
+
+        of_work : (q : List ℕ) → has_path work q ≡ true → has_path (work ++ added) q ≡ true
+        of_work q has = list_any-append (λ p. bytes_eq p q) work added ∙ or_left (has_path work q) (has_path added q) has
+
+        kept : (q : List ℕ) → IsReached found (work ++ member ∷ []) q → IsReached (set.insert found member) (work ++ added) q
+        kept q (inl has) = inl (found_more found member q ∙ or_right (bytes_eq member q) _ has)
+        kept q (inr has) = elim (split q has) [
+          | inl old ↦ inr (of_work q old)
+          | inr same ↦ inl (found_more found member q ∙ or_left (bytes_eq member q) _ same)
+        ]
+
+        belongs : FromStarts pairs starts member
+        belongs = s.sound member (inr in_work)
+
+        joined_to : (start q : List ℕ) → IsDirect pairs q member → Belongs pairs start member → Belongs pairs start q
+        joined_to start q pair (inl same) = inr (member, [], (pair, sym same))
+        joined_to start q pair (inr chain) = inr (member, chain.0 ∷ chain.1, (pair, chain.2))
+
+        joined : (q : List ℕ) → IsDirect pairs q member → FromStarts pairs starts member → FromStarts pairs starts q
+        joined q pair from = (from.0, from.1, joined_to from.0 q pair from.2)
+
+        reached : (q : List ℕ) → IsReached (set.insert found member) (work ++ added) q → FromStarts pairs starts q
+        reached q (inl has) = elim (or_cases _ _ (sym (found_more found member q) ∙ has)) [
+          | inl same ↦ let B : List ℕ → Type 0 = FromStarts pairs starts in rw (← same_path member q same) belongs
+          | inr old ↦ s.sound q (inl old)
+        ]
+        reached q (inr has) = elim (or_cases (has_path work q) (has_path added q) (sym (list_any-append (λ p. bytes_eq p q) work added) ∙ has)) [
+          | inl old ↦ s.sound q (inr (still_in_work q old))
+          | inr new ↦ joined q ((direct q).0 new) belongs
+        ]
+
+  -- with no work left exactly what chains lead to from the starts is found
+  pub search_ends : (found : set.FinSet path_cmp) → Searches found [] → (q : List ℕ) → (set.contains found q ≡ true) ↔ FromStarts pairs starts q
+  search_ends found s q = (λ has. s.sound q (inl has), λ b. all b.0 q b.1 b.2)
+    where
+      only : (p : List ℕ) → IsReached found [] p → set.contains found p ≡ true
+      only p (inl has) = has
+      only p (inr never) = absurd (false≢true never)
+
+      climbs : (start : List ℕ) → has_path starts start ≡ true → (group : List ℕ) (members : List (List ℕ)) → Descends pairs group members start → set.contains found group ≡ true
+      climbs start is group [] same = ap (set.contains found) same ∙ only start (s.begun start is)
+      climbs start is group (member ∷ members) d = only group (s.closed group member d.0 (climbs start is member members d.1))
+
+      all : (start q : List ℕ) → has_path starts start ≡ true → Belongs pairs start q → set.contains found q ≡ true
+      all start q is (inl same) = ap (set.contains found) (sym same) ∙ only start (s.begun start is)
+      all start q is (inr chain) = climbs start is q (chain.0 ∷ chain.1) chain.2
+
+-- ---- the search ends: the groups of a member are added to the work once
+-- how many groups the members that are not found have
+abbrev pub ahead : GroupEntries → set.FinSet path_cmp → ℕ
+ahead [] found = 0
+ahead (e ∷ es) found = cond (set.contains found e.0) 0 (set.len e.1) + ahead es found
+
+module _ (found : set.FinSet path_cmp) (member : List ℕ) where
+  -- what one entry has ahead does not grow
+  entry_falls : (k : List ℕ) (n : ℕ) → cond (set.contains (set.insert found member) k) 0 n ≤ cond (set.contains found k) 0 n
+  entry_falls k n = go (set.contains found k) (set.contains (set.insert found member) k) (λ h. found_more found member k ∙ or_right (bytes_eq member k) _ h)
+    where
+      go : (was is : Bool) → (was ≡ true → is ≡ true) → cond is 0 n ≤ cond was 0 n
+      go true true h = omega arith
+      go true false h = absurd (false≢true (h refl))
+      go false true h = omega arith
+      go false false h = omega arith
+
+  ahead_falls : (es : GroupEntries) → ahead es (set.insert found member) ≤ ahead es found
+  ahead_falls [] = omega arith
+  ahead_falls (e ∷ es) =
+      let ih = ahead_falls es in
+      let here = entry_falls e.0 (set.len e.1) in
+      omega (arith, ih, here)
+
+  -- the groups of a principal that is new are spent
+  pub ahead_spent : (es : GroupEntries) → set.contains found member ≡ false → ahead es (set.insert found member) + set.len (groups_at es member) ≤ ahead es found
+  ahead_spent [] new = let none : set.len (set.empty {R = path_cmp}) ≡ 0 = set.len-empty path_cmp in omega (arith, none)
+  ahead_spent (e ∷ es) new = go (ahead_spent es new) (is_at (path_cmp member) e.0) refl
+    where
+      go : ahead es (set.insert found member) + set.len (groups_at es member) ≤ ahead es found → (b : Bool) → is_at (path_cmp member) e.0 ≡ b
+          → cond (set.contains (set.insert found member) e.0) 0 (set.len e.1) + ahead es (set.insert found member) + set.len (unwrap_or (cond b (Some e.1) (lookup (is_at (path_cmp member)) es)) set.empty)
+          ≤ cond (set.contains found e.0) 0 (set.len e.1) + ahead es found
+      go ih true tie =
+          let eq : bytes_eq member e.0 ≡ true = sym (is_eq-slice_cmp member e.0) ∙ tie in
+          let same : member ≡ e.0 = same_path member e.0 eq in
+          let is : ◌≡◌ {A = ℕ} (cond (set.contains (set.insert found member) e.0) 0 (set.len e.1)) 0 = ap (λ b. cond b 0 (set.len e.1)) (found_more found member e.0 ∙ or_left _ _ eq) in
+          let was : ◌≡◌ {A = ℕ} (cond (set.contains found e.0) 0 (set.len e.1)) (set.len e.1) = ap (λ b. cond b 0 (set.len e.1)) (ap (set.contains found) (sym same) ∙ new) in
+          let rest = ahead_falls es in
+          omega (arith, is, was, rest)
+      go ih false tie =
+          let here = entry_falls e.0 (set.len e.1) in
+          omega (arith, ih, here)
