@@ -1,4 +1,5 @@
 pub mod Adoptions
+pub mod BareAdoption
 pub mod KeptPairs
 pub mod Merges
 pub mod SameMaps

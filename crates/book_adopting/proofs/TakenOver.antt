@@ -101,7 +101,7 @@ bare_again : (r : Option Book) → option_map emptied (option_map emptied r) ≡
 bare_again None = refl
 bare_again (Some book) = refl
 
-bare_twice : (m : NamesTo Book) → bare_books (bare_books m) ≡ bare_books m
+pub bare_twice : (m : NamesTo Book) → bare_books (bare_books m) ≡ bare_books m
 bare_twice m = same_map nat_list_cmp_total names_apart _ _ (λ q.
     get_mapped _ (bare_books m) q ∙ ap (option_map emptied) (get_mapped _ m q) ∙ bare_again (get m q) ∙ sym (get_mapped _ m q))
 

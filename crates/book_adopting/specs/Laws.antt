@@ -2,7 +2,8 @@
 use Rattle.std.specs.Prelude.{◌≡◌, ◌+◌}
 use Rattle.book_policies.specs.declared.parts.PolicyTables.{PolicyTables}
 use Rattle.book_values.specs.declared.offices.Office.{Office}
-use Rattle.book_adopting.specs.Adopting.{adopt, taken_over}
+use Rattle.book_adopting.specs.Adopting.{adopt, adoption_of, taken_over}
+use Rattle.book_adopting.specs.TakingOver.{bare}
 
 -- to adopt a policy twice is to adopt it once, the epoch included
 abbrev pub AdoptingTwiceIsOnce : Type 0
@@ -16,3 +17,11 @@ AdoptingMayChangeNothing = (t : PolicyTables) (o : Office) → taken_over t o �
 abbrev pub AdoptingRaisesTheEpoch : Type 0
 AdoptingRaisesTheEpoch = (t : PolicyTables) (o : Office) → (taken_over t o ≡ o → ⊥)
     → adopt t o ≡ record (taken_over t o) { epoch = o.epoch + 1 }
+
+-- what adopting a policy does is told by the Office without its cards and changes
+abbrev pub AdoptionNeedsNoCards : Type 0
+AdoptionNeedsNoCards = (t : PolicyTables) (o : Office) → adoption_of t (bare o) ≡ adoption_of t o
+
+-- and so is what it makes of the Office, but for cards and changes
+abbrev pub AdoptingNeedsNoCards : Type 0
+AdoptingNeedsNoCards = (t : PolicyTables) (o : Office) → bare (adopt t (bare o)) ≡ bare (adopt t o)

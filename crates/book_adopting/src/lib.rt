@@ -2,7 +2,8 @@
 //!
 //! It stands on `book_policies` and the crates below. The crate above uses that `adopt` leaves exactly the Office that the
 //! definition says, or on an error the Office as it was; that `adoption` tells beforehand whether anything changes and how
-//! many books there are then; and that adopting twice is adopting once.
+//! many books there are then; that adopting twice is adopting once; and that all of it is told without cards, so that a
+//! store has to read none.
 //!
 //! Read `adopting` first, then `comparing`.
 #![tactic(auto)]
@@ -12,4 +13,4 @@ mod comparing;
 mod laws;
 
 pub use adopting::{Adoption, adopt, adoption_of};
-pub use laws::adopting_twice_is_adopting_once;
+pub use laws::{adopting_needs_no_cards, adopting_twice_is_adopting_once};

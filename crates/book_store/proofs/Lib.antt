@@ -1,2 +1,4 @@
 pub mod Tabling
 pub mod FirstRows
+pub mod RisingRows
+pub mod WholeTables

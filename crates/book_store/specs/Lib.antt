@@ -1,1 +1,4 @@
 pub mod Founding
+pub mod Layout
+pub mod Versions
+pub mod Whole

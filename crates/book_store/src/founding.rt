@@ -1,6 +1,6 @@
 //! A store is founded, in one transaction.
 
-ghost use Rattle.std.specs.Prelude.{◌≡◌, ◌↔◌, IsTrue, OnOk, OnErr};
+ghost use Rattle.std.specs.Prelude.{◌≡◌, ◌≢◌, ◌↔◌, ◌⊎◌, IsTrue, Err, OnOk, OnErr};
 ghost use Rattle.sqlite.specs.Held.{state};
 ghost use Rattle.sqlite.specs.State.{HasCleanDisk, Survives};
 ghost use Rattle.book_rows.specs.Steps.{Keeps, Stays};
@@ -43,6 +43,9 @@ pub fn create<S: Alter>(connection: &mut Connection<S>) -> Result<(), Error>
         → OnErr result (Stays (state S.Store connection.old) (state S.Store connection.new)) }
     ensures left { Survives (state S.Store connection.old) (state S.Store connection.new)
         (MayFound (state S.Store connection.old)) }
+    ensures taken { (state S.Store connection.old).now.schema ≢ no_schema
+        → (result ≡ Err (Error.SqliteFailure ErrorCode.TransactionState))
+        ⊎ (result ≡ Err (Error.SqliteFailure ErrorCode.NameTaken)) }
 {
     if !connection.is_autocommit() {
         return Err(Error::SqliteFailure(ErrorCode::TransactionState));

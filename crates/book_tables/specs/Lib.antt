@@ -2,4 +2,11 @@ pub mod Rows
 pub mod Stands
 pub mod Keeps
 pub mod Reading
+pub mod Opened
+pub mod RowTests
 pub mod Laws
+pub mod Settings
+pub mod BareOffice
+pub mod Listing
+pub mod Children
+pub mod LastChanges

@@ -7,16 +7,29 @@
 //! `Ok` the rows stand for the edited Office, and a stop leaves that one alone; at an error they stand for the Office
 //! that was there, and a stop leaves what it could leave before or the edited one. A read meets the trait's clause too.
 //!
-//! Not there yet: `Tables` is no `Keeper`, and no call makes one, since `create` and `open` are still to come. It has
-//! the edits of cards and books and of labels; those that replace an own list or the members of a group, and adopting
-//! a policy, have no method. Of the reads it has `find`, `epoch` and `failures`; children, counts, lists, changes,
-//! members and what adopting would do are still to come. No crate uses it yet.
+//! `Tables::create` makes the tables of a new store, which stand for the empty Office, and `release` gives the connection
+//! back. `are_entries` is a part of what opening a store is to test: that each entry is spelled in the one way.
+//!
+//! Not there yet: `Tables` is no `Keeper`, since it has every read of the trait, but of the edits all but adopting a
+//! policy; and no call opens the tables of a store that is there. No crate but examples uses it yet.
 #![tactic(auto)]
 
+mod bare_office;
+mod changes;
+mod entries;
 mod faults;
 mod laws;
+mod levels;
+mod listing_rows;
+mod members;
+mod opening;
+mod places;
 mod reading;
+mod row_tests;
+mod settings;
 mod tables;
 
 pub use laws::tables_stand_for_one_office;
+pub use opening::OpenFault;
+pub use row_tests::are_entries;
 pub use tables::Tables;

@@ -16,7 +16,7 @@ use sqlite::{Alter, Connection, Error, ErrorCode};
 use std::alloc::Global;
 
 /// The kind with a code; an error for a code that no kind has.
-fn kind_of(code: u32) -> Result<Kind, Error>
+pub(crate) fn kind_of(code: u32) -> Result<Kind, Error>
     ensures { IfOk result (λ kind. kind ≡ kind_numbered code) }
 {
     match code {
@@ -31,7 +31,7 @@ fn kind_of(code: u32) -> Result<Kind, Error>
 }
 
 /// The principal with this path; an error where it is the path of none.
-fn principal_of(alloc: Global, path: &str) -> Result<Principal, Error>
+pub(crate) fn principal_of(alloc: Global, path: &str) -> Result<Principal, Error>
     ensures { IfOk result (λ principal. principal ≡ path.now) }
 {
     let Some(principal) = Principal::parse(alloc, path)? else {
@@ -44,7 +44,7 @@ fn principal_of(alloc: Global, path: &str) -> Result<Principal, Error>
 }
 
 /// The owner with this path, if there is one.
-fn owner_of(alloc: Global, path: Option<String>) -> Result<Option<Principal>, Error>
+pub(crate) fn owner_of(alloc: Global, path: Option<String>) -> Result<Option<Principal>, Error>
     ensures { IfOk result (λ owner. owner ≡ option_map string_bytes path) }
 {
     let Some(path) = path else {

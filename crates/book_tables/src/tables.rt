@@ -35,12 +35,12 @@ use std::alloc::{AllocError, Global};
 /// the Office as it was; a connection that a fault has shut shows nothing, and the store has to be opened anew.
 #[derive(Drop)]
 pub struct Tables<S: Alter> {
-    connection: Connection<S>,
-    failures: u64,
+    pub(crate) connection: Connection<S>,
+    pub(crate) failures: u64,
 }
 
 /// The text of the path of a book.
-fn book_text(alloc: Global, book: &Name) -> Result<Text, AllocError>
+pub(crate) fn book_text(alloc: Global, book: &Name) -> Result<Text, AllocError>
     ensures { IfOk result (λ text. text ≡ book_path book.now) }
 {
     let path = Path::Book(book.clone()?);
@@ -56,7 +56,7 @@ fn card_text(alloc: Global, book: &Name, card: &Name) -> Result<Text, AllocError
 }
 
 /// The text of a path.
-fn text_of(alloc: Global, path: &Path) -> Result<Text, AllocError>
+pub(crate) fn text_of(alloc: Global, path: &Path) -> Result<Text, AllocError>
     ensures { IfOk result (λ text. text ≡ path_text path.now) }
 {
     Ok(Text::from_string(path.text(alloc)?))

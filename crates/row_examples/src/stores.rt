@@ -4,7 +4,7 @@ use book_rows::{
     changed_rows, child_entry_rows, child_rows, entry_rows, gone_rows, insert_node, lists_at,
     look_up, member_rows, read_epoch,
 };
-use book_store::create;
+use book_store::{all_entry_rows, all_gone_rows, all_meta_rows, all_node_rows, create};
 use sqlite::{Connection, MemStore, Row};
 use std::alloc::Global;
 use std::process::Abort;
@@ -201,4 +201,26 @@ pub(crate) fn epoch(rt: &impl Abort, connection: &mut Connection<MemStore>) -> u
     assert!(rt; connection.is_autocommit());
     let mut transaction = connection.transaction();
     read_epoch(&mut transaction).expect(rt, "the epoch")
+}
+
+/// How many rows the tables of nodes, entries and removed names have, and the rows of `meta`.
+pub(crate) fn whole_rows(
+    rt: &impl Abort,
+    alloc: Global,
+    connection: &mut Connection<MemStore>,
+) -> String {
+    assert!(rt; connection.is_autocommit());
+    let mut transaction = connection.transaction();
+    let nodes = all_node_rows(&mut transaction).expect(rt, "nodes");
+    let entries = all_entry_rows(&mut transaction).expect(rt, "entries");
+    let gone = all_gone_rows(&mut transaction).expect(rt, "removed names");
+    let meta = all_meta_rows(&mut transaction).expect(rt, "meta");
+    let meta = told(rt, alloc, &meta, "nn");
+    format!(in alloc;
+        "{} nodes, {} entries, {} removed, meta {meta}",
+        nodes.len(),
+        entries.len(),
+        gone.len()
+    )
+    .expect(rt, "memory")
 }

@@ -1,0 +1,82 @@
+-- Rows of lists tell the lists of an Office.
+use Rattle.std.proofs.Common.{◌≡◌, ℕ, Bool, true, false, List, [], ◌∷◌, ◌++◌, map, Option, Some, None, option_map, unwrap_or, refl, sym, ap, ◌∙◌, append_assoc}
+use Rattle.std.specs.List.{AllByRecursion}
+use Rattle.sqlite.specs.declared.types.Value.{Value}
+use Rattle.sqlite.specs.declared.types.Value.TheVariants.{Int}
+use Rattle.sqlite.specs.Edit.{id_in}
+use Rattle.sqlite.specs.Order.{Row}
+use Rattle.sqlite.specs.State.{State}
+use Rattle.sqlite.specs.Tree.{rowid}
+use Rattle.sqlite_keyed.proofs.ListLemmas.{map-map}
+use Rattle.sqlite_trees.specs.View.{IsShaped}
+use Rattle.sqlite_trees.specs.declared.store.Shape.TheVariants.{Table as TableShape}
+use Rattle.book_values.specs.declared.offices.Office.{Office}
+use Rattle.book_values.specs.declared.paths.Path.{Path}
+use Rattle.book_values.specs.declared.paths.Path.TheVariants as path
+use Rattle.book_values.specs.Paths.{IsPath, path_text, levels}
+use Rattle.book_office.specs.Levels.{level_at, lists_at}
+use Rattle.book_office.specs.Resources.{Resource, resource_at}
+use Rattle.book_office.specs.declared.nodes.Level.{Level}
+use Rattle.book_office.specs.declared.nodes.Lists.{Lists}
+use Rattle.book_rows.specs.Lists.{entry_columns}
+use Rattle.book_rows.specs.Rows.{Rows, rows_of}
+use Rattle.book_rows.specs.Writes.{entries_of}
+use Rattle.book_tables.specs.Listing.{entry_shown, list_told, level_told, ShowsLists}
+use Rattle.book_tables.specs.Rows.{entry_of, list_in, row_at, resource_of}
+use Rattle.book_tables.specs.Stands.{Gives, StandsFor}
+use Rattle.book_tables.proofs.Acting.{nodes_of}
+use Rattle.book_tables.proofs.LabelledNodes.{map_twice}
+use Rattle.book_tables.proofs.RowFacts.{number_of_row}
+
+module _ (rows : Rows) (o : Office) (gives : Gives rows o) (shaped : IsShaped TableShape rows.nodes) where
+  number_is : (t : List ℕ) (row : Row) → row_at rows t ≡ Some row → Int (id_in (rowid row)) ≡ rowid row
+  number_is t row found = let n = number_of_row rows o gives shaped t row found in ap (λ v. Int (id_in v)) n.1 ∙ sym n.1
+
+  -- the list of the row at a path, in the columns that are shown and in its own
+  list_is : (t : List ℕ) (protected : Bool) → list_told rows t protected ≡ unwrap_or (option_map (λ node. list_in rows.entries (rowid node) protected) (row_at rows t)) []
+  list_is t protected = go (row_at rows t) refl
+    where
+      go : (r : Option Row) → row_at rows t ≡ r
+          → map (entry_shown 0) (unwrap_or (option_map (λ node. map entry_columns (entries_of rows.entries (Int (id_in (rowid node))) protected)) r) [])
+          ≡ unwrap_or (option_map (λ node. list_in rows.entries (rowid node) protected) r) []
+      go None e = refl
+      go (Some node) e =
+          map-map (entry_shown 0) entry_columns (entries_of rows.entries (Int (id_in (rowid node))) protected)
+          ∙ ap (λ (id : Value). map entry_of (entries_of rows.entries id protected)) (number_is t node e)
+
+  -- what the row at a path gives of its resource
+  read_is : {A : Type 0} (read : Resource → A) (none : A) (q : Path) → IsPath q
+      → unwrap_or (option_map (λ node. read (resource_of rows.entries node)) (row_at rows (path_text q))) none ≡ unwrap_or (option_map read (resource_at o q)) none
+  read_is read none q is_path =
+      ap (λ r. unwrap_or r none) (sym (map_twice (resource_of rows.entries) read (row_at rows (path_text q))) ∙ ap (option_map read) (gives.resources q is_path))
+
+  level_is : (q : Path) → IsPath q → level_told rows q ≡ level_at o q
+  level_is q is_path = λ i. record {
+    path = q;
+    protected = (list_is (path_text q) true ∙ read_is (λ (r : Resource). r.protected) [] q is_path) i;
+    own = (list_is (path_text q) false ∙ read_is (λ (r : Resource). r.own) [] q is_path) i;
+  }
+
+  levels_are : (ps : List Path) → AllByRecursion IsPath ps → map (level_told rows) ps ≡ map (level_at o) ps
+  levels_are [] paths = refl
+  levels_are (q ∷ ps) paths = λ i. level_is q paths.0 i ∷ levels_are ps paths.1 i
+
+above_are : (p : Path) → IsPath p → AllByRecursion IsPath (levels p)
+above_are path.Root is = (is, tt)
+above_are path.People is = (is, (tt, tt))
+above_are path.Groups is = (is, (tt, tt))
+above_are path.Books is = (is, (tt, tt))
+above_are (path.Person n) is = (is, (tt, (tt, tt)))
+above_are (path.Group n) is = (is, (tt, (tt, tt)))
+above_are (path.Book b) is = (is, (tt, (tt, tt)))
+above_are (path.Card b c) is = (is, (is.0, (tt, (tt, tt))))
+
+pub lists_are : (s : State) (p : Path) → IsPath p → (found : Lists) → ShowsLists s p found → (o : Office) → StandsFor s o → found ≡ lists_at o p
+lists_are s p is_path found shows o stands =
+    let st = stands.0 shows.0 in
+    shows.1 st.book ∙ (λ i. record { levels = levels_are (rows_of s.now.trees) o st.gives (nodes_of s.now st.book).shaped (levels p) (above_are p is_path) i })
+
+-- one more level is told
+pub one_more_level : (f : Path → Level) (told : List Level) (level : Level) (q : Path) (rest : List Path) (all : List Level)
+    → told ++ map f (q ∷ rest) ≡ all → level ≡ f q → (told ++ level ∷ []) ++ map f rest ≡ all
+one_more_level f told level q rest all so_far is = append_assoc told (level ∷ []) (map f rest) ∙ ap (λ (l : Level). told ++ l ∷ map f rest) is ∙ so_far

@@ -1,0 +1,127 @@
+-- What is told of rows with their lists, one by one.
+use Rattle.std.proofs.Common.{◌≡◌, ℕ, ℤ, Bool, true, ◌+◌, ◌<◌, false, List, [], ◌∷◌, ◌++◌, map, take, length, get_or, codes, Option, Some, None, option_map, unwrap_or, refl, sym, ap, subst, ◌∙◌, IsPermutation}
+use Rattle.std.proofs.lemmas.List.{map-append, take_more}
+use Rattle.std.proofs.lemmas.List.Sorted.{IsPermutation-refl, IsPermutation-trans, IsPermutation-map, IsPermutation-append}
+use Rattle.sqlite.specs.declared.types.Value.TheVariants.{Int}
+use Rattle.sqlite.specs.Edit.{id_in}
+use Rattle.sqlite.specs.Effect.{Database}
+use Rattle.sqlite.specs.Order.{Row, column}
+use Rattle.sqlite.specs.State.{State}
+use Rattle.sqlite_keyed.proofs.ListLemmas.{map-map}
+use Rattle.book_lists.specs.declared.entries.Entry.{Entry}
+use Rattle.book_office.specs.declared.nodes.Changed.{Changed}
+use Rattle.book_office.specs.declared.nodes.Listed.{Listed}
+use Rattle.sqlite.specs.Tree.{rowid}
+use Rattle.book_values.proofs.OneName.{some_apart, same_some}
+use Rattle.book_rows.specs.declared.nodes.Found.{Found}
+use Rattle.book_rows.specs.Lists as lists
+use Rattle.book_rows.specs.Lists.{ShowsList, ShowsRows, ShowsChildren, entry_columns}
+use Rattle.book_rows.specs.Nodes.{Finds, Told, told, told_of}
+use Rattle.book_rows.specs.Rows.{rows_of, IsBook}
+use Rattle.book_rows.specs.Steps.{Looks}
+use Rattle.book_rows.specs.Writes.{entries_of}
+use Rattle.book_tables.specs.Children.{ShowsChild, ShowsListing, listed_shown, child_shown}
+use Rattle.book_tables.specs.LastChanges.{ShowsEntries, ShowsCard, ShowsChanges, changed_shown, own_shown, card_shown, removed_shown, changes_of}
+use Rattle.book_tables.specs.Listing.{entry_shown}
+use Rattle.book_tables.specs.Rows.{row_at, list_in}
+
+pub entries_told : (s : State) (id : ℤ) (protected : Bool) (rows : List Row) (list : List Entry) → ShowsList s id protected rows → list ≡ map (entry_shown 0) rows → ShowsEntries s id protected list
+entries_told s id protected rows list shows is = (
+  shows.0,
+  λ book. is ∙ ap (map (entry_shown 0)) (shows.1 book) ∙ map-map (entry_shown 0) entry_columns (entries_of (rows_of s.now.trees).entries (Int id) protected),
+)
+
+pub card_told : (s : State) (front : List ℕ) (row : Row) (own : List Entry) (changed : Changed) → ShowsEntries s (id_in (column row 0)) false own → changed ≡ changed_shown front own row → ShowsCard s front row changed
+card_told s front row own changed shows is book = is ∙ ap (λ list. changed_shown front list row) (shows.1 book)
+
+-- what is shown after a read was there before it
+pub card_before : (old mid : State) (front : List ℕ) (row : Row) (changed : Changed) → Looks old mid → ShowsCard mid front row changed → ShowsCard old front row changed
+card_before old mid front row changed looks shows book =
+    shows (subst IsBook (sym (looks.same book)) book) ∙ ap (λ (d : Database). changed_shown front (own_shown (rows_of d.trees) row) row) (looks.same book)
+
+-- one row more is told
+pub told_next : {X Y : Type 0} (f : X → Y) (rows : List X) (i : ℕ) (item : X) (so_far : List Y) (y : Y) → i < length rows → get_or rows i item ≡ item → so_far ≡ map f (take i rows) → y ≡ f item
+    → so_far ++ y ∷ [] ≡ map f (take (i + 1) rows)
+told_next f rows i item so_far y within is told_so_far told_now =
+    (λ j. told_so_far j ++ told_now j ∷ []) ∙ sym (map-append f (take i rows) (item ∷ [])) ∙ ap (map f) (sym (take_more rows i item within ∙ ap (λ x. take i rows ++ x ∷ []) is))
+
+-- no row has the path
+pub none_changed : (s : State) (path : List ℕ) (number : ℕ) (found : Option Found) → found ≡ None → Finds s path (option_map told found) → ShowsChanges s path number []
+none_changed s path number found is finds = (finds.0, λ book. go book (row_at (rows_of s.now.trees) path) refl)
+  where
+    go : IsBook s.now → (r : Option Row) → row_at (rows_of s.now.trees) path ≡ r → IsPermutation (unwrap_or (option_map (changes_of (rows_of s.now.trees) (path ++ codes "/") number) r) []) []
+    go book None e = IsPermutation-refl []
+    go book (Some node) e = some_apart (sym (ap (option_map told_of) e) ∙ sym (finds.1 book) ∙ ap (option_map told) is)
+
+module _ (old first second third : State) (path front : List ℕ) (number : ℕ) (f : Found) (found : Option Found) (is : found ≡ Some f) (finds : Finds old path (option_map told found))
+    (look : Looks old first) (look_on : Looks first second) (look_last : Looks second third) (cards names : List Row)
+    (shows_cards : ShowsRows first (lists.changed_after f.id number) cards) (shows_names : ShowsRows second (lists.gone_after f.id number) names) (front_is : front ≡ path ++ codes "/")
+    (shown changes : List Changed) (are_shown : IsBook third.now → shown ≡ map (card_shown (rows_of third.now.trees) front) cards) (changes_are : changes ≡ shown ++ map removed_shown names) where
+  at_node : IsBook old.now → (r : Option Row) → row_at (rows_of old.now.trees) path ≡ r → IsPermutation (unwrap_or (option_map (changes_of (rows_of old.now.trees) (path ++ codes "/") number) r) []) changes
+  at_node book None e = some_apart (sym (ap (option_map told) is) ∙ finds.1 book ∙ ap (option_map told_of) e)
+  at_node book (Some node) e =
+      let same : told f ≡ told_of node = same_some _ _ (sym (ap (option_map told) is) ∙ finds.1 book ∙ ap (option_map told_of) e) in
+      let id : f.id ≡ id_in (rowid node) = ap (λ (t : Told). t.id) same in
+      let rows = rows_of old.now.trees in
+      let e1 : first.now ≡ old.now = look.same book in
+      let b1 : IsBook first.now = subst IsBook (sym e1) book in
+      let e2 : second.now ≡ old.now = look_on.same b1 ∙ e1 in
+      let b2 : IsBook second.now = subst IsBook (sym e2) book in
+      let e3 : third.now ≡ old.now = look_last.same b2 ∙ e2 in
+      let b3 : IsBook third.now = subst IsBook (sym e3) book in
+      let in_cards : IsPermutation (lists.changed_after (id_in (rowid node)) number rows) cards =
+      subst (λ k. IsPermutation (lists.changed_after k number rows) cards) id (subst (λ (d : Database). IsPermutation (lists.changed_after f.id number (rows_of d.trees)) cards) e1 (shows_cards.1 b1)) in
+      let in_names : IsPermutation (lists.gone_after (id_in (rowid node)) number rows) names =
+      subst (λ k. IsPermutation (lists.gone_after k number rows) names) id (subst (λ (d : Database). IsPermutation (lists.gone_after f.id number (rows_of d.trees)) names) e2 (shows_names.1 b2)) in
+      let all : changes ≡ map (card_shown rows (path ++ codes "/")) cards ++ map removed_shown names =
+      changes_are ∙ ap (λ l. l ++ map removed_shown names) (are_shown b3 ∙ ap (λ (d : Database). map (card_shown (rows_of d.trees) front) cards) e3 ∙ ap (λ t. map (card_shown rows t) cards) front_is) in
+      subst (IsPermutation (changes_of rows (path ++ codes "/") number node)) (sym all)
+      (IsPermutation-append _ _ _ _ (IsPermutation-map (card_shown rows (path ++ codes "/")) _ _ in_cards) (IsPermutation-map removed_shown _ _ in_names))
+
+  pub all_changed : ShowsChanges old path number changes
+  all_changed = (finds.0, λ book. at_node book (row_at (rows_of old.now.trees) path) refl)
+
+-- the order in which changes are shown is free
+pub in_any_order : (s : State) (path : List ℕ) (number : ℕ) (changes ordered : List Changed) → ShowsChanges s path number changes → IsPermutation changes ordered → ShowsChanges s path number ordered
+in_any_order s path number changes ordered shows same = (shows.0, λ book. IsPermutation-trans _ _ _ (shows.1 book) same)
+
+-- ---- children
+
+-- the child of a row whose lists were shown one after the other
+pub child_told : (old mid : State) (front : List ℕ) (row : Row) (protected own : List Entry) (listed : Listed) → Looks old mid → ShowsEntries old (id_in (column row 0)) true protected
+    → ShowsEntries mid (id_in (column row 0)) false own → listed ≡ listed_shown front protected own row → ShowsChild old front row listed
+child_told old mid front row protected own listed looks first second is book =
+    let later : own ≡ list_in (rows_of old.now.trees).entries (Int (id_in (column row 0))) false =
+    second.1 (subst IsBook (sym (looks.same book)) book) ∙ ap (λ (d : Database). list_in (rows_of d.trees).entries (Int (id_in (column row 0))) false) (looks.same book) in
+    is ∙ (λ i. listed_shown front (first.1 book i) (later i) row)
+
+pub child_before : (old mid : State) (front : List ℕ) (row : Row) (listed : Listed) → Looks old mid → ShowsChild mid front row listed → ShowsChild old front row listed
+child_before old mid front row listed looks shows book =
+    shows (subst IsBook (sym (looks.same book)) book) ∙ ap (λ (d : Database). child_shown (rows_of d.trees) front row) (looks.same book)
+
+pub none_listed : (s : State) (path front : List ℕ) (found : Option Found) → found ≡ None → Finds s path (option_map told found) → ShowsListing s path front []
+none_listed s path front found is finds = (finds.0, λ book. go book (row_at (rows_of s.now.trees) path) refl)
+  where
+    go : IsBook s.now → (r : Option Row) → row_at (rows_of s.now.trees) path ≡ r
+        → [] ≡ unwrap_or (option_map (λ node. map (child_shown (rows_of s.now.trees) front) (lists.children_of (id_in (rowid node)) (rows_of s.now.trees))) r) []
+    go book None e = refl
+    go book (Some node) e = some_apart (sym (ap (option_map told_of) e) ∙ sym (finds.1 book) ∙ ap (option_map told) is)
+
+module _ (old first second : State) (path front : List ℕ) (f : Found) (found : Option Found) (is : found ≡ Some f) (finds : Finds old path (option_map told found)) (look : Looks old first) (look_on : Looks first second)
+    (rows : List Row) (shows : ShowsChildren first f.id rows) (children : List Listed) (are_shown : IsBook second.now → children ≡ map (child_shown (rows_of second.now.trees) front) rows) where
+  listed_at : IsBook old.now → (r : Option Row) → row_at (rows_of old.now.trees) path ≡ r
+      → children ≡ unwrap_or (option_map (λ node. map (child_shown (rows_of old.now.trees) front) (lists.children_of (id_in (rowid node)) (rows_of old.now.trees))) r) []
+  listed_at book None e = some_apart (sym (ap (option_map told) is) ∙ finds.1 book ∙ ap (option_map told_of) e)
+  listed_at book (Some node) e =
+      let same : told f ≡ told_of node = same_some _ _ (sym (ap (option_map told) is) ∙ finds.1 book ∙ ap (option_map told_of) e) in
+      let id : f.id ≡ id_in (rowid node) = ap (λ (t : Told). t.id) same in
+      let e1 : first.now ≡ old.now = look.same book in
+      let b1 : IsBook first.now = subst IsBook (sym e1) book in
+      let e2 : second.now ≡ old.now = look_on.same b1 ∙ e1 in
+      let b2 : IsBook second.now = subst IsBook (sym e2) book in
+      let rows_are : rows ≡ lists.children_of (id_in (rowid node)) (rows_of old.now.trees) =
+      shows.1 b1 ∙ ap (λ (d : Database). lists.children_of f.id (rows_of d.trees)) e1 ∙ ap (λ k. lists.children_of k (rows_of old.now.trees)) id in
+      are_shown b2 ∙ ap (λ (d : Database). map (child_shown (rows_of d.trees) front) rows) e2 ∙ ap (map (child_shown (rows_of old.now.trees) front)) rows_are
+
+  pub all_listed : ShowsListing old path front children
+  all_listed = (finds.0, λ book. listed_at book (row_at (rows_of old.now.trees) path) refl)

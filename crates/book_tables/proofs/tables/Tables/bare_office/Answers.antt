@@ -1,0 +1,62 @@
+use Rattle.std.proofs.Common.{◌≡◌, ℕ, Err, ◌∙◌}
+use Rattle.sqlite.specs.Held.{state}
+use Rattle.book_office.specs.Keeping.{Standing, Reads}
+use Rattle.book_values.specs.declared.offices.Office.{Office}
+use Rattle.book_tables.specs.Keeps.{standing_of}
+use Rattle.book_lists.specs.Memberships.{Memberships}
+use Rattle.book_values.specs.declared.offices.Properties.{Properties}
+use Rattle.book_adopting.specs.TakingOver.{bare}
+use Rattle.book_tables.specs.BareOffice.{homes_of, places_of, office_told}
+use Rattle.book_tables.specs.declared.places.Homes.{Homes}
+use Rattle.book_tables.specs.declared.places.Places.{Places}
+use Rattle.book_tables.proofs.Readings.{then_tells, then_reads, then_fails, passed_on}
+use Rattle.book_tables.proofs.tables.Tables.bare_office.Goals as goal
+
+abbrev Top : Office → Properties × Homes → Type 0
+Top o top = top ≡ (o.root, homes_of o)
+
+abbrev All : Office → Places → Type 0
+All o places = places ≡ places_of o
+
+abbrev Rest : Office → Memberships × ℕ → Type 0
+Rest o rest = rest ≡ (o.pairs, o.epoch)
+
+abbrev Two : Office → (Properties × Homes) × Places → Type 0
+Two o two = Top o two.0 × All o two.1
+
+abbrev IsBare : Office → Office → Type 0
+IsBare o office = office ≡ bare o
+
+pub returns-in_err-places : goal.returns-in_err-places
+returns-in_err-places g c =
+    let old : Standing = standing_of (state g.S.Store c.args.self.now.connection) c.args.self.now.failures in
+    let mid : Standing = standing_of (state g.S.Store c.read_top.new.self.connection) c.read_top.new.self.failures in
+    let new : Standing = standing_of (state g.S.Store c.read_places.new.self.connection) c.read_places.new.self.failures in
+    let fails : Reads {A = Office} old new (Err c.in_err-places.field-0.0) IsBare = then_fails old mid c.in_ok-top.top Top c.in_ok-top.ensures new c.in_err-places.field-0.0 All IsBare c.in_err-places.ensures in
+    passed_on old new c.in_err-places.field-0.0 c.from_residual-in_err-places.result IsBare IsBare c.from_residual-in_err-places.ensures.1 fails
+
+pub returns-in_err-rest : goal.returns-in_err-rest
+returns-in_err-rest g c =
+    let old : Standing = standing_of (state g.S.Store c.args.self.now.connection) c.args.self.now.failures in
+    let first : Standing = standing_of (state g.S.Store c.read_top.new.self.connection) c.read_top.new.self.failures in
+    let second : Standing = standing_of (state g.S.Store c.read_places.new.self.connection) c.read_places.new.self.failures in
+    let new : Standing = standing_of (state g.S.Store c.read_rest.new.self.connection) c.read_rest.new.self.failures in
+    let both = then_reads old first c.in_ok-top.top Top c.in_ok-top.ensures second c.in_ok-places.places All c.in_ok-places.ensures in
+    let two : (Properties × Homes) × Places = (c.in_ok-top.top, c.in_ok-places.places) in
+    let fails : Reads {A = Office} old new (Err c.in_err-rest.field-0.0) IsBare = then_fails old second two Two both new c.in_err-rest.field-0.0 Rest IsBare c.in_err-rest.ensures in
+    passed_on old new c.in_err-rest.field-0.0 c.from_residual-in_err-rest.result IsBare IsBare c.from_residual-in_err-rest.ensures.1 fails
+
+pub returns : goal.returns
+returns g c =
+    let old : Standing = standing_of (state g.S.Store c.args.self.now.connection) c.args.self.now.failures in
+    let first : Standing = standing_of (state g.S.Store c.read_top.new.self.connection) c.read_top.new.self.failures in
+    let second : Standing = standing_of (state g.S.Store c.read_places.new.self.connection) c.read_places.new.self.failures in
+    let new : Standing = standing_of (state g.S.Store c.read_rest.new.self.connection) c.read_rest.new.self.failures in
+    let T : Office → Properties × Homes → Type 0 = λ o top. top ≡ (o.root, homes_of o) in
+    let U : Office → Places → Type 0 = λ o places. places ≡ places_of o in
+    let V : Office → Memberships × ℕ → Type 0 = λ o rest. rest ≡ (o.pairs, o.epoch) in
+    let both = then_reads old first c.in_ok-top.top T c.in_ok-top.ensures second c.in_ok-places.places U c.in_ok-places.ensures in
+    let all = then_reads old second (c.in_ok-top.top, c.in_ok-places.places) (λ o two. T o two.0 × U o two.1) both new c.in_ok-rest.rest V c.in_ok-rest.ensures in
+    then_tells old new ((c.in_ok-top.top, c.in_ok-places.places), c.in_ok-rest.rest) (λ o three. (T o three.0.0 × U o three.0.1) × V o three.1) all
+    c.office_of.result (λ (o : Office) (office : Office). office ≡ bare o)
+    (λ o told. c.office_of.ensures ∙ (λ i. office_told (told.0.0 i) (told.0.1 i) (told.1 i)))

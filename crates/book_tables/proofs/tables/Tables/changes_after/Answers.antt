@@ -1,0 +1,31 @@
+use Rattle.std.proofs.Common.{rules, ◌≡◌, List, min}
+use Rattle.sqlite.specs.Held.{state}
+use Rattle.sqlite.specs.State.{HasCleanDisk}
+use Rattle.book_limits.specs.declared.TheConstants.{LAST_NUMBER}
+use Rattle.book_values.specs.declared.offices.Office.{Office}
+use Rattle.book_values.specs.Paths.{book_path}
+use Rattle.book_office.specs.declared.nodes.Changed.{Changed}
+use Rattle.book_office.specs.Resources.{changed_after}
+use Rattle.book_tables.specs.LastChanges.{ShowsChanges}
+use Rattle.book_tables.proofs.Told.{read_made, read_failed}
+use Rattle.book_tables.proofs.ChangesTold.{changes_told_are}
+use Rattle.book_tables.proofs.tables.Tables.changes_after.Goals as goal
+
+pub returns-in-Ok : goal.returns-in-Ok
+returns-in-Ok g c =
+    let old = state g.S.Store c.args.self.now.connection in
+    let new = state g.S.Store c.shown_changes.new.connection in
+    let b = c.args.book.now in
+    let n = c.args.number in
+    let text : c.as_str.result.now ≡ book_path b = search rules in
+    let shows : HasCleanDisk new → ShowsChanges old (book_path b) (min n LAST_NUMBER) c.in-Ok.changes = rw (text, c.up_to_last-after.ensures) at c.in-Ok.ensures.found in
+    read_made old new c.shown_changes.ensures.survives c.shown_changes.ensures.stays c.args.self.now.failures c.in-Ok.changes (λ (o : Office) (changes : List Changed). changes ≡ changed_after o b n)
+    (λ h o stands. changes_told_are old b c.known.ensures n c.in-Ok.changes (shows h) c.in-Ok.ensures.rise o stands)
+
+pub returns : goal.returns
+returns g c =
+    let old = state g.S.Store c.args.self.now.connection in
+    let new = state g.S.Store c.shown_changes.new.connection in
+    let b = c.args.book.now in
+    let n = c.args.number in
+    read_failed old new c.shown_changes.ensures.survives c.shown_changes.ensures.stays c.args.self.now.failures _ _ c.fault_of.ensures (λ (o : Office) (changes : List Changed). changes ≡ changed_after o b n)

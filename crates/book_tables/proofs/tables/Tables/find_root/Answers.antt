@@ -1,0 +1,33 @@
+use Rattle.std.proofs.Common.{◌≡◌, Option}
+use Rattle.sqlite.specs.Held.{state}
+use Rattle.book_office.specs.Keeping.{Standing}
+use Rattle.book_values.specs.declared.offices.Office.{Office}
+use Rattle.book_values.specs.declared.paths.Path.TheVariants as path
+use Rattle.book_office.specs.declared.nodes.Lists.{Lists}
+use Rattle.book_office.specs.declared.nodes.Node.{Node}
+use Rattle.book_office.specs.Levels.{lists_at}
+use Rattle.book_office.specs.Resources.{node_at}
+use Rattle.book_tables.specs.Keeps.{standing_of}
+use Rattle.book_tables.proofs.Readings.{then_tells, then_reads, then_fails}
+use Rattle.book_tables.proofs.tables.Tables.find_root.Goals as goal
+
+pub returns-in-Err : goal.returns-in-Err
+returns-in-Err g c =
+    let old : Standing = standing_of (state g.S.Store c.args.self.now.connection) c.args.self.now.failures in
+    let mid : Standing = standing_of (state g.S.Store c.find.new.self.connection) c.find.new.self.failures in
+    let new : Standing = standing_of (state g.S.Store c.lists.new.self.connection) c.lists.new.self.failures in
+    then_fails old mid c.in_ok-node.node (λ (o : Office) (node : Option Node). node ≡ node_at o path.Root) c.in_ok-node.ensures
+    new c.in-Err.fault (λ (o : Office) (lists : Lists). lists ≡ lists_at o path.Root)
+    (λ (o : Office) (found : Option Node × Lists). found ≡ (node_at o path.Root, lists_at o path.Root)) c.in-Err.ensures
+
+pub returns : goal.returns
+returns g c =
+    let old : Standing = standing_of (state g.S.Store c.args.self.now.connection) c.args.self.now.failures in
+    let mid : Standing = standing_of (state g.S.Store c.find.new.self.connection) c.find.new.self.failures in
+    let new : Standing = standing_of (state g.S.Store c.lists.new.self.connection) c.lists.new.self.failures in
+    let T : Office → Option Node → Type 0 = λ o node. node ≡ node_at o path.Root in
+    let U : Office → Lists → Type 0 = λ o lists. lists ≡ lists_at o path.Root in
+    then_tells old new (c.in_ok-node.node, c.in-Ok.lists) (λ o both. T o both.0 × U o both.1)
+    (then_reads old mid c.in_ok-node.node T c.in_ok-node.ensures new c.in-Ok.lists U c.in-Ok.ensures)
+    (c.in_ok-node.node, c.in-Ok.lists) (λ (o : Office) (found : Option Node × Lists). found ≡ (node_at o path.Root, lists_at o path.Root))
+    (λ o both. λ i. (both.0 i, both.1 i))

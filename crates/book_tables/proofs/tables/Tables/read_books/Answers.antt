@@ -1,0 +1,24 @@
+use Rattle.std.proofs.Common.{◌≡◌, List, map, ap, ◌∙◌}
+use Rattle.std.specs.FinMap.{empty, entries}
+use Rattle.sqlite.specs.Held.{state}
+use Rattle.book_office.specs.Keeping.{Standing}
+use Rattle.book_values.specs.declared.offices.Office.{Office}
+use Rattle.book_tables.specs.Keeps.{standing_of}
+use Rattle.book_values.specs.Names.{NamesTo}
+use Rattle.book_values.specs.declared.offices.Book.{Book}
+use Rattle.book_adopting.specs.TakingOver.{bare_books}
+use Rattle.book_office.specs.Resources.{listed_books}
+use Rattle.book_office.specs.declared.nodes.Listed.{Listed}
+use Rattle.book_policies.specs.Policies.{added}
+use Rattle.book_tables.specs.BareOffice.{book_told}
+use Rattle.book_tables.proofs.Listings.{books_told}
+use Rattle.book_tables.proofs.Readings.{then_tells}
+use Rattle.book_tables.proofs.tables.Tables.read_books.Goals as goal
+
+pub returns : goal.returns
+returns g c =
+    let old : Standing = standing_of (state g.S.Store c.args.self.now.connection) c.args.self.now.failures in
+    let new : Standing = standing_of (state g.S.Store c.children.new.self.connection) c.children.new.self.failures in
+    then_tells old new c.in_ok-listed.listed (λ (o : Office) (listed : List Listed). listed ≡ listed_books (entries o.books)) c.in_ok-listed.ensures
+    c.in_ok-books_of.field-0 (λ (o : Office) (books : NamesTo Book). books ≡ bare_books o.books)
+    (λ o e. c.in_ok-books_of.ensures ∙ ap (λ (listed : List Listed). added empty (map book_told listed)) e ∙ books_told o.books)

@@ -1,0 +1,24 @@
+use Rattle.std.proofs.Common.{◌≡◌, List, map, ap, ◌∙◌}
+use Rattle.std.specs.FinMap.{empty, entries}
+use Rattle.sqlite.specs.Held.{state}
+use Rattle.book_office.specs.Keeping.{Standing}
+use Rattle.book_values.specs.declared.offices.Office.{Office}
+use Rattle.book_tables.specs.Keeps.{standing_of}
+use Rattle.book_values.specs.Names.{NamesTo}
+use Rattle.book_values.specs.declared.offices.Properties.{Properties}
+use Rattle.book_values.specs.declared.paths.Kind.TheVariants as kind
+use Rattle.book_office.specs.Resources.{listed_principals}
+use Rattle.book_office.specs.declared.nodes.Listed.{Listed}
+use Rattle.book_policies.specs.Policies.{added}
+use Rattle.book_tables.specs.BareOffice.{place_told}
+use Rattle.book_tables.proofs.Listings.{principals_told}
+use Rattle.book_tables.proofs.Readings.{then_tells}
+use Rattle.book_tables.proofs.tables.Tables.read_groups.Goals as goal
+
+pub returns : goal.returns
+returns g c =
+    let old : Standing = standing_of (state g.S.Store c.args.self.now.connection) c.args.self.now.failures in
+    let new : Standing = standing_of (state g.S.Store c.children.new.self.connection) c.children.new.self.failures in
+    then_tells old new c.in_ok-listed.listed (λ (o : Office) (listed : List Listed). listed ≡ listed_principals kind.Group (entries o.groups)) c.in_ok-listed.ensures
+    c.in_ok-principals_of.field-0 (λ (o : Office) (groups : NamesTo Properties). groups ≡ o.groups)
+    (λ o e. c.in_ok-principals_of.ensures ∙ ap (λ (listed : List Listed). added empty (map place_told listed)) e ∙ principals_told kind.Group o.groups)

@@ -1,0 +1,53 @@
+use Rattle.std.proofs.Common.{◌≡◌, Err}
+use Rattle.sqlite.specs.Held.{state}
+use Rattle.book_office.specs.Keeping.{Standing, Reads}
+use Rattle.book_values.specs.declared.offices.Office.{Office}
+use Rattle.book_tables.specs.Keeps.{standing_of}
+use Rattle.book_values.specs.Names.{NamesTo}
+use Rattle.book_values.specs.declared.offices.Book.{Book}
+use Rattle.book_values.specs.declared.offices.Properties.{Properties}
+use Rattle.book_adopting.specs.TakingOver.{bare_books}
+use Rattle.book_tables.specs.BareOffice.{places_of}
+use Rattle.book_tables.specs.declared.places.Places.{Places}
+use Rattle.book_tables.proofs.Readings.{then_tells, then_reads, then_fails, passed_on}
+use Rattle.book_tables.proofs.tables.Tables.read_places.Goals as goal
+
+abbrev Persons : Office → NamesTo Properties → Type 0
+Persons o persons = persons ≡ o.persons
+
+abbrev Groups : Office → NamesTo Properties → Type 0
+Groups o groups = groups ≡ o.groups
+
+abbrev Books : Office → NamesTo Book → Type 0
+Books o books = books ≡ bare_books o.books
+
+abbrev Both : Office → NamesTo Properties × NamesTo Properties → Type 0
+Both o both = Persons o both.0 × Groups o both.1
+
+abbrev All : Office → Places → Type 0
+All o places = places ≡ places_of o
+
+pub returns-in_err-books : goal.returns-in_err-books
+returns-in_err-books g c =
+    let old : Standing = standing_of (state g.S.Store c.args.self.now.connection) c.args.self.now.failures in
+    let first : Standing = standing_of (state g.S.Store c.read_persons.new.self.connection) c.read_persons.new.self.failures in
+    let second : Standing = standing_of (state g.S.Store c.read_groups.new.self.connection) c.read_groups.new.self.failures in
+    let new : Standing = standing_of (state g.S.Store c.read_books.new.self.connection) c.read_books.new.self.failures in
+    let both = then_reads old first c.in_ok-persons.persons Persons c.in_ok-persons.ensures second c.in_ok-groups.groups Groups c.in_ok-groups.ensures in
+    let fails : Reads {A = Places} old new (Err c.in_err-books.field-0.0) All =
+    then_fails old second (c.in_ok-persons.persons, c.in_ok-groups.groups) Both both new c.in_err-books.field-0.0 Books All c.in_err-books.ensures in
+    passed_on old new c.in_err-books.field-0.0 c.from_residual-in_err-books.result All All c.from_residual-in_err-books.ensures.1 fails
+
+pub returns : goal.returns
+returns g c =
+    let old : Standing = standing_of (state g.S.Store c.args.self.now.connection) c.args.self.now.failures in
+    let first : Standing = standing_of (state g.S.Store c.read_persons.new.self.connection) c.read_persons.new.self.failures in
+    let second : Standing = standing_of (state g.S.Store c.read_groups.new.self.connection) c.read_groups.new.self.failures in
+    let new : Standing = standing_of (state g.S.Store c.read_books.new.self.connection) c.read_books.new.self.failures in
+    let both = then_reads old first c.in_ok-persons.persons Persons c.in_ok-persons.ensures second c.in_ok-groups.groups Groups c.in_ok-groups.ensures in
+    let two : NamesTo Properties × NamesTo Properties = (c.in_ok-persons.persons, c.in_ok-groups.groups) in
+    let three : (NamesTo Properties × NamesTo Properties) × NamesTo Book = (two, c.in_ok-books.books) in
+    then_tells old new three (λ o all. Both o all.0 × Books o all.1)
+    (then_reads old second two Both both new c.in_ok-books.books Books c.in_ok-books.ensures)
+    (record { persons = c.in_ok-persons.persons; groups = c.in_ok-groups.groups; books = c.in_ok-books.books }) All
+    (λ o all. λ i. record { persons = all.0.0 i; groups = all.0.1 i; books = all.1 i })

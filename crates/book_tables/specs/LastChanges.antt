@@ -1,0 +1,58 @@
+-- The last changes of a book, as rows tell them.
+use Rattle.std.specs.Prelude.{◌≡◌, ℕ, ℤ, Bool, ◌<◌, false, List, [], ◌++◌, map, drop, length, codes, Some, None, option_map, unwrap_or, IsTrue, IsPermutation}
+use Rattle.sqlite.specs.declared.types.Value.TheVariants.{Int}
+use Rattle.sqlite.specs.Edit.{id_in}
+use Rattle.sqlite.specs.Order.{Row, column}
+use Rattle.sqlite.specs.State.{State}
+use Rattle.sqlite.specs.Tree.{rowid}
+use Rattle.sqlite_trees.specs.Tree.{IsAscending}
+use Rattle.book_lists.specs.declared.entries.Entry.{Entry}
+use Rattle.book_office.specs.declared.nodes.Changed.{Changed}
+use Rattle.book_rows.specs.Lists as lists
+use Rattle.book_rows.specs.Nodes.{number_in, text_in}
+use Rattle.book_rows.specs.Rows.{Rows, rows_of, IsBook}
+use Rattle.book_tables.specs.Rows.{row_at, list_in}
+
+-- the change of a card with this own list: what is shown of its row is number, path, owner, label, text and change number, and its name stands behind what its path begins with
+abbrev pub changed_shown : List ℕ → List Entry → Row → Changed
+changed_shown front own row = record {
+  number = number_in (column row 5);
+  name = drop (length front) (unwrap_or (text_in (column row 1)) []);
+  card = Some (record { owner = text_in (column row 2); label = unwrap_or (text_in (column row 3)) []; own = own; text = unwrap_or (text_in (column row 4)) [] });
+}
+
+-- the own list of the node with the number that is shown
+abbrev pub own_shown : Rows → Row → List Entry
+own_shown rows row = list_in rows.entries (Int (id_in (column row 0))) false
+
+abbrev pub card_shown : Rows → List ℕ → Row → Changed
+card_shown rows front row = changed_shown front (own_shown rows row) row
+
+-- the change of a removed name: what is shown of its row is name and change number
+abbrev pub removed_shown : Row → Changed
+removed_shown row = record { number = number_in (column row 1); name = unwrap_or (text_in (column row 0)) []; card = None }
+
+-- the changes above a number of the book whose row this is
+abbrev pub changes_of : Rows → List ℕ → ℕ → Row → List Changed
+changes_of rows front number book =
+    map (card_shown rows front) (lists.changed_after (id_in (rowid book)) number rows) ++ map removed_shown (lists.gone_after (id_in (rowid book)) number rows)
+
+-- those of the book at a path; none where no row has it
+abbrev pub changes_told : Rows → List ℕ → ℕ → List Changed
+changes_told rows path number = unwrap_or (option_map (changes_of rows (path ++ codes "/") number) (row_at rows path)) []
+
+-- an open connection shows the protected or the own list of the node with a number
+abbrev pub ShowsEntries : State → ℤ → Bool → List Entry → Type 0
+ShowsEntries s id protected list = IsTrue s.is_open × (IsBook s.now → list ≡ list_in (rows_of s.now.trees).entries (Int id) protected)
+
+-- it shows the change of a card, from what was shown of its row
+abbrev pub ShowsCard : State → List ℕ → Row → Changed → Type 0
+ShowsCard s front row changed = IsBook s.now → changed ≡ card_shown (rows_of s.now.trees) front row
+
+-- an open connection shows the changes of a book above a number, in some order
+abbrev pub ShowsChanges : State → List ℕ → ℕ → List Changed → Type 0
+ShowsChanges s path number changes = IsTrue s.is_open × (IsBook s.now → IsPermutation (changes_told (rows_of s.now.trees) path number) changes)
+
+-- each change has a number below those of the changes after it
+abbrev pub DoRise : List Changed → Type 0
+DoRise = IsAscending (λ a b. a.number < b.number)

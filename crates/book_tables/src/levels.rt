@@ -1,0 +1,104 @@
+//! The lists of a resource and of each of its ancestors.
+
+ghost use Rattle.std.specs.Prelude.{◌≡◌, IfOk};
+ghost use Rattle.sqlite.specs.Held.{state};
+ghost use Rattle.sqlite.specs.State.{HasCleanDisk, Survives};
+ghost use Rattle.book_office.specs.Keeping.{Reads};
+ghost use Rattle.book_office.specs.Levels.{lists_at};
+ghost use Rattle.book_rows.specs.Steps.{Keeps, Spares, Stays};
+ghost use Rattle.book_tables.specs.Keeps.{standing_of};
+ghost use Rattle.book_tables.specs.Listing.{ShowsLevel, ShowsLists};
+
+use crate::entries::entries_of;
+use crate::faults::fault_of;
+use crate::tables::Tables;
+use book_office::{Level, Lists, StoreFault};
+use book_rows::lists_at;
+use book_values::{Items, Path};
+use sqlite::{Alter, Connection, Error, ErrorCode, Transaction};
+use std::alloc::Global;
+
+/// Both lists at a path, empty where no row has it.
+fn level_of<S: Alter>(
+    alloc: Global,
+    transaction: &mut Transaction<'_, S>,
+    path: Path,
+) -> Result<Level, Error>
+    ensures same_reference { transaction.new.conn.ghost_name ≡ transaction.old.conn.ghost_name }
+    ensures survives { Survives (state S.Store transaction.old.conn.now) (state S.Store transaction.new.conn.now)
+        (λ _. ⊥) }
+    ensures kept { Keeps (state S.Store transaction.old.conn.now) (state S.Store transaction.new.conn.now) }
+    ensures stays { Spares (state S.Store transaction.old.conn.now) (state S.Store transaction.new.conn.now) result }
+    ensures shown { HasCleanDisk (state S.Store transaction.new.conn.now)
+        → IfOk result (λ level. ShowsLevel (state S.Store transaction.old.conn.now) path level) }
+{
+    let text = path.text(alloc)?;
+    let rows = lists_at(alloc, transaction, text.as_str())?;
+    let protected = entries_of(alloc, &rows.protected)?;
+    let own = entries_of(alloc, &rows.own)?;
+    Ok(Level {
+        path,
+        protected,
+        own,
+    })
+}
+
+/// The lists at a path and at each path above it.
+fn levels_of<S: Alter>(
+    alloc: Global,
+    transaction: &mut Transaction<'_, S>,
+    path: &Path,
+) -> Result<Lists, Error>
+    ensures same_reference { transaction.new.conn.ghost_name ≡ transaction.old.conn.ghost_name }
+    ensures survives { Survives (state S.Store transaction.old.conn.now) (state S.Store transaction.new.conn.now)
+        (λ _. ⊥) }
+    ensures kept { Keeps (state S.Store transaction.old.conn.now) (state S.Store transaction.new.conn.now) }
+    ensures stays { Spares (state S.Store transaction.old.conn.now) (state S.Store transaction.new.conn.now) result }
+    ensures shown { HasCleanDisk (state S.Store transaction.new.conn.now)
+        → IfOk result (λ lists. ShowsLists (state S.Store transaction.old.conn.now) path.now lists) }
+{
+    let paths = path.levels(alloc)?.into_vec();
+    let mut levels = Vec::with_capacity(alloc, paths.len())?;
+    for path in paths {
+        levels.push(level_of(alloc, transaction, path)?)?;
+    }
+    Ok(Lists {
+        levels: Items::from_vec(levels),
+    })
+}
+
+/// The same, in a transaction of its own.
+fn shown_lists<S: Alter>(
+    alloc: Global,
+    connection: &mut Connection<S>,
+    path: &Path,
+) -> Result<Lists, Error>
+    ensures stays { HasCleanDisk (state S.Store connection.new)
+        → Stays (state S.Store connection.old) (state S.Store connection.new) }
+    ensures survives { Survives (state S.Store connection.old) (state S.Store connection.new) (λ _. ⊥) }
+    ensures found { HasCleanDisk (state S.Store connection.new)
+        → IfOk result (λ lists. ShowsLists (state S.Store connection.old) path.now lists) }
+{
+    if !connection.is_autocommit() {
+        return Err(Error::SqliteFailure(ErrorCode::TransactionState));
+    }
+    let mut transaction = connection.transaction();
+    levels_of(alloc, &mut transaction, path)
+}
+
+impl<S: Alter> Tables<S> {
+    /// The lists of the resource at a path and of each ancestor; the lists of a path that is not mapped are empty. A
+    /// look-up by path for each, and one for each of its two lists. `Memory` is want of memory, `Store` any other
+    /// failure of the store.
+    pub fn lists(&mut self, alloc: Global, path: &Path) -> Result<Lists, StoreFault>
+        ensures { Reads (standing_of (state S.Store self.old.connection) self.old.failures)
+            (standing_of (state S.Store self.new.connection) self.new.failures) result
+            (λ o lists. lists ≡ lists_at o path.now) }
+    {
+        path.known();
+        match shown_lists(alloc, &mut self.connection, path) {
+            Ok(lists) => Ok(lists),
+            Err(error) => Err(fault_of(error, &mut self.failures)),
+        }
+    }
+}

@@ -1,0 +1,218 @@
+//! The children of a resource, and how many there are.
+
+ghost use Rattle.std.specs.Prelude.{◌≡◌, IfOk, map};
+ghost use Rattle.sqlite.specs.Held.{state};
+ghost use Rattle.sqlite.specs.State.{HasCleanDisk, Survives};
+ghost use Rattle.book_office.specs.Keeping.{Reads};
+ghost use Rattle.book_office.specs.Resources.{children_at, count_at};
+ghost use Rattle.book_values.specs.Paths.{path_text};
+ghost use Rattle.book_rows.specs.Lists.{ShowsCount};
+ghost use Rattle.book_rows.specs.Rows.{rows_of, IsBook};
+ghost use Rattle.book_rows.specs.Steps.{Keeps, Spares, Stays};
+ghost use Rattle.book_tables.specs.Keeps.{standing_of};
+ghost use Rattle.book_tables.specs.Children.{ShowsChild, ShowsChildCount, ShowsListing, child_shown, listed_shown, text_above};
+
+use crate::changes::{list_of, name_behind};
+use crate::faults::fault_of;
+use crate::reading::{kind_of, owner_of};
+use crate::tables::{Tables, text_of};
+use book_lists::Entry;
+use book_office::{Listed, StoreFault};
+use book_rows::{child_rows, count_children, look_up};
+use book_values::{Items, Path, Text};
+use sqlite::{Alter, Connection, Error, ErrorCode, Row, Transaction};
+use std::alloc::{AllocError, Global};
+
+/// The count at which SQL stops.
+const COUNT_END: u64 = 9_223_372_036_854_775_807;
+
+/// How many children the node at a path has, counted in a transaction of its own.
+fn rows_counted<S: Alter>(connection: &mut Connection<S>, path: &str) -> Result<u64, Error>
+    ensures stays { HasCleanDisk (state S.Store connection.new)
+        → Stays (state S.Store connection.old) (state S.Store connection.new) }
+    ensures survives { Survives (state S.Store connection.old) (state S.Store connection.new) (λ _. ⊥) }
+    ensures counted { HasCleanDisk (state S.Store connection.new)
+        → IfOk result (λ count. ShowsCount (state S.Store connection.old) path.now count) }
+{
+    if !connection.is_autocommit() {
+        return Err(Error::SqliteFailure(ErrorCode::TransactionState));
+    }
+    let mut transaction = connection.transaction();
+    count_children(&mut transaction, path)
+}
+
+/// How many children the resource at a path has; an error where there are more than SQL counts.
+fn shown_count<S: Alter>(connection: &mut Connection<S>, path: &str) -> Result<usize, Error>
+    ensures stays { HasCleanDisk (state S.Store connection.new)
+        → Stays (state S.Store connection.old) (state S.Store connection.new) }
+    ensures survives { Survives (state S.Store connection.old) (state S.Store connection.new) (λ _. ⊥) }
+    ensures counted { HasCleanDisk (state S.Store connection.new)
+        → IfOk result (λ count. ShowsChildCount (state S.Store connection.old) path.now count) }
+{
+    let count = rows_counted(connection, path)?;
+    if count >= COUNT_END {
+        return Err(Error::SqliteFailure(ErrorCode::IntegerOverflow));
+    }
+    Ok(count as usize)
+}
+
+/// What the texts of the paths right below a path begin with: its text and a slash, for the root a slash alone.
+fn text_before(alloc: Global, path: &Path) -> Result<Text, AllocError>
+    ensures { IfOk result (λ text. text ≡ text_above path.now) }
+{
+    match path {
+        Path::Root => Text::copy_of(alloc, "/"),
+        Path::People => Text::copy_of(alloc, "/people/"),
+        Path::Groups => Text::copy_of(alloc, "/groups/"),
+        Path::Books => Text::copy_of(alloc, "/books/"),
+        Path::Person(_) | Path::Group(_) | Path::Book(_) | Path::Card(_, _) => {
+            let text = path.text(alloc)?;
+            Ok(Text::from_string(format!(in alloc; "{text}/")?))
+        }
+    }
+}
+
+/// The child that has these lists: number of its row, path, kind, owner, label and change number are read.
+fn listed_of(
+    alloc: Global,
+    front: &str,
+    row: &Row,
+    protected: Items<Entry>,
+    own: Items<Entry>,
+) -> Result<Listed, Error>
+    ensures { IfOk result (λ listed. listed ≡ listed_shown front.now protected own row.now) }
+{
+    let path: String = row.get(1)?;
+    let kind = row.get(2)?;
+    let owner = row.get(3)?;
+    let label = row.get(4)?;
+    let number = row.get(5)?;
+    Ok(Listed {
+        name: name_behind(alloc, front, path.as_str())?,
+        kind: kind_of(kind)?,
+        owner: owner_of(alloc, owner)?,
+        label: Text::from_string(label),
+        number,
+        protected,
+        own,
+    })
+}
+
+/// A child with its lists.
+fn child_listed<S: Alter>(
+    alloc: Global,
+    transaction: &mut Transaction<'_, S>,
+    front: &str,
+    row: &Row,
+) -> Result<Listed, Error>
+    ensures same_reference { transaction.new.conn.ghost_name ≡ transaction.old.conn.ghost_name }
+    ensures survives { Survives (state S.Store transaction.old.conn.now) (state S.Store transaction.new.conn.now)
+        (λ _. ⊥) }
+    ensures kept { Keeps (state S.Store transaction.old.conn.now) (state S.Store transaction.new.conn.now) }
+    ensures stays { Spares (state S.Store transaction.old.conn.now) (state S.Store transaction.new.conn.now) result }
+    ensures shown { HasCleanDisk (state S.Store transaction.new.conn.now)
+        → IfOk result (λ listed. ShowsChild (state S.Store transaction.old.conn.now) front.now row.now listed) }
+{
+    let id = row.get(0)?;
+    let protected = list_of(alloc, transaction, id, true)?;
+    let own = list_of(alloc, transaction, id, false)?;
+    listed_of(alloc, front, row, protected, own)
+}
+
+/// The children whose rows are given, with two look-ups of lists for each.
+fn children_listed<S: Alter>(
+    alloc: Global,
+    transaction: &mut Transaction<'_, S>,
+    front: &str,
+    rows: &[Row],
+) -> Result<Vec<Listed>, Error>
+    ensures same_reference { transaction.new.conn.ghost_name ≡ transaction.old.conn.ghost_name }
+    ensures survives { Survives (state S.Store transaction.old.conn.now) (state S.Store transaction.new.conn.now)
+        (λ _. ⊥) }
+    ensures kept { Keeps (state S.Store transaction.old.conn.now) (state S.Store transaction.new.conn.now) }
+    ensures stays { Spares (state S.Store transaction.old.conn.now) (state S.Store transaction.new.conn.now) result }
+    ensures shown { HasCleanDisk (state S.Store transaction.new.conn.now)
+        → IfOk result (λ children. IsBook (state S.Store transaction.old.conn.now).now → children.items
+        ≡ map (child_shown (rows_of (state S.Store transaction.old.conn.now).now.trees) front.now) rows.now) }
+{
+    let mut children = Vec::with_capacity(alloc, rows.len())?;
+    'children: for row in rows {
+        children.push(child_listed(alloc, transaction, front, row)?)?;
+    }
+    Ok(children)
+}
+
+/// The children of the node at a path, in order of their paths; none where no row has the path.
+fn listing_at<S: Alter>(
+    alloc: Global,
+    transaction: &mut Transaction<'_, S>,
+    path: &str,
+    front: &str,
+) -> Result<Vec<Listed>, Error>
+    ensures same_reference { transaction.new.conn.ghost_name ≡ transaction.old.conn.ghost_name }
+    ensures survives { Survives (state S.Store transaction.old.conn.now) (state S.Store transaction.new.conn.now)
+        (λ _. ⊥) }
+    ensures kept { Keeps (state S.Store transaction.old.conn.now) (state S.Store transaction.new.conn.now) }
+    ensures stays { Spares (state S.Store transaction.old.conn.now) (state S.Store transaction.new.conn.now) result }
+    ensures shown { HasCleanDisk (state S.Store transaction.new.conn.now)
+        → IfOk result (λ children. ShowsListing (state S.Store transaction.old.conn.now) path.now front.now children.items) }
+{
+    let Some(node) = look_up(transaction, path)? else {
+        return Ok(Vec::new(alloc));
+    };
+    let rows = child_rows(transaction, node.id)?;
+    children_listed(alloc, transaction, front, &rows)
+}
+
+/// The same, in a transaction of its own.
+fn shown_listing<S: Alter>(
+    alloc: Global,
+    connection: &mut Connection<S>,
+    path: &str,
+    front: &str,
+) -> Result<Vec<Listed>, Error>
+    ensures stays { HasCleanDisk (state S.Store connection.new)
+        → Stays (state S.Store connection.old) (state S.Store connection.new) }
+    ensures survives { Survives (state S.Store connection.old) (state S.Store connection.new) (λ _. ⊥) }
+    ensures found { HasCleanDisk (state S.Store connection.new)
+        → IfOk result (λ children. ShowsListing (state S.Store connection.old) path.now front.now children.items) }
+{
+    if !connection.is_autocommit() {
+        return Err(Error::SqliteFailure(ErrorCode::TransactionState));
+    }
+    let mut transaction = connection.transaction();
+    listing_at(alloc, &mut transaction, path, front)
+}
+
+impl<S: Alter> Tables<S> {
+    /// The children of a resource, in byte order of their names; none where none is mapped. One look-up of all rows, and
+    /// two of lists for each child. `Memory` is want of memory, `Store` any other failure of the store.
+    pub fn children(&mut self, alloc: Global, path: &Path) -> Result<Items<Listed>, StoreFault>
+        ensures { Reads (standing_of (state S.Store self.old.connection) self.old.failures)
+            (standing_of (state S.Store self.new.connection) self.new.failures) result
+            (λ o children. children ≡ children_at o path.now) }
+    {
+        path.known();
+        let text = text_of(alloc, path)?;
+        let front = text_before(alloc, path)?;
+        match shown_listing(alloc, &mut self.connection, text.as_str(), front.as_str()) {
+            Ok(children) => Ok(Items::from_vec(children)),
+            Err(error) => Err(fault_of(error, &mut self.failures)),
+        }
+    }
+
+    /// How many children a path has; 0 where none is mapped there. It walks the index of the children. `Memory` is want
+    /// of memory, `Store` any other failure of the store.
+    pub fn count(&mut self, alloc: Global, path: &Path) -> Result<usize, StoreFault>
+        ensures { Reads (standing_of (state S.Store self.old.connection) self.old.failures)
+            (standing_of (state S.Store self.new.connection) self.new.failures) result
+            (λ o count. count ≡ count_at o path.now) }
+    {
+        path.known();
+        let text = text_of(alloc, path)?;
+        match shown_count(&mut self.connection, text.as_str()) {
+            Ok(count) => Ok(count),
+            Err(error) => Err(fault_of(error, &mut self.failures)),
+        }
+    }
+}

@@ -1,0 +1,116 @@
+//! The edits, each as one transaction.
+
+use crate::stores::{found, name, own_list, path, principal, tables, text};
+use book_lists::{Entry, Who};
+use book_office::StoreFault;
+use book_rights::{Leaf, LeafSet};
+use book_values::Items;
+use std::process::Abort;
+
+#[test]
+fn cards_and_books_are_edited(rt: HostRuntime) {
+    let alloc = rt.alloc();
+    let mut tables = tables(&rt, alloc);
+    let (law, a) = (name(&rt, alloc, "law"), name(&rt, alloc, "a.vcf"));
+    let (b, c) = (name(&rt, alloc, "b.vcf"), name(&rt, alloc, "c.vcf"));
+    tables.add_book(alloc, &law, &None).expect(&rt, "a book");
+    let book = found(&rt, alloc, &mut tables, "/books/law");
+    assert_eq!(rt; book.as_str(), "\"\" - 0");
+    for put in ["one", "two"] {
+        let put = text(&rt, alloc, put);
+        tables
+            .put_card(alloc, &law, &a, &None, &put)
+            .expect(&rt, "a card");
+    }
+    let label = text(&rt, alloc, "Ann");
+    let path_of_a = path(&rt, alloc, "/books/law/a.vcf");
+    tables
+        .set_label(alloc, &path_of_a, &label)
+        .expect(&rt, "a label");
+    let card = found(&rt, alloc, &mut tables, "/books/law/a.vcf");
+    assert_eq!(rt; card.as_str(), "\"Ann\" two 3");
+    tables
+        .copy_card(alloc, &law, &a, &law, &b, &None)
+        .expect(&rt, "a copy");
+    tables
+        .move_card(alloc, &law, &b, &law, &c)
+        .expect(&rt, "a move");
+    tables.remove_card(alloc, &law, &a).expect(&rt, "removed");
+    for (at, wanted) in [
+        ("/books/law/a.vcf", "none"),
+        ("/books/law/b.vcf", "none"),
+        ("/books/law/c.vcf", "\"Ann\" two 6"),
+        ("/books/law", "\"\" - 7"),
+    ] {
+        let there = found(&rt, alloc, &mut tables, at);
+        assert_eq!(rt; there.as_str(), wanted);
+    }
+    assert_eq!(rt; tables.epoch(), Ok(0));
+    tables.remove_book(alloc, &law).expect(&rt, "removed");
+    let card = found(&rt, alloc, &mut tables, "/books/law/c.vcf");
+    assert_eq!(rt; card.as_str(), "none");
+    assert_eq!(rt; tables.epoch(), Ok(1));
+    assert_eq!(rt; tables.failures(), 0);
+}
+
+#[test]
+fn own_lists_are_written_in_order(rt: HostRuntime) {
+    let alloc = rt.alloc();
+    let mut tables = tables(&rt, alloc);
+    let books = path(&rt, alloc, "/books");
+    let mut list = Items::new(alloc);
+    for (who, invert, deny) in [
+        (Who::Own, true, true),
+        (Who::Everyone, false, false),
+        (Who::Authenticated, false, true),
+        (Who::Unauthenticated, true, false),
+        (Who::Owner, false, false),
+    ] {
+        let set = LeafSet::empty().with(Leaf::Read).with(Leaf::WriteAcl);
+        let entry = Entry {
+            who,
+            invert,
+            deny,
+            set,
+        };
+        list.push(entry).expect(&rt, "memory");
+    }
+    tables.set_list(alloc, &books, &list).expect(&rt, "a list");
+    assert_eq!(rt; tables.epoch(), Ok(1));
+    let eve = Entry {
+        who: Who::Href(principal(&rt, alloc, "/people/eve")),
+        invert: false,
+        deny: false,
+        set: LeafSet::all(),
+    };
+    list.push(eve).expect(&rt, "memory");
+    assert_eq!(rt;
+        tables.set_list(alloc, &books, &list),
+        Err(StoreFault::Store)
+    );
+    assert_eq!(rt; tables.failures(), 1);
+    assert_eq!(rt; tables.epoch(), Ok(1));
+    let mut connection = tables.release();
+    let rows = own_list(&rt, alloc, &mut connection, "/books");
+    assert_eq!(rt;
+        rows.as_str(),
+        "5 - 1 1 65;1 - 0 0 65;2 - 0 1 65;3 - 1 0 65;4 - 0 0 65;"
+    );
+}
+
+#[test]
+fn members_must_be_there(rt: HostRuntime) {
+    let alloc = rt.alloc();
+    let mut tables = tables(&rt, alloc);
+    let staff = principal(&rt, alloc, "/groups/staff");
+    let mut members = Items::new(alloc);
+    let none = tables.set_members(alloc, &staff, &members);
+    assert_eq!(rt; none, Ok(()));
+    members
+        .push(principal(&rt, alloc, "/people/ann"))
+        .expect(&rt, "memory");
+    let unknown = tables.set_members(alloc, &staff, &members);
+    assert_eq!(rt; unknown, Err(StoreFault::Store));
+    assert_eq!(rt; tables.failures(), 1);
+    assert_eq!(rt; tables.epoch(), Ok(1));
+}
