@@ -132,6 +132,8 @@ fn is_whole(reply: &Reply, cards: usize) -> bool {
         | Content::Card(_)
         | Content::Allow(_)
         | Content::Synced(_)
+        | Content::Members(_, _)
+        | Content::Rulings(_)
         | Content::Refusal(_) => false,
     }
 }

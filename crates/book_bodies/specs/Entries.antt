@@ -4,6 +4,7 @@ use Rattle.std.specs.List.{list_all}
 use Rattle.std.specs.Str.{bytes_eq}
 use Rattle.serde_json.specs.Data.{Data, null, boolean, number, string, array, object, Items, no_items, item, Members, no_members, member}
 use Rattle.serde_json.specs.Find.{get, as_str, as_bool, as_array}
+use Rattle.book_limits.specs.declared.TheConstants.{MAX_PRIVILEGE_NAMES}
 use Rattle.book_lists.specs.declared.submitted.Submitted.{Submitted}
 use Rattle.book_machine.specs.declared.messages.Body.{Body}
 use Rattle.book_machine.specs.declared.messages.Body.TheVariants as body
@@ -42,13 +43,9 @@ form_in d =
     option_and_then (λ found. option_map (λ text. (found.0, text)) (as_str found.1))
     (either (get (codes "principal") d) (get (codes "invert") d))
 
--- the most names of one entry
-abbrev pub names_limit : ℕ
-names_limit = 16
-
 -- the names, if there are 1 to 16
 abbrev pub if_few : List (List ℕ) → Option (List (List ℕ))
-if_few names = if nat_le 1 (length names) && nat_le (length names) names_limit then Some names else None
+if_few names = if nat_le 1 (length names) && nat_le (length names) MAX_PRIVILEGE_NAMES then Some names else None
 
 -- exactly one of `grant` and `deny`, 1 to 16 names: whether the entry denies, and the names
 abbrev pub action_in : Data → Option (Bool × List (List ℕ))

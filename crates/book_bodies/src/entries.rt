@@ -7,14 +7,12 @@ ghost use Rattle.book_bodies.specs.Entries.{is_entry_key, has_entry_keys, either
 use crate::forms::{only_under, texts_in};
 use crate::principals;
 use crate::privileges::leaves;
+use book_limits::MAX_PRIVILEGE_NAMES;
 use book_lists::Submitted;
 use book_machine::Body;
 use book_values::Items;
 use serde_json::Value;
 use std::alloc::{AllocError, Global};
-
-/// The most names of one entry.
-const MAX_NAMES: usize = 16;
 
 fn is_entry_key(key: &str) -> bool
     ensures { result ≡ is_entry_key key.now }
@@ -79,7 +77,7 @@ fn action_in<'a>(
     };
     match texts_in(alloc, list)? {
         Some(names) => {
-            if 1 <= names.len() && names.len() <= MAX_NAMES {
+            if 1 <= names.len() && names.len() <= MAX_PRIVILEGE_NAMES {
                 Ok(Some((deny, names)))
             } else {
                 Ok(None)

@@ -5,8 +5,8 @@
 //! - nothing is no body, `unread` one that could not be read, and a name of `words` or any other word a text;
 //! - `label TEXT` and `label-of NUMBER`, so many bytes, are labels;
 //! - `members PATH ..`, `persons NUMBER` and `persons-twice NUMBER` are lists of members;
-//! - `sync` asks for the report on a book from the start, and `sync TOKEN` after a token; `group-members` and
-//!   `effective` ask for the other reports;
+//! - `sync` asks for the report on a book from the start, and `sync TOKEN` after a token; `group-members` asks for the
+//!   members of a card, and `effective` and `effective PERSON` for what decides each leaf for nobody and for a person;
 //! - `list ENTRY ; ENTRY ..` is a list of entries, and `entries NUMBER` so many that let all read. An entry is
 //!   `grant WHO NAME ..` or `deny WHO NAME ..`, with `not WHO` for `WHO`, and perhaps `protected` or `inherited` before it.
 
@@ -173,12 +173,20 @@ fn place(rt: &impl Abort, alloc: Global, word: &str) -> SyncFrom {
     }
 }
 
+/// Who is asked about: nobody, or a person.
+fn asked_about(rt: &impl Abort, alloc: Global, word: &str) -> Caller {
+    if word.is_empty() {
+        return Caller::Nobody;
+    }
+    Caller::Known(principal(rt, alloc, word))
+}
+
 /// The report that the line asks for, if it asks for one.
 fn report(rt: &impl Abort, alloc: Global, line: &str) -> Option<ReportKind> {
     match word(line, 3) {
         "sync" => Some(ReportKind::SyncCollection(place(rt, alloc, word(line, 4)))),
         "group-members" => Some(ReportKind::GroupMembers),
-        "effective" => Some(ReportKind::Effective(Caller::Nobody)),
+        "effective" => Some(ReportKind::Effective(asked_about(rt, alloc, word(line, 4)))),
         _ => None,
     }
 }

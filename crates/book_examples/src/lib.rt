@@ -29,6 +29,8 @@ mod moves;
 #[cfg(test)]
 mod offices;
 #[cfg(test)]
+mod own_reports;
+#[cfg(test)]
 mod policies;
 #[cfg(test)]
 mod reports;

@@ -164,11 +164,6 @@ const REFUSED: &[Step] = &[
         "gus REPORT /books/sales find displayname",
         "400 bad-request",
     ),
-    (
-        "gus REPORT /books/sales/a.vcf group-members",
-        "400 bad-request",
-    ),
-    ("gus REPORT /books/sales effective", "400 bad-request"),
     ("gus REPORT /cellar sync", "404 not-found"),
     ("gus REPORT /books/none sync", "404 not-found"),
     (

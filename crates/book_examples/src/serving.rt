@@ -2,6 +2,7 @@
 
 use crate::bodies::{body, depth};
 use crate::moves::{destination, overwrite};
+use crate::own_reports::{tell_members, tell_rulings};
 use crate::responses::{tell_listing, tell_report};
 use crate::words::{method, word};
 use book_cards::CardFault;
@@ -80,6 +81,8 @@ fn tell_content(rt: &impl Abort, alloc: Global, content: &Content) -> String {
         }
         Content::Listing(responses) => tell_listing(rt, alloc, responses.as_slice()),
         Content::Synced(report) => tell_report(rt, alloc, report),
+        Content::Members(book, members) => tell_members(rt, alloc, book, members),
+        Content::Rulings(rulings) => tell_rulings(rt, alloc, rulings.as_slice()),
         Content::Refusal(refusal) => tell_refusal(rt, alloc, refusal),
     }
 }

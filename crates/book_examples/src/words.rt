@@ -17,6 +17,21 @@ const OTHER_VERSION: &str = "BEGIN:VCARD\r\nVERSION:3.0\r\nFN:A\r\nEND:VCARD\r\n
 const MEMBER_WITHOUT_GROUP: &str =
     "BEGIN:VCARD\r\nVERSION:4.0\r\nFN:A\r\nMEMBER:urn:uuid:1\r\nEND:VCARD\r\n";
 
+/// The UID p.
+const CARD_P: &str = "BEGIN:VCARD\r\nVERSION:4.0\r\nUID:urn:uuid:p\r\nFN:P\r\nEND:VCARD\r\n";
+
+/// A group of p and q.
+const GROUP_G: &str =
+    "BEGIN:VCARD\r\nVERSION:4.0\r\nKIND:group\r\nFN:G\r\nMEMBER:urn:uuid:p\r\nMEMBER:urn:uuid:q\r\nEND:VCARD\r\n";
+
+/// The group x, of y.
+const GROUP_X: &str =
+    "BEGIN:VCARD\r\nVERSION:4.0\r\nKIND:group\r\nUID:urn:uuid:x\r\nFN:X\r\nMEMBER:urn:uuid:y\r\nEND:VCARD\r\n";
+
+/// The group y, of x.
+const GROUP_Y: &str =
+    "BEGIN:VCARD\r\nVERSION:4.0\r\nKIND:group\r\nUID:urn:uuid:y\r\nFN:Y\r\nMEMBER:urn:uuid:x\r\nEND:VCARD\r\n";
+
 const TWO_UIDS: &str = "BEGIN:VCARD\r\nVERSION:4.0\r\nUID:a\r\nUID:b\r\nFN:A\r\nEND:VCARD\r\n";
 
 /// The word at an index; empty where the line has fewer.
@@ -32,6 +47,10 @@ pub(crate) fn text_named(word: &str) -> &str {
         "OTHER_VERSION" => OTHER_VERSION,
         "MEMBER_WITHOUT_GROUP" => MEMBER_WITHOUT_GROUP,
         "TWO_UIDS" => TWO_UIDS,
+        "CARD_P" => CARD_P,
+        "GROUP_G" => GROUP_G,
+        "GROUP_X" => GROUP_X,
+        "GROUP_Y" => GROUP_Y,
         _ => word,
     }
 }

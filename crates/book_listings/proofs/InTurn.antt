@@ -17,12 +17,12 @@ use Rattle.book_listings.specs.Verdicts.{entries_of, paths_of}
 
 -- ---- one list, which stands at a path
 module _ (p : Path) (b : Bool) where
-  entries_standing : (list : List Entry) → entries_of (map (standing_at p b) list) ≡ list
+  pub entries_standing : (list : List Entry) → entries_of (map (standing_at p b) list) ≡ list
   entries_standing [] = refl
   entries_standing (e ∷ es) = ap (λ r. e ∷ r) (entries_standing es)
 
   -- the entries before it, and those of the list
-  entries_more : (before : List EffectiveEntry) (list : List Entry) → entries_of before ++ list ≡ entries_of (before ++ map (standing_at p b) list)
+  pub entries_more : (before : List EffectiveEntry) (list : List Entry) → entries_of before ++ list ≡ entries_of (before ++ map (standing_at p b) list)
   entries_more before list =
       ap (λ es. entries_of before ++ es) (sym (entries_standing list))
       ∙ sym (map-append (λ (e : EffectiveEntry). e.entry) before (map (standing_at p b) list))

@@ -6,3 +6,5 @@ pub mod AlikeListings
 pub mod OneListing
 pub mod ToldResources
 pub mod ToldValues
+pub mod AppliedEntries
+pub mod SiftedLevels

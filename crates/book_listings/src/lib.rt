@@ -6,9 +6,9 @@
 //! of a child nothing is told before its verdict; and that `verdict` is the decision on a set at a resource, by its levels
 //! (`IsVerdict`).
 //!
-//! Read `messages` first; then `deciding` and `granting`, one scan each over lists in turn; then `effective_lists` and
-//! `property_values`, which have the properties; then `subjects` and `listings`, and `laws`; and `asked_properties` by
-//! itself.
+//! Read `messages` first; then `deciding` and `granting`, one scan each over lists in turn, and `sifting`, for many
+//! resources below the same lists; then `effective_lists` and `property_values`, which have the properties; then
+//! `subjects` and `listings`, and `laws`; and `asked_properties` by itself.
 #![tactic(auto)]
 
 mod asked_properties;
@@ -19,6 +19,7 @@ mod laws;
 mod listings;
 mod messages;
 mod property_values;
+mod sifting;
 mod subjects;
 
 pub use asked_properties::is_asked;

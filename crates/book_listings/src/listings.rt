@@ -11,11 +11,14 @@ ghost use Rattle.book_listings.specs.Listings.{AreResponses, IsResponseTo, child
 ghost use Rattle.book_listings.specs.Listings.{asks_members, asks_token, is_members, is_token};
 ghost use Rattle.book_listings.specs.Reading.{AreRead, IsChildResponse};
 ghost use Rattle.book_listings.specs.Reading.{child_level, child_subject, children_for, node_subject};
+ghost use Rattle.book_listings.specs.Scanning.{IsVerdict};
+ghost use Rattle.book_listings.specs.Sifting.{IsSifted};
 ghost use Rattle.book_listings.specs.Verdicts.{principal_of};
 
 use crate::deciding::judge;
-use crate::messages::{Extent, Find, Property, Response};
+use crate::messages::{Denial, Extent, Find, Property, Response};
 use crate::property_values::values;
+use crate::sifting::{Sifted, judge_below, sift};
 use crate::subjects::{Subject, Whole};
 use book_lists::{Circle, Here, Membership, Name, Principal};
 use book_office::{Keeper, Level, Listed, Node, StoreFault};
@@ -116,8 +119,8 @@ fn node_subject(alloc: Global, path: &Path, node: &Node) -> Result<Subject, Allo
     })
 }
 
-/// The response for a resource, by its own level and those above it. Nothing is told before the verdict.
-fn response(
+/// The response for a resource once it is decided, by its own level and those above it.
+fn decided(
     alloc: Global,
     find: &Find,
     circle: &Circle,
@@ -125,11 +128,13 @@ fn response(
     own: &Level,
     above: &[Level],
     subject: &Subject,
+    verdict: Option<Denial>,
 ) -> Result<Response, AllocError>
-    ensures { IfOk result (IsResponseTo find.now circle.now whole.now own.now.path subject.now
+    ensures { IsVerdict (effective_of (own.now ∷ above.now)) circle.now subject.now.here own.now.path find.now.needed verdict
+        → IfOk result (IsResponseTo find.now circle.now whole.now own.now.path subject.now
         (effective_of (own.now ∷ above.now))) }
 {
-    if let Some(denial) = judge(own, above, circle, &subject.here, find.needed)? {
+    if let Some(denial) = verdict {
         return Ok(Response::Denied(denial));
     }
     let properties = values(
@@ -145,7 +150,24 @@ fn response(
     Ok(Response::Told { path, properties })
 }
 
-/// The response for a child below these levels.
+/// The response for a resource, by its own level and those above it. Nothing is told before the verdict.
+fn response(
+    alloc: Global,
+    find: &Find,
+    circle: &Circle,
+    whole: &Whole,
+    own: &Level,
+    above: &[Level],
+    subject: &Subject,
+) -> Result<Response, AllocError>
+    ensures { IfOk result (IsResponseTo find.now circle.now whole.now own.now.path subject.now
+        (effective_of (own.now ∷ above.now))) }
+{
+    let verdict = judge(own, above, circle, &subject.here, find.needed)?;
+    decided(alloc, find, circle, whole, own, above, subject, verdict)
+}
+
+/// The response for a child below these levels, of which what may apply to the caller is sifted.
 fn child_response(
     alloc: Global,
     find: &Find,
@@ -153,15 +175,20 @@ fn child_response(
     whole: &Whole,
     path: &Path,
     levels: &[Level],
+    sifted: &Sifted,
     child: Listed,
 ) -> Result<Response, AllocError>
-    ensures { IfOk result (IsChildResponse find.now circle.now whole.now path.now levels.now child) }
+    ensures { IsSifted circle.now levels.now sifted.now
+        → IfOk result (IsChildResponse find.now circle.now whole.now path.now levels.now child) }
 {
     let (level, subject) = read_child(alloc, path, child)?;
-    response(alloc, find, circle, whole, &level, levels, &subject)
+    let verdict = judge_below(&level, levels, sifted, circle, &subject.here, find.needed)?;
+    decided(
+        alloc, find, circle, whole, &level, levels, &subject, verdict,
+    )
 }
 
-/// The responses for the children below these levels, in their order.
+/// The responses for the children below these levels, in their order. What may apply to the caller is sifted once.
 fn child_responses(
     alloc: Global,
     find: &Find,
@@ -174,10 +201,11 @@ fn child_responses(
     ensures { IfOk result (λ responses.
         AllZip (IsChildResponse find.now circle.now whole.now path.now levels.now) children responses.items) }
 {
+    let sifted = sift(alloc, levels, circle)?;
     let children = children.into_vec();
     let mut responses = Vec::with_capacity(alloc, children.len())?;
     for child in children {
-        responses.push(child_response(alloc, find, circle, whole, path, levels, child)?)?;
+        responses.push(child_response(alloc, find, circle, whole, path, levels, &sifted, child)?)?;
     }
     Ok(responses)
 }
@@ -307,7 +335,8 @@ fn epoch_for<K: Keeper>(keeper: &mut K, asked: bool) -> Result<u64, StoreFault>
 /// path. An error is want of memory, or a store that failed.
 ///
 /// Beside the lists of the resource it reads the children, the memberships and the epoch at most once each, and nothing
-/// for a child. A child costs at most one look at each entry in force, and more only for what is told of it.
+/// for a child. Entries above the children that can't apply to the caller are sifted out once: a granted child costs at
+/// most a look at each other entry in force, a denied one a look at each, and more only for what is told of it.
 pub fn listing<K: Keeper>(
     alloc: Global,
     keeper: &mut K,

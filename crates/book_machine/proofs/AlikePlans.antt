@@ -8,11 +8,12 @@ use Rattle.book_lists.specs.Callers.{IsCircle}
 use Rattle.book_lists.specs.Circles.{CircleOf}
 use Rattle.book_lists.specs.Principals.{person_path}
 use Rattle.book_lists.specs.declared.circles.Caller.{Caller}
-use Rattle.book_lists.specs.declared.circles.Caller.TheVariants.{Known}
+use Rattle.book_lists.specs.declared.circles.Caller.TheVariants.{Nobody, Known}
 use Rattle.book_lists.specs.declared.submitted.Submitted.{Submitted}
 use Rattle.book_office.specs.Levels.{protected_entries, effective_at}
 use Rattle.book_office.specs.declared.nodes.EffectiveEntry.{EffectiveEntry}
 use Rattle.book_office.specs.Resources.{node_at}
+use Rattle.book_office.specs.Sound.{IsMapped}
 use Rattle.book_office.specs.declared.nodes.Node.{Node}
 use Rattle.book_rights.specs.Needs.{only, read_and, needs_of}
 use Rattle.book_rights.specs.declared.methods.Method.{Method}
@@ -27,7 +28,7 @@ use Rattle.book_values.specs.declared.paths.Path.{Path}
 use Rattle.book_values.specs.declared.paths.Path.TheVariants as path
 use Rattle.book_values.specs.Paths.{kind_of, levels}
 use Rattle.book_machine.proofs.AlikeOffices.{alike_of}
-use Rattle.book_machine.proofs.AlikeReports.{AreReportedAlike, reports_alike}
+use Rattle.book_machine.proofs.AlikeReports.{AreReportedAlike, members_alike, reports_alike, rulings_told_alike}
 use Rattle.book_machine.proofs.FittingPlans.{IsShaped, ready_is_target, ready_shaped}
 use Rattle.book_machine.proofs.Outlines.{there_mapped, outline_of_node, book_there, count_same, nodes_alike, node_same, level_same, effective_same, here_same}
 use Rattle.book_listings.proofs.AlikeListings.{unread_unseen}
@@ -37,16 +38,18 @@ use Rattle.book_listings.specs.declared.messages.Property.TheVariants as propert
 use Rattle.book_machine.specs.Agreement.{named, MayRead, outline, Agree}
 use Rattle.book_machine.specs.AllowedMethods.{allowed_of, goes_on}
 use Rattle.book_machine.specs.Asked.{asked_of, method_of, destination_in, destination_path}
-use Rattle.book_machine.specs.Stages.{◌>>=◌, check, caller_of, at_unmapped, at_node, target_of, suits_target, ready_of, IsMembersAnswer, IsChecked, IsListAnswer, protected_entries_at, IsAclAnswer, IsBodyAnswer, can_change, put_limits, delete_limits, label_limits, keeps_limits, limits_of, card_plan, allow_plan, put_plan, patch_plan, acl_plan, delete_plan, mkcol_plan, report_plan, sync_plan, body_then_limits, IsListed, IsSuccessOf, IsDone, IsGrantedPlan, put_status, put_edit, replied, replaceable, destination_of, can_change_twice, copy_limits, move_limits, copy_plan, move_plan, copy_edit, move_edit}
+use Rattle.book_machine.specs.Stages.{◌>>=◌, check, caller_of, at_unmapped, at_node, target_of, suits_target, ready_of, IsMembersAnswer, IsChecked, IsListAnswer, protected_entries_at, IsAclAnswer, IsReportAnswer, IsBodyAnswer, can_change, put_limits, delete_limits, label_limits, keeps_limits, limits_of, card_plan, allow_plan, put_plan, patch_plan, acl_plan, delete_plan, mkcol_plan, report_plan, sync_plan, body_then_limits, AreMembersTold, IsReportOf, IsListed, IsSuccessOf, IsDone, IsGrantedPlan, put_status, put_edit, replied, replaceable, destination_of, can_change_twice, move_limits, copy_plan, move_plan, copy_edit, move_edit}
 use Rattle.book_machine.specs.Steps.{IsDecided, IsPlannedFrom, IsPlan}
 use Rattle.book_listings.specs.Verdicts.{IsGrantedBy, IsDeniedBy, IsGrantedAt, IsDeniedAt, here_of}
-use Rattle.book_machine.specs.Verdicts.{AreGranted, IsFirstDenial, IsGranted, IsDenied, asks_for, is_book, needs_at, shape_at, place_path}
+use Rattle.book_machine.specs.Verdicts.{AreGranted, IsFirstDenial, IsGranted, IsDenied, asks_effective, asks_for, is_book, needs_at, shape_at, place_path}
 use Rattle.book_machine.specs.declared.allowed_methods.AllowedMethods.TheVariants.{OfNewCard}
 use Rattle.book_machine.specs.declared.asked.Asked.{Asked}
 use Rattle.book_machine.specs.declared.asked.Asked.TheVariants as asked
 use Rattle.book_machine.specs.declared.asked.Destination.{Destination}
 use Rattle.book_machine.specs.declared.messages.Content.TheVariants as content
 use Rattle.book_machine.specs.declared.messages.Patch.TheVariants as patch
+use Rattle.book_machine.specs.declared.messages.ReportKind.{ReportKind}
+use Rattle.book_machine.specs.declared.messages.ReportKind.TheVariants as report
 use Rattle.book_machine.specs.declared.messages.Request.{Request}
 use Rattle.book_machine.specs.declared.messages.SyncFrom.{SyncFrom}
 use Rattle.book_machine.specs.declared.plans.Plan.{Plan}
@@ -258,6 +261,13 @@ module _ (o p : Office) (same : outline o ≡ outline p) where
     ),
   )
 
+  report_answer_same : (which : ReportKind) (answer : Result (Unit {0}) Refusal) → IsReportAnswer o which answer → IsReportAnswer p which answer
+  report_answer_same (report.SyncCollection from) answer is = is
+  report_answer_same report.GroupMembers answer is = is
+  report_answer_same (report.Effective Nobody) answer is = is
+  report_answer_same (report.Effective (Known person)) (Ok u) is = subst (λ (x : Office). IsMapped x person) same is
+  report_answer_same (report.Effective (Known person)) (Err e) is = (is.0, λ there. is.1 (subst (λ (x : Office). IsMapped x person) (sym same) there))
+
   body_answer_same : (what : Asked) (q : Path) (answer : Result (Unit {0}) Refusal) → IsBodyAnswer o what q answer → IsBodyAnswer p what q answer
   body_answer_same asked.Get q answer is = is
   body_answer_same asked.Head q answer is = is
@@ -271,7 +281,7 @@ module _ (o p : Office) (same : outline o ≡ outline p) where
   body_answer_same (asked.Move to) q answer is = is
   body_answer_same asked.Delete q answer is = is
   body_answer_same asked.Mkcol q answer is = is
-  body_answer_same (asked.Report from) q answer is = is
+  body_answer_same (asked.Report which) q answer is = report_answer_same which answer is
 
   keeps_limits_same : (what : Asked) (q : Path) (mapped taken : Bool) → keeps_limits o what q mapped taken ≡ keeps_limits p what q mapped taken
   keeps_limits_same asked.Get q mapped taken = refl
@@ -286,7 +296,7 @@ module _ (o p : Office) (same : outline o ≡ outline p) where
   keeps_limits_same (asked.Move to) q mapped taken = move_limits_same q to taken
   keeps_limits_same asked.Delete q mapped taken = delete_limits_same q
   keeps_limits_same asked.Mkcol q mapped taken = ap (λ n. nat_lt n MAX_BOOKS) (count_same o p same path.Books)
-  keeps_limits_same (asked.Report from) q mapped taken = refl
+  keeps_limits_same (asked.Report which) q mapped taken = refl
 
 -- ---- methods that need `read` at their target
 read_alone : (leaf : Leaf) → only Read leaf ≡ true → leaf ≡ Read
@@ -367,7 +377,7 @@ module _ (a b : Ready) (alike : outline_of_ready a ≡ outline_of_ready b) where
     book = is_book (kind_of (path_is i));
     acl = asks_for property.Acl (asked_is i);
     privileges = asks_for property.CurrentUserPrivilegeSet (asked_is i);
-    effective = false;
+    effective = asks_effective (asked_is i);
   })
 
   module _ (o p : Office) (same : outline o ≡ outline p) where
@@ -409,8 +419,23 @@ module _ (a b : Ready) (alike : outline_of_ready a ≡ outline_of_ready b) where
     sync_same from path.Books = refl
     sync_same from (path.Person n) = refl
     sync_same from (path.Group n) = refl
-    sync_same from (path.Book b) = ap report_plan (reports b from)
+    sync_same from (path.Book b) = ap report_plan (reports.synced b from)
     sync_same from (path.Card b c) = refl
+
+    members_same : (q : Path) (result : Result Plan Refusal) → AreMembersTold o circle q result → AreMembersTold p circle q result
+    members_same path.Root result is = is
+    members_same path.People result is = is
+    members_same path.Groups result is = is
+    members_same path.Books result is = is
+    members_same (path.Person n) result is = is
+    members_same (path.Group n) result is = is
+    members_same (path.Book b) result is = is
+    members_same (path.Card b c) result is = (is.0, members_alike o p circle reports.seen_alike b c is.0 is.1, is.2)
+
+    report_same : (which : ReportKind) (q : Path) (result : Result Plan Refusal) → IsReportOf o circle which q result → IsReportOf p circle which q result
+    report_same (report.SyncCollection from) q result is = sym (sync_same from q) ∙ is
+    report_same report.GroupMembers q result is = members_same q result is
+    report_same (report.Effective caller) q result is = rulings_told_alike o p reports.outlines caller q result is
 
     listed_same : (find : Find) → find.needed Read ≡ true → (q : Path) (node : Option Node) (result : Result Plan Refusal)
         → IsListed o circle find q node result → IsListed p circle find q node result
@@ -446,7 +471,7 @@ module _ (a b : Ready) (alike : outline_of_ready a ≡ outline_of_ready b) where
     success_same asked.Mkcol shaped shown result is =
         let plans : mkcol_plan a.caller a.target.path ≡ mkcol_plan b.caller b.target.path = λ i. mkcol_plan (caller_is i) (path_is i) in
         sym plans ∙ is
-    success_same (asked.Report from) shaped shown result is = sym (sync_same from a.target.path ∙ ap (sync_plan p circle from) path_is) ∙ is
+    success_same (asked.Report which) shaped shown result is = subst (λ q. IsReportOf p circle which q result) path_is (report_same which a.target.path result is)
 
     done_same : IsShaped a.asked → (reads_target (method_of a.asked) ≡ true → a.target.node ≡ b.target.node) → (c : Result (Unit {0}) Refusal) (result : Result Plan Refusal)
         → IsDone o circle a c result → IsDone p circle b c result

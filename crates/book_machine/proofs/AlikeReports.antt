@@ -1,5 +1,5 @@
--- Offices that agree for a caller tell the same in sync reports.
-use Rattle.std.proofs.Common.{◌≡◌, ℕ, ◌<◌, zero, suc, Bool, true, false, not, List, [], ◌∷◌, map, filter, Option, Some, None, is_some, option_map, option_and_then, unwrap_or, slice_get, refl, sym, ap, ◌∙◌, subst, arith}
+-- Offices that agree for a caller tell the same in reports.
+use Rattle.std.proofs.Common.{◌≡◌, ℕ, ◌<◌, zero, suc, Bool, true, false, not, List, [], ◌∷◌, map, filter, Option, Some, None, Result, is_some, option_map, option_and_then, unwrap_or, slice_get, refl, sym, ap, ◌∙◌, subst, arith}
 use Rattle.std.specs.Prelude.{if◌then◌else◌}
 use Rattle.std.specs.FinMap.{get}
 use Rattle.book_rights.specs.Leaves.{each_leaf}
@@ -12,32 +12,43 @@ use Rattle.book_lists.specs.Decisions.{bears, Grants}
 use Rattle.book_lists.specs.declared.circles.Caller.{Caller}
 use Rattle.book_lists.specs.declared.entries.Entry.{Entry}
 use Rattle.book_lists.specs.declared.entries.Here.{Here}
+use Rattle.book_links.specs.declared.members.Members.{Members}
+use Rattle.book_members.specs.Members.{AreMembersAt}
 use Rattle.book_values.proofs.OneName.{some_apart, same_some}
 use Rattle.book_values.specs.Changes.{Change, changes_after}
 use Rattle.book_values.specs.declared.collections.changes.Numbers.{Numbers}
 use Rattle.book_values.specs.declared.offices.Book.{Book}
 use Rattle.book_values.specs.declared.offices.Office.{Office}
 use Rattle.book_values.specs.declared.offices.StoredCard.{StoredCard}
+use Rattle.book_values.specs.declared.paths.Path.{Path}
 use Rattle.book_values.specs.declared.paths.Path.TheVariants as path
+use Rattle.book_office.specs.Levels.{effective_at}
 use Rattle.book_office.specs.OwnLists.{entries_in_force}
-use Rattle.book_office.specs.Resources.{Resource, card_at, card_in, card_resource, number_of}
+use Rattle.book_office.specs.Resources.{Resource, card_at, card_in, card_resource, number_of, resource_at}
 use Rattle.book_office.specs.declared.nodes.EffectiveEntry.{EffectiveEntry}
 use Rattle.book_listings.specs.Verdicts.{here_of}
+use Rattle.book_rulings.specs.Rulings.{AreRulings, AreRulingsAt}
+use Rattle.book_rulings.specs.declared.messages.Ruling.{Ruling}
 use Rattle.book_sync.specs.Copies.{grants, here_of_card, can_read, shown, seen_in, seen, found_of, first_of, last_number, is_cut, start_of, sync_of, sync}
 use Rattle.book_sync.specs.Reading.{names_place}
 use Rattle.book_sync.specs.declared.messages.Item.{Item}
 use Rattle.book_sync.specs.declared.messages.Report.{Report}
 use Rattle.book_sync.specs.declared.messages.Seen.{Seen}
 use Rattle.book_sync.specs.declared.messages.Token.{Token}
-use Rattle.book_machine.proofs.Outlines.{books_alike, cards_alike, effective_same}
-use Rattle.book_machine.specs.Agreement.{MayRead, outline_of_book, outline_of_card, Agree}
-use Rattle.book_machine.specs.Stages.{report_from}
+use Rattle.book_machine.proofs.Outlines.{books_alike, cards_alike, effective_same, here_same, outline_of_resource, resources_alike, there_mapped}
+use Rattle.book_machine.specs.Agreement.{MayRead, outline, outline_of_book, outline_of_card, Agree}
+use Rattle.book_machine.specs.Stages.{report_from, AreRulingsTold}
 use Rattle.book_machine.specs.declared.messages.SyncFrom.{SyncFrom}
 use Rattle.book_machine.specs.declared.messages.SyncFrom.TheVariants.{Start, After, Unknown}
+use Rattle.book_machine.specs.declared.plans.Plan.{Plan}
+use Rattle.book_machine.specs.declared.refusals.Refusal.{Refusal}
 
--- two Offices tell the same in each sync report
-abbrev pub AreReportedAlike : Office → Office → CircleOf → Type 0
-AreReportedAlike o p circle = (b : List ℕ) (from : SyncFrom) → report_from o circle b from ≡ report_from p circle b from
+-- two Offices tell the same in each report, to who has this circle: in sync reports, in what is seen of each name of a
+-- book, and in what rests on outlines
+pub record AreReportedAlike (o p : Office) (circle : CircleOf) : Type 0 where
+  pub synced : (b : List ℕ) (from : SyncFrom) → report_from o circle b from ≡ report_from p circle b from
+  pub seen_alike : (b c : List ℕ) → seen o circle b c ≡ seen p circle b c
+  pub outlines : outline o ≡ outline p
 
 -- ---- what entries grant
 not_true : (b : Bool) → not b ≡ true → b ≡ false
@@ -167,7 +178,46 @@ module _ (o p : Office) (caller : Caller) (agree : Agree o p caller) (circle : C
   sync_same : (token : Option Token) (limit : Option ℕ) → sync o circle b token limit ≡ sync p circle b token limit
   sync_same token limit = books_synced token limit (get o.books b) (get p.books b) (books_alike o p agree.outlines b)
 
-pub reports_alike : (o p : Office) (caller : Caller) → Agree o p caller → (circle : CircleOf) → IsCircle o.pairs caller circle → AreReportedAlike o p circle
-reports_alike o p caller agree circle is_circle b Start = sync_same o p caller agree circle is_circle b None None
-reports_alike o p caller agree circle is_circle b (After token) = sync_same o p caller agree circle is_circle b (Some token) None
-reports_alike o p caller agree circle is_circle b Unknown = refl
+module _ (o p : Office) (caller : Caller) (agree : Agree o p caller) (circle : CircleOf) (is_circle : IsCircle o.pairs caller circle) where
+  syncs_alike : (b : List ℕ) (from : SyncFrom) → report_from o circle b from ≡ report_from p circle b from
+  syncs_alike b Start = sync_same o p caller agree circle is_circle b None None
+  syncs_alike b (After token) = sync_same o p caller agree circle is_circle b (Some token) None
+  syncs_alike b Unknown = refl
+
+  pub reports_alike : AreReportedAlike o p circle
+  reports_alike = record {
+    synced = λ b from. syncs_alike b from;
+    seen_alike = λ b c. seen_same o p caller agree circle is_circle b c;
+    outlines = agree.outlines;
+  }
+
+-- ---- the members of a card, and what decides each leaf
+pub members_alike : (o p : Office) (circle : CircleOf) → ((b c : List ℕ) → seen o circle b c ≡ seen p circle b c)
+    → (b c : List ℕ) (members : Members) → AreMembersAt o circle b c members → AreMembersAt p circle b c members
+members_alike o p circle same b c members is = (is.0, (λ q. is.1 q ∙ same b q), is.2)
+
+still_none : {A B : Type 0} (f : A → B) (r s : Option A) → option_map f r ≡ option_map f s → r ≡ None → s ≡ None
+still_none f r None alike none = refl
+still_none f r (Some y) alike none = some_apart (sym alike ∙ ap (option_map f) none)
+
+module _ (o p : Office) (same : outline o ≡ outline p) where
+  pub rulings_alike : (circle : CircleOf) (q : Path) (told : Option (List Ruling)) → AreRulingsAt o circle q told → AreRulingsAt p circle q told
+  rulings_alike circle q None none = still_none outline_of_resource (resource_at o q) (resource_at p q) (resources_alike o p same q) none
+  rulings_alike circle q (Some rulings) are =
+      let there : is_some (resource_at o q) ≡ is_some (resource_at p q) =
+      sym (there_mapped outline_of_resource (resource_at o q)) ∙ ap is_some (resources_alike o p same q) ∙ there_mapped outline_of_resource (resource_at p q) in (
+        sym there ∙ are.0,
+        subst (λ here. AreRulings (effective_at p q) circle here rulings) (here_same o p same q)
+            (subst (λ list. AreRulings list circle (here_of o q) rulings) (effective_same o p same q) are.1),
+      )
+
+  pub rulings_told_alike : (caller : Caller) (q : Path) (result : Result Plan Refusal) → AreRulingsTold o caller q result → AreRulingsTold p caller q result
+  rulings_told_alike caller q result is = record {
+    circle = is.circle;
+    is_circle = subst (λ (x : Office). IsCircle x.pairs caller is.circle) same is.is_circle;
+    rulings = record {
+      rulings = is.rulings.rulings;
+      are = rulings_alike is.circle q is.rulings.rulings is.rulings.are;
+      is_told = is.rulings.is_told;
+    };
+  }

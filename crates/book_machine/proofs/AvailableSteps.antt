@@ -19,12 +19,12 @@ use Rattle.book_values.specs.declared.paths.Path.TheVariants as path
 use Rattle.book_office.specs.Resources.{node_at}
 use Rattle.book_office.specs.declared.nodes.Node.{Node}
 use Rattle.book_values.specs.declared.offices.Office.{Office}
-use Rattle.book_machine.proofs.SyncPlans.{sync_available}
+use Rattle.book_machine.proofs.ReportPlans.{reported_available}
 use Rattle.book_machine.proofs.StepLaws.{granted_answer, done, late, not_success, planned_succeeds, same_refusal}
 use Rattle.book_machine.specs.Laws.{is_late, StepsAreAvailable}
 use Rattle.book_machine.specs.Refusals.{refused}
 use Rattle.book_machine.specs.AllowedMethods.{allowed_of, goes_on}
-use Rattle.book_machine.specs.Asked.{asked_of, is_empty, put_asked, find_asked_to, find_asked, each_once, patch_asked, proppatch_asked, acl_asked, mkcol_asked, kind_asked, report_asked, is_card, destination_by, destination_asked, copy_asked, move_asked, destination_in, destination_path}
+use Rattle.book_machine.specs.Asked.{asked_of, is_empty, put_asked, find_asked_to, find_asked, each_once, patch_asked, proppatch_asked, acl_asked, mkcol_asked, report_asked, is_card, destination_by, destination_asked, copy_asked, move_asked, destination_in, destination_path}
 use Rattle.book_machine.specs.Stages.{◌>>=◌, check, caller_of, target_of, at_node, at_unmapped, new_card, new_book_at, suits_target, ready_of, text_told, text_of, put_edit, delete_edit, mkcol_edit, members_edit, patch_edit, IsListed, IsSuccessOf, IsGrantedPlan, replaceable, destination_of, copy_edit, move_edit}
 use Rattle.book_machine.specs.Steps.{IsPlannedFrom, IsPlan, settled}
 use Rattle.book_machine.specs.declared.allowed_methods.AllowedMethods.TheVariants.{OfNewCard}
@@ -40,8 +40,6 @@ use Rattle.book_machine.specs.declared.messages.Flag.TheVariants as flag
 use Rattle.book_machine.specs.declared.messages.Patch.{Patch}
 use Rattle.book_machine.specs.declared.messages.Patch.TheVariants as patch
 use Rattle.book_machine.specs.declared.messages.Reply.{Reply}
-use Rattle.book_machine.specs.declared.messages.ReportKind.{ReportKind}
-use Rattle.book_machine.specs.declared.messages.ReportKind.TheVariants.{SyncCollection, GroupMembers, Effective}
 use Rattle.book_machine.specs.declared.messages.Request.{Request}
 use Rattle.book_machine.specs.declared.plans.Plan.{Plan}
 use Rattle.book_machine.specs.declared.plans.Ready.{Ready}
@@ -137,18 +135,13 @@ depth_available depth.Zero b e = find_available Alone b e
 depth_available depth.One b e = find_available Children b e
 depth_available depth.Unread b e = absurd (cc (e))
 
-kind_available : (kind : ReportKind) → IsAvailable (kind_asked kind)
-kind_available (SyncCollection from) e = absurd (cc (e))
-kind_available GroupMembers e = absurd (cc (e))
-kind_available (Effective caller) e = absurd (cc (e))
-
 report_available : (b : Body) → IsAvailable (report_asked b)
 report_available body.Empty e = absurd (cc (e))
 report_available (body.Text text) e = absurd (cc (e))
 report_available (body.Find properties) e = absurd (cc (e))
 report_available (body.Patch p) e = absurd (cc (e))
 report_available (body.List list) e = absurd (cc (e))
-report_available (body.Report kind) e = kind_available kind e
+report_available (body.Report which) e = absurd (cc (e))
 report_available body.Unread e = absurd (cc (e))
 
 flag_available : (b c : List ℕ) (f : Flag) → IsAvailable (destination_by b c f)
@@ -337,7 +330,7 @@ success_available o circle (asked.Copy to) caller target = both (copy_edit calle
 success_available o circle (asked.Move to) caller target = both (move_edit target.path to) _ (move_edit_available target.path to) (λ edit. value _)
 success_available o circle asked.Delete caller target = both (delete_edit target.path) _ (delete_edit_available target.path) (λ edit. value _)
 success_available o circle asked.Mkcol caller target = both (mkcol_edit caller target.path) _ (mkcol_edit_available caller target.path) (λ edit. value _)
-success_available o circle (asked.Report from) caller target = sync_available o circle from target.path
+success_available o circle (asked.Report which) caller target = reported_available o circle which target.path
 
 module _ (o : Office) (request : Request) where
   ready_available : (name : Option (List ℕ)) → IsAvailable (ready_of o name request)

@@ -5,6 +5,8 @@ use Rattle.std.proofs.lemmas.List.Elements.{All-from_recursion}
 use Rattle.book_cards.specs.CardText.{card_fault}
 use Rattle.book_cards.specs.declared.fault.CardFault.{CardFault}
 use Rattle.book_lists.specs.ListEdits.{IsFaultless, EntryFault, IsAccepted, IsRefused, entry_of, entries_of, entry_with}
+use Rattle.book_lists.specs.declared.circles.Caller.{Caller}
+use Rattle.book_lists.specs.declared.circles.Caller.TheVariants.{Nobody, Known}
 use Rattle.book_lists.specs.declared.entries.Entry.{Entry}
 use Rattle.book_lists.specs.declared.entries.Who.{Who}
 use Rattle.book_lists.specs.declared.list_edits.EditFault.{EditFault}
@@ -17,10 +19,12 @@ use Rattle.book_limits.specs.declared.TheConstants.{MAX_ENTRIES}
 use Rattle.book_values.specs.declared.offices.Office.{Office}
 use Rattle.book_values.specs.declared.paths.Path.{Path}
 use Rattle.book_machine.specs.Laws.{is_late}
-use Rattle.book_machine.specs.Stages.{bad_card, IsMembersAnswer, IsKnownWho, IsChecked, list_refusal, IsListAnswer, protected_entries_at, IsAclAnswer, IsBodyAnswer}
+use Rattle.book_machine.specs.Stages.{bad_card, IsMembersAnswer, IsKnownWho, IsChecked, list_refusal, IsListAnswer, protected_entries_at, IsAclAnswer, IsCallerAnswer, IsReportAnswer, IsBodyAnswer}
 use Rattle.book_machine.specs.declared.asked.Asked.{Asked}
 use Rattle.book_machine.specs.declared.asked.Asked.TheVariants as asked
 use Rattle.book_machine.specs.declared.messages.Patch.TheVariants as patch
+use Rattle.book_machine.specs.declared.messages.ReportKind.{ReportKind}
+use Rattle.book_machine.specs.declared.messages.ReportKind.TheVariants as report
 use Rattle.book_machine.specs.declared.refusals.Refusal.{Refusal}
 use Rattle.book_machine.specs.declared.refusals.Refusal.TheVariants as refusal
 
@@ -116,6 +120,18 @@ one_acl_answer o p list a b (inr x) (inr y) =
     let same = one_checked_list o list x.1.0 y.1.0 x.1.1 y.1.1 in
     one_list_answer (protected_entries_at o p) y.1.0 a b (subst (λ c. IsListAnswer (protected_entries_at o p) c a) same x.1.2) y.1.2
 
+one_caller_answer : (o : Office) (caller : Caller) (a b : Answer) → IsCallerAnswer o caller a → IsCallerAnswer o caller b → a ≡ b
+one_caller_answer o Nobody a b x y = x ∙ sym y
+one_caller_answer o (Known person) (Ok u) (Ok v) x y = refl
+one_caller_answer o (Known person) (Ok u) (Err f) x y = absurd (y.1 x)
+one_caller_answer o (Known person) (Err e) (Ok v) x y = absurd (x.1 y)
+one_caller_answer o (Known person) (Err e) (Err f) x y = ap Err (x.0 ∙ sym y.0)
+
+one_report_answer : (o : Office) (which : ReportKind) (a b : Answer) → IsReportAnswer o which a → IsReportAnswer o which b → a ≡ b
+one_report_answer o (report.SyncCollection from) a b x y = x ∙ sym y
+one_report_answer o report.GroupMembers a b x y = x ∙ sym y
+one_report_answer o (report.Effective caller) a b x y = one_caller_answer o caller a b x y
+
 pub one_body_answer : (o : Office) (what : Asked) (p : Path) (a b : Answer) → IsBodyAnswer o what p a → IsBodyAnswer o what p b → a ≡ b
 one_body_answer o asked.Get p a b x y = x ∙ sym y
 one_body_answer o asked.Head p a b x y = x ∙ sym y
@@ -129,7 +145,7 @@ one_body_answer o (asked.Copy to) p a b x y = x ∙ sym y
 one_body_answer o (asked.Move to) p a b x y = x ∙ sym y
 one_body_answer o asked.Delete p a b x y = x ∙ sym y
 one_body_answer o asked.Mkcol p a b x y = x ∙ sym y
-one_body_answer o (asked.Report from) p a b x y = x ∙ sym y
+one_body_answer o (asked.Report which) p a b x y = one_report_answer o which a b x y
 
 -- ---- the body is accepted, or refused by a refusal of its own
 abbrev IsAnswered : Answer → Type 0
@@ -158,6 +174,16 @@ acl_answered : (o : Office) (p : Path) (list : List Submitted) (a : Answer) → 
 acl_answered o p list a (inl long) = inr (refusal.LimitedNumberOfAces, refl, long.1)
 acl_answered o p list a (inr at) = list_answered (protected_entries_at o p) at.1.0 a at.1.2
 
+caller_answered : (o : Office) (caller : Caller) (a : Answer) → IsCallerAnswer o caller a → IsAnswered a
+caller_answered o Nobody a is = inl is
+caller_answered o (Known person) (Ok u) is = inl refl
+caller_answered o (Known person) (Err e) is = inr (refusal.RecognizedPrincipal, refl, ap Err is.0)
+
+report_answered : (o : Office) (which : ReportKind) (a : Answer) → IsReportAnswer o which a → IsAnswered a
+report_answered o (report.SyncCollection from) a is = inl is
+report_answered o report.GroupMembers a is = inl is
+report_answered o (report.Effective caller) a is = caller_answered o caller a is
+
 pub body_answered : (o : Office) (what : Asked) (p : Path) (a : Answer) → IsBodyAnswer o what p a → IsAnswered a
 body_answered o asked.Get p a is = inl is
 body_answered o asked.Head p a is = inl is
@@ -171,7 +197,7 @@ body_answered o (asked.Copy to) p a is = inl is
 body_answered o (asked.Move to) p a is = inl is
 body_answered o asked.Delete p a is = inl is
 body_answered o asked.Mkcol p a is = inl is
-body_answered o (asked.Report from) p a is = inl is
+body_answered o (asked.Report which) p a is = report_answered o which a is
 
 -- ---- a list that is accepted
 abbrev AllKnown : Office → List Entry → Type 0

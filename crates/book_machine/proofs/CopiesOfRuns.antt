@@ -1,11 +1,8 @@
 -- What sync reports tell in runs of the machine.
-use Rattle.std.proofs.Common.{◌≡◌, ◌⊎◌, inl, inr, ℕ, ◌<◌, suc, Bool, true, false, ◌&&◌, List, [], ◌∷◌, drop, Option, Some, None, option_and_then, Result, Ok, Err, refl, sym, ap, ◌∙◌, subst, arith}
-use Rattle.std.specs.Prelude.{if◌then◌else◌}
-use Rattle.std.specs.FinMap.{get}
+use Rattle.std.proofs.Common.{◌≡◌, inl, inr, ℕ, List, [], ◌∷◌, Option, Some, None, Result, Ok, Err, refl, sym, ap, ◌∙◌, subst, arith}
 use Rattle.book_lists.specs.Circles.{CircleOf}
 use Rattle.book_lists.specs.Callers.{IsCircle}
 use Rattle.book_lists.proofs.OneOutcome.{one_circle}
-use Rattle.book_values.specs.declared.offices.Book.{Book}
 use Rattle.book_values.specs.declared.offices.Office.{Office}
 use Rattle.book_values.specs.declared.paths.Path.{Path}
 use Rattle.book_values.specs.declared.paths.Path.TheVariants as path
@@ -29,13 +26,13 @@ use Rattle.book_machine.specs.Asked.{asked_of, destination_in, report_asked}
 use Rattle.book_machine.specs.LeadingRuns.{HavePaths}
 use Rattle.book_machine.specs.Refusals.{refused}
 use Rattle.book_machine.specs.Runs.{Call}
-use Rattle.book_machine.specs.Stages.{◌>>=◌, caller_of, at_node, at_unmapped, target_of, suits_target, destination_of, ready_of, report_plan, IsBodyAnswer, limits_of, IsSuccessOf, IsDone}
+use Rattle.book_machine.specs.Stages.{caller_of, at_node, at_unmapped, target_of, suits_target, destination_of, ready_of, report_plan, IsBodyAnswer, limits_of, IsSuccessOf, IsDone}
 use Rattle.book_machine.specs.Steps.{IsPlan, IsPlannedFrom, settled, Steps as IsStep, Serves}
-use Rattle.book_machine.specs.SyncedCopies.{from_of, AsksReport, told, GrantedReportsAreTold, IsReported, machine_steps, IsServedAt, IsToldAt, FindsAt, FindsAfter, ReportsFollow, ReportsBegin, ReportsAreWhole, TokensAreEnded, Synced}
+use Rattle.book_machine.specs.SyncedCopies.{from_of, AsksReport, told, GrantedReportsAreTold, machine_steps, IsToldAt, ReportsFollow, ReportsBegin, ReportsAreWhole, TokensAreEnded, Synced}
 use Rattle.book_machine.specs.Verdicts.{IsGranted}
-use Rattle.book_machine.specs.declared.asked.Asked.{Asked}
 use Rattle.book_machine.specs.declared.asked.Asked.TheVariants as asked
 use Rattle.book_machine.specs.declared.messages.Reply.{Reply}
+use Rattle.book_machine.specs.declared.messages.ReportKind.TheVariants.{SyncCollection}
 use Rattle.book_machine.specs.declared.messages.Request.{Request}
 use Rattle.book_machine.specs.declared.plans.Plan.{Plan}
 use Rattle.book_machine.specs.declared.plans.Ready.{Ready}
@@ -50,14 +47,14 @@ target_path o m p (Some node) t e = let found = bind_ok _ (λ _. Ok (record { pa
 
 module _ (o : Office) (name : Option (List ℕ)) (request : Request) (b : List ℕ) (token : Option Token) (asks : AsksReport request b token) (ready : Ready) (is : ready_of o name request ≡ Ok ready) where
   -- it asks for the report on the book
-  asks_for_report : (ready.asked ≡ asked.Report (from_of token)) × (ready.target.path ≡ path.Book b)
+  asks_for_report : (ready.asked ≡ asked.Report (SyncCollection (from_of token))) × (ready.target.path ≡ path.Book b)
   asks_for_report =
       let a = bind_ok (caller_of o name) _ ready is in
       let c = bind_ok (asked_of request.method request) _ ready a.2 in
       let t = bind_ok (target_of o request.method request.path) _ ready c.2 in
       let s = bind_ok (suits_target c.0 t.0) _ ready t.2 in
       let d = bind_ok (destination_of o (destination_in c.0)) _ ready s.2 in
-      let what : answered (asked.Report (from_of token)) ≡ answered c.0 = sym (ap (λ m. asked_of m request) asks.is_report ∙ ap report_asked asks.of_changes) ∙ c.1 in
+      let what : answered (asked.Report (SyncCollection (from_of token))) ≡ answered c.0 = sym (ap (λ m. asked_of m request) asks.is_report ∙ ap report_asked asks.of_changes) ∙ c.1 in
       let where_at : at_node o request.method (path.Book b) (node_at o (path.Book b)) ≡ answered t.0 = sym (ap (target_of o request.method) asks.of_book) ∙ t.1 in
       let made = same_Ok _ ready d.2 in (
         sym (ap (λ (r : Ready). r.asked) made) ∙ sym (same_Ok _ c.0 what),
@@ -72,12 +69,12 @@ module _ (o : Office) (name : Option (List ℕ)) (request : Request) (b : List �
       let room : limits_of o ready.asked ready.target ≡ Ok tt = ap (λ w. limits_of o w ready.target) what in
       let done = accepted_done o circle ready result body (granted_as o ready result granted (decided o name request ready result is planned)) in
       let succeeds : IsSuccessOf o circle ready.asked ready.caller ready.target result = subst (λ c. IsDone o circle ready c result) room done in
-      let at_book = subst (λ p. IsSuccessOf o circle (asked.Report (from_of token)) ready.caller (record { path = p; node = ready.target.node; destination = ready.target.destination }) result) asks_for_report.1
+      let at_book = subst (λ p. IsSuccessOf o circle (asked.Report (SyncCollection (from_of token))) ready.caller (record { path = p; node = ready.target.node; destination = ready.target.destination }) result) asks_for_report.1
       (subst (λ w. IsSuccessOf o circle w ready.caller ready.target result) what succeeds) in
       by_token circle result token at_book
     where
       by_token : (circle : CircleOf) (result : Result Plan Refusal) (t : Option Token)
-          → IsSuccessOf o circle (asked.Report (from_of t)) ready.caller (record { path = path.Book b; node = ready.target.node; destination = ready.target.destination }) result
+          → IsSuccessOf o circle (asked.Report (SyncCollection (from_of t))) ready.caller (record { path = path.Book b; node = ready.target.node; destination = ready.target.destination }) result
           → report_plan (sync o circle b t None) ≡ result
       by_token circle result None h = h
       by_token circle result (Some t) h = h

@@ -12,7 +12,6 @@ use Rattle.book_office.specs.declared.nodes.Node.{Node}
 use Rattle.book_machine.specs.Asked.{is_card, destination_by, destination_asked, destination_path, copy_asked, move_asked}
 use Rattle.book_machine.specs.Asking.{HasPath}
 use Rattle.book_machine.specs.Stages.{◌>>=◌, check, replaceable, destination_of}
-use Rattle.book_machine.specs.declared.asked.Asked.{Asked}
 use Rattle.book_machine.specs.declared.asked.Asked.TheVariants as asked
 use Rattle.book_machine.specs.declared.asked.Destination.{Destination}
 use Rattle.book_machine.specs.declared.messages.Flag.{Flag}

@@ -29,7 +29,7 @@ use Rattle.book_values.specs.declared.offices.Book.{Book}
 use Rattle.book_values.specs.declared.offices.Office.{Office}
 use Rattle.book_limits.specs.declared.TheConstants.{MAX_MEMBERS, MAX_LABEL_BYTES, MAX_CARD_BYTES, MAX_CARDS, LAST_NUMBER}
 use Rattle.book_office.specs.Fitting.{HasRoom, HasNumberFor}
-use Rattle.book_office.specs.Resources.{Resource, properties_resource, resource_at, node_of, node_at, count_at, book_resource, card_resource, card_at, card_in, number_of}
+use Rattle.book_office.specs.Resources.{Resource, properties_resource, resource_at, node_of, node_at, count_at, book_resource, card_resource, card_in, number_of}
 use Rattle.book_office.specs.Sound.{IsMapped, IsSound, IsOwner, Fits}
 use Rattle.book_listings.specs.declared.messages.Extent.{Extent}
 use Rattle.book_listings.specs.declared.messages.Extent.TheVariants.{Resource as Alone, Children}
@@ -39,13 +39,13 @@ use Rattle.book_rights.specs.declared.methods.Method.{Method}
 use Rattle.book_rights.specs.declared.methods.Method.TheVariants.{Get, Head, Options, Put, Propfind, Proppatch, Acl, Copy, Move, Delete, Mkcol, Report}
 use Rattle.book_machine.specs.AllowedMethods.{goes_on}
 use Rattle.book_machine.proofs.BodyAnswers.{accepted_list}
-use Rattle.book_machine.proofs.SyncPlans.{sync_told}
-use Rattle.book_machine.specs.Asked.{asked_of, put_asked, find_asked_to, find_asked, each_once, patch_asked, proppatch_asked, acl_asked, mkcol_asked, kind_asked, report_asked, is_empty, method_of, destination_asked, copy_asked, move_asked, destination_in, destination_path}
+use Rattle.book_machine.proofs.ReportPlans.{reported_told}
+use Rattle.book_machine.specs.Asked.{asked_of, put_asked, find_asked_to, find_asked, each_once, patch_asked, proppatch_asked, acl_asked, mkcol_asked, report_asked, is_empty, method_of, destination_asked, copy_asked, move_asked, destination_in, destination_path}
 pub use Rattle.book_machine.proofs.DestinedCards.{IsDestined, answered, bind_ok, destined_node, same_Ok}
 use Rattle.book_machine.proofs.DestinedCards.{IsAskedTo, asked_to, check_true, copied_to, destination_told, destined_at, moved_to, some_not_none}
 use Rattle.book_machine.specs.Asking.{HasPath, HasPaths}
 use Rattle.book_machine.specs.Finding.{find_of, may_be_asked, needed_for}
-use Rattle.book_machine.specs.Stages.{◌>>=◌, check, caller_of, target_of, at_node, at_unmapped, suits, suits_target, destination_of, ready_of, bad_card, IsBodyAnswer, can_change, can_change_twice, put_limits, copy_limits, move_limits, label_limits, limits_of, owner_of, replied, text_of, body_then_limits, IsListed, IsSuccess, IsDone, IsGrantedPlan}
+use Rattle.book_machine.specs.Stages.{◌>>=◌, check, caller_of, target_of, at_node, at_unmapped, suits, suits_target, destination_of, ready_of, bad_card, IsBodyAnswer, can_change, can_change_twice, copy_limits, move_limits, label_limits, limits_of, owner_of, replied, text_of, body_then_limits, IsListed, IsSuccess, IsDone, IsGrantedPlan}
 use Rattle.book_machine.specs.Steps.{IsPlannedFrom, IsPlan}
 use Rattle.book_machine.specs.Verdicts.{IsTarget}
 use Rattle.book_machine.specs.declared.asked.Asked.{Asked}
@@ -58,8 +58,6 @@ use Rattle.book_machine.specs.declared.messages.Depth.{Depth}
 use Rattle.book_machine.specs.declared.messages.Depth.TheVariants as depth
 use Rattle.book_machine.specs.declared.messages.Patch.{Patch}
 use Rattle.book_machine.specs.declared.messages.Patch.TheVariants as patch
-use Rattle.book_machine.specs.declared.messages.ReportKind.{ReportKind}
-use Rattle.book_machine.specs.declared.messages.ReportKind.TheVariants.{SyncCollection, GroupMembers, Effective}
 use Rattle.book_machine.specs.declared.messages.Request.{Request}
 use Rattle.book_machine.specs.declared.plans.Plan.{Plan}
 use Rattle.book_machine.specs.declared.plans.Ready.{Ready}
@@ -245,7 +243,7 @@ IsShaped (asked.Copy to) = Unit {0}
 IsShaped (asked.Move to) = Unit {0}
 IsShaped asked.Delete = Unit {0}
 IsShaped asked.Mkcol = Unit {0}
-IsShaped (asked.Report from) = Unit {0}
+IsShaped (asked.Report which) = Unit {0}
 
 -- what has passed the path stage at a path
 abbrev pub ready_at : Office → Path → Caller → Asked → Ready
@@ -429,7 +427,9 @@ module _ (o : Office) (sound : IsSound o) (circle : CircleOf) (caller : Caller) 
   plan_at_fits (asked.Move to) p named shaped destined free there body limits is = move_plan_fits to p free destined limits is
   plan_at_fits asked.Delete p named shaped destined free there body limits is = delete_plan_fits p free limits is
   plan_at_fits asked.Mkcol p named shaped destined free there body limits is = mkcol_plan_fits p named there limits is
-  plan_at_fits (asked.Report from) p named shaped destined free there body limits is = let h = edit_told _ _ None plan edit (sync_told o circle from p plan is).1 has in absurd (cc (h))
+  plan_at_fits (asked.Report which) p named shaped destined free there body limits is =
+      let told = reported_told o circle which p plan is in
+      let h = edit_told told.status told.what None plan edit told.is has in absurd (cc (h))
 
 -- ---- the whole plan
 -- what the path stage lets through has a path
@@ -540,18 +540,13 @@ asked_by Mkcol r what e = by_mkcol r.body e
     by_mkcol body.Unread e = absurd (cc (e))
 asked_by Report r what e = by_report r.body e
   where
-    by_kind : (kind : ReportKind) → kind_asked kind ≡ Ok what → method_of what ≡ Report
-    by_kind (SyncCollection from) e = sym (ap method_of (same_Ok _ what e))
-    by_kind GroupMembers e = absurd (cc (e))
-    by_kind (Effective caller) e = absurd (cc (e))
-
     by_report : (b : Body) → report_asked b ≡ Ok what → method_of what ≡ Report
     by_report body.Empty e = absurd (cc (e))
     by_report (body.Text text) e = absurd (cc (e))
     by_report (body.Find properties) e = absurd (cc (e))
     by_report (body.Patch p) e = absurd (cc (e))
     by_report (body.List list) e = absurd (cc (e))
-    by_report (body.Report kind) e = by_kind kind e
+    by_report (body.Report which) e = sym (ap method_of (same_Ok _ what e))
     by_report body.Unread e = absurd (cc (e))
 
 -- what is asked is within its bounds
@@ -647,18 +642,13 @@ asked_shaped Mkcol r what e = by_mkcol r.body e
     by_mkcol body.Unread e = absurd (cc (e))
 asked_shaped Report r what e = by_report r.body e
   where
-    by_kind : (kind : ReportKind) → kind_asked kind ≡ Ok what → IsShaped what
-    by_kind (SyncCollection from) e = subst IsShaped (same_Ok _ what e) tt
-    by_kind GroupMembers e = absurd (cc (e))
-    by_kind (Effective caller) e = absurd (cc (e))
-
     by_report : (b : Body) → report_asked b ≡ Ok what → IsShaped what
     by_report body.Empty e = absurd (cc (e))
     by_report (body.Text text) e = absurd (cc (e))
     by_report (body.Find properties) e = absurd (cc (e))
     by_report (body.Patch p) e = absurd (cc (e))
     by_report (body.List list) e = absurd (cc (e))
-    by_report (body.Report kind) e = by_kind kind e
+    by_report (body.Report which) e = subst IsShaped (same_Ok _ what e) tt
     by_report body.Unread e = absurd (cc (e))
 
 -- what is asked leads to another card
@@ -678,7 +668,7 @@ asked_destined m r (asked.Move to) e named =
     asked_to r.path r.overwrite r.destination to (moved_to (destination_asked r.path r.overwrite r.destination) to h) named
 asked_destined m r asked.Delete e named = tt
 asked_destined m r asked.Mkcol e named = tt
-asked_destined m r (asked.Report from) e named = tt
+asked_destined m r (asked.Report which) e named = tt
 
 -- a plan is that of a success, after body and limits that have passed
 done_ok : (o : Office) (circle : CircleOf) (ready : Ready) (c : Result (Unit {0}) Refusal) (plan : Plan)

@@ -18,6 +18,7 @@ pub mod OnePlan
 pub mod Outlines
 pub mod Planning
 pub mod ProtectedEntries
+pub mod ReportPlans
 pub mod RunLemmas
 pub mod ServedPlans
 pub mod StagesInTurn

@@ -20,7 +20,7 @@ use Rattle.book_values.specs.declared.paths.Path.TheVariants as path
 use Rattle.book_lists.specs.ListEdits.{entries_of}
 use Rattle.book_lists.specs.Principals.{group_path}
 use Rattle.book_lists.specs.declared.entries.Entry.{Entry}
-use Rattle.book_office.specs.Edits.{apply, with_book, place_card, put_card, card_put, copy_from, card_copied, move_to, remove_card, label_card}
+use Rattle.book_office.specs.Edits.{apply, place_card, put_card, card_put, copy_from, card_copied, move_to, remove_card, label_card}
 use Rattle.book_office.specs.Resources.{node_of, node_at, count_at, book_resource, card_at, card_in, card_resource, number_of}
 use Rattle.book_office.specs.Sound.{IsSound, IsSoundBook}
 use Rattle.book_office.specs.declared.edits.Edit.{Edit}
@@ -36,7 +36,7 @@ use Rattle.book_machine.proofs.StepLaws.{decided, limits_answers, not_success}
 use Rattle.book_machine.specs.Laws.{RequestsAreFullAtLimits}
 use Rattle.book_machine.specs.AllowedMethods.{goes_on}
 use Rattle.book_machine.specs.Asked.{destination_in, method_of, destination_path}
-use Rattle.book_machine.specs.Stages.{◌>>=◌, check, at_unmapped, can_change, can_change_twice, put_limits, copy_limits, move_limits, delete_limits, label_limits, limits_of, owner_of, replied, body_then_limits, IsBodyAnswer, IsSuccess, IsDone, IsGrantedPlan}
+use Rattle.book_machine.specs.Stages.{check, at_unmapped, can_change, can_change_twice, put_limits, copy_limits, move_limits, delete_limits, label_limits, limits_of, owner_of, replied, body_then_limits, IsBodyAnswer, IsSuccess, IsDone, IsGrantedPlan}
 use Rattle.book_machine.specs.Steps.{IsDecided, settled}
 use Rattle.book_machine.specs.Verdicts.{IsGranted}
 use Rattle.book_machine.specs.declared.asked.Asked.{Asked}
@@ -45,7 +45,6 @@ use Rattle.book_machine.specs.declared.asked.Destination.{Destination}
 use Rattle.book_machine.specs.declared.messages.Content.{Content}
 use Rattle.book_machine.specs.declared.messages.Patch.TheVariants as patch
 use Rattle.book_machine.specs.declared.messages.Reply.{Reply}
-use Rattle.book_machine.specs.declared.messages.Request.{Request}
 use Rattle.book_machine.specs.declared.plans.Plan.{Plan}
 use Rattle.book_machine.specs.declared.plans.Ready.{Ready}
 use Rattle.book_machine.specs.declared.refusals.Refusal.{Refusal}
@@ -335,7 +334,7 @@ module _ (o : Office) (circle : CircleOf) (caller : Caller) (plan : Plan) (edit 
   within (asked.Move to) p destined free there is = move_within to p destined free is
   within asked.Delete p destined free there is = delete_within p free is
   within asked.Mkcol p destined free there is = mkcol_within p there is
-  within (asked.Report from) p destined free there is = refl
+  within (asked.Report which) p destined free there is = refl
 
 -- ---- the reply
 pub granted_as : (o : Office) (ready : Ready) (result : Result Plan Refusal) (granted : IsGranted o ready) → IsDecided o ready result

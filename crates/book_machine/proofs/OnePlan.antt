@@ -28,6 +28,7 @@ use Rattle.book_listings.specs.declared.messages.Denial.{Denial}
 use Rattle.book_machine.specs.declared.refusals.Refusal.{Refusal}
 use Rattle.book_machine.specs.declared.refusals.Refusal.TheVariants.{NeedPrivileges}
 use Rattle.book_machine.proofs.BodyAnswers.{one_body_answer}
+use Rattle.book_machine.proofs.ReportPlans.{one_report}
 use Rattle.book_machine.specs.Asked.{destination_in}
 use Rattle.book_machine.specs.Stages.{ready_of, body_then_limits, listed_plan, IsListed, IsSuccessOf, IsDone, IsGrantedPlan}
 use Rattle.book_machine.specs.Steps.{IsDecided, IsPlannedFrom, IsPlan}
@@ -99,7 +100,7 @@ module _ (o : Office) (circle : CircleOf) where
   one_success (asked.Move to) caller target a b x y = sym x ∙ y
   one_success asked.Delete caller target a b x y = sym x ∙ y
   one_success asked.Mkcol caller target a b x y = sym x ∙ y
-  one_success (asked.Report from) caller target a b x y = sym x ∙ y
+  one_success (asked.Report which) caller target a b x y = one_report o circle which target.path a b x y
 
   one_done : (ready : Ready) (c : Result (Unit {0}) Refusal) (a b : Result Plan Refusal) → IsDone o circle ready c a → IsDone o circle ready c b → a ≡ b
   one_done ready (Ok u) a b x y = one_success ready.asked ready.caller ready.target a b x y

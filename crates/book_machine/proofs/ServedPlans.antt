@@ -1,5 +1,5 @@
 -- What the path stage lets through is served: a granted request with an accepted body within the limits has a plan.
-use Rattle.std.proofs.Common.{◌≡◌, ◌⊎◌, ℕ, ◌<◌, List, Bool, true, false, ◌&&◌, Option, Some, None, option_map, option_and_then, Result, Ok, Err, inl, inr, refl, sym, ap, ◌∙◌, subst, arith}
+use Rattle.std.proofs.Common.{◌≡◌, ◌⊎◌, ℕ, ◌<◌, List, true, Option, Some, None, option_map, option_and_then, Result, Ok, Err, inl, inr, refl, sym, ap, ◌∙◌, subst, arith}
 use Rattle.std.specs.FinMap.{get}
 use Rattle.book_values.specs.Paths.{kind_of}
 use Rattle.book_values.specs.declared.offices.Book.{Book}
@@ -12,32 +12,35 @@ use Rattle.book_values.specs.declared.paths.Path.{Path}
 use Rattle.book_values.specs.declared.paths.Path.TheVariants as path
 use Rattle.book_lists.specs.Circles.{CircleOf}
 use Rattle.book_lists.specs.declared.circles.Caller.{Caller}
+use Rattle.book_rulings.specs.Rulings.{AreRulingsAt}
+use Rattle.book_rulings.specs.declared.messages.Ruling.{Ruling}
 use Rattle.book_listings.specs.declared.messages.Find.{Find}
 use Rattle.book_office.specs.Resources.{node_of, node_at, book_resource, properties_resource, card_resource, card_in, number_of}
 use Rattle.book_office.specs.declared.edits.Edit.{Edit}
 use Rattle.book_office.specs.declared.nodes.Node.{Node}
 use Rattle.book_rights.specs.declared.methods.Method.{Method}
-use Rattle.book_rights.specs.declared.methods.Method.TheVariants as method
 use Rattle.book_sync.specs.declared.messages.Report.{Report}
 use Rattle.book_machine.proofs.FittingPlans.{Passed, answered, bind_ok, ready_at, same_Ok, same_Some, destined_node}
-use Rattle.book_machine.proofs.SyncPlans.{sync_told}
-use Rattle.book_machine.specs.AllowedMethods.{goes_on, is_among, methods_of, allowed_of}
+use Rattle.book_machine.proofs.ReportPlans.{reported_told}
+use Rattle.book_machine.specs.AllowedMethods.{goes_on}
 use Rattle.book_machine.specs.Asked.{method_of}
 use Rattle.book_machine.specs.Laws.{is_late}
 use Rattle.book_machine.specs.Verdicts.{is_book}
-use Rattle.book_machine.specs.Stages.{◌>>=◌, at_unmapped, suits, replied, text_of, put_status, put_edit, delete_edit, mkcol_edit, patch_edit, report_from, report_plan, sync_plan, IsListed, IsSuccess, IsSuccessOf, copy_edit, move_edit}
+use Rattle.book_machine.specs.Stages.{◌>>=◌, at_unmapped, suits, replied, text_of, put_status, put_edit, delete_edit, mkcol_edit, patch_edit, report_from, report_plan, report_suits, rulings_plan, sync_plan, is_card_kind, AreMembersTold, IsListed, IsReportOf, IsSuccess, IsSuccessOf, copy_edit, move_edit}
 use Rattle.book_machine.specs.declared.asked.Asked.{Asked}
 use Rattle.book_machine.specs.declared.asked.Asked.TheVariants as asked
 use Rattle.book_machine.specs.declared.asked.Destination.{Destination}
 use Rattle.book_machine.specs.declared.messages.Content.{Content}
 use Rattle.book_machine.specs.declared.messages.Content.TheVariants as content
 use Rattle.book_machine.specs.declared.messages.Patch.TheVariants as patch
+use Rattle.book_machine.specs.declared.messages.ReportKind.{ReportKind}
+use Rattle.book_machine.specs.declared.messages.ReportKind.TheVariants as report
 use Rattle.book_machine.specs.declared.messages.Request.{Request}
 use Rattle.book_machine.specs.declared.messages.SyncFrom.{SyncFrom}
 use Rattle.book_machine.specs.declared.plans.Plan.{Plan}
 use Rattle.book_machine.specs.declared.plans.Ready.{Ready}
 use Rattle.book_machine.specs.declared.refusals.Refusal.{Refusal}
-use Rattle.book_machine.specs.declared.refusals.Refusal.TheVariants.{NotFound, ValidSyncToken}
+use Rattle.book_machine.specs.declared.refusals.Refusal.TheVariants.{ValidSyncToken}
 
 -- ---- the kind of what is mapped
 of_properties : (k : Kind) (found : Option Properties) (n : Node) → option_map node_of (option_map (properties_resource k 0) found) ≡ Some n → n.kind ≡ k
@@ -114,6 +117,30 @@ sync_served o circle from (path.Person n) result suited is = absurd (cc (suited)
 sync_served o circle from (path.Group n) result suited is = absurd (cc (suited))
 sync_served o circle from (path.Book b) result suited is = report_served (report_from o circle b from) result is
 sync_served o circle from (path.Card b c) result suited is = absurd (cc (suited))
+
+-- the members of a card
+members_reported : (o : Office) (circle : CircleOf) (p : Path) (result : Result Plan Refusal) → is_card_kind (kind_of p) ≡ true → AreMembersTold o circle p result → IsServed result
+members_reported o circle path.Root result suited is = absurd (cc (suited))
+members_reported o circle path.People result suited is = absurd (cc (suited))
+members_reported o circle path.Groups result suited is = absurd (cc (suited))
+members_reported o circle path.Books result suited is = absurd (cc (suited))
+members_reported o circle (path.Person n) result suited is = absurd (cc (suited))
+members_reported o circle (path.Group n) result suited is = absurd (cc (suited))
+members_reported o circle (path.Book b) result suited is = absurd (cc (suited))
+members_reported o circle (path.Card b c) result suited is = inl (replied 200 (content.Members b is.0) None, sym is.2, omega arith)
+
+-- what decides each leaf at what is mapped
+rulings_reported : (o : Office) (circle : CircleOf) (p : Path) (n : Node) (found : Option (List Ruling)) (result : Result Plan Refusal)
+    → node_at o p ≡ Some n → AreRulingsAt o circle p found → rulings_plan found ≡ result → IsServed result
+rulings_reported o circle p n None result there none is = let clash = sym (ap (option_map node_of) none) ∙ there in absurd (cc (clash))
+rulings_reported o circle p n (Some rulings) result there are is = inl (replied 200 (content.Rulings rulings) None, sym is, omega arith)
+
+reported : (o : Office) (circle : CircleOf) (which : ReportKind) (p : Path) (n : Node) (result : Result Plan Refusal)
+    → node_at o p ≡ Some n → report_suits which (kind_of p) ≡ true → IsReportOf o circle which p result → IsServed result
+reported o circle (report.SyncCollection from) p n result there suited is = sync_served o circle from p result suited is
+reported o circle report.GroupMembers p n result there suited is = members_reported o circle p result suited is
+reported o circle (report.Effective caller) p n result there suited is =
+    rulings_reported o is.circle p n is.rulings.rulings result there is.rulings.are is.rulings.is_told
 
 put_low : (node : Option Node) → put_status node < 300
 put_low None = omega arith
@@ -248,6 +275,10 @@ module _ (o : Office) (circle : CircleOf) (caller : Caller) where
   propfind_served find p (inl free) = absurd (cc (free))
   propfind_served find p (inr there) = record { told = λ result h. listed_told o circle find p (node_at o p) there.0 result there.1 h }
 
+  report_at_served : (which : ReportKind) (p : Path) → report_suits which (kind_of p) ≡ true → ServedAt (asked.Report which) p
+  report_at_served which p suited (inl free) = absurd (cc (free))
+  report_at_served which p suited (inr there) = record { told = λ result h. reported o circle which p there.0 result there.1 suited h }
+
   served_at : (what : Asked) (p : Path) → suits what (kind_of p) ≡ true → ServedAt what p
   served_at asked.Get p suited = get_served p
   served_at asked.Head p suited = head_served p
@@ -261,7 +292,7 @@ module _ (o : Office) (circle : CircleOf) (caller : Caller) where
   served_at (asked.Move to) p suited = move_served to p
   served_at asked.Delete p suited = delete_served p
   served_at asked.Mkcol p suited = mkcol_served p
-  served_at (asked.Report from) p suited = λ _. record { told = λ result h. sync_served o circle from p result suited h }
+  served_at (asked.Report which) p suited = report_at_served which p suited
 
 pub served : (o : Office) (circle : CircleOf) (request : Request) (ready : Ready) → Passed o request ready → Served o circle ready
 served o circle request ready past =
@@ -287,4 +318,4 @@ success_low o circle (asked.Copy to) ready plan is = let told = bind_ok (copy_ed
 success_low o circle (asked.Move to) ready plan is = let told = bind_ok (move_edit ready.target.path to) _ plan is in low_at_once (put_status ready.target.destination) _ _ plan told.2 (put_low ready.target.destination)
 success_low o circle asked.Delete ready plan is = let told = bind_ok (delete_edit ready.target.path) _ plan is in low_at_once 204 _ _ plan told.2 (omega arith)
 success_low o circle asked.Mkcol ready plan is = let told = bind_ok (mkcol_edit ready.caller ready.target.path) _ plan is in low_at_once 201 _ _ plan told.2 (omega arith)
-success_low o circle (asked.Report from) ready plan is = low_at_once 207 _ _ plan (sync_told o circle from ready.target.path plan is).1 (omega arith)
+success_low o circle (asked.Report which) ready plan is = let told = reported_told o circle which ready.target.path plan is in low_at_once told.status told.what None plan told.is told.low

@@ -9,7 +9,7 @@ use Rattle.book_values.specs.declared.paths.Path.{Path}
 use Rattle.book_machine.proofs.BodyAnswers.{body_answered}
 use Rattle.book_machine.proofs.FittingPlans.{answered, bind_ok, passed, same_Ok}
 use Rattle.book_machine.proofs.ServedPlans.{IsServed, Served, served, success_low}
-use Rattle.book_machine.proofs.SyncPlans.{sync_told}
+use Rattle.book_machine.proofs.ReportPlans.{reported_told}
 use Rattle.book_machine.proofs.OnePlan.{one_plan, one_denial, verdicts_exclude}
 use Rattle.book_machine.specs.Laws.{is_late, RequestsHaveOneStep, IsPastVerdict, RequestsActWhereGranted, DenialsAreTold, RefusalsChangeNothing, TellingRepliesChangeNothing}
 use Rattle.book_machine.specs.Refusals.{refused, status_of}
@@ -198,7 +198,7 @@ success_tells o circle (asked.Copy to) ready plan is = let told = bind_ok (copy_
 success_tells o circle (asked.Move to) ready plan is = let told = bind_ok (move_edit ready.target.path to) _ plan is in inl (empty_content _ plan _ told.2)
 success_tells o circle asked.Delete ready plan is = let told = bind_ok (delete_edit ready.target.path) _ plan is in inl (empty_content _ plan _ told.2)
 success_tells o circle asked.Mkcol ready plan is = let told = bind_ok (mkcol_edit ready.caller ready.target.path) _ plan is in inl (empty_content _ plan _ told.2)
-success_tells o circle (asked.Report from) ready plan is = inr (no_edit o _ plan _ (sync_told o circle from ready.target.path plan is).1)
+success_tells o circle (asked.Report which) ready plan is = let told = reported_told o circle which ready.target.path plan is in inr (no_edit o told.what plan told.status told.is)
 
 planned_tells : (o : Office) (ready : Result Ready Refusal) (plan : Plan) → IsPlannedFrom o ready (Ok plan)
     → (plan.reply.content ≡ content.Empty) ⊎ (apply_any o plan.edit ≡ o)

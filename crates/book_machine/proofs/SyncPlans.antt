@@ -1,5 +1,5 @@
 -- What a sync report answers.
-use Rattle.std.proofs.Common.{◌≡◌, ℕ, Option, Some, None, List, Result, Ok, Err, refl, sym, ap}
+use Rattle.std.proofs.Common.{◌≡◌, Option, Some, None, Result, Ok, Err}
 use Rattle.book_lists.specs.Circles.{CircleOf}
 use Rattle.book_sync.specs.declared.messages.Report.{Report}
 use Rattle.book_values.specs.declared.offices.Office.{Office}

@@ -46,7 +46,7 @@ is_find (asked.Copy to) m shaped = absurd (cc (m))
 is_find (asked.Move to) m shaped = absurd (cc (m))
 is_find asked.Delete m shaped = absurd (cc (m))
 is_find asked.Mkcol m shaped = absurd (cc (m))
-is_find (asked.Report from) m shaped = absurd (cc (m))
+is_find (asked.Report which) m shaped = absurd (cc (m))
 
 module _ (o : Office) (request : Request) (responses : List Response) (plan : Plan) (told : plan.reply.content ≡ content.Listing responses) where
   listed_told : (circle : CircleOf) (find : Find) (q : Path) (node : Option Node) → IsGrantedAt o circle q find.needed

@@ -16,7 +16,7 @@ use Rattle.book_values.specs.declared.paths.Path.TheVariants as path
 use Rattle.book_machine.proofs.AlikePlans.{plan_same, may_read_same, ready_named, reads_target, reads}
 use Rattle.book_machine.proofs.FittingPlans.{answered, asked_by_request, bind_ok, same_Ok}
 use Rattle.book_machine.proofs.StepLaws.{plan_of_success}
-use Rattle.book_machine.proofs.SyncPlans.{sync_told}
+use Rattle.book_machine.proofs.ReportPlans.{reported_told}
 use Rattle.book_machine.proofs.StillAgreeing.{put_agrees, removal_agrees, addition_agrees, label_agrees, copy_agrees}
 use Rattle.book_machine.specs.Agreement.{named, MayRead, Agree}
 use Rattle.book_machine.specs.Promises.{ServePromise, ServeHidesUnread}
@@ -151,7 +151,7 @@ module _ (o p : Office) (caller : Caller) (agree : Agree o p caller) where
   success_still circle (asked.Move to) who t plan moves may is = absurd (moves refl)
   success_still circle asked.Delete who t plan moves may is = delete_still circle who t plan is
   success_still circle asked.Mkcol who t plan moves may is = mkcol_still circle who t plan is
-  success_still circle (asked.Report from) who t plan moves may is = told_still _ _ None plan (sync_told o circle from t.path plan is).1 (λ _. agree)
+  success_still circle (asked.Report which) who t plan moves may is = let told = reported_told o circle which t.path plan is in told_still told.status told.what None plan told.is (λ _. agree)
 
   abbrev SettlesAlike : Result Plan Refusal → Type 0
   SettlesAlike result = (settled o result).1.epoch ≡ o.epoch → Agree (settled o result).1 (settled p result).1 caller

@@ -23,8 +23,6 @@ use Rattle.book_machine.specs.declared.messages.Flag.{Flag}
 use Rattle.book_machine.specs.declared.messages.Flag.TheVariants as flag
 use Rattle.book_machine.specs.declared.messages.Patch.{Patch}
 use Rattle.book_machine.specs.declared.messages.Patch.TheVariants as patch
-use Rattle.book_machine.specs.declared.messages.ReportKind.{ReportKind}
-use Rattle.book_machine.specs.declared.messages.ReportKind.TheVariants.{SyncCollection, GroupMembers, Effective}
 use Rattle.book_machine.specs.declared.messages.Request.{Request}
 use Rattle.book_machine.specs.declared.refusals.Refusal.{Refusal}
 use Rattle.book_machine.specs.declared.refusals.Refusal.TheVariants.{BadRequest, BodyOnMkcol}
@@ -42,7 +40,7 @@ method_of (asked.Copy to) = method.Copy
 method_of (asked.Move to) = method.Move
 method_of asked.Delete = method.Delete
 method_of asked.Mkcol = method.Mkcol
-method_of (asked.Report from) = method.Report
+method_of (asked.Report which) = method.Report
 
 -- the path of a destination
 abbrev pub destination_path : Destination → Path
@@ -61,7 +59,7 @@ destination_in (asked.Copy to) = Some to
 destination_in (asked.Move to) = Some to
 destination_in asked.Delete = None
 destination_in asked.Mkcol = None
-destination_in (asked.Report from) = None
+destination_in (asked.Report which) = None
 
 abbrev pub is_empty : List ℕ → Bool
 is_empty [] = true
@@ -137,12 +135,6 @@ mkcol_asked (body.List list) = Err BodyOnMkcol
 mkcol_asked (body.Report report) = Err BodyOnMkcol
 mkcol_asked body.Unread = Err BodyOnMkcol
 
--- of the reports one is served, `sync-collection` (RFC 6578, section 3.2); the two of own profile are not yet
-abbrev pub kind_asked : ReportKind → Result Asked Refusal
-kind_asked (SyncCollection from) = Ok (asked.Report from)
-kind_asked GroupMembers = Err BadRequest
-kind_asked (Effective caller) = Err BadRequest
-
 -- a REPORT names a report (RFC 3253, section 3.6)
 abbrev pub report_asked : Body → Result Asked Refusal
 report_asked body.Empty = Err BadRequest
@@ -150,7 +142,7 @@ report_asked (body.Text text) = Err BadRequest
 report_asked (body.Find properties) = Err BadRequest
 report_asked (body.Patch p) = Err BadRequest
 report_asked (body.List list) = Err BadRequest
-report_asked (body.Report kind) = kind_asked kind
+report_asked (body.Report which) = Ok (asked.Report which)
 report_asked body.Unread = Err BadRequest
 
 -- whether a path is that of the card

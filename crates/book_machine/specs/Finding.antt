@@ -1,5 +1,6 @@
 -- What a PROPFIND asks (RFC 4918, section 9.1).
 use Rattle.std.specs.Prelude.{Bool, true, not, ◌&&◌, List, [], ◌∷◌, length, nat_le}
+use Rattle.book_limits.specs.declared.TheConstants.{MAX_PROPERTIES}
 use Rattle.book_rights.specs.Needs.{read_and}
 use Rattle.book_rights.specs.declared.privileges.Leaf.{Leaf}
 use Rattle.book_listings.specs.Properties.{is_asked}
@@ -15,7 +16,7 @@ are_different (p ∷ rest) = not (is_asked p rest) && are_different rest
 
 -- 1 to 7 different properties
 abbrev pub may_be_asked : List Property → Bool
-may_be_asked properties = nat_le 1 (length properties) && (nat_le (length properties) 7 && are_different properties)
+may_be_asked properties = nat_le 1 (length properties) && (nat_le (length properties) MAX_PROPERTIES && are_different properties)
 
 -- what is asked for where the body is empty (own profile)
 abbrev pub usual_properties : List Property

@@ -5,6 +5,8 @@ use Rattle.std.specs.List.{AllZip}
 use Rattle.std.specs.Str.{bytes_eq}
 use Rattle.book_cards.specs.CardText.{card_fault}
 use Rattle.book_cards.specs.declared.fault.CardFault.{CardFault}
+use Rattle.book_links.specs.declared.members.Members.{Members}
+use Rattle.book_lists.specs.Callers.{IsCircle}
 use Rattle.book_lists.specs.Circles.{CircleOf}
 use Rattle.book_lists.specs.declared.circles.Caller.{Caller}
 use Rattle.book_lists.specs.declared.circles.Caller.TheVariants.{Nobody, Known}
@@ -26,6 +28,7 @@ use Rattle.book_values.specs.declared.paths.Kind.TheVariants as kind
 use Rattle.book_values.specs.declared.paths.Path.{Path}
 use Rattle.book_values.specs.declared.paths.Path.TheVariants as path
 use Rattle.book_values.specs.Paths.{kind_of}
+use Rattle.book_members.specs.Members.{AreMembersAt}
 use Rattle.book_office.specs.OwnLists.{protected_in_force}
 use Rattle.book_office.specs.Resources.{node_at, count_at}
 use Rattle.book_office.specs.Sound.{IsMapped, IsKnownForm}
@@ -34,6 +37,8 @@ use Rattle.book_listings.specs.declared.messages.Find.{Find}
 use Rattle.book_listings.specs.declared.messages.Response.{Response}
 use Rattle.book_rights.specs.declared.methods.Method.{Method}
 use Rattle.book_rights.specs.declared.methods.Method.TheVariants as method
+use Rattle.book_rulings.specs.Rulings.{AreRulingsAt}
+use Rattle.book_rulings.specs.declared.messages.Ruling.{Ruling}
 use Rattle.book_sync.specs.Copies.{sync}
 use Rattle.book_sync.specs.declared.messages.Report.{Report}
 use Rattle.book_machine.specs.AllowedMethods.{allowed_of, goes_on}
@@ -46,6 +51,8 @@ use Rattle.book_machine.specs.declared.messages.Content.{Content}
 use Rattle.book_machine.specs.declared.messages.Content.TheVariants as content
 use Rattle.book_machine.specs.declared.messages.Patch.{Patch}
 use Rattle.book_machine.specs.declared.messages.Patch.TheVariants as patch
+use Rattle.book_machine.specs.declared.messages.ReportKind.{ReportKind}
+use Rattle.book_machine.specs.declared.messages.ReportKind.TheVariants as report
 use Rattle.book_machine.specs.declared.messages.Request.{Request}
 use Rattle.book_machine.specs.declared.messages.SyncFrom.{SyncFrom}
 use Rattle.book_machine.specs.declared.messages.SyncFrom.TheVariants.{Start, After, Unknown}
@@ -117,7 +124,8 @@ abbrev pub target_of : Office → Method → Option Path → Result Target Refus
 target_of o m None = Err NotFound
 target_of o m (Some p) = at_node o m p (node_at o p)
 
--- what is asked is asked of a resource of this kind: members are those of a group, and a sync report is one on a book
+-- what is asked is asked of a resource of this kind: members are set of a group, a sync report is one on a book, and the
+-- members that a report tells are those of a card
 abbrev pub is_group : Kind → Bool
 is_group kind.Root = false
 is_group kind.Home = false
@@ -126,9 +134,22 @@ is_group kind.Group = true
 is_group kind.Book = false
 is_group kind.Card = false
 
+abbrev pub is_card_kind : Kind → Bool
+is_card_kind kind.Root = false
+is_card_kind kind.Home = false
+is_card_kind kind.Person = false
+is_card_kind kind.Group = false
+is_card_kind kind.Book = false
+is_card_kind kind.Card = true
+
 abbrev pub patch_suits : Patch → Kind → Bool
 patch_suits (patch.DisplayName label) k = true
 patch_suits (patch.GroupMembers members) k = is_group k
+
+abbrev pub report_suits : ReportKind → Kind → Bool
+report_suits (report.SyncCollection from) k = is_book k
+report_suits report.GroupMembers k = is_card_kind k
+report_suits (report.Effective caller) k = true
 
 abbrev pub suits : Asked → Kind → Bool
 suits asked.Get k = true
@@ -142,7 +163,7 @@ suits (asked.Copy to) k = true
 suits (asked.Move to) k = true
 suits asked.Delete k = true
 suits asked.Mkcol k = true
-suits (asked.Report from) k = is_book k
+suits (asked.Report which) k = report_suits which k
 
 abbrev pub suits_target : Asked → Target → Result (Unit {0}) Refusal
 suits_target a target = check (suits a (kind_of target.path)) (NotAllowed (allowed_of (kind_of target.path)))
@@ -211,6 +232,17 @@ abbrev pub IsAclAnswer : Office → Path → List Submitted → Result (Unit {0}
 IsAclAnswer o p list answer = ((MAX_ENTRIES < length list) × (answer ≡ Err LimitedNumberOfAces))
     ⊎ ((length list ≤ MAX_ENTRIES) × ((checked : List Submitted) × AllZip (IsChecked o) list checked × IsListAnswer (protected_entries_at o p) checked answer))
 
+-- who is asked about is nobody, or a principal that is there (RFC 3744, section 8.1.1)
+abbrev pub IsCallerAnswer : Office → Caller → Result (Unit {0}) Refusal → Type 0
+IsCallerAnswer o Nobody answer = answer ≡ Ok tt
+IsCallerAnswer o (Known person) (Ok u) = IsMapped o person
+IsCallerAnswer o (Known person) (Err e) = (e ≡ RecognizedPrincipal) × (IsMapped o person → ⊥)
+
+abbrev pub IsReportAnswer : Office → ReportKind → Result (Unit {0}) Refusal → Type 0
+IsReportAnswer o (report.SyncCollection from) answer = answer ≡ Ok tt
+IsReportAnswer o report.GroupMembers answer = answer ≡ Ok tt
+IsReportAnswer o (report.Effective caller) answer = IsCallerAnswer o caller answer
+
 -- what the body stage answers; bodies of the other methods have passed
 abbrev pub IsBodyAnswer : Office → Asked → Path → Result (Unit {0}) Refusal → Type 0
 IsBodyAnswer o asked.Get p answer = answer ≡ Ok tt
@@ -224,7 +256,7 @@ IsBodyAnswer o (asked.Copy to) p answer = answer ≡ Ok tt
 IsBodyAnswer o (asked.Move to) p answer = answer ≡ Ok tt
 IsBodyAnswer o asked.Delete p answer = answer ≡ Ok tt
 IsBodyAnswer o asked.Mkcol p answer = answer ≡ Ok tt
-IsBodyAnswer o (asked.Report from) p answer = answer ≡ Ok tt
+IsBodyAnswer o (asked.Report which) p answer = IsReportAnswer o which answer
 
 -- the limits: the number of a book can rise
 abbrev pub can_change : Option Node → Bool
@@ -302,7 +334,7 @@ keeps_limits o (asked.Copy to) p mapped taken = copy_limits o to taken
 keeps_limits o (asked.Move to) p mapped taken = move_limits o p to taken
 keeps_limits o asked.Delete p mapped taken = delete_limits o p
 keeps_limits o asked.Mkcol p mapped taken = nat_lt (count_at o path.Books) MAX_BOOKS
-keeps_limits o (asked.Report from) p mapped taken = true
+keeps_limits o (asked.Report which) p mapped taken = true
 
 abbrev pub limits_of : Office → Asked → Target → Result (Unit {0}) Refusal
 limits_of o a target = check (keeps_limits o a target.path (is_some target.node) (is_some target.destination)) Full
@@ -452,6 +484,43 @@ sync_plan o circle from (path.Group n) = Err NotFound
 sync_plan o circle from (path.Book b) = report_plan (report_from o circle b from)
 sync_plan o circle from (path.Card b c) = Err NotFound
 
+-- the members of a card, in the view of the caller with this circle (RFC 6350, section 6.6.5; the report is own profile)
+abbrev pub members_plan : List ℕ → Members → Result Plan Refusal
+members_plan b members = Ok (replied 200 (content.Members b members) None)
+
+abbrev pub AreMembersTold : Office → CircleOf → Path → Result Plan Refusal → Type 0
+AreMembersTold o circle path.Root result = Err NotFound ≡ result
+AreMembersTold o circle path.People result = Err NotFound ≡ result
+AreMembersTold o circle path.Groups result = Err NotFound ≡ result
+AreMembersTold o circle path.Books result = Err NotFound ≡ result
+AreMembersTold o circle (path.Person n) result = Err NotFound ≡ result
+AreMembersTold o circle (path.Group n) result = Err NotFound ≡ result
+AreMembersTold o circle (path.Book b) result = Err NotFound ≡ result
+AreMembersTold o circle (path.Card b c) result = (members : Members) × AreMembersAt o circle b c members × (members_plan b members ≡ result)
+
+-- which entry decides each leaf at a resource for who has this circle; `owner` and `self` are read at the resource (own
+-- profile)
+abbrev pub rulings_plan : Option (List Ruling) → Result Plan Refusal
+rulings_plan None = Err NotFound
+rulings_plan (Some rulings) = Ok (replied 200 (content.Rulings rulings) None)
+
+pub record AreRulingsFor (o : Office) (circle : CircleOf) (p : Path) (result : Result Plan Refusal) : Type 0 where
+  pub rulings : Option (List Ruling)
+  pub are : AreRulingsAt o circle p rulings
+  pub is_told : rulings_plan rulings ≡ result
+
+-- the same for who is asked about: by the principals to which that person belongs, and not by those of who asks
+pub record AreRulingsTold (o : Office) (caller : Caller) (p : Path) (result : Result Plan Refusal) : Type 0 where
+  pub circle : CircleOf
+  pub is_circle : IsCircle o.pairs caller circle
+  pub rulings : AreRulingsFor o circle p result
+
+-- what a REPORT tells, by the report that is asked
+abbrev pub IsReportOf : Office → CircleOf → ReportKind → Path → Result Plan Refusal → Type 0
+IsReportOf o circle (report.SyncCollection from) p result = sync_plan o circle from p ≡ result
+IsReportOf o circle report.GroupMembers p result = AreMembersTold o circle p result
+IsReportOf o circle (report.Effective caller) p result = AreRulingsTold o caller p result
+
 -- what is replied and done, by what is asked
 abbrev pub IsSuccessOf : Office → CircleOf → Asked → Caller → Target → Result Plan Refusal → Type 0
 IsSuccessOf o circle asked.Get caller target result = card_plan target.node ≡ result
@@ -465,7 +534,7 @@ IsSuccessOf o circle (asked.Copy to) caller target result = copy_plan caller to 
 IsSuccessOf o circle (asked.Move to) caller target result = move_plan to target ≡ result
 IsSuccessOf o circle asked.Delete caller target result = delete_plan target.path ≡ result
 IsSuccessOf o circle asked.Mkcol caller target result = mkcol_plan caller target.path ≡ result
-IsSuccessOf o circle (asked.Report from) caller target result = sync_plan o circle from target.path ≡ result
+IsSuccessOf o circle (asked.Report which) caller target result = IsReportOf o circle which target.path result
 
 abbrev pub IsSuccess : Office → CircleOf → Ready → Result Plan Refusal → Type 0
 IsSuccess o circle ready result = IsSuccessOf o circle ready.asked ready.caller ready.target result

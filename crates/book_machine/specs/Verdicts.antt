@@ -26,6 +26,8 @@ use Rattle.book_machine.specs.Asked.{destination_in, destination_path, method_of
 use Rattle.book_machine.specs.declared.asked.Asked.{Asked}
 use Rattle.book_machine.specs.declared.asked.Asked.TheVariants as asked
 use Rattle.book_machine.specs.declared.asked.Destination.{Destination}
+use Rattle.book_machine.specs.declared.messages.ReportKind.{ReportKind}
+use Rattle.book_machine.specs.declared.messages.ReportKind.TheVariants as report
 use Rattle.book_machine.specs.declared.plans.Ready.{Ready}
 use Rattle.book_machine.specs.declared.plans.Target.{Target}
 use Rattle.book_machine.specs.declared.refusals.Refusal.{Refusal}
@@ -62,7 +64,27 @@ asks_for p (asked.Copy to) = false
 asks_for p (asked.Move to) = false
 asks_for p asked.Delete = false
 asks_for p asked.Mkcol = false
-asks_for p (asked.Report from) = false
+asks_for p (asked.Report which) = false
+
+-- whether a REPORT asks which entry decides each leaf
+abbrev pub is_effective : ReportKind → Bool
+is_effective (report.SyncCollection from) = false
+is_effective report.GroupMembers = false
+is_effective (report.Effective caller) = true
+
+abbrev pub asks_effective : Asked → Bool
+asks_effective asked.Get = false
+asks_effective asked.Head = false
+asks_effective asked.Options = false
+asks_effective (asked.Put text) = false
+asks_effective (asked.Propfind find) = false
+asks_effective (asked.Proppatch patched) = false
+asks_effective (asked.Acl list) = false
+asks_effective (asked.Copy to) = false
+asks_effective (asked.Move to) = false
+asks_effective asked.Delete = false
+asks_effective asked.Mkcol = false
+asks_effective (asked.Report which) = is_effective which
 
 -- what decides the row of needs
 abbrev pub shape_at : Ready → Shape
@@ -72,7 +94,7 @@ shape_at ready = record {
   book = is_book (kind_of ready.target.path);
   acl = asks_for Acl ready.asked;
   privileges = asks_for CurrentUserPrivilegeSet ready.asked;
-  effective = false;
+  effective = asks_effective ready.asked;
 }
 
 module _ (list : List EffectiveEntry) (circle : CircleOf) (here : Here) where

@@ -1,7 +1,7 @@
 //! What a request asks, read from its method and its body.
 
 ghost use Rattle.std.specs.Prelude.{◌≡◌, [], IfOk};
-ghost use Rattle.book_machine.specs.Asked.{acl_asked, asked_of, copy_asked, destination_asked, destination_by, each_once, find_asked, find_asked_to, is_card, is_empty, kind_asked, method_of, mkcol_asked, move_asked, patch_asked, properties_asked, proppatch_asked, put_asked, report_asked, destination_path};
+ghost use Rattle.book_machine.specs.Asked.{acl_asked, asked_of, copy_asked, destination_asked, destination_by, each_once, find_asked, find_asked_to, is_card, is_empty, method_of, mkcol_asked, move_asked, patch_asked, properties_asked, proppatch_asked, put_asked, report_asked, destination_path};
 ghost use Rattle.book_machine.specs.Asking.{Meets};
 
 use crate::finding::{find_of, may_be_asked, usual_find};
@@ -61,8 +61,8 @@ pub enum Asked {
     Delete,
     /// MKCOL: a new book.
     Mkcol,
-    /// REPORT: from where in its history what changed in a book. It is the one report that is served yet.
-    Report(SyncFrom),
+    /// REPORT: which report.
+    Report(ReportKind),
 }
 
 impl Asked {
@@ -277,14 +277,14 @@ fn copy_of_place(from: &SyncFrom) -> Result<SyncFrom, AllocError>
     }
 }
 
-/// The report that is asked: `sync-collection` (RFC 6578, section 3.2). The reports `group-members` and `effective` are
-/// not served yet: they are refused.
-fn kind_asked(kind: &ReportKind) -> Result<Asked, Refusal>
-    ensures { Meets result (kind_asked kind.now) }
+/// A copy of the report that is asked.
+fn copy_of_kind(kind: &ReportKind) -> Result<ReportKind, AllocError>
+    ensures { IfOk result (λ copy. copy ≡ kind.now) }
 {
     match kind {
-        ReportKind::SyncCollection(from) => Ok(Asked::Report(copy_of_place(from)?)),
-        ReportKind::GroupMembers | ReportKind::Effective(_) => Err(Refusal::BadRequest),
+        ReportKind::SyncCollection(from) => Ok(ReportKind::SyncCollection(copy_of_place(from)?)),
+        ReportKind::GroupMembers => Ok(ReportKind::GroupMembers),
+        ReportKind::Effective(caller) => Ok(ReportKind::Effective(caller.clone()?)),
     }
 }
 
@@ -293,7 +293,7 @@ fn report_asked(body: &Body) -> Result<Asked, Refusal>
     ensures { Meets result (report_asked body.now) }
 {
     match body {
-        Body::Report(kind) => kind_asked(kind),
+        Body::Report(kind) => Ok(Asked::Report(copy_of_kind(kind)?)),
         Body::Empty
         | Body::Text(_)
         | Body::Find(_)

@@ -3,6 +3,7 @@
 ghost use Rattle.std.specs.Prelude.{◌≡◌, IfOk};
 ghost use Rattle.book_machine.specs.Finding.{are_different, find_of, may_be_asked, needed_for, usual_properties};
 
+use book_limits::MAX_PROPERTIES;
 use book_listings::{Extent, Find, Property, is_asked};
 use book_rights::{LeafSet, Method, Needs, Shape, needs};
 use book_values::Items;
@@ -22,11 +23,11 @@ fn are_different(properties: &[Property]) -> bool
     true
 }
 
-/// Whether they are 1 to 7 different properties.
+/// Whether they are different properties, and at least one.
 pub(crate) fn may_be_asked(properties: &[Property]) -> bool
     ensures { result ≡ may_be_asked properties.now }
 {
-    1 <= properties.len() && (properties.len() <= 7 && are_different(properties))
+    1 <= properties.len() && (properties.len() <= MAX_PROPERTIES && are_different(properties))
 }
 
 /// What is needed of each resource of which the listing tells.

@@ -1,13 +1,13 @@
 //! The machine: from a request to its reply (RFC 3744, section 6; RFC 4918).
 //!
-//! It stands on `book_office` and the crates below, on `book_listings` for what PROPFIND tells, and on `book_sync` for
-//! sync reports. The crate above uses
+//! It stands on `book_office` and the crates below, on `book_listings` for what PROPFIND tells, and for reports on
+//! `book_sync`, `book_members` and `book_rulings`. The crate above uses
 //! that `Machine::serve` answers as the machine's step says, or that the store is unavailable with the Office as it was;
 //! that `serve_all` is a run of such steps; and that `Machine::adopt` leaves the Office that adopts the policy, or tells
 //! why it does not.
 //!
 //! Read `messages`, `refusals`, `allowed_methods`, `finding` and `asked` first; then `plans`, `stages`,
-//! `entries_in_force`, `destinations`, `syncing` and `machine`; and `adoptions` by itself.
+//! `entries_in_force`, `destinations`, `syncing`, `reporting` and `machine`; and `adoptions` by itself.
 #![tactic(auto)]
 
 mod adoptions;
@@ -22,6 +22,7 @@ mod machine;
 mod messages;
 mod plans;
 mod refusals;
+mod reporting;
 mod stages;
 mod syncing;
 
@@ -31,6 +32,8 @@ pub use asked::{Asked, Destination};
 pub use book_listings::{
     AclEntry, DecidingEntry, Denial, Extent, Find, Property, PropertyValue, Response,
 };
+pub use book_members::{MemberLine, Members};
+pub use book_rulings::Ruling;
 pub use book_sync::{Found, Item, Report, Token};
 pub use laws::{
     granted_reports_are_told, listings_tell_the_resource, refusals_change_nothing,

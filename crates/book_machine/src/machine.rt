@@ -440,7 +440,11 @@ impl<K: Keeper> Machine<K> {
     }
 
     /// Whether a principal is there.
-    fn is_mapped(&mut self, alloc: Global, principal: &Principal) -> Result<bool, Refusal>
+    pub(crate) fn is_mapped(
+        &mut self,
+        alloc: Global,
+        principal: &Principal,
+    ) -> Result<bool, Refusal>
         ensures { StageAsks K.standing self.old self.new result (λ o r. TellsWhether (IsMapped o principal.now) r) }
     {
         let path = path_of(alloc, principal)?;
@@ -543,6 +547,7 @@ impl<K: Keeper> Machine<K> {
             Asked::Put(text) => check_card(alloc, text),
             Asked::Proppatch(patch) => self.check_patch(alloc, patch),
             Asked::Acl(list) => self.check_list(alloc, path, list.as_slice()),
+            Asked::Report(kind) => self.check_report(alloc, kind),
             Asked::Get
             | Asked::Head
             | Asked::Options
@@ -550,8 +555,7 @@ impl<K: Keeper> Machine<K> {
             | Asked::Copy(_)
             | Asked::Move(_)
             | Asked::Delete
-            | Asked::Mkcol
-            | Asked::Report(_) => Ok(()),
+            | Asked::Mkcol => Ok(()),
         }
     }
 
@@ -594,7 +598,7 @@ impl<K: Keeper> Machine<K> {
             Asked::Move(to) => move_plan(to, target),
             Asked::Delete => delete_plan(target.path),
             Asked::Mkcol => mkcol_plan(caller, target.path),
-            Asked::Report(from) => self.synced(alloc, circle, &target.path, &from),
+            Asked::Report(kind) => self.reported(alloc, circle, &target.path, &kind),
         }
     }
 

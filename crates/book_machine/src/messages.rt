@@ -3,9 +3,11 @@
 use crate::allowed_methods::AllowedMethods;
 use crate::refusals::Refusal;
 use book_listings::{Property, Response};
-use book_lists::{Caller, Principal, Submitted};
+use book_lists::{Caller, Name, Principal, Submitted};
+use book_members::Members;
 use book_office::{Items, Path, Text};
 use book_rights::Method;
+use book_rulings::Ruling;
 use book_sync::{Report, Token};
 
 /// The field Overwrite (RFC 4918, section 10.6), as it was read.
@@ -57,7 +59,7 @@ pub enum ReportKind {
     SyncCollection(SyncFrom),
     /// `group-members`: the cards to which a group card leads (own profile).
     GroupMembers,
-    /// `effective`: the entries that decide each leaf for a caller (own profile).
+    /// `effective`: the entries that decide each leaf for a person, or for nobody (own profile).
     Effective(Caller),
 }
 
@@ -110,6 +112,10 @@ pub enum Content {
     Listing(Items<Response>),
     /// What changed in a book (RFC 6578, section 3.2).
     Synced(Report),
+    /// The name of a book, and the members of one of its cards (own profile).
+    Members(Name, Members),
+    /// What decides each leaf, in the order of the leaves (own profile).
+    Rulings(Items<Ruling>),
     /// Why the request was refused.
     Refusal(Refusal),
 }

@@ -12,11 +12,11 @@ ghost use Rattle.book_machine.specs.Stages.{bad_card, can_change, can_change_twi
 ghost use Rattle.book_machine.specs.Stages.{acl_plan, allow_plan, card_plan, copy_plan, delete_plan, mkcol_plan, move_plan, patch_plan, put_plan};
 ghost use Rattle.book_machine.specs.declared.refusals.Refusal.TheVariants.{BadCard, NotAllowed, Unavailable};
 ghost use Rattle.book_listings.specs.Verdicts.{principal_of};
-ghost use Rattle.book_machine.specs.Verdicts.{asks_for, or_itself, place_path, shape_at};
+ghost use Rattle.book_machine.specs.Verdicts.{asks_effective, asks_for, or_itself, place_path, shape_at};
 
 use crate::allowed_methods::{AllowedMethods, goes_on};
 use crate::asked::{Asked, Destination};
-use crate::messages::{Content, Patch, Reply};
+use crate::messages::{Content, Patch, Reply, ReportKind};
 use crate::plans::{Plan, Ready, Target};
 use crate::refusals::Refusal;
 use book_cards::{CardFault, CardFaultKind, read_card};
@@ -64,6 +64,28 @@ fn asks_for(property: Property, asked: &Asked) -> bool
     }
 }
 
+/// Whether a REPORT asks which entry decides each leaf.
+fn asks_effective(asked: &Asked) -> bool
+    ensures { result ≡ asks_effective asked.now }
+{
+    match asked {
+        Asked::Report(ReportKind::Effective(_)) => true,
+        Asked::Get
+        | Asked::Head
+        | Asked::Options
+        | Asked::Put(_)
+        | Asked::Propfind(_)
+        | Asked::Proppatch(_)
+        | Asked::Acl(_)
+        | Asked::Copy(_)
+        | Asked::Move(_)
+        | Asked::Delete
+        | Asked::Mkcol
+        | Asked::Report(ReportKind::SyncCollection(_))
+        | Asked::Report(ReportKind::GroupMembers) => false,
+    }
+}
+
 /// What decides the row of needs.
 pub(crate) fn shape_at(ready: &Ready) -> Shape
     ensures { result ≡ shape_at ready.now }
@@ -74,7 +96,7 @@ pub(crate) fn shape_at(ready: &Ready) -> Shape
         book: ready.target.path.kind() == Kind::Book,
         acl: asks_for(Property::Acl, &ready.asked),
         privileges: asks_for(Property::CurrentUserPrivilegeSet, &ready.asked),
-        effective: false,
+        effective: asks_effective(&ready.asked),
     }
 }
 
@@ -205,14 +227,15 @@ pub(crate) fn list_refusal(fault: EditFault) -> Refusal
     }
 }
 
-/// Whether what is asked is asked of a resource of this kind: members are those of a group, and a sync report is one on
-/// a book.
+/// Whether what is asked is asked of a resource of this kind: members are set of a group, a sync report is one on a book,
+/// and the members that a report tells are those of a card.
 fn suits(asked: &Asked, kind: Kind) -> bool
     ensures { result ≡ suits asked.now kind }
 {
     match asked {
         Asked::Proppatch(Patch::GroupMembers(_)) => kind == Kind::Group,
-        Asked::Report(_) => kind == Kind::Book,
+        Asked::Report(ReportKind::SyncCollection(_)) => kind == Kind::Book,
+        Asked::Report(ReportKind::GroupMembers) => kind == Kind::Card,
         Asked::Get
         | Asked::Head
         | Asked::Options
@@ -223,7 +246,8 @@ fn suits(asked: &Asked, kind: Kind) -> bool
         | Asked::Copy(_)
         | Asked::Move(_)
         | Asked::Delete
-        | Asked::Mkcol => true,
+        | Asked::Mkcol
+        | Asked::Report(ReportKind::Effective(_)) => true,
     }
 }
 

@@ -5,13 +5,12 @@ use Rattle.std.specs.List.{All}
 use Rattle.std.proofs.lemmas.Bool.{leb-true}
 use Rattle.std.proofs.lemmas.List.Elements.{All-nil, All-push}
 use Rattle.toml.specs.Data.{Data, Items, no_items, item, Members, get_member, as_str, as_array, as_table}
-use Rattle.book_limits.specs.declared.TheConstants.{MAX_LABEL_BYTES}
+use Rattle.book_limits.specs.declared.TheConstants.{MAX_LABEL_BYTES, MAX_PRIVILEGE_NAMES}
 use Rattle.book_policies.specs.declared.parts.PersonPart.{PersonPart}
 use Rattle.book_policies.specs.declared.parts.GroupPart.{GroupPart}
 use Rattle.book_policies.specs.declared.parts.BookPart.{BookPart}
 use Rattle.book_policies.specs.Policies.{IsShort}
 use Rattle.book_policy.specs.declared.shapes.TableKind.TheVariants.{Top, Person, Group, Book, Listed}
-use Rattle.book_policy.specs.declared.shapes.TheConstants.{MAX_PRIVILEGE_NAMES}
 use Rattle.book_policy.specs.declared.parts.EntryText.{EntryText}
 use Rattle.book_policy.specs.declared.parts.Parts.{Parts}
 use Rattle.book_policy.specs.Passes.{IsShaped}

@@ -11,7 +11,7 @@ use Rattle.book_policy.specs.Rules.{ArePrivileges, HasOneFault, HasOnePolicy, Is
 use Rattle.book_policy.specs.declared.faults.PolicyFault.{PolicyFault}
 use Rattle.book_policy.specs.declared.faults.PolicyFault.TheVariants.{NotToml, OtherVersion, BadKey, BadName, NameTwice, UnknownPrincipal, UnknownResource, UnknownPrivilege, TooMany, Memory}
 use Rattle.book_policy.specs.declared.parts.Parts.{Parts}
-use Rattle.book_policy.specs.declared.policies.TheConstants.{MAX_POLICY_BYTES}
+use Rattle.book_limits.specs.declared.TheConstants.{MAX_POLICY_BYTES}
 use Rattle.book_policy.proofs.Labelled.{all_mapped, forms_of}
 use Rattle.book_policy.proofs.Least.{all_rules, least_of_text, lifted, same_parts, too_many, unknown_privilege}
 use Rattle.book_policy.proofs.Privileges.{holds_some}

@@ -19,7 +19,7 @@ use Rattle.book_policy.specs.declared.faults.PolicyFault.{PolicyFault}
 use Rattle.book_policy.specs.declared.faults.PolicyFault.TheVariants.{NotToml, OtherVersion, BadKey, BadName, NameTwice, UnknownPrincipal, UnknownResource, UnknownPrivilege, TooMany, Memory}
 use Rattle.book_policy.specs.declared.parts.EntryText.{EntryText}
 use Rattle.book_policy.specs.declared.parts.Parts.{Parts}
-use Rattle.book_policy.specs.declared.policies.TheConstants.{MAX_POLICY_BYTES}
+use Rattle.book_limits.specs.declared.TheConstants.{MAX_POLICY_BYTES}
 
 -- ---- what an entry says
 

@@ -5,10 +5,9 @@ use Rattle.toml.specs.Data.{Data, Items, no_items, item, Members, no_members, me
 use Rattle.book_policies.specs.declared.parts.PersonPart.{PersonPart}
 use Rattle.book_policies.specs.declared.parts.GroupPart.{GroupPart}
 use Rattle.book_policies.specs.declared.parts.BookPart.{BookPart}
-use Rattle.book_limits.specs.declared.TheConstants.{MAX_LABEL_BYTES}
+use Rattle.book_limits.specs.declared.TheConstants.{MAX_LABEL_BYTES, MAX_PRIVILEGE_NAMES}
 use Rattle.book_policy.specs.declared.shapes.TableKind.{TableKind}
 use Rattle.book_policy.specs.declared.shapes.TableKind.TheVariants.{Top, Person, Group, Book, Listed}
-use Rattle.book_policy.specs.declared.shapes.TheConstants.{MAX_PRIVILEGE_NAMES}
 use Rattle.book_policy.specs.declared.parts.EntryText.{EntryText}
 use Rattle.book_policy.specs.declared.parts.Parts.{Parts}
 

@@ -17,4 +17,4 @@ mod shapes;
 
 pub use faults::PolicyFault;
 pub use laws::{faults_are_one, policies_are_one, policies_exclude_faults};
-pub use policies::{MAX_POLICY_BYTES, read_policy};
+pub use policies::read_policy;

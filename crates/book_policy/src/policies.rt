@@ -14,13 +14,11 @@ use crate::faults::PolicyFault;
 use crate::parts::Parts;
 use crate::passes::{are_names, entry_parts, labels_of, places_known, principals_known};
 use crate::shapes::{member, parts_in};
+use book_limits::MAX_POLICY_BYTES;
 use book_policies::{BookPart, EntryPart, GroupPart, PersonPart, Policy};
 use book_values::Items;
 use std::alloc::{AllocError, Global};
 use toml::Table;
-
-/// The most bytes of a policy's text (own profile).
-pub const MAX_POLICY_BYTES: usize = 1_048_576;
 
 /// The table of a text.
 fn table_of(alloc: Global, text: &str) -> Result<Table, PolicyFault>

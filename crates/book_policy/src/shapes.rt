@@ -6,14 +6,11 @@ ghost use Rattle.toml.specs.View.{items_view, table_view, view};
 ghost use Rattle.book_policy.specs.Shapes.{action_of, array_of, book_in, each, entry_in, group_in, has_only, is_among, keys_of, label_of, mark_of, names_in, owner_of, parts_in, person_in, text_at};
 
 use crate::parts::{EntryText, Parts};
-use book_limits::MAX_LABEL_BYTES;
+use book_limits::{MAX_LABEL_BYTES, MAX_PRIVILEGE_NAMES};
 use book_policies::{BookPart, GroupPart, PersonPart};
 use book_values::{Items, Text};
 use std::alloc::{AllocError, Global};
 use toml::{Table, Value};
-
-/// The most names of privileges of one entry (own profile).
-pub(crate) const MAX_PRIVILEGE_NAMES: usize = 16;
 
 /// The kinds of tables.
 #[derive(Clone, Copy)]

@@ -2,10 +2,13 @@
 use Rattle.std.proofs.Common.{◌≡◌, ℕ, ◌||◌, Bool, true, false, true≢false, List, [], ◌∷◌, ◌++◌, map, Option, Some, None, Ordering, Less, Equal, Greater, codes, refl}
 use Rattle.std.specs.Ordering.{nat_cmp, match_ordering}
 use Rattle.std.specs.Cmp.Lexicographic.{slice_cmp}
-use Rattle.serde_json.specs.Data.{Data, boolean, string, array, object, Members, no_members, member, put}
+use Rattle.serde_json.specs.Data.{Data, boolean, string, Members, no_members, member, put}
 use Rattle.serde_json.specs.View.{items_of}
 use Rattle.serde_json.specs.Written.{has_float, items_have_float, members_have_float}
+use Rattle.book_links.specs.declared.members.MemberLine.{MemberLine}
+use Rattle.book_links.specs.declared.members.Members.{Members as Members'}
 use Rattle.book_rights.specs.declared.privileges.Privilege.{Privilege}
+use Rattle.book_rulings.specs.declared.messages.Ruling.{Ruling}
 use Rattle.book_values.specs.Paths.{card_path, path_text}
 use Rattle.book_values.specs.declared.paths.Path.{Path}
 use Rattle.book_sync.specs.declared.messages.Found.{Found}
@@ -20,8 +23,10 @@ use Rattle.book_listings.specs.declared.messages.Response.{Response}
 use Rattle.book_listings.specs.declared.messages.Response.TheVariants.{Told, Denied}
 use Rattle.book_replies.specs.Denials.{entry_data}
 use Rattle.book_replies.specs.Listings.{response_data, listing_data}
-use Rattle.book_replies.specs.Properties.{acl_data, acl_entry_data, action_key, entry_members, form_key, form_text, paths_data, paths_or_null, privilege_data, privileges_data, property_data, property_name, text_or_null, token_or_null, with_inherited, with_protected, with_properties}
+use Rattle.book_replies.specs.Members.{href_data, line_data, members_data}
+use Rattle.book_replies.specs.Properties.{acl_data, acl_entry_data, action_key, form_key, form_text, paths_data, paths_or_null, privilege_data, privileges_data, property_data, property_name, text_or_null, token_or_null, with_inherited, with_protected, with_properties}
 use Rattle.book_replies.specs.Reports.{changed_data, item_data, remaining_data, report_data}
+use Rattle.book_replies.specs.Rulings.{ruling_data, rulings_data}
 
 neither : (a b : Bool) → (a || b) ≡ false → (a ≡ false) × (b ≡ false)
 neither true b e = absurd (true≢false e)
@@ -124,3 +129,17 @@ report_plain r =
     let book = r.token.book in
     rw (append_plain (map (item_data book) r.items) (remaining_data book r.truncated)
     (items_plain (item_data book) r.items (λ (i : Item). changed_plain (card_path book i.name) i.number i.found)) (remaining_plain book r.truncated)) refl
+
+line_plain : (book : List ℕ) (line : MemberLine) → has_float (line_data book line) ≡ false
+line_plain book line = rw (items_plain (href_data book) line.names (λ name. refl)) refl
+
+pub members_plain : (book : List ℕ) (members : Members') → has_float (members_data book members) ≡ false
+members_plain book members =
+    rw (items_plain (line_data book) members.lines (line_plain book))
+    (rw (items_plain (href_data book) members.reached (λ name. refl)) refl)
+
+ruling_plain : (ruling : Ruling) → has_float (ruling_data ruling) ≡ false
+ruling_plain ruling = rw (entry_plain ruling.entry) refl
+
+pub rulings_plain : (rulings : List Ruling) → has_float (rulings_data rulings) ≡ false
+rulings_plain rulings = rw (items_plain ruling_data rulings ruling_plain) refl

@@ -21,7 +21,7 @@ fn book_href(alloc: Global, book: &Name) -> Result<String, AllocError>
 }
 
 /// The path of a card. An error is want of memory.
-fn card_href(alloc: Global, book: &Name, card: &Name) -> Result<String, AllocError>
+pub(crate) fn card_href(alloc: Global, book: &Name, card: &Name) -> Result<String, AllocError>
     ensures { IfOk result (λ text. string_bytes text ≡ card_path book.now card.now) }
 {
     let book = book.text();

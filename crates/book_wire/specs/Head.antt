@@ -5,6 +5,7 @@ use Rattle.std.specs.Char.{is_ascii_digit}
 use Rattle.std.specs.Str.{bytes_eq}
 use Rattle.httparse.specs.Grammar.{RequestHead}
 use Rattle.httparse.specs.Spans.{name_and_value}
+use Rattle.book_limits.specs.declared.TheConstants.{MAX_BODY}
 use Rattle.book_rights.specs.declared.methods.Method.{Method}
 use Rattle.book_machine.specs.declared.messages.Flag.{Flag}
 use Rattle.book_machine.specs.declared.messages.Flag.TheVariants as flag
@@ -48,9 +49,6 @@ abbrev pub implemented : Option (List ℕ) → Option Method → Result Method W
 implemented None (Some m) = Ok m
 implemented None None = Err NotImplemented
 implemented (Some coding) m = Err NotImplemented
-
-abbrev pub MAX_BODY : ℕ
-MAX_BODY = 262144
 
 abbrev pub within : ℕ → Result ℕ WireRefusal
 within n = if nat_le n MAX_BODY then Ok n else Err BodyTooLarge

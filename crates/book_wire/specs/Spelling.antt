@@ -9,7 +9,9 @@ use Rattle.book_machine.specs.declared.refusals.Refusal.{Refusal}
 use Rattle.book_machine.specs.declared.refusals.Refusal.TheVariants as refusal
 use Rattle.book_bodies.specs.Refusals.{refusal_data}
 use Rattle.book_replies.specs.Listings.{listing_data}
+use Rattle.book_replies.specs.Members.{members_data}
 use Rattle.book_replies.specs.Reports.{report_data}
+use Rattle.book_replies.specs.Rulings.{rulings_data}
 use Rattle.book_targets.specs.Targets.{phrase_of}
 use Rattle.book_wire.specs.declared.head.WireRefusal.{WireRefusal}
 use Rattle.book_wire.specs.declared.head.WireRefusal.TheVariants as wire
@@ -21,6 +23,8 @@ body_bytes (content.Card text) = text
 body_bytes (content.Allow methods) = []
 body_bytes (content.Listing responses) = compact_text (listing_data responses)
 body_bytes (content.Synced report) = compact_text (report_data report)
+body_bytes (content.Members book members) = compact_text (members_data book members)
+body_bytes (content.Rulings rulings) = compact_text (rulings_data rulings)
 body_bytes (content.Refusal r) = compact_text (refusal_data r)
 
 -- the methods that a refusal lists (RFC 9110, section 15.5.6)
@@ -50,6 +54,8 @@ allow_line (content.Card text) = []
 allow_line (content.Allow methods) = codes "Allow: " ++ (allowed_text methods ++ codes "\r\n")
 allow_line (content.Listing responses) = []
 allow_line (content.Synced report) = []
+allow_line (content.Members book members) = []
+allow_line (content.Rulings rulings) = []
 allow_line (content.Refusal r) = refused_allow r
 
 -- the type of JSON, where it is sent
@@ -64,6 +70,8 @@ type_line (content.Card text) bare = codes "Content-Type: text/vcard; charset=ut
 type_line (content.Allow methods) bare = []
 type_line (content.Listing responses) bare = json_line bare
 type_line (content.Synced report) bare = json_line bare
+type_line (content.Members book members) bare = json_line bare
+type_line (content.Rulings rulings) bare = json_line bare
 type_line (content.Refusal r) bare = json_line bare
 
 -- the length of the body (RFC 9110, section 8.6), but for a 204

@@ -3,6 +3,7 @@ use Rattle.std.specs.Prelude.{◌≡◌, ◌≢◌, ℕ, ◌-◌, ◌+◌, ◌^�
 use Rattle.std.specs.List.{flat_map, AllByRecursion}
 use Rattle.httparse.specs.Grammar.{RequestHead, IsRequestHead, print_request, HasNoRequest, NeverHasRequest, MayBecomeRequest}
 use Rattle.httparse.specs.Spans.{RequestExceeds}
+use Rattle.book_limits.specs.declared.TheConstants.{MAX_HEAD, MAX_FIELDS}
 use Rattle.book_machine.specs.declared.messages.Reply.{Reply}
 use Rattle.book_machine.specs.declared.messages.Request.{Request}
 use Rattle.book_machine.specs.declared.refusals.Refusal.TheVariants.{Unavailable}
@@ -19,12 +20,6 @@ use Rattle.book_wire.specs.Requests.{IsRequest, caller_name}
 use Rattle.book_wire.specs.Serving.{Answered, Runs}
 use Rattle.book_wire.specs.Head.{Asked, asked_of_head, is_bare_head}
 use Rattle.book_wire.specs.Spelling.{spelling, refusal_text}
-
-abbrev pub MAX_HEAD : ℕ
-MAX_HEAD = 16384
-
-abbrev pub MAX_FIELDS : ℕ
-MAX_FIELDS = 64
 
 -- a head of the grammar of httparse, within the limits
 pub record IsHead (h : RequestHead) : Type 0 where

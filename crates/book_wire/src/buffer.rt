@@ -4,12 +4,13 @@ ghost use Rattle.std.specs.Prelude.{◌≡◌, ℕ, List, [], ◌++◌, ◌<◌,
 ghost use Rattle.std.specs.Io.KnownBytes.{Consumes, IsAtEnd, Keeps};
 
 use crate::stream::StreamFault;
+use book_limits::{MAX_BODY, MAX_HEAD};
 use std::alloc::{AllocError, Global};
 use std::io::Read;
 use std::marker::Model;
 
 /// The longest head and the longest body together.
-pub(crate) const CAPACITY: usize = 16_384 + 262_144;
+pub(crate) const CAPACITY: usize = MAX_HEAD + MAX_BODY;
 
 /// The unread bytes of a stream. It never grows.
 #[derive(Drop)]

@@ -8,20 +8,12 @@ ghost use Rattle.book_wire.specs.Head as spec;
 ghost use Rattle.book_wire.specs.Reading.{IsReading, asked_view};
 
 use crate::members::{has_close, has_name};
+use book_limits::{MAX_BODY, MAX_FIELDS, MAX_HEAD};
 use book_machine::{Depth, Flag};
 use book_rights::Method;
 use book_targets::method_named;
 use httparse::spans::{EMPTY_HEADER_SPAN, HeaderSpan, RequestSpans, parse_request};
 use httparse::{Error, Status};
-
-/// The most bytes of a head (own profile).
-const MAX_HEAD: usize = 16_384;
-
-/// The most fields of a head (own profile).
-const MAX_FIELDS: usize = 64;
-
-/// The most bytes of a body (own profile).
-const MAX_BODY: usize = 262_144;
 
 /// Why there is no request. The connection closes after each, and nothing changes.
 #[derive(Clone, Copy, Debug, PartialEq, Eq)]

@@ -17,7 +17,7 @@ use crate::stream::StreamFault;
 use arrayvec::ArrayString;
 use book_bodies::refusal_body;
 use book_machine::{AllowedMethods, Content, Refusal, Reply};
-use book_replies::{listing_body, report_body};
+use book_replies::{listing_body, members_body, report_body, rulings_body};
 use book_targets::phrase;
 use itoa::Buffer;
 use std::alloc::{AllocError, Global};
@@ -60,7 +60,12 @@ fn allowed(content: &Content) -> Option<AllowedMethods>
     match content {
         Content::Allow(methods) => Some(*methods),
         Content::Refusal(refusal) => refused_methods(refusal),
-        Content::Empty | Content::Card(_) | Content::Listing(_) | Content::Synced(_) => None,
+        Content::Empty
+        | Content::Card(_)
+        | Content::Listing(_)
+        | Content::Synced(_)
+        | Content::Members(_, _)
+        | Content::Rulings(_) => None,
     }
 }
 
@@ -91,7 +96,11 @@ fn type_line_of(content: &Content, bare: bool) -> &'static str
 {
     match content {
         Content::Card(_) => "Content-Type: text/vcard; charset=utf-8\r\n",
-        Content::Listing(_) | Content::Synced(_) | Content::Refusal(_) => json_line_of(bare),
+        Content::Listing(_)
+        | Content::Synced(_)
+        | Content::Members(_, _)
+        | Content::Rulings(_)
+        | Content::Refusal(_) => json_line_of(bare),
         Content::Empty | Content::Allow(_) => "",
     }
 }
@@ -172,6 +181,14 @@ fn made_body(alloc: Global, content: &Content) -> Result<Option<String>, AllocEr
             Ok(text) => Ok(Some(text)),
             Err(error) => Err(error),
         },
+        Content::Members(book, members) => match members_body(alloc, book, members) {
+            Ok(text) => Ok(Some(text)),
+            Err(error) => Err(error),
+        },
+        Content::Rulings(rulings) => match rulings_body(alloc, rulings.as_slice()) {
+            Ok(text) => Ok(Some(text)),
+            Err(error) => Err(error),
+        },
         Content::Refusal(refusal) => match refusal_body(alloc, refusal) {
             Ok(text) => Ok(Some(text)),
             Err(error) => Err(error),
@@ -197,7 +214,11 @@ fn bytes_of<'r>(content: &'r Content, made: &'r Option<String>) -> &'r [u8]
 {
     match content {
         Content::Card(text) => text.as_str().as_bytes(),
-        Content::Listing(_) | Content::Synced(_) | Content::Refusal(_) => bytes_made(made),
+        Content::Listing(_)
+        | Content::Synced(_)
+        | Content::Members(_, _)
+        | Content::Rulings(_)
+        | Content::Refusal(_) => bytes_made(made),
         Content::Empty | Content::Allow(_) => &[],
     }
 }

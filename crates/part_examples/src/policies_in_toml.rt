@@ -1,10 +1,10 @@
 //! Policies in TOML, and texts that are none (own profile).
 
+use book_limits::MAX_POLICY_BYTES;
 use book_lists::Who;
 use book_policies::{Policy, PolicyEntry};
 use book_policy::{
-    MAX_POLICY_BYTES, PolicyFault, faults_are_one, policies_are_one, policies_exclude_faults,
-    read_policy,
+    PolicyFault, faults_are_one, policies_are_one, policies_exclude_faults, read_policy,
 };
 use book_rights::Leaf;
 use std::alloc::Global;

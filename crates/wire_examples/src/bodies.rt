@@ -1,19 +1,15 @@
 //! Bodies of requests: each form, and each way to have none.
 
 use crate::telling::told;
+use crate::texts::{Pieces, written};
 use std::alloc::Global;
 use std::process::Abort;
 
-/// What a method's bodies are: each text, and what it is.
-fn check(rt: &impl Abort, alloc: Global, method: &str, cases: &[(&str, &str)]) {
-    for (text, wanted) in cases {
-        let answer = told(rt, alloc, method, text.as_bytes());
-        assert_eq!(rt; answer.as_str(), *wanted, "{method} {text:?}");
-    }
-}
+/// Texts, and what each is as a body.
+type Cases = &'static [(&'static str, &'static str)];
 
 /// PROPFIND asks for 1 to 7 different properties (RFC 4918, section 9.1).
-const FOUND: &[(&str, &str)] = &[
+const FOUND: Cases = &[
     ("", "empty"),
     ("{\"prop\":[\"displayname\"]}", "find label"),
     (
@@ -48,7 +44,7 @@ const FOUND: &[(&str, &str)] = &[
 ];
 
 /// PROPPATCH sets a label or the members of a group (RFC 4918, section 9.2).
-const PATCHES: &[(&str, &str)] = &[
+const PATCHES: Cases = &[
     ("", "empty"),
     ("{\"set\":{\"displayname\":\"Sales\"}}", "label \"Sales\""),
     ("{\"set\":{\"displayname\":\"\"}}", "label \"\""),
@@ -89,7 +85,7 @@ const PATCHES: &[(&str, &str)] = &[
 ];
 
 /// ACL submits a list (RFC 3744, sections 5.5 and 8.1).
-const LISTS: &[(&str, &str)] = &[
+const LISTS: Cases = &[
     ("", "empty"),
     ("{\"acl\":[]}", "list"),
     (
@@ -155,7 +151,7 @@ const LISTS: &[(&str, &str)] = &[
 ];
 
 /// REPORT asks one of three (RFC 3253, section 3.6; RFC 6578, section 3.2; own profile).
-const REPORTS: &[(&str, &str)] = &[
+const REPORTS: Cases = &[
     ("", "empty"),
     (
         "{\"report\":\"sync-collection\",\"sync-token\":\"\"}",
@@ -235,41 +231,99 @@ const OTHERS: &[(&str, &str, &str)] = &[
     ("DELETE", "x", "empty"),
 ];
 
-#[test]
-fn properties_are_asked(rt: HostRuntime) {
-    check(&rt, rt.alloc(), "PROPFIND", FOUND);
+/// Bytes that are not UTF-8 are no text and no JSON.
+const OTHER_BYTES: &[&[u8]] = &[b"\xff", b"{\"prop\":[\"acl\xc3\"]}"];
+
+/// An entry has 1 to 16 names of privileges. How many entries a list may have, how many members a group and how many bytes
+/// a label, the body does not say.
+const LIMITS: &[(&str, Pieces<'static>, Pieces<'static>)] = &[
+    (
+        "ACL",
+        &[("{\"acl\":[{\"principal\":\"all\",\"grant\":[]}]}", 1)],
+        &[("unread", 1)],
+    ),
+    (
+        "ACL",
+        &[
+            ("{\"acl\":[{\"principal\":\"all\",\"grant\":[\"bind\"", 1),
+            (",\"bind\"", 15),
+            ("]}]}", 1),
+        ],
+        &[("list; grant everyone bind", 1)],
+    ),
+    (
+        "ACL",
+        &[
+            ("{\"acl\":[{\"principal\":\"all\",\"grant\":[\"bind\"", 1),
+            (",\"bind\"", 16),
+            ("]}]}", 1),
+        ],
+        &[("unread", 1)],
+    ),
+    (
+        "ACL",
+        &[
+            ("{\"acl\":[{\"principal\":\"all\",\"grant\":[\"bind\"]}", 1),
+            (",{\"principal\":\"all\",\"grant\":[\"bind\"]}", 64),
+            ("]}", 1),
+        ],
+        &[("list", 1), ("; grant everyone bind", 65)],
+    ),
+    (
+        "PROPPATCH",
+        &[("{\"set\":{\"displayname\":\"", 1), ("x", 257), ("\"}}", 1)],
+        &[("label \"", 1), ("x", 257), ("\"", 1)],
+    ),
+    (
+        "PROPPATCH",
+        &[
+            ("{\"set\":{\"group-member-set\":[\"/people/a\"", 1),
+            (",\"/people/a\"", 1000),
+            ("]}}", 1),
+        ],
+        &[("members", 1), (" /people/a", 1001)],
+    ),
+];
+
+fn check(rt: &impl Abort, alloc: Global, method: &str, bytes: &[u8], wanted: &str) {
+    let answer = told(rt, alloc, method, bytes);
+    assert_eq!(rt; answer.as_str(), wanted, "{method} {bytes:?}");
 }
 
-#[test]
-fn labels_and_members_are_set(rt: HostRuntime) {
-    check(&rt, rt.alloc(), "PROPPATCH", PATCHES);
-}
-
-#[test]
-fn lists_are_submitted(rt: HostRuntime) {
-    check(&rt, rt.alloc(), "ACL", LISTS);
-}
-
-#[test]
-fn reports_are_asked(rt: HostRuntime) {
-    check(&rt, rt.alloc(), "REPORT", REPORTS);
-}
-
-#[test]
-fn other_bodies_are_texts_or_not_looked_at(rt: HostRuntime) {
-    for (method, text, wanted) in OTHERS {
-        let answer = told(&rt, rt.alloc(), method, text.as_bytes());
-        assert_eq!(rt; answer.as_str(), *wanted, "{method} {text:?}");
+/// What a method's bodies are.
+fn check_all(rt: &impl Abort, alloc: Global, method: &str, cases: Cases) {
+    for (text, wanted) in cases {
+        check(rt, alloc, method, text.as_bytes(), wanted);
     }
 }
 
-/// Bytes that are not UTF-8 are no text and no JSON.
 #[test]
-fn other_bytes_are_unread(rt: HostRuntime) {
+fn bodies_are_read_by_the_method(rt: HostRuntime) {
+    check_all(&rt, rt.alloc(), "PROPFIND", FOUND);
+    check_all(&rt, rt.alloc(), "PROPPATCH", PATCHES);
+    check_all(&rt, rt.alloc(), "ACL", LISTS);
+    check_all(&rt, rt.alloc(), "REPORT", REPORTS);
+    for (method, text, wanted) in OTHERS {
+        check(&rt, rt.alloc(), method, text.as_bytes(), wanted);
+    }
     for method in ["PUT", "PROPFIND", "PROPPATCH", "ACL", "REPORT", "MKCOL"] {
-        for bytes in [b"\xff".as_slice(), b"{\"prop\":[\"acl\xc3\"]}".as_slice()] {
-            let answer = told(&rt, rt.alloc(), method, bytes);
-            assert_eq!(rt; answer.as_str(), "unread", "{method}");
+        for bytes in OTHER_BYTES {
+            check(&rt, rt.alloc(), method, bytes, "unread");
         }
+    }
+}
+
+#[test]
+fn long_bodies_are_read(rt: HostRuntime) {
+    for (method, body, wanted) in LIMITS {
+        let body = written(&rt, rt.alloc(), body);
+        let wanted = written(&rt, rt.alloc(), wanted);
+        check(
+            &rt,
+            rt.alloc(),
+            method,
+            body.as_str().as_bytes(),
+            wanted.as_str(),
+        );
     }
 }

@@ -2,19 +2,18 @@
 //! so they stand here, and the crates below have none.
 //!
 //! The wanted answers are those of the rules (RFC 9110, RFC 4918, RFC 3744, RFC 6578, RFC 8259 and own profile), worked
-//! out by hand.
+//! out by hand. They are tables of texts: `offices` has the one function that owns a machine, `conversations` the bodies of
+//! replies, and `replies` those that no request of the examples has.
 #![tactic(auto)]
 
 #[cfg(test)]
 mod bodies;
 #[cfg(test)]
+mod conversations;
+#[cfg(test)]
 mod hostile;
 #[cfg(test)]
-mod limits;
-#[cfg(test)]
 mod offices;
-#[cfg(test)]
-mod refusals;
 #[cfg(test)]
 mod replies;
 #[cfg(test)]
@@ -23,3 +22,5 @@ mod streams;
 mod targets;
 #[cfg(test)]
 mod telling;
+#[cfg(test)]
+mod texts;

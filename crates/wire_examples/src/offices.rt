@@ -1,4 +1,4 @@
-//! The machine of the examples, and what it answers to streams.
+//! Machines of the examples, each for one stream, and what they answer to it.
 
 use book_machine::Machine;
 use book_office::MemoryKeeper;
@@ -10,7 +10,7 @@ use std::io::{ErrorKind, Read, Write};
 use std::process::Abort;
 
 /// Ann owns the book of sales and may do all there; the staff, ann and bob, may read it and put new cards into it.
-const POLICY: &str = "\
+pub(crate) const POLICY: &str = "\
 version = 1
 [[person]]
 name = \"ann\"
@@ -36,9 +36,9 @@ who = \"/groups/staff\"
 grant = [\"read\", \"bind\"]
 ";
 
-/// A machine in memory that has adopted the policy.
-pub(crate) fn machine(rt: &impl Abort, alloc: Global) -> Machine<MemoryKeeper> {
-    let policy = read_policy(alloc, POLICY).ok().expect(rt, "a policy");
+/// A machine in memory that has adopted a policy.
+fn machine(rt: &impl Abort, alloc: Global, policy: &str) -> Machine<MemoryKeeper> {
+    let policy = read_policy(alloc, policy).ok().expect(rt, "a policy");
     let mut machine = Machine::new(MemoryKeeper::new(alloc));
     machine
         .adopt(alloc, &policy)
@@ -105,18 +105,16 @@ pub(crate) struct Cutting {
     pub(crate) writes: u64,
 }
 
-/// Pieces of at most so many bytes, and no failure.
-pub(crate) fn pieces(read: usize, write: usize) -> Cutting {
-    Cutting {
-        read,
-        write,
-        reads: u64::MAX,
-        writes: u64::MAX,
-    }
-}
+/// Large pieces, and no failure.
+pub(crate) const WHOLE: Cutting = Cutting {
+    read: 1000,
+    write: 1000,
+    reads: u64::MAX,
+    writes: u64::MAX,
+};
 
-/// What is written for a stream that is cut so, and how it ends.
-pub(crate) fn answered(
+/// What a machine writes for a stream that is cut so, and how it ends.
+fn served(
     rt: &impl Abort,
     alloc: Global,
     machine: &mut Machine<MemoryKeeper>,
@@ -137,4 +135,37 @@ pub(crate) fn answered(
     let Output { taken, .. } = writer;
     let text = String::from_utf8(taken).ok().expect(rt, "UTF-8");
     (text, served)
+}
+
+/// Asks for the token of the book of sales.
+const TOKEN: &str =
+    "PROPFIND /books/sales HTTP/1.1\r\nx-office-caller: ann\r\nContent-Length: 23\r\n\r\n{\"prop\":[\"sync-token\"]}";
+
+/// What a stream did to a machine of its own.
+#[derive(Drop)]
+pub(crate) struct Outcome {
+    /// What was written.
+    pub(crate) text: String,
+    /// How the stream ended.
+    pub(crate) served: Result<Served, StreamFault>,
+    /// The reply to the question for the token of the book of sales, afterwards.
+    pub(crate) token: String,
+}
+
+/// What a stream that is cut so does to a machine that has adopted the policy.
+pub(crate) fn answered(
+    rt: &impl Abort,
+    alloc: Global,
+    policy: &str,
+    input: &[u8],
+    cutting: Cutting,
+) -> Outcome {
+    let mut machine = machine(rt, alloc, policy);
+    let (text, ended) = served(rt, alloc, &mut machine, input, cutting);
+    let (token, _) = served(rt, alloc, &mut machine, TOKEN.as_bytes(), WHOLE);
+    Outcome {
+        text,
+        served: ended,
+        token,
+    }
 }

@@ -1,5 +1,6 @@
 //! Targets, methods by their names, and phrases.
 
+use book_rights::Method;
 use book_targets::{homes, method_named, path_in, phrase, target_path};
 use std::alloc::Global;
 use std::process::Abort;
@@ -42,23 +43,25 @@ const TARGETS: &[(&str, &str)] = &[
     ("http://", "-"),
 ];
 
-/// The path for which a target asks; a dash where it asks for none, and nothing where memory was refused.
-fn asked(rt: &impl Abort, alloc: Global, target: &str) -> String {
-    let Ok(router) = homes(alloc) else {
-        return String::new(alloc);
-    };
-    match target_path(alloc, &router, target).expect(rt, "memory") {
-        Some(path) => path.text(alloc).expect(rt, "memory"),
-        None => String::from_str(alloc, "-").expect(rt, "memory"),
-    }
-}
+/// Texts by themselves: a URL spells no path.
+const SPELLED: &[(&str, &str)] = &[
+    ("/groups", "/groups"),
+    ("/groups/staff", "/groups/staff"),
+    ("http://localhost/groups", "-"),
+];
 
-/// The path that a text spells; a dash where it spells none, and nothing where memory was refused.
-fn spelled(rt: &impl Abort, alloc: Global, text: &str) -> String {
+/// The path for which a target asks, or that a text by itself spells; a dash where there is none, and nothing where memory
+/// was refused.
+fn asked(rt: &impl Abort, alloc: Global, text: &str, is_target: bool) -> String {
     let Ok(router) = homes(alloc) else {
         return String::new(alloc);
     };
-    match path_in(alloc, &router, text).expect(rt, "memory") {
+    let path = if is_target {
+        target_path(alloc, &router, text)
+    } else {
+        path_in(alloc, &router, text)
+    };
+    match path.expect(rt, "memory") {
         Some(path) => path.text(alloc).expect(rt, "memory"),
         None => String::from_str(alloc, "-").expect(rt, "memory"),
     }
@@ -67,62 +70,39 @@ fn spelled(rt: &impl Abort, alloc: Global, text: &str) -> String {
 #[test]
 fn targets_ask_for_paths(rt: HostRuntime) {
     for (target, wanted) in TARGETS {
-        let answer = asked(&rt, rt.alloc(), target);
+        let answer = asked(&rt, rt.alloc(), target, true);
         assert_eq!(rt; answer.as_str(), *wanted, "{target:?}");
     }
-}
-
-/// A URL spells no path by itself.
-#[test]
-fn texts_spell_paths(rt: HostRuntime) {
-    for (text, wanted) in [
-        ("/groups", "/groups"),
-        ("/groups/staff", "/groups/staff"),
-        ("http://localhost/groups", "-"),
-    ] {
-        let answer = spelled(&rt, rt.alloc(), text);
-        assert_eq!(rt; answer.as_str(), wanted, "{text}");
+    for (text, wanted) in SPELLED {
+        let answer = asked(&rt, rt.alloc(), text, false);
+        assert_eq!(rt; answer.as_str(), *wanted, "{text:?}");
     }
 }
 
 /// The twelve methods, with case, and nothing else.
-#[test]
-fn methods_have_names(rt: HostRuntime) {
-    let names = [
-        "GET",
-        "HEAD",
-        "OPTIONS",
-        "PUT",
-        "PROPFIND",
-        "PROPPATCH",
-        "ACL",
-        "COPY",
-        "MOVE",
-        "DELETE",
-        "MKCOL",
-        "REPORT",
-    ];
-    for (index, name) in names.iter().enumerate() {
-        let method = method_named(name.as_bytes()).expect(&rt, name);
-        for (other_index, other) in names.iter().enumerate() {
-            let same = method_named(other.as_bytes()) == Some(method);
-            assert_eq!(rt; same, index == other_index, "{name} {other}");
-        }
-    }
-    for name in [
-        "",
-        "get",
-        "Get",
-        "GET ",
-        "POST",
-        "PATCH",
-        "LOCK",
-        "TRACE",
-        "MKCALENDAR",
-    ] {
-        assert!(rt; method_named(name.as_bytes()).is_none(), "{name:?}");
-    }
-}
+const METHODS: &[(&str, Option<Method>)] = &[
+    ("GET", Some(Method::Get)),
+    ("HEAD", Some(Method::Head)),
+    ("OPTIONS", Some(Method::Options)),
+    ("PUT", Some(Method::Put)),
+    ("PROPFIND", Some(Method::Propfind)),
+    ("PROPPATCH", Some(Method::Proppatch)),
+    ("ACL", Some(Method::Acl)),
+    ("COPY", Some(Method::Copy)),
+    ("MOVE", Some(Method::Move)),
+    ("DELETE", Some(Method::Delete)),
+    ("MKCOL", Some(Method::Mkcol)),
+    ("REPORT", Some(Method::Report)),
+    ("", None),
+    ("get", None),
+    ("Get", None),
+    ("GET ", None),
+    ("POST", None),
+    ("PATCH", None),
+    ("LOCK", None),
+    ("TRACE", None),
+    ("MKCALENDAR", None),
+];
 
 /// The statuses of this server (RFC 9110, section 15; RFC 4918, section 11; RFC 6585), and numbers that are none.
 const PHRASES: &[(u16, &str)] = &[
@@ -149,7 +129,10 @@ const PHRASES: &[(u16, &str)] = &[
 ];
 
 #[test]
-fn statuses_have_phrases(rt: HostRuntime) {
+fn methods_and_statuses_have_names(rt: HostRuntime) {
+    for (name, method) in METHODS {
+        assert_eq!(rt; method_named(name.as_bytes()), *method, "{name:?}");
+    }
     for (status, wanted) in PHRASES {
         assert_eq!(rt; phrase(*status), *wanted, "{status}");
     }

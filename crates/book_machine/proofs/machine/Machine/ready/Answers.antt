@@ -1,11 +1,25 @@
 use Rattle.std.proofs.Common.{◌≡◌, Ok, Err, inr, refl, sym, ap, ◌∙◌, subst, option_copied}
-use Rattle.book_machine.proofs.AskingEach.{HasAsked, asked_first, asked_refused, asked_then, one_more_asked}
-use Rattle.book_machine.proofs.Planning.{at_its_destination, ready_with, refused_by_kind}
+use Rattle.book_machine.proofs.AskingEach.{asked_first, asked_refused, asked_then, one_more_asked}
+use Rattle.book_machine.proofs.Planning.{at_its_destination, ready_asked, ready_at_target, ready_suited, ready_with, refused_by_kind}
 use Rattle.book_machine.proofs.StagesInTurn.{counted_same, first_refuses, refused_on}
 use Rattle.book_machine.specs.Asked.{destination_in}
 use Rattle.book_machine.specs.Asking.{Meets}
 use Rattle.book_machine.specs.Stages.{◌>>=◌, caller_of, destination_of, target_of, ready_of}
 use Rattle.book_machine.proofs.machine.Machine.ready.Goals as goal
+
+pub returns-in_err-target : goal.returns-in_err-target
+returns-in_err-target g c =
+    let name = option_copied c.args.name in
+    let request = c.args.request.now in
+    let caller = c.in_ok-caller.caller in
+    let what = c.in_ok-asked.asked in
+    let e = c.in_err-target.field-0.0 in
+    asked_refused _ _ _ e c.from_residual-in_err-target.result (λ o. caller_of o name ≡ Ok caller) (λ o x. Meets x (target_of o request.method request.path)) (λ o x. Meets x (ready_of o name request))
+    (asked_first _ _ caller (λ o x. Meets x (caller_of o name)) c.in_ok-caller.ensures)
+    c.in_err-target.ensures c.from_residual-in_err-target.ensures.1
+    (λ o first refused. subst (λ stage. Meets (Err e) stage)
+    (sym (ap (λ s. s >>= ready_asked o name request) first ∙ ap (λ s. s >>= ready_at_target o name request caller) c.in_ok-asked.ensures))
+    (first_refuses (target_of o request.method request.path) (ready_suited o name request caller what) e refused))
 
 pub returns-in_err-check_suits : goal.returns-in_err-check_suits
 returns-in_err-check_suits g c =

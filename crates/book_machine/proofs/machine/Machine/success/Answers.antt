@@ -2,7 +2,7 @@ use Rattle.std.proofs.Common.{◌≡◌, sym, subst}
 use Rattle.book_machine.proofs.Planning.{meets_any}
 use Rattle.book_machine.proofs.StagesInTurn.{asks_nothing}
 use Rattle.book_machine.specs.Asking.{Asks, MeetsAny}
-use Rattle.book_machine.specs.Stages.{IsSuccessOf, allow_plan, delete_plan, mkcol_plan, sync_plan}
+use Rattle.book_machine.specs.Stages.{IsReportOf, IsSuccessOf, allow_plan, delete_plan, mkcol_plan}
 use Rattle.book_machine.specs.Verdicts.{IsTarget}
 use Rattle.book_machine.proofs.machine.Machine.success.Goals as goal
 
@@ -48,15 +48,15 @@ returns-in-Mkcol g c =
 pub returns-in-Report : goal.returns-in-Report
 returns-in-Report g c =
     let old = g.K.Keeper.standing c.args.self.now.keeper in
-    let new = g.K.Keeper.standing c.synced.new.self.keeper in
+    let new = g.K.Keeper.standing c.reported.new.self.keeper in
     let ready = c.args.ready in
     let circle = c.args.circle.now in
-    let r = c.synced.result in
-    let asked = c.synced.ensures in
-    let row : Asks old new r (λ o x. IsTarget o ready.target → MeetsAny (λ y. sync_plan o circle c.in-Report.from ready.target.path ≡ y) x) =
+    let r = c.reported.result in
+    let asked = c.reported.ensures in
+    let row : Asks old new r (λ o x. IsTarget o ready.target → MeetsAny (IsReportOf o circle c.in-Report.kind ready.target.path) x) =
     record {
       was_honest = asked.was_honest;
-      tells = λ h o stands there. meets_any (sync_plan o circle c.in-Report.from ready.target.path) r (asked.tells h o stands);
+      tells = λ h o stands there. asked.tells h o stands;
       kept = asked.kept;
       left = asked.left;
       counted = asked.counted;
