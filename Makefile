@@ -1,14 +1,15 @@
 # Shared contact books.
 #
 #   make build   proves the program and links it: build/book_desk
-#   make demo    builds it, and runs it on texts and cards of examples/
-#   make test    the gate: every proof from nothing, the edits that must fail, the tests, the programs
+#   make demo    builds it, and runs it on texts and cards of examples/, and as a server
+#   make streams builds it, and compares its replies to the streams of examples/ byte for byte
+#   make test    the gate: every proof from nothing, the edits that must fail, the tests, the programs, the streams
 #   make bench   proves and runs the benchmarks, which print figures
 #   make clean   removes what the others made
 #
 # They need rt, the command of the Rattle toolchain: on PATH, or in the kit whose folder RATTLE_KIT names.
 
-.PHONY: build demo test bench clean
+.PHONY: build demo streams test bench clean
 
 build:
 	@tools/build
@@ -16,10 +17,11 @@ build:
 demo: build
 	@tools/demo build/book_desk
 
+streams: build
+	@tools/streams build/book_desk
+
 test:
-	@rt=$$(tools/find-rt) && \
-	echo "The gate, rt ci: it proves every crate from nothing, which takes several minutes, and tells how far it is." && \
-	"$$rt" ci
+	@tools/gate
 
 bench:
 	@rt=$$(tools/find-rt) && \

@@ -3,34 +3,34 @@ use Rattle.std.proofs.Common.{◌≡◌, ℕ, List, OnOk, IfErr, IfSome, None, S
 use Rattle.std.specs.Io.KnownBytes.{Appends}
 use Rattle.std.specs.declared.result.Result.{Result}
 use Rattle.book_desk.specs.Runs.{Does, Refuses, Writes}
-use Rattle.book_desk.specs.declared.commands.Command.{Command}
-use Rattle.book_desk.specs.declared.commands.Command.TheVariants.{Explain, Card, Help}
+use Rattle.book_desk.specs.declared.text_commands.TextCommand.{TextCommand}
+use Rattle.book_desk.specs.declared.text_commands.TextCommand.TheVariants.{Explain, Card, Help}
 use Rattle.book_desk.specs.declared.failures.Failure.{Failure}
 use Rattle.book_desk.specs.declared.failures.Failure.TheVariants.{Output}
 
 -- the text was the input
-does : (command : Command) (input : Option (List ℕ)) (text written : List ℕ) (old new : Option (List ℕ)) →
+does : (command : TextCommand) (input : Option (List ℕ)) (text written : List ℕ) (old new : Option (List ℕ)) →
     IfSome input (λ bytes. text ≡ bytes) → Writes command text written → Appends old new written → Does command input old new
 does command None text written old new told writes appends = tt
 does command (Some bytes) text written old new told writes appends = (written, rw (← told) writes, appends)
 
-pub does_ok : {E : Type 0} (command : Command) (result : Result Unit E) (input : Option (List ℕ)) (text written : List ℕ) (old new : Option (List ℕ)) →
+pub does_ok : {E : Type 0} (command : TextCommand) (result : Result Unit E) (input : Option (List ℕ)) (text written : List ℕ) (old new : Option (List ℕ)) →
     IfSome input (λ bytes. text ≡ bytes) → Writes command text written → OnOk result (Appends old new written) → OnOk result (Does command input old new)
 does_ok command (Ok done) input text written old new told writes appends = does command input text written old new told writes appends
 does_ok command (Err failure) input text written old new told writes appends = tt
 
-pub refuses : (command : Command) (failure : Failure) (input : Option (List ℕ)) (text : List ℕ) →
+pub refuses : (command : TextCommand) (failure : Failure) (input : Option (List ℕ)) (text : List ℕ) →
     IfSome input (λ bytes. text ≡ bytes) → Refuses command text failure → IfSome input (λ bytes. Refuses command bytes failure)
 refuses command failure None text told refused = tt
 refuses command failure (Some bytes) text told refused = rw (← told) refused
 
 -- an output that fails is a failure of each command
-fails : (command : Command) (input : List ℕ) → Refuses command input Output
+fails : (command : TextCommand) (input : List ℕ) → Refuses command input Output
 fails Explain input = tt
 fails Card input = tt
 fails (Help text) input = tt
 
-pub fails_to_print : (command : Command) (result : Result Unit Failure) (input : Option (List ℕ)) →
+pub fails_to_print : (command : TextCommand) (result : Result Unit Failure) (input : Option (List ℕ)) →
     IfErr result (λ failure. failure ≡ Output) → IfErr result (λ failure. IfSome input (λ bytes. Refuses command bytes failure))
 fails_to_print command (Ok done) input failed = tt
 fails_to_print command (Err failure) None failed = tt

@@ -1,5 +1,5 @@
-pub mod WordsFaults
 pub mod Failures
+pub mod Serving
 pub mod CardSummaries
 pub mod Runs
 pub mod ShortTexts

@@ -2,8 +2,8 @@
 use Rattle.std.specs.Prelude.{◌≡◌, ◌≢◌, ◌⊎◌, ℕ, List, Option, Some, ⊤, string_bytes, IfSome}
 use Rattle.std.specs.Io.KnownBytes.{Appends, Keeps}
 use Rattle.std.specs.Str.{IsUtf8}
-use Rattle.book_desk.specs.declared.commands.Command.{Command}
-use Rattle.book_desk.specs.declared.commands.Command.TheVariants.{Explain, Card, Help}
+use Rattle.book_desk.specs.declared.text_commands.TextCommand.{TextCommand}
+use Rattle.book_desk.specs.declared.text_commands.TextCommand.TheVariants.{Explain, Card, Help}
 use Rattle.book_desk.specs.declared.failures.Failure.{Failure}
 use Rattle.book_desk.specs.declared.failures.Failure.TheVariants as failures
 use Rattle.book_desk.specs.Failures.{failure_status}
@@ -14,13 +14,13 @@ use Rattle.book_cards.specs.Folding.{unfolded}
 use Rattle.book_cards.specs.Valid.{IsCard}
 
 -- what the command writes after it has read this input
-abbrev pub Writes : Command → List ℕ → List ℕ → Type 0
+abbrev pub Writes : TextCommand → List ℕ → List ℕ → Type 0
 Writes Explain input written = IsUtf8 input × AnswersText input written
 Writes Card input written = IsUtf8 input × IsCard input × (written ≡ summary_text (unfolded input))
 Writes (Help text) input written = written ≡ string_bytes text
 
 -- where the reader told its bytes, the writer holds what it held and then what the command writes
-abbrev pub Does : Command → Option (List ℕ) → Option (List ℕ) → Option (List ℕ) → Type 0
+abbrev pub Does : TextCommand → Option (List ℕ) → Option (List ℕ) → Option (List ℕ) → Type 0
 Does command input old new = IfSome input (λ bytes. (written : List ℕ) × Writes command bytes written × Appends old new written)
 
 -- an input that can't be read, or that is not UTF-8
@@ -30,7 +30,7 @@ GivesNoText input failures.NotUtf8 = IsUtf8 input → ⊥
 GivesNoText input _ = ⊥
 
 -- the failure is one of this command, and where it is one of the input, the input has it
-abbrev pub Refuses : Command → List ℕ → Failure → Type 0
+abbrev pub Refuses : TextCommand → List ℕ → Failure → Type 0
 Refuses _ input failures.Output = ⊤
 Refuses Explain input (failures.Explain fault) = IsUtf8 input × IsFault input fault.kind fault.line
 Refuses Card input (failures.Card fault) = IsUtf8 input × ((fault ≡ out_of_memory) ⊎ (card_fault input ≡ Some fault))
@@ -38,6 +38,6 @@ Refuses (Help text) input _ = ⊥
 Refuses _ input failure = GivesNoText input failure
 
 -- the command ended with the status of a failure that the input has, and only a failed output left anything written
-abbrev pub Fails : Command → Option (List ℕ) → Option (List ℕ) → Option (List ℕ) → ℕ → Type 0
+abbrev pub Fails : TextCommand → Option (List ℕ) → Option (List ℕ) → Option (List ℕ) → ℕ → Type 0
 Fails command input old new status =
     (failure : Failure) × (status ≡ failure_status failure) × IfSome input (λ bytes. Refuses command bytes failure) × (failure ≢ failures.Output → Keeps old new)

@@ -7,7 +7,7 @@ ghost use Rattle.book_cards.specs.Folding.{unfolded};
 ghost use Rattle.book_cards.specs.Valid.{IsCard};
 ghost use Rattle.book_desk.specs.CardSummaries.{summary_line, summary_text};
 ghost use Rattle.book_desk.specs.Runs.{Does, Refuses};
-ghost use Rattle.book_desk.specs.declared.commands.Command.TheVariants as commands;
+ghost use Rattle.book_desk.specs.declared.text_commands.TextCommand.TheVariants as commands;
 ghost use Rattle.book_desk.specs.declared.failures.Failure.TheVariants.{Output};
 
 use crate::failures::Failure;

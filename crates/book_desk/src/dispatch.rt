@@ -1,4 +1,4 @@
-//! A command, done over any reader and writers.
+//! A command that reads a text and writes one, done over any reader and writers.
 
 ghost use Rattle.std.specs.Prelude.{◌≡◌, ◌≢◌, ◌⊎◌, IfOk, IfErr, IfSome, OnOk, OnErr, List, ℕ};
 ghost use Rattle.std.specs.Io.KnownBytes.{Appends, Keeps};
@@ -8,16 +8,16 @@ ghost use Rattle.book_desk.specs.declared.failures.Failure.{Failure};
 ghost use Rattle.book_desk.specs.declared.failures.Failure.TheVariants.{Output};
 
 use crate::card_summaries::summarize_input;
-use crate::commands::Command;
 use crate::explaining::explain_input;
 use crate::failures::{DONE, Failure};
 use crate::streams::print;
+use crate::text_commands::TextCommand;
 use std::alloc::Global;
 use std::io::{Read, Write};
 
 fn perform<R: Read + Drop, W: Write>(
     alloc: Global,
-    command: &Command,
+    command: &TextCommand,
     reader: R,
     writer: &mut W,
 ) -> Result<(), Failure>
@@ -26,9 +26,9 @@ fn perform<R: Read + Drop, W: Write>(
     ensures unwritten { IfErr result (λ failure. failure ≢ Output → Keeps (W.contents writer.old) (W.contents writer.new)) }
 {
     match command {
-        Command::Explain => explain_input(alloc, reader, writer),
-        Command::Card => summarize_input(alloc, reader, writer),
-        Command::Help(text) => print(writer, text.as_str()),
+        TextCommand::Explain => explain_input(alloc, reader, writer),
+        TextCommand::Card => summarize_input(alloc, reader, writer),
+        TextCommand::Help(text) => print(writer, text.as_str()),
     }
 }
 
@@ -37,7 +37,7 @@ fn perform<R: Read + Drop, W: Write>(
 /// written to `writer`, and nothing is written there where the input was refused.
 pub fn run<R: Read + Drop, W: Write, E: Write>(
     alloc: Global,
-    command: &Command,
+    command: &TextCommand,
     reader: R,
     writer: &mut W,
     errors: &mut E,

@@ -3,7 +3,7 @@
 ghost use Rattle.std.specs.Prelude.{◌≢◌, IfErr, IfSome, OnOk};
 ghost use Rattle.std.specs.Io.KnownBytes.{Keeps};
 ghost use Rattle.book_desk.specs.Runs.{Does, Refuses};
-ghost use Rattle.book_desk.specs.declared.commands.Command.TheVariants as commands;
+ghost use Rattle.book_desk.specs.declared.text_commands.TextCommand.TheVariants as commands;
 ghost use Rattle.book_desk.specs.declared.failures.Failure.TheVariants.{Output};
 
 use crate::failures::Failure;

@@ -1,10 +1,13 @@
 //! Why a command was not done: its text for standard error, and the status of the program.
 
 ghost use Rattle.std.specs.Prelude.{◌≡◌};
-ghost use Rattle.book_desk.specs.Failures.{failure_status, explain_status, card_status};
+ghost use Rattle.book_desk.specs.Failures.{failure_status, explain_status, card_status, policy_status, adopt_status, adoption_status};
 
 use book_cards::{CardFault, CardFaultKind};
 use book_explain::{ExplainFault, ExplainFaultKind};
+use book_machine::AdoptFault;
+use book_policy::PolicyFault;
+use book_serving::{AdoptionFault, StreamFailure};
 use std::error::Error;
 use std::fmt;
 
@@ -12,8 +15,6 @@ use std::fmt;
 pub const DONE: u8 = 0;
 /// The status where the input was refused.
 pub const REFUSED: u8 = 1;
-/// The status where the words name nothing to do.
-pub const USAGE: u8 = 2;
 /// The status where memory was refused, or a read or a write failed.
 pub const BROKEN: u8 = 3;
 
@@ -30,6 +31,12 @@ pub enum Failure {
     Explain(ExplainFault),
     /// The text that `card` read has this fault.
     Card(CardFault),
+    /// The port can't be had, or a connection can't be accepted.
+    Listen,
+    /// The policy was not adopted.
+    Adoption(AdoptionFault),
+    /// The requests of `pipe` were not served to their end.
+    Stream(StreamFailure),
 }
 
 impl Failure {
@@ -43,7 +50,45 @@ impl Failure {
             Failure::Output => BROKEN,
             Failure::Explain(fault) => explain_status(fault.kind),
             Failure::Card(fault) => card_status(fault.kind),
+            Failure::Listen => BROKEN,
+            Failure::Adoption(fault) => adoption_status(*fault),
+            Failure::Stream(_) => BROKEN,
         }
+    }
+}
+
+fn policy_status(fault: PolicyFault) -> u8
+    ensures { result ≡ policy_status fault }
+{
+    match fault {
+        PolicyFault::NotToml
+        | PolicyFault::OtherVersion
+        | PolicyFault::BadKey
+        | PolicyFault::BadName
+        | PolicyFault::NameTwice
+        | PolicyFault::UnknownPrincipal
+        | PolicyFault::UnknownResource
+        | PolicyFault::UnknownPrivilege
+        | PolicyFault::TooMany => REFUSED,
+        PolicyFault::Memory => BROKEN,
+    }
+}
+
+fn adopt_status(fault: AdoptFault) -> u8
+    ensures { result ≡ adopt_status fault }
+{
+    match fault {
+        AdoptFault::Full => REFUSED,
+        AdoptFault::Unavailable => BROKEN,
+    }
+}
+
+fn adoption_status(fault: AdoptionFault) -> u8
+    ensures { result ≡ adoption_status fault }
+{
+    match fault {
+        AdoptionFault::Policy(fault) => policy_status(fault),
+        AdoptionFault::Adopt(fault) => adopt_status(fault),
     }
 }
 
@@ -78,6 +123,9 @@ impl fmt::Display for Failure {
             Failure::Output => f.write_str("output: write"),
             Failure::Explain(fault) => write!(f, "{fault}"),
             Failure::Card(fault) => write!(f, "{fault}"),
+            Failure::Listen => f.write_str("listen: failed"),
+            Failure::Adoption(fault) => write!(f, "{fault}"),
+            Failure::Stream(failure) => write!(f, "{failure}"),
         }
     }
 }

@@ -1,5 +1,6 @@
-use crate::commands::{Command, WordsFault, command_of, words_not_text};
 use crate::dispatch::run;
+use crate::text_commands::TextCommand;
+use book_words::{Command, WordsFault, command_of, words_not_text};
 use std::alloc::{AllocError, Global};
 use std::io::{self, Read, Write};
 use std::process::Abort;
@@ -18,7 +19,12 @@ impl Told {
     }
 }
 
-fn run_over<R: Read + Drop>(rt: &impl Abort, alloc: Global, command: &Command, reader: R) -> Told {
+fn run_over<R: Read + Drop>(
+    rt: &impl Abort,
+    alloc: Global,
+    command: &TextCommand,
+    reader: R,
+) -> Told {
     let mut output = Vec::new(alloc);
     let mut errors = Vec::new(alloc);
     let status = run(alloc, command, reader, &mut output, &mut errors);
@@ -34,31 +40,31 @@ const FOLDED: &str = "BEGIN:VCARD\nVERSION:4.0\nFN:An\n n Bell\nEND:VCARD";
 /// One answer and one fault of each kind of text; `book_lists` and `book_cards` have the others.
 #[test]
 fn tells_answers_and_faults(rt: HostRuntime) {
-    let cases: [(Command, &str, u8, &str, &str); 8] = [
+    let cases: [(TextCommand, &str, u8, &str, &str); 8] = [
         (
-            Command::Explain,
+            TextCommand::Explain,
             "caller /people/ann\nneed read write-content\ngrant all read\ndeny all all\ngrant all write\n",
             0,
             "denied write-content by 2\ngranted: read\n",
             "",
         ),
         (
-            Command::Explain,
+            TextCommand::Explain,
             "# \n\nneed  read\n",
             1,
             "",
             "line 3: bad-line\n",
         ),
-        (Command::Explain, "", 1, "", "line 0: missing\n"),
+        (TextCommand::Explain, "", 1, "", "line 0: missing\n"),
         (
-            Command::Card,
+            TextCommand::Card,
             FOLDED,
             0,
             "valid\nkind: individual\nuid: -\nfn: Ann Bell\n",
             "",
         ),
         (
-            Command::Card,
+            TextCommand::Card,
             "BEGIN:VCARD\r\nVERSION:4.0\r\nKIND:group\r\nFN:G\r\nUID:urn:uuid:g\r\nMEMBER:urn:uuid:p\r\n\
              MEMBER:urn:uuid:q\r\nEND:VCARD\r\n",
             0,
@@ -67,20 +73,20 @@ fn tells_answers_and_faults(rt: HostRuntime) {
         ),
         // values as written, of any case and with their escapes; of two FN the first
         (
-            Command::Card,
+            TextCommand::Card,
             "begin:vcard\nversion:4.0\nx.fn;language=en:Bell\\, Ann: \nFN:Ann\nKind:ORG\nUid:\nend:vcard\n",
             0,
             "valid\nkind: ORG\nuid: \nfn: Bell\\, Ann: \n",
             "",
         ),
         (
-            Command::Card,
+            TextCommand::Card,
             "BEGIN:VCARD\nVERSION:4.0\nFN:A\nMEMBER:urn:uuid:1\nEND:VCARD\n",
             1,
             "",
             "line 4: member-without-group\n",
         ),
-        (Command::Card, "", 1, "", "line 1: no-begin\n"),
+        (TextCommand::Card, "", 1, "", "line 1: no-begin\n"),
     ];
     for (command, input, status, output, errors) in cases {
         let told = run_over(&rt, rt.alloc(), &command, input.as_bytes());
@@ -105,7 +111,7 @@ fn tells_that_a_card_is_too_long(rt: HostRuntime) {
         (65_537, "line 0: too-long\n"),
     ] {
         let text = letters(&rt, rt.alloc(), count);
-        let told = run_over(&rt, rt.alloc(), &Command::Card, text.as_bytes());
+        let told = run_over(&rt, rt.alloc(), &TextCommand::Card, text.as_bytes());
         assert!(rt; told.is(1, "", errors), "{told:?}");
     }
 }
@@ -148,9 +154,9 @@ impl Write for Full {
 #[test]
 fn tells_a_failed_read_or_write(rt: HostRuntime) {
     let alloc = rt.alloc();
-    let cases: [(Command, &str); 2] = [
-        (Command::Explain, "caller -\nneed read\n"),
-        (Command::Card, FOLDED),
+    let cases: [(TextCommand, &str); 2] = [
+        (TextCommand::Explain, "caller -\nneed read\n"),
+        (TextCommand::Card, FOLDED),
     ];
     for (command, input) in cases {
         let input = input.as_bytes();
@@ -180,7 +186,7 @@ fn refuses_what_is_not_utf8(rt: HostRuntime) {
         b"\xef\xbb\xbf\xed\xa0\x80",
     ];
     for bytes in cases {
-        for command in [Command::Explain, Command::Card] {
+        for command in [TextCommand::Explain, TextCommand::Card] {
             let told = run_over(&rt, rt.alloc(), &command, bytes);
             assert!(rt;
                 told.is(1, "", "input: not-utf-8\n"),
@@ -196,6 +202,60 @@ fn words(rt: &impl Abort, alloc: Global, line: &str) -> Vec<String> {
         .map(|word| String::from_str(alloc, word))
         .try_collect(alloc);
     words.expect(rt, "memory")
+}
+
+/// The text of the help that the words ask for.
+fn help_of(rt: &impl Abort, alloc: Global, words: &[String]) -> String {
+    match command_of(alloc, words).ok().expect(rt, "a command") {
+        Command::Help(text) => text,
+        Command::Explain | Command::Card | Command::Pipe { .. } | Command::Serve { .. } => {
+            String::new(alloc)
+        }
+    }
+}
+
+/// The name of a policy's file.
+fn file(rt: &impl Abort, alloc: Global) -> Option<String> {
+    Some(String::from_str(alloc, "office.toml").expect(rt, "memory"))
+}
+
+/// Words that name a command to serve, and the command.
+#[test]
+fn reads_words_that_serve(rt: HostRuntime) {
+    let alloc = rt.alloc();
+    let cases = [
+        ("pipe", Command::Pipe { policy: None }),
+        (
+            "pipe --policy office.toml",
+            Command::Pipe {
+                policy: file(&rt, alloc),
+            },
+        ),
+        (
+            "serve --port 0 --connections=1",
+            Command::Serve {
+                port: 0,
+                connections: 1,
+                policy: None,
+            },
+        ),
+        (
+            "serve --policy=office.toml --connections 10000 --port 65535",
+            Command::Serve {
+                port: 65_535,
+                connections: 10_000,
+                policy: file(&rt, alloc),
+            },
+        ),
+    ];
+    for (line, command) in cases {
+        let words = words(&rt, alloc, line);
+        assert_eq!(rt;
+            command_of(alloc, words.as_slice()).ok(),
+            Some(command),
+            "{line}"
+        );
+    }
 }
 
 #[test]
@@ -220,12 +280,16 @@ fn reads_words(rt: HostRuntime) {
         ("--help", "card     Reads a card"),
         ("card --help", "Usage: book_desk card\n"),
         ("help card", "member-without-group"),
+        ("--help", "pipe     Serves the requests"),
+        ("pipe --help", "Usage: book_desk pipe [OPTIONS]\n"),
+        ("help serve", "--connections <N>"),
+        ("serve --help", "listening on 127.0.0.1:PORT"),
+        ("--version", "book_desk 0.1.0\n"),
     ];
     for (line, part) in cases {
         let words = words(&rt, alloc, line);
-        let command = command_of(alloc, words.as_slice()).ok().expect(&rt, "help");
-        assert!(rt; matches!(&command, Command::Help(_)), "{line}");
-        let told = run_over(&rt, alloc, &command, b"".as_slice());
+        let text = help_of(&rt, alloc, words.as_slice());
+        let told = run_over(&rt, alloc, &TextCommand::Help(text), b"".as_slice());
         assert!(rt;
             told.status == 0 && told.errors.is_empty(),
             "{line}: {told:?}"
@@ -246,6 +310,38 @@ fn refuses_words(rt: HostRuntime) {
         ("--store", "error: unexpected argument '--store' found"),
         ("explain this", "error: unexpected argument 'this' found"),
         ("card a.vcf", "error: unexpected argument 'a.vcf' found"),
+        (
+            "pipe requests",
+            "error: unexpected argument 'requests' found",
+        ),
+        (
+            "serve --port 8080",
+            "error: the following required arguments were not provided",
+        ),
+        (
+            "serve --connections 1",
+            "error: the following required arguments were not provided",
+        ),
+        (
+            "serve --port 65536 --connections 1",
+            "error: invalid value '65536' for '--port <N>'",
+        ),
+        (
+            "serve --port 0 --connections 0",
+            "error: invalid value '0' for '--connections <N>'",
+        ),
+        (
+            "serve --port 0 --connections 10001",
+            "error: invalid value '10001' for '--connections <N>'",
+        ),
+        (
+            "serve --port x --connections 1",
+            "error: invalid value 'x' for '--port <N>'",
+        ),
+        (
+            "pipe --policy a --policy b",
+            "error: the argument '--policy <FILE>' cannot be used multiple times",
+        ),
     ];
     for (line, wrong) in cases {
         let words = words(&rt, alloc, line);
@@ -254,8 +350,10 @@ fn refuses_words(rt: HostRuntime) {
             .expect(&rt, "no command");
         assert!(rt; matches!(&fault, WordsFault::Usage(_)), "{line}");
         let told = format!(in alloc; "{fault}").expect(&rt, "memory");
+        // a value that is refused is told with no usage
         assert!(rt;
-            told.starts_with(wrong) && told.contains("Usage: book_desk"),
+            told.starts_with(wrong)
+                && (told.contains("Usage: book_desk") || wrong.contains("invalid value")),
             "{line}: {told}"
         );
     }

@@ -1,6 +1,6 @@
 use Rattle.std.proofs.Common.{string_bytes}
 use Rattle.std.proofs.lemmas.Str.{IsUtf8-string_bytes}
-use Rattle.book_desk.specs.declared.commands.Command.TheVariants as commands
+use Rattle.book_desk.specs.declared.text_commands.TextCommand.TheVariants as commands
 use Rattle.book_desk.specs.declared.failures.Failure.TheVariants as failures
 use Rattle.book_desk.proofs.Answering.{does_ok, fails_to_print, refuses}
 use Rattle.book_desk.proofs.card_summaries.summarize_input.Goals as goal

@@ -1,7 +1,7 @@
 -- What is told where the words are no command, and the status that ends the program (own profile).
 use Rattle.std.specs.Prelude.{ℕ, List, codes, string_bytes}
-use Rattle.book_desk.specs.declared.commands.WordsFault.{WordsFault}
-use Rattle.book_desk.specs.declared.commands.WordsFault.TheVariants.{Usage, Memory}
+use Rattle.book_words.specs.declared.commands.WordsFault.{WordsFault}
+use Rattle.book_words.specs.declared.commands.WordsFault.TheVariants.{Usage, Memory}
 
 abbrev pub words_text : WordsFault → List ℕ
 words_text (Usage text) = string_bytes text

@@ -1,0 +1,92 @@
+-- The command line (own profile): the words that it has, and the command that clap's matches of them give.
+use Rattle.std.specs.Prelude.{◌≡◌, ◌⊎◌, ℕ, ◌≤◌, pos, true, List, codes, Option, Some, None, option_map, string_bytes}
+use Rattle.std.specs.Str.Parse.{IsNumeral, digits_value, without_leading_plus}
+use Rattle.clap.specs.Words.{App, Row, Rule, Text, first_of, new_app, new_rule, one_of, with_rule, with_subcommand}
+use Rattle.clap.specs.Kinds.{Kinds, IsAmong}
+use Rattle.clap.specs.Simple.{on_top}
+use Rattle.clap.specs.declared.builder.value_parser.ValueParser.TheVariants as parsers
+use Rattle.clap.specs.declared.error.kind.ErrorKind.TheVariants as kind
+use Rattle.book_words.specs.declared.commands.Command.{Command}
+use Rattle.book_words.specs.declared.commands.Command.TheVariants.{Explain, Card, Pipe, Serve, Help}
+
+-- ---- the words that it has
+
+-- an option --NAME with one value
+abbrev pub option_rule : Text → Rule
+option_rule name = record (new_rule name) { long = Some name; value_names = 1 }
+
+-- one that is required, with a number from least to most
+abbrev pub number_rule : Text → ℕ → ℕ → Rule
+number_rule name least most = record (option_rule name) { required = true; parser = Some (parsers.Signed (pos least) (pos most)) }
+
+abbrev pub pipe_app : App
+pipe_app = with_rule (new_app (codes "pipe")) (option_rule (codes "policy"))
+
+abbrev pub serve_app : App
+serve_app =
+    with_rule (with_rule (with_rule (new_app (codes "serve"))
+    (number_rule (codes "port") 0 65535)) (number_rule (codes "connections") 1 10000))
+    (option_rule (codes "policy"))
+
+-- the program, whose words have no name of a program before them
+abbrev pub top_app : App
+top_app = on_top (λ s. record s { no_binary_name = true; subcommand_required = true; has_version = true }) (new_app (codes "book_desk"))
+
+-- the whole command line
+abbrev pub program_app : App
+program_app =
+    with_subcommand (with_subcommand (with_subcommand (with_subcommand top_app
+    (new_app (codes "explain")).top) (new_app (codes "card")).top) pipe_app.top) serve_app.top
+
+-- ---- the command that the matches give
+
+-- an option has this number, in decimal digits
+abbrev pub HasNumber : List Row → Text → ℕ → Type 0
+HasNumber rows id n =
+    (text : Text) × (one_of id rows ≡ Some text) × IsNumeral 10 (without_leading_plus text) × (digits_value 10 (without_leading_plus text) ≡ n)
+
+abbrev pub ReadsPipe : List Row → Command → Type 0
+ReadsPipe rows (Pipe policy) = option_map string_bytes policy ≡ first_of (codes "policy") rows
+ReadsPipe rows Explain = ⊥
+ReadsPipe rows Card = ⊥
+ReadsPipe rows (Serve port connections policy) = ⊥
+ReadsPipe rows (Help text) = ⊥
+
+abbrev pub ReadsServe : List Row → Command → Type 0
+ReadsServe rows (Serve port connections policy) =
+    HasNumber rows (codes "port") port × (port ≤ 65535)
+    × HasNumber rows (codes "connections") connections × (1 ≤ connections) × (connections ≤ 10000)
+    × (option_map string_bytes policy ≡ first_of (codes "policy") rows)
+ReadsServe rows Explain = ⊥
+ReadsServe rows Card = ⊥
+ReadsServe rows (Pipe policy) = ⊥
+ReadsServe rows (Help text) = ⊥
+
+-- help or the version was asked for
+abbrev pub IsHelp : Command → Type 0
+IsHelp (Help text) = Unit {0}
+IsHelp Explain = ⊥
+IsHelp Card = ⊥
+IsHelp (Pipe policy) = ⊥
+IsHelp (Serve port connections policy) = ⊥
+
+-- the command that a subcommand with these matches is
+abbrev pub ReadsAs : Text → List Row → Command → Type 0
+ReadsAs name rows Explain = name ≡ codes "explain"
+ReadsAs name rows Card = name ≡ codes "card"
+ReadsAs name rows (Pipe policy) = (name ≡ codes "pipe") × ReadsPipe rows (Pipe policy)
+ReadsAs name rows (Serve port connections policy) = (name ≡ codes "serve") × ReadsServe rows (Serve port connections policy)
+ReadsAs name rows (Help text) = ⊥
+
+-- the command that the matches of the words give
+abbrev pub IsMatched : Option (Text × List Row) → Command → Type 0
+IsMatched (Some found) command = ReadsAs found.0 found.1 command
+IsMatched None command = ⊥
+
+-- the words ask for help or the version: of the kinds of error that they may have, one is that
+abbrev pub AskForHelp : Kinds → Type 0
+AskForHelp kinds = IsAmong kind.DisplayHelp kinds ⊎ IsAmong kind.DisplayVersion kinds
+
+-- the command is the one that the matches give, or help, where the words ask for it
+abbrev pub Reads : Option (Text × List Row) → Kinds → Command → Type 0
+Reads found kinds command = IsMatched found command ⊎ (IsHelp command × AskForHelp kinds)

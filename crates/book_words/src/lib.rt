@@ -1,0 +1,13 @@
+//! The words of the command line: what `clap` reads of them, and the command that this is.
+//!
+//! It stands on `clap`. The program uses `command_of`: where it answers a command, it is the one that clap's matches of
+//! the words give, with the port and the number of connections in range, or help, where the words ask for it.
+//!
+//! Read `commands` first, then `programs`, which tells clap of the command line, and `helps`, its texts.
+#![tactic(auto)]
+
+mod commands;
+mod helps;
+mod programs;
+
+pub use commands::{Command, WordsFault, command_of, words_not_text};
