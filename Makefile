@@ -4,12 +4,13 @@
 #   make demo    builds it, and runs it on texts and cards of examples/, and as a server
 #   make streams builds it, and compares its replies to the streams of examples/ byte for byte
 #   make test    the gate: every proof from nothing, the edits that must fail, the tests, the programs, the streams
+#   make wrong   tries the wrong bodies that are too dear for each run of the gate: each must be refused
 #   make bench   proves and runs the benchmarks, which print figures
 #   make clean   removes what the others made
 #
 # They need rt, the command of the Rattle toolchain: on PATH, or in the kit whose folder RATTLE_KIT names.
 
-.PHONY: build demo streams test bench clean
+.PHONY: build demo streams test wrong bench clean
 
 build:
 	@tools/build
@@ -22,6 +23,9 @@ streams: build
 
 test:
 	@tools/gate
+
+wrong:
+	@tools/wrong-bodies
 
 bench:
 	@rt=$$(tools/find-rt) && \

@@ -410,8 +410,9 @@ fn books_under(alloc: Global, policy: &Policy, office: &Office) -> Result<NameMa
     Ok(books)
 }
 
-/// What an Office becomes when it takes over a policy, without cards and changes.
-fn office_under(alloc: Global, policy: &Policy, office: &Office) -> Result<Office, AllocError>
+/// What an Office becomes when it takes over a policy, without cards and changes, and with its epoch as it was. An error is
+/// want of memory.
+pub fn office_under(alloc: Global, policy: &Policy, office: &Office) -> Result<Office, AllocError>
     ensures { IfOk result (λ new. new ≡ bare (taken_over policy.now office.now)) }
 {
     let Homes {

@@ -61,6 +61,20 @@ fn same_text(text: &Text, other: &Text) -> bool
     text == other
 }
 
+/// Whether two places have the same owner and label.
+pub fn same_place(properties: &Properties, other: &Properties) -> bool
+    ensures { IsTrue result ↔ ((properties.now.owner ≡ other.now.owner) × (properties.now.label ≡ other.now.label)) }
+{
+    same_owner(&properties.owner, &other.owner) && same_text(&properties.label, &other.label)
+}
+
+/// Whether two places have the same lists.
+pub fn same_lists(properties: &Properties, other: &Properties) -> bool
+    ensures { IsTrue result ↔ ((properties.now.protected ≡ other.now.protected) × (properties.now.own ≡ other.now.own)) }
+{
+    same_list(&properties.protected, &other.protected) && same_list(&properties.own, &other.own)
+}
+
 /// Whether two places are equal.
 fn same_properties(properties: &Properties, other: &Properties) -> bool
     ensures { IsTrue result ↔ (properties.now ≡ other.now) }

@@ -1,7 +1,7 @@
-//! The time of a workload, and its figure.
+//! The time of work, and its figure.
 
-use crate::workloads::Work;
 use anyhow::{Result, ensure};
+use std::alloc::Global;
 use std::fmt;
 use std::time::{CpuClock, Duration};
 
@@ -9,6 +9,13 @@ use std::time::{CpuClock, Duration};
 pub trait Bench: CpuClock + AllocGlobal + Print {}
 
 impl<R: CpuClock + AllocGlobal + Print> Bench for R {}
+
+/// Work that is measured.
+pub trait Work {
+    /// Does the work of this turn, and says whether its answer is right. An even turn and the next leave a work that costs
+    /// the same.
+    fn once(&mut self, alloc: Global, turn: u32) -> bool;
+}
 
 const LEAST_MILLIS: u64 = 100;
 
@@ -28,17 +35,17 @@ impl fmt::Display for Shown {
     }
 }
 
-fn time_of_turns(rt: &impl Bench, work: &impl Work, turns: u32) -> Result<Duration> {
+fn time_of_turns(rt: &impl Bench, work: &mut impl Work, turns: u32) -> Result<Duration> {
     let start = rt.process_cpu_time()?;
     for turn in 0..turns {
-        ensure!(work.once(rt.alloc(), turn)?, "a wrong answer");
+        ensure!(work.once(rt.alloc(), turn), "a wrong answer");
     }
     Ok(rt.process_cpu_time()?.saturating_sub(start))
 }
 
 /// The time of one turn.
-fn time_of(rt: &impl Bench, work: &impl Work) -> Result<Duration> {
-    let mut turns = 1;
+fn time_in(rt: &impl Bench, work: &mut impl Work) -> Result<Duration> {
+    let mut turns = 2;
     let mut time = time_of_turns(rt, work, turns)?;
     for _ in 0..24 {
         if time >= Duration::from_millis(LEAST_MILLIS) {
@@ -50,46 +57,22 @@ fn time_of(rt: &impl Bench, work: &impl Work) -> Result<Duration> {
     Ok(time.checked_div(turns).unwrap_or(time))
 }
 
-/// Prints the time of the work at this size, beside that of the work at half of it.
+/// The time of one turn, the mean of those that take a tenth of a second together.
+pub fn time_of(rt: &impl Bench, mut work: impl Work + Drop) -> Result<Duration> {
+    time_in(rt, &mut work)
+}
+
+/// Prints the time at one size, beside that at a smaller one.
 pub fn print_figure(
     rt: &impl Bench,
-    name: &str,
-    size: usize,
-    whole: &impl Work,
-    half: &impl Work,
+    words: &str,
+    large: (usize, Duration),
+    small: (usize, Duration),
 ) -> Result<()> {
-    let half_time = time_of(rt, half)?;
-    let whole_time = time_of(rt, whole)?;
-    print_times(rt, name, size, whole_time, size / 2, half_time)
-}
-
-/// Prints the time at one size, beside that at another.
-pub fn print_times(
-    rt: &impl Bench,
-    name: &str,
-    size: usize,
-    time: Duration,
-    other_size: usize,
-    other_time: Duration,
-) -> Result<()> {
-    let ratio = time.div_duration_f64(other_time);
-    let (shown, shown_other) = (Shown(time), Shown(other_time));
-    println!(rt; "{name} {size}: {shown} ({other_size}: {shown_other}, ratio {ratio:.1})")?;
-    Ok(())
-}
-
-/// Prints the time of one step at the beginning and at the end of so many.
-pub fn print_growth(
-    rt: &impl Bench,
-    name: &str,
-    steps: usize,
-    first: Duration,
-    last: Duration,
-) -> Result<()> {
-    let ratio = last.div_duration_f64(first);
-    let (shown_first, shown_last) = (Shown(first), Shown(last));
-    println!(rt;
-        "{name}, {steps} times: {shown_first} among the first thousand, {shown_last} among the last (ratio {ratio:.1})"
-    )?;
+    let (size, time) = large;
+    let (small_size, small_time) = small;
+    let ratio = time.div_duration_f64(small_time);
+    let (shown, shown_small) = (Shown(time), Shown(small_time));
+    println!(rt; "{words} {size}: {shown} ({small_size}: {shown_small}, ratio {ratio:.1})")?;
     Ok(())
 }

@@ -9,18 +9,19 @@ use Rattle.book_serving.specs.Serving.{RefusesPolicy}
 use Rattle.book_serving.specs.declared.failures.AdoptionFault.{AdoptionFault}
 use Rattle.book_serving.specs.declared.failures.AdoptionFault.TheVariants.{Policy}
 use Rattle.book_wire.proofs.Servings.{stays}
-use Rattle.book_desk.specs.Runs.{GivesNoText}
+use Rattle.book_texts.specs.Runs.{GivesNoText}
+use Rattle.book_texts.specs.declared.failures.InputFault.{InputFault}
 use Rattle.book_desk.specs.Serving.{GivesNoPolicy, RefusesText}
 use Rattle.book_desk.specs.declared.failures.Failure.{Failure}
-use Rattle.book_desk.specs.declared.failures.Failure.TheVariants.{Adoption}
+use Rattle.book_desk.specs.declared.failures.Failure.TheVariants.{Input, Adoption}
 
 within : {P : List ℕ → Type 0} {Q : List ℕ → Type 0} (known : Option (List ℕ)) → ((input : List ℕ) → P input → Q input) → IfSome known P → IfSome known Q
 within None f p = tt
 within (Some input) f p = f input p
 
-pub no_text : (old : Standing) (known : Option (List ℕ)) (failure : Failure)
-    → IfSome known (λ input. GivesNoText input failure) → RefusesText old known failure old
-no_text old known failure none = inl (within {Q = λ input. GivesNoPolicy input failure} known (λ input g. inl g) none, stays old)
+pub no_text : (old : Standing) (known : Option (List ℕ)) (fault : InputFault)
+    → IfSome known (λ input. GivesNoText input fault) → RefusesText old known (Input fault) old
+no_text old known fault none = inl (within {Q = λ input. GivesNoPolicy input (Input fault)} known (λ input g. inl (fault, refl, g)) none, stays old)
 
 is_too_long : (text : List ℕ) → MAX_POLICY_BYTES < length text → IsFaultOf text TooMany
 is_too_long text many = record { long = λ _. refl; least = λ few. absurd (omega (arith, many, few)) }

@@ -1,5 +1,2 @@
 pub mod Failures
 pub mod Serving
-pub mod CardSummaries
-pub mod Runs
-pub mod ShortTexts

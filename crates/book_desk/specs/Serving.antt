@@ -20,9 +20,10 @@ use Rattle.book_wire.specs.declared.stream.Ended.{Ended}
 use Rattle.book_wire.specs.declared.stream.Ended.TheVariants.{Clean, Cut, Closed}
 use Rattle.book_wire.specs.declared.stream.Served.{Served}
 use Rattle.book_wire.specs.declared.stream.StreamFault.{StreamFault}
-use Rattle.book_desk.specs.Runs.{GivesNoText}
+use Rattle.book_texts.specs.Runs.{GivesNoText}
+use Rattle.book_texts.specs.declared.failures.InputFault.{InputFault}
 use Rattle.book_desk.specs.declared.failures.Failure.{Failure}
-use Rattle.book_desk.specs.declared.failures.Failure.TheVariants.{Adoption}
+use Rattle.book_desk.specs.declared.failures.Failure.TheVariants.{Input, Adoption}
 
 -- ---- the policy that is adopted first
 
@@ -34,7 +35,8 @@ AdoptsText old input new =
 -- the input is no text, or one that is too long
 abbrev pub GivesNoPolicy : List ℕ → Failure → Type 0
 GivesNoPolicy input failure =
-    GivesNoText input failure ⊎ ((failure ≡ Adoption (Policy TooMany)) × IsUtf8 input × IsFaultOf input TooMany)
+    ((fault : InputFault) × (failure ≡ Input fault) × GivesNoText input fault)
+    ⊎ ((failure ≡ Adoption (Policy TooMany)) × IsUtf8 input × IsFaultOf input TooMany)
 
 -- the input has the failure, and nothing was done; or it is a text that was refused
 abbrev pub RefusesText : Standing → Option (List ℕ) → Failure → Standing → Type 0

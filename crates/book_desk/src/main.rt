@@ -1,26 +1,19 @@
 //! The program `book_desk` of the shared contact books. Its words are read by `book_words`. What `explain`, `card` and
-//! help do is done by `run`, and what `pipe` and `serve` do by `serving`, over any reader and writers, whose contracts
-//! say what is written where they tell their bytes. Nothing stands above it: `main` joins them to the process.
+//! help do is done by `run` of `book_texts`, and what `pipe` and `serve` do by `serving`, over any reader and writers,
+//! whose contracts say what is written where they tell their bytes. Nothing stands above it: `main` joins them to the
+//! process.
 #![tactic(auto)]
 
 ghost use Rattle.std.specs.Prelude.{◌≡◌};
 ghost use Rattle.book_words.specs.WordsFaults.{words_status};
 
-mod card_summaries;
-mod dispatch;
-mod explaining;
 mod failures;
 mod serving;
-mod short_texts;
-mod streams;
-#[cfg(test)]
-mod tests;
-mod text_commands;
 
 use book_machine::Machine;
 use book_office::{Keeper, MemoryKeeper};
+use book_texts::{TextCommand, run};
 use book_words::{Command, WordsFault, command_of, words_not_text};
-use dispatch::run;
 use failures::Failure;
 use serving::{adopt_file, pipe, serve, tell};
 use std::env;
@@ -29,7 +22,6 @@ use std::io::{self, Read, Write};
 use std::net::{Net, TcpListener};
 use std::process::ExitCode;
 use std::rt::Env;
-use text_commands::TextCommand;
 
 /// The words after the program's name.
 fn words_of(rt: &(impl Env + AllocGlobal)) -> Result<Vec<String>, WordsFault> {

@@ -7,13 +7,13 @@ ghost use Rattle.book_desk.specs.Serving.{AdoptsFile, AdoptsText, Pipes, Refuses
 ghost use Rattle.book_wire.specs.Serving.{Answered, Runs};
 ghost use Rattle.book_wire.specs.Stream.{IsInput};
 
-use crate::failures::{BROKEN, DONE, Failure, REFUSED};
-use crate::short_texts::read_short_text;
+use crate::failures::Failure;
 use book_limits::MAX_POLICY_BYTES;
 use book_machine::Machine;
 use book_office::Keeper;
 use book_policy::PolicyFault;
 use book_serving::{AdoptionFault, StreamFailure, adopt_text, serve_connections};
+use book_texts::{BROKEN, DONE, InputFault, REFUSED, read_short_text};
 use book_wire::{Ended, serve_stream};
 use std::alloc::Global;
 use std::fs::{File, Files};
@@ -33,8 +33,8 @@ pub fn tell<E: Write>(errors: &mut E, failure: &Failure) -> u8
 ///
 /// # Errors
 ///
-/// `Input` where it can't be read, `NotUtf8` where it is not UTF-8, and `Adoption` where it is no policy or was not
-/// adopted. The Office is as it was.
+/// `Input` where it can't be read or is not UTF-8, and `Adoption` where it is no policy or was not adopted. The Office
+/// is as it was.
 pub fn adopt_input<K: Keeper, R: Read + Drop>(
     alloc: Global,
     machine: &mut Machine<K>,
@@ -72,11 +72,11 @@ pub fn adopt_file<K: Keeper>(
         return Ok(());
     };
     let Ok(file) = File::open(rt, name.as_str()) else {
-        return Err(Failure::Input);
+        return Err(Failure::Input(InputFault::Read));
     };
     match BufReader::new(rt.alloc(), file) {
         Ok(reader) => adopt_input(rt.alloc(), machine, reader),
-        Err(_) => Err(Failure::Input),
+        Err(_) => Err(Failure::Input(InputFault::Read)),
     }
 }
 

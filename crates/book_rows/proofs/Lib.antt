@@ -29,3 +29,5 @@ pub mod ListSettings
 pub mod ChildEntries
 pub mod WrittenLists
 pub mod ListsShown
+pub mod PolicyWrites
+pub mod WrittenBoth

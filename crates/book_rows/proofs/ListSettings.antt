@@ -1,5 +1,6 @@
 -- A list is written anew, row by row.
-use Rattle.std.proofs.Common.{◌≡◌, inl, inr, ℕ, ◌+◌, ℤ, pos, false, ◌&&◌, List, [], ◌∷◌, find, Option, Some, None, option_map, string_bytes, Ok, refl, sym, ap, subst, ◌∙◌, IsTrue, String, if◌then◌else◌, ◌<◌, ◌≤◌, length, map, drop, get_or}
+use Rattle.std.specs.Prelude.{⊤}
+use Rattle.std.proofs.Common.{◌≡◌, inl, inr, ℕ, ◌+◌, ℤ, pos, Bool, false, ◌&&◌, List, [], ◌∷◌, find, Option, Some, None, option_map, string_bytes, Ok, refl, sym, ap, subst, ◌∙◌, IsTrue, String, if◌then◌else◌, ◌<◌, ◌≤◌, length, drop, get_or}
 use Rattle.std.proofs.lemmas.List.{drop_more, drop_all}
 use Rattle.sqlite.specs.declared.types.Value.{Value}
 use Rattle.sqlite.specs.declared.types.Value.TheVariants.{Int, Text}
@@ -30,7 +31,7 @@ use Rattle.book_rows.specs.Rows.{Rows, rows_of, has, IsBook}
 use Rattle.book_rows.specs.Writes as writes
 use Rattle.book_rows.specs.Writes.{Said, or_null, flag, is_at, is_entry, IsMeta, HasMeta}
 use Rattle.book_rows.specs.Nodes.{Told, Finds, ShowsEpoch, told, said, setting_list, setting_members}
-use Rattle.book_rows.specs.Steps.{Becomes, BecomesIf, Looks, Makes}
+use Rattle.book_rows.specs.Steps.{Becomes, BecomesIf, Leads, Looks, Makes}
 use Rattle.book_rows.proofs.Becoming.{entries_changed, members_changed, and_true, works_entries}
 use Rattle.book_rows.proofs.CardPuts.{told_row}
 use Rattle.book_rows.proofs.Deleting.{deleted, picks_simple}
@@ -79,74 +80,94 @@ or_string None = refl
 or_string (Some s) = refl
 
 -- the values are bound as the row has them
-pub becomes_owned : (old new : State) (node : ℤ) (place : ℕ) (e : EntryRow) (count : ℕ)
-    → ExecutesInside 0 text.insert_entry (Int node ∷ Int (pos 0) ∷ Int (pos place) ∷ Int (pos e.form) ∷ values.bound_value (values.or_null (λ s. Text (string_bytes s)) e.principal) ∷ Int (if e.invert then pos 1 else pos 0) ∷ Int (if e.deny then pos 1 else pos 0) ∷ Int (pos e.mask) ∷ []) old new (Ok count)
-    → Becomes old new (writes.insert_own (Int node) place (said e))
-becomes_owned old new node place e count runs =
-    becomes_listed old new node false place e.form (option_map string_bytes e.principal) e.invert e.deny e.mask count
+pub becomes_entered : (old new : State) (node : ℤ) (protected : Bool) (place : ℕ) (e : EntryRow) (count : ℕ)
+    → ExecutesInside 0 text.insert_entry (Int node ∷ Int (if protected then pos 1 else pos 0) ∷ Int (pos place) ∷ Int (pos e.form) ∷ values.bound_value (values.or_null (λ s. Text (string_bytes s)) e.principal) ∷ Int (if e.invert then pos 1 else pos 0) ∷ Int (if e.deny then pos 1 else pos 0) ∷ Int (pos e.mask) ∷ []) old new (Ok count)
+    → Becomes old new (writes.insert_listed (Int node) protected place (said e))
+becomes_entered old new node protected place e count runs =
+    becomes_listed old new node protected place e.form (option_map string_bytes e.principal) e.invert e.deny e.mask count
     (subst (λ (row : Row). ExecutesInside 0 text.insert_entry row old new (Ok count))
-    (λ j. Int node ∷ Int (pos 0) ∷ Int (pos place) ∷ Int (pos e.form) ∷ or_string e.principal j ∷ flag_is e.invert j ∷ flag_is e.deny j ∷ Int (pos e.mask) ∷ []) runs)
+    (λ j. Int node ∷ flag_is protected j ∷ Int (pos place) ∷ Int (pos e.form) ∷ or_string e.principal j ∷ flag_is e.invert j ∷ flag_is e.deny j ∷ Int (pos e.mask) ∷ []) runs)
 
 -- ---- one row after another
 
--- the rows are on the way: with what is still to be written they are those wanted
-pub record Awaits (old now : State) (rest all : Rows → Rows) : Type 0 where
-  pub inside : IsTrue now.in_transaction
-  pub was_open : IsTrue old.is_open
-  pub is_open : IsTrue now.is_open
-  pub rows : IsBook old.now → IsBook now.now × (rest (rows_of now.now.trees) ≡ all (rows_of old.now.trees))
+pub leads : (old new : State) (write : Rows → Rows) → Becomes old new write → Leads old new (λ _. ⊤) write
+leads old new write h = record { inside = h.inside; still_open = λ was. h.is_open; such = λ book. tt; rows = h.rows }
 
-pub begins : (old now : State) (first rest : Rows → Rows) → Becomes old now first → Awaits old now rest (λ rows. rest (first rows))
-begins old now first rest h = record { inside = h.inside; was_open = h.was_open; is_open = h.is_open; rows = λ book. let x = h.rows book in (x.0, ap rest x.1) }
-
-pub goes_on : (old now next : State) (write rest all : Rows → Rows) → Awaits old now (λ rows. rest (write rows)) all → Becomes now next write → Awaits old next rest all
-goes_on old now next write rest all h step = record {
-  inside = step.inside;
-  was_open = h.was_open;
-  is_open = step.is_open;
-  rows = λ book. let x = h.rows book in let y = step.rows x.0 in (y.0, ap rest y.1 ∙ x.1);
+pub leads_then : (a b c : State) (F G : Rows → Type 0) (f g : Rows → Rows) → Leads a b F f → Leads b c G g → Leads a c (λ rows. F rows × G (f rows)) (λ rows. g (f rows))
+leads_then a b c F G f g first second = record {
+  inside = second.inside;
+  still_open = λ was. second.still_open (first.still_open was);
+  such = λ book. let x = first.rows book in (first.such book, subst G x.1 (second.such x.0));
+  rows = λ book. let x = first.rows book in let y = second.rows x.0 in (y.0, y.1 ∙ ap g x.1);
 }
 
-pub ends : (old now : State) (all : Rows → Rows) → Awaits old now (λ rows. rows) all → Becomes old now all
-ends old now all h = record { inside = h.inside; was_open = h.was_open; is_open = h.is_open; rows = h.rows }
+-- what is to be written: the rows that it needs, and what it makes of them
+pub record Plan : Type 1 where
+  pub Such : Rows → Type 0
+  pub write : Rows → Rows
 
--- one more element of a list that is written from its head on
-pub goes_on_listed : (old now next : State) (node : Value) (list : List EntryRow) (place : ℕ) (item : EntryRow) (all : Rows → Rows) → place < length list → get_or list place item ≡ item
-    → Awaits old now (writes.insert_entries node place (map said (drop place list))) all → Becomes now next (writes.insert_own node place (said item))
-    → Awaits old next (writes.insert_entries node (place + 1) (map said (drop (place + 1) list))) all
-goes_on_listed old now next node list place item all within is h step =
-    goes_on old now next (writes.insert_own node place (said item)) (writes.insert_entries node (place + 1) (map said (drop (place + 1) list))) all
-    (subst (λ (xs : List EntryRow). Awaits old now (writes.insert_entries node place (map said xs)) all) (drop_more list place item within ∙ ap (λ x. x ∷ drop (place + 1) list) is) h) step
+-- one that needs nothing of the rows
+abbrev pub plain : (Rows → Rows) → Plan
+plain write = record { Such = λ _. ⊤; write = write }
 
-pub ends_listed : (old now : State) (node : Value) (list : List EntryRow) (place : ℕ) (all : Rows → Rows) → length list ≤ place → Awaits old now (writes.insert_entries node place (map said (drop place list))) all → Becomes old now all
-ends_listed old now node list place all over h =
-    ends old now all (subst (λ (xs : List EntryRow). Awaits old now (writes.insert_entries node place (map said xs)) all) (drop_all place list over) h)
+-- the rows are on the way: with what is still to be written they are those wanted
+pub record Awaits (old now : State) (rest all : Plan) : Type 0 where
+  pub inside : IsTrue now.in_transaction
+  pub still_open : IsTrue old.is_open → IsTrue now.is_open
+  pub such : IsBook old.now → rest.Such (rows_of now.now.trees) → all.Such (rows_of old.now.trees)
+  pub rows : IsBook old.now → IsBook now.now × (rest.write (rows_of now.now.trees) ≡ all.write (rows_of old.now.trees))
 
-pub goes_on_joined : {A : Type 0} (old now next : State) (group : List ℕ) (members : List (String A)) (place : ℕ) (item : String A) (all : Rows → Rows) → place < length members → get_or members place item ≡ item
-    → Awaits old now (writes.insert_members group (map string_bytes (drop place members))) all → Becomes now next (writes.insert_member group (string_bytes item))
-    → Awaits old next (writes.insert_members group (map string_bytes (drop (place + 1) members))) all
-goes_on_joined {A} old now next group members place item all within is h step =
-    goes_on old now next (writes.insert_member group (string_bytes item)) (writes.insert_members group (map string_bytes (drop (place + 1) members))) all
-    (subst (λ (xs : List (String A)). Awaits old now (writes.insert_members group (map string_bytes xs)) all) (drop_more members place item within ∙ ap (λ x. x ∷ drop (place + 1) members) is) h) step
+-- what is still to be written of a list that is written from its head on
+module _ {A : Type 0} (old : State) (list : List A) (rest : ℕ → List A → Plan) (all : Plan) where
+  -- one more item: what it needs and writes, and then the others, is what was still to be written
+  pub goes_on : (now next : State) (Such : Rows → Type 0) (write : Rows → Rows) (place : ℕ) (item : A)
+      → ((more : List A) (rows : Rows) → Such rows → (rest (place + 1) more).Such (write rows) → (rest place (item ∷ more)).Such rows)
+      → ((more : List A) (rows : Rows) → (rest place (item ∷ more)).write rows ≡ (rest (place + 1) more).write (write rows))
+      → place < length list → get_or list place item ≡ item
+      → Awaits old now (rest place (drop place list)) all → Leads now next Such write → Awaits old next (rest (place + 1) (drop (place + 1) list)) all
+  goes_on now next Such write place item needs writes within is h step =
+      let more = drop (place + 1) list in
+      let is_more : drop place list ≡ item ∷ more = drop_more list place item within ∙ ap (λ x. x ∷ more) is in
+      let g : Awaits old now (rest place (item ∷ more)) all = subst (λ xs. Awaits old now (rest place xs) all) is_more h in
+      record {
+        inside = step.inside;
+        still_open = λ was. step.still_open (g.still_open was);
+        such = λ book later. let x = g.rows book in
+            g.such book (needs more (rows_of now.now.trees) (step.such x.0) (subst (rest (place + 1) more).Such (step.rows x.0).1 later));
+        rows = λ book. let x = g.rows book in let y = step.rows x.0 in
+            (y.0, ap (rest (place + 1) more).write y.1 ∙ sym (writes more (rows_of now.now.trees)) ∙ x.1);
+      }
 
-pub ends_joined : {A : Type 0} (old now : State) (group : List ℕ) (members : List (String A)) (place : ℕ) (all : Rows → Rows) → length members ≤ place
-    → Awaits old now (writes.insert_members group (map string_bytes (drop place members))) all → Becomes old now all
-ends_joined {A} old now group members place all over h =
-    ends old now all (subst (λ (xs : List (String A)). Awaits old now (writes.insert_members group (map string_bytes xs)) all) (drop_all place members over) h)
+  -- nothing is left
+  pub ends : (now : State) (place : ℕ) → ((rows : Rows) → (rest place []).Such rows) → ((rows : Rows) → (rest place []).write rows ≡ rows) → length list ≤ place
+      → Awaits old now (rest place (drop place list)) all → Leads old now all.Such all.write
+  ends now place needs writes over h =
+      let g : Awaits old now (rest place []) all = subst (λ xs. Awaits old now (rest place xs) all) (drop_all place list over) h in
+      record {
+        inside = g.inside;
+        still_open = g.still_open;
+        such = λ book. g.such book (needs (rows_of now.now.trees));
+        rows = λ book. let x = g.rows book in (x.0, sym (writes (rows_of now.now.trees)) ∙ x.1);
+      }
 
 pub commit_stays : (a b c : State) → KeepsCommit a b → KeepsCommit b c → KeepsCommit a c
 commit_stays a b c first second = record { was_open = λ o. first.was_open (second.was_open o); committed = λ o. second.committed o ∙ first.committed (second.was_open o) }
+
+-- ---- no entry and no member is a row of meta
+
+pub meta_of_list : (id : Value) (protected : Bool) (place : ℕ) (list : List Said) (rows : Rows) → (writes.insert_list id protected place list rows).meta ≡ rows.meta
+meta_of_list id protected place [] rows = refl
+meta_of_list id protected place (e ∷ more) rows = meta_of_list id protected (place + 1) more (writes.insert_listed id protected place e rows)
+
+pub meta_of_members : (group : List ℕ) (members : List (List ℕ)) (rows : Rows) → (writes.insert_members group members rows).meta ≡ rows.meta
+meta_of_members group [] rows = refl
+meta_of_members group (m ∷ more) rows = meta_of_members group more (writes.insert_member group m rows)
 
 -- ---- the list of a node, and the epoch
 
 module _ (old mid before between new : State) (path : List ℕ) (list : List Said) (f : Found) (found : Option Found) (epoch : ℕ) (first : Looks old mid) (second : Looks mid before) (is_there : found ≡ Some f)
     (node_found : Finds old path (option_map told found)) (epoch_found : ShowsEpoch mid epoch)
     (written : Becomes before between (writes.write_list (Int f.id) list)) (raised : BecomesIf between new HasMeta (writes.set_epoch (epoch + 1))) where
-  -- an own list is no row of meta
-  same_meta : (id : Value) (place : ℕ) (list : List Said) (rows : Rows) → (writes.insert_entries id place list rows).meta ≡ rows.meta
-  same_meta id place [] rows = refl
-  same_meta id place (e ∷ more) rows = same_meta id (place + 1) more (writes.insert_own id place e rows)
-
   pub sets_list : Makes old new (setting_list path list)
   sets_list = record {
     inside = raised.inside;
@@ -163,7 +184,7 @@ module _ (old mid before between new : State) (path : List ℕ) (list : List Sai
         let x = written.rows (subst IsBook (sym before_is) book) in
         let between_is : rows_of between.now.trees ≡ writes.write_list id list rows =
         x.1 ∙ ap (λ (d : Database). writes.write_list (Int f.id) list (rows_of d.trees)) before_is ∙ ap (λ k. writes.write_list k list rows) id_is in
-        let meta_is : (rows_of between.now.trees).meta ≡ rows.meta = ap (λ (r : Rows). r.meta) between_is ∙ same_meta id 0 list (writes.delete_own id rows) in
+        let meta_is : (rows_of between.now.trees).meta ≡ rows.meta = ap (λ (r : Rows). r.meta) between_is ∙ meta_of_list id false 0 list (writes.delete_own id rows) in
         let y = raised.rows x.0 (fits.meta.0, subst (λ m. IsMeta m fits.meta.0) (sym meta_is) fits.meta.1) in (
           y.0,
           record {
@@ -180,10 +201,6 @@ module _ (old mid before between new : State) (path : List ℕ) (list : List Sai
 
 module _ (old before between new : State) (group : List ℕ) (members : List (List ℕ)) (epoch : ℕ) (first : Looks old before) (epoch_found : ShowsEpoch old epoch)
     (written : Becomes before between (writes.write_members group members)) (raised : BecomesIf between new HasMeta (writes.set_epoch (epoch + 1))) where
-  meta_stays : (members : List (List ℕ)) (rows : Rows) → (writes.insert_members group members rows).meta ≡ rows.meta
-  meta_stays [] rows = refl
-  meta_stays (m ∷ more) rows = meta_stays more (writes.insert_member group m rows)
-
   pub sets_members : Makes old new (setting_members group members)
   sets_members = record {
     inside = raised.inside;
@@ -195,7 +212,7 @@ module _ (old before between new : State) (group : List ℕ) (members : List (Li
         let epoch_is : epoch ≡ fits.meta.0 = epoch_found.1 book fits.meta.0 fits.meta.1 in
         let x = written.rows (subst IsBook (sym before_is) book) in
         let between_is : rows_of between.now.trees ≡ writes.write_members group members rows = x.1 ∙ ap (λ (d : Database). writes.write_members group members (rows_of d.trees)) before_is in
-        let meta_is : (rows_of between.now.trees).meta ≡ rows.meta = ap (λ (r : Rows). r.meta) between_is ∙ meta_stays members (writes.delete_members group rows) in
+        let meta_is : (rows_of between.now.trees).meta ≡ rows.meta = ap (λ (r : Rows). r.meta) between_is ∙ meta_of_members group members (writes.delete_members group rows) in
         let y = raised.rows x.0 (fits.meta.0, subst (λ m. IsMeta m fits.meta.0) (sym meta_is) fits.meta.1) in (
           y.0,
           record {

@@ -430,6 +430,20 @@ pub set_label_plain : IsPlain (understood book_schema text.set_label)
 unfolding understood everything
 set_label_plain = (refl, refl)
 
+abbrev pub set_place_query : Query
+set_place_query = record plain_query {
+  filter = equals 2 0 ∷ [];
+  project = col 1 0 ∷ col 1 0 ∷ lit Null ∷ col 1 2 ∷ col 1 3 ∷ col 1 4 ∷ col 0 1 ∷ col 0 2 ∷ col 1 7 ∷ col 1 8 ∷ [];
+}
+
+pub set_place_is : command_of (understood book_schema text.set_place) ≡ Update 0 (record { lets = []; body = set_place_query })
+unfolding understood everything
+set_place_is = refl
+
+pub set_place_plain : IsPlain (understood book_schema text.set_place)
+unfolding understood everything
+set_place_plain = (refl, refl)
+
 abbrev pub set_copy_query : Query
 set_copy_query = record plain_query {
   filter = equals 2 0 ∷ [];

@@ -61,6 +61,7 @@ pub record TypedNode (r : Row) : Type 0 where
   pub owner : is_of kinds.Text (column r 5) ≡ true
   pub label : is_of kinds.Text (column r 6) ≡ true
   pub text : is_of kinds.Text (column r 7) ≡ true
+  pub number : is_of kinds.Integer (column r 8) ≡ true
 
 pub typed_node : (db : Trees) (r : Row) → IsSound book_schema db → Has (db 0) r → TypedNode r
 typed_node db r sound there =
@@ -73,4 +74,5 @@ typed_node db r sound there =
       owner = ap (is_of kinds.Text) (sym (past_first r 4)) ∙ at 4 _ refl refl refl;
       label = ap (is_of kinds.Text) (sym (past_first r 5)) ∙ at 5 _ refl refl refl;
       text = ap (is_of kinds.Text) (sym (past_first r 6)) ∙ at 6 _ refl refl refl;
+      number = ap (is_of kinds.Integer) (sym (past_first r 7)) ∙ at 7 _ refl refl refl;
     }

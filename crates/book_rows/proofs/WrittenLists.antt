@@ -1,4 +1,4 @@
--- An own list that was written is read as it was given, and no other list changes.
+-- A list that was written is read as it was given, and no other list changes.
 use Rattle.std.proofs.Common.{◌≡◌, ℕ, ◌+◌, ℤ, pos, Bool, true, false, not, cond, List, [], ◌∷◌, ◌++◌, map, filter, refl, sym, ap, ◌∙◌, Less, arith}
 use Rattle.std.proofs.lemmas.Int.{ints}
 use Rattle.std.proofs.lemmas.Cmp.{tied_itself}
@@ -14,33 +14,41 @@ use Rattle.sqlite_keyed.proofs.KeyedLemmas.{Less-from_lt}
 use Rattle.sqlite_value.proofs.OrderLemmas.{value_cmp_total, value_cmp-Int}
 use Rattle.book_rows.specs.Lists.{entry_columns, said_columns, WrittenListsAreRead, OtherListsStay}
 use Rattle.book_rows.specs.Rows.{Rows}
-use Rattle.book_rows.specs.Writes.{Said, entry_row, insert_own, insert_entries, delete_own, write_list, is_entry, by_place}
+use Rattle.book_rows.specs.Writes.{Said, flag, entry_row, insert_listed, insert_list, delete_own, write_list, is_entry, by_place}
 use Rattle.book_rows.proofs.Entries.{equal_tied}
+
+pub itself : (n : ℤ) → equal Binary (Int n) (Int n) ≡ true
+itself n = equal_tied (Int n) (Int n) refl refl (tied_itself value_cmp_total (Int n))
+
+flag_itself : (b : Bool) → equal Binary (flag b) (flag b) ≡ true
+flag_itself true = itself (pos 1)
+flag_itself false = itself (pos 0)
 
 -- ---- the rows that are added
 
-module _ (id : ℤ) where
-  abbrev row_at : ℕ → Said → Rows → Row
-  row_at place e rows = entry_row (next_rowid rows.entries) (Int id) false place e.form e.principal e.invert e.deny e.mask
+module _ (id : ℤ) (protected : Bool) where
+  abbrev pub row_at : ℕ → Said → Rows → Row
+  row_at place e rows = entry_row (next_rowid rows.entries) (Int id) protected place e.form e.principal e.invert e.deny e.mask
 
-  abbrev added : ℕ → List Said → Rows → List Row
+  abbrev pub added : ℕ → List Said → Rows → List Row
   added place [] rows = []
-  added place (e ∷ more) rows = row_at place e rows ∷ added (place + 1) more (insert_own (Int id) place e rows)
+  added place (e ∷ more) rows = row_at place e rows ∷ added (place + 1) more (insert_listed (Int id) protected place e rows)
 
-  are_added : (place : ℕ) (list : List Said) (rows : Rows) → (insert_entries (Int id) place list rows).entries ≡ rows.entries ++ added place list rows
+  pub are_added : (place : ℕ) (list : List Said) (rows : Rows) → (insert_list (Int id) protected place list rows).entries ≡ rows.entries ++ added place list rows
   are_added place [] rows = sym (append-nil rows.entries)
   are_added place (e ∷ more) rows =
-      are_added (place + 1) more (insert_own (Int id) place e rows) ∙ append_assoc rows.entries (row_at place e rows ∷ []) (added (place + 1) more (insert_own (Int id) place e rows))
+      are_added (place + 1) more (insert_listed (Int id) protected place e rows) ∙ append_assoc rows.entries (row_at place e rows ∷ []) (added (place + 1) more (insert_listed (Int id) protected place e rows))
 
-  itself : (n : ℤ) → equal Binary (Int n) (Int n) ≡ true
-  itself n = equal_tied (Int n) (Int n) refl refl (tied_itself value_cmp_total (Int n))
+  is_its : (place : ℕ) (e : Said) (rows : Rows) → is_entry (Int id) protected (row_at place e rows) ≡ true
+  is_its place e rows = rw (itself id, flag_itself protected) refl
 
-  is_own : (place : ℕ) (e : Said) (rows : Rows) → is_entry (Int id) false (row_at place e rows) ≡ true
-  is_own place e rows = rw (itself id, itself (pos 0)) refl
+  pub all_its : (place : ℕ) (list : List Said) (rows : Rows) → filter (is_entry (Int id) protected) (added place list rows) ≡ added place list rows
+  all_its place [] rows = refl
+  all_its place (e ∷ more) rows = rw (is_its place e rows) (ap (λ rest. row_at place e rows ∷ rest) (all_its (place + 1) more (insert_listed (Int id) protected place e rows)))
 
-  all_own : (place : ℕ) (list : List Said) (rows : Rows) → filter (is_entry (Int id) false) (added place list rows) ≡ added place list rows
-  all_own place [] rows = refl
-  all_own place (e ∷ more) rows = rw (is_own place e rows) (ap (λ rest. row_at place e rows ∷ rest) (all_own (place + 1) more (insert_own (Int id) place e rows)))
+  pub none_of : (q : Row → Bool) → ((place : ℕ) (e : Said) (rows : Rows) → q (row_at place e rows) ≡ false) → (place : ℕ) (list : List Said) (rows : Rows) → filter q (added place list rows) ≡ []
+  none_of q apart place [] rows = refl
+  none_of q apart place (e ∷ more) rows = rw (apart place e rows) (none_of q apart (place + 1) more (insert_listed (Int id) protected place e rows))
 
   -- ---- they rise by their places
 
@@ -54,24 +62,28 @@ module _ (id : ℤ) where
   are_sorted : (place : ℕ) (list : List Said) (rows : Rows) → sort_by by_place (added place list rows) ≡ added place list rows
   are_sorted place [] rows = refl
   are_sorted place (e ∷ more) rows =
-      let later = insert_own (Int id) place e rows in
+      let later = insert_listed (Int id) protected place e rows in
       ap (insert_sorted by_place (row_at place e rows)) (are_sorted (place + 1) more later) ∙ put_first place e rows more later
 
   are_shown : (place : ℕ) (list : List Said) (rows : Rows) → map entry_columns (added place list rows) ≡ map said_columns list
   are_shown place [] rows = refl
-  are_shown place (e ∷ more) rows = ap (λ rest. said_columns e ∷ rest) (are_shown (place + 1) more (insert_own (Int id) place e rows))
+  are_shown place (e ∷ more) rows = ap (λ rest. said_columns e ∷ rest) (are_shown (place + 1) more (insert_listed (Int id) protected place e rows))
+
+  -- rows of which these alone are picked show the list
+  pub shows_list : (list : List Said) (rows : Rows) (picked : List Row) → picked ≡ added 0 list rows → map entry_columns (sort_by by_place picked) ≡ map said_columns list
+  shows_list list rows picked is = ap (λ xs. map entry_columns (sort_by by_place xs)) is ∙ ap (map entry_columns) (are_sorted 0 list rows) ∙ are_shown 0 list rows
 
 -- ---- those that were there
 
-none_left : (p : Row → Bool) (rows : List Row) → filter p (delete_where p rows) ≡ []
-none_left p [] = refl
-none_left p (r ∷ rows) = go (p r) refl (none_left p rows)
+pub none_left : (p q : Row → Bool) → ((r : Row) → p r ≡ false → q r ≡ false) → (rows : List Row) → filter q (delete_where p rows) ≡ []
+none_left p q within [] = refl
+none_left p q within (r ∷ rows) = go (p r) refl (none_left p q within rows)
   where
-    go : (b : Bool) → p r ≡ b → filter p (delete_where p rows) ≡ [] → filter p (cond (not b) (r ∷ delete_where p rows) (delete_where p rows)) ≡ []
+    go : (b : Bool) → p r ≡ b → filter q (delete_where p rows) ≡ [] → filter q (cond (not b) (r ∷ delete_where p rows) (delete_where p rows)) ≡ []
     go true e more = more
-    go false e more = rw e more
+    go false e more = rw (within r e) more
 
-all_left : (p q : Row → Bool) → ((r : Row) → p r ≡ true → q r ≡ false) → (rows : List Row) → filter q (delete_where p rows) ≡ filter q rows
+pub all_left : (p q : Row → Bool) → ((r : Row) → p r ≡ true → q r ≡ false) → (rows : List Row) → filter q (delete_where p rows) ≡ filter q rows
 all_left p q apart [] = refl
 all_left p q apart (r ∷ rows) = go (p r) refl (all_left p q apart rows)
   where
@@ -79,19 +91,15 @@ all_left p q apart (r ∷ rows) = go (p r) refl (all_left p q apart rows)
     go true e more = rw (apart r e) more
     go false e more = ap (λ rest. cond (q r) (r ∷ rest) rest) more
 
-none_of : (id : ℤ) (q : Row → Bool) → ((r : Row) → is_entry (Int id) false r ≡ true → q r ≡ false) → (place : ℕ) (list : List Said) (rows : Rows) → filter q (added id place list rows) ≡ []
-none_of id q apart place [] rows = refl
-none_of id q apart place (e ∷ more) rows = rw (apart (row_at id place e rows) (is_own id place e rows)) (none_of id q apart (place + 1) more (insert_own (Int id) place e rows))
-
 -- ---- the laws
 
 pub written_are_read : WrittenListsAreRead
 written_are_read rows id list =
     let p = is_entry (Int id) false in
     let left = delete_own (Int id) rows in
-    let picked : filter p (write_list (Int id) list rows).entries ≡ added id 0 list left =
-    ap (filter p) (are_added id 0 list left) ∙ filter-append p left.entries (added id 0 list left) ∙ ap (λ xs. xs ++ filter p (added id 0 list left)) (none_left p rows.entries) ∙ all_own id 0 list left in
-    ap (λ xs. map entry_columns (sort_by by_place xs)) picked ∙ ap (map entry_columns) (are_sorted id 0 list left) ∙ are_shown id 0 list left
+    let picked : filter p (write_list (Int id) list rows).entries ≡ added id false 0 list left =
+    ap (filter p) (are_added id false 0 list left) ∙ filter-append p left.entries (added id false 0 list left) ∙ ap (λ xs. xs ++ filter p (added id false 0 list left)) (none_left p p (λ r e. e) rows.entries) ∙ all_its id false 0 list left in
+    shows_list id false list left (filter p (write_list (Int id) list rows).entries) picked
 
 pub others_stay : OtherListsStay
 others_stay rows id list other protected apart =
@@ -99,5 +107,6 @@ others_stay rows id list other protected apart =
     let q = is_entry other protected in
     let left = delete_own (Int id) rows in
     let picked : filter q (write_list (Int id) list rows).entries ≡ filter q rows.entries =
-    ap (filter q) (are_added id 0 list left) ∙ filter-append q left.entries (added id 0 list left) ∙ ap (λ xs. filter q left.entries ++ xs) (none_of id q apart 0 list left) ∙ append-nil (filter q left.entries) ∙ all_left p q apart rows.entries in
+    ap (filter q) (are_added id false 0 list left) ∙ filter-append q left.entries (added id false 0 list left)
+    ∙ ap (λ xs. filter q left.entries ++ xs) (none_of id false q (λ place e rows. apart (row_at id false place e rows) (is_its id false place e rows)) 0 list left) ∙ append-nil (filter q left.entries) ∙ all_left p q apart rows.entries in
     ap (sort_by by_place) picked

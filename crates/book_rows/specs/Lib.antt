@@ -6,3 +6,4 @@ pub mod Steps
 pub mod Nodes
 pub mod Lists
 pub mod Levels
+pub mod Adopting

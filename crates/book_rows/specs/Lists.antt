@@ -14,7 +14,7 @@ use Rattle.sqlite.specs.State.{State}
 use Rattle.sqlite.specs.Tree.{rowid}
 use Rattle.book_rows.specs.Rows.{Rows, rows_of, has, IsBook}
 use Rattle.book_rows.specs.Nodes.{number_in}
-use Rattle.book_rows.specs.Writes.{Said, is_at, is_under, is_below, is_entry, entries_of, or_null, flag, write_list}
+use Rattle.book_rows.specs.Writes.{Said, is_at, is_under, is_below, is_entry, entries_of, or_null, flag, write_list, write_both}
 
 -- form, principal, invert, deny and mask of an entry
 abbrev pub entry_columns : Row → Row
@@ -84,7 +84,7 @@ first_number rows = unwrap_or (option_map (λ row. number_in (column row 0)) (sl
 abbrev pub ShowsCount : State → List ℕ → ℕ → Type 0
 ShowsCount s path count = IsTrue s.is_open × (IsBook s.now → count ≡ count_at path (rows_of s.now.trees))
 
--- ---- laws of own lists
+-- ---- laws of lists that are written
 
 -- what the row of a written entry shows
 abbrev pub said_columns : Said → Row
@@ -98,3 +98,14 @@ WrittenListsAreRead = (rows : Rows) (id : ℤ) (list : List Said) → map entry_
 abbrev pub OtherListsStay : Type 0
 OtherListsStay = (rows : Rows) (id : ℤ) (list : List Said) (other : Value) (protected : Bool) → ((row : Row) → is_entry (Int id) false row ≡ true → is_entry other protected row ≡ false)
     → entries_of (write_list (Int id) list rows).entries other protected ≡ entries_of rows.entries other protected
+
+-- both lists of a node that were written are read as they were given
+abbrev pub BothListsAreRead : Type 0
+BothListsAreRead = (rows : Rows) (id : ℤ) (protected own : List Said)
+    → (map entry_columns (entries_of (write_both (Int id) protected own rows).entries (Int id) true) ≡ map said_columns protected)
+    × (map entry_columns (entries_of (write_both (Int id) protected own rows).entries (Int id) false) ≡ map said_columns own)
+
+-- a list that has no entry of a node stays as the lists of that one are written
+abbrev pub ListsOfOthersStay : Type 0
+ListsOfOthersStay = (rows : Rows) (id : ℤ) (protected own : List Said) (other : Value) (list : Bool) → ((row : Row) → has 1 (Int id) row ≡ true → is_entry other list row ≡ false)
+    → entries_of (write_both (Int id) protected own rows).entries other list ≡ entries_of rows.entries other list

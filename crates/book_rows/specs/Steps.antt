@@ -39,6 +39,19 @@ Writes old new result write = HasCleanDisk new → IsTrue old.in_transaction →
 abbrev pub WritesIf : State → State → Result (Unit {0}) Error → (Rows → Type 0) → (Rows → Rows) → Type 0
 WritesIf old new result Fit write = HasCleanDisk new → IsTrue old.in_transaction → OnOk result (BecomesIf old new Fit write)
 
+-- inside a transaction: the rows were such, and become these, by as many statements as there are items, or by none
+pub record Leads (old new : State) (Such : Rows → Type 0) (write : Rows → Rows) : Type 0 where
+  pub inside : IsTrue new.in_transaction
+  pub still_open : IsTrue old.is_open → IsTrue new.is_open
+  pub such : IsBook old.now → Such (rows_of old.now.trees)
+  pub rows : IsBook old.now → IsBook new.now × (rows_of new.now.trees ≡ write (rows_of old.now.trees))
+
+abbrev pub AdvancesFrom : State → State → Result (Unit {0}) Error → (Rows → Type 0) → (Rows → Rows) → Type 0
+AdvancesFrom old new result Such write = HasCleanDisk new → IsTrue old.in_transaction → OnOk result (Leads old new Such write)
+
+abbrev pub Advances : State → State → Result (Unit {0}) Error → (Rows → Rows) → Type 0
+Advances old new result write = AdvancesFrom old new result (λ _. ⊤) write
+
 -- a read leaves the transaction, and the tables if they are there
 pub record Looks (old new : State) : Type 0 where
   pub mode : new.in_transaction ≡ old.in_transaction

@@ -97,6 +97,9 @@ delete_members = codes "DELETE FROM member WHERE grp = ?1"
 abbrev pub set_label : List ℕ
 set_label = codes "UPDATE node SET label = ?2, number = ?3 WHERE path = ?1"
 
+abbrev pub set_place : List ℕ
+set_place = codes "UPDATE node SET owner = ?2, label = ?3 WHERE path = ?1"
+
 abbrev pub set_copy : List ℕ
 set_copy = codes "UPDATE node SET label = ?2, text = ?3, number = ?4 WHERE path = ?1"
 

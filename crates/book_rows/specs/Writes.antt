@@ -133,6 +133,10 @@ abbrev pub with_copy : List ℕ → List ℕ → ℕ → Row → Row
 with_copy label text number row =
     column row 0 ∷ Null ∷ column row 2 ∷ column row 3 ∷ column row 4 ∷ column row 5 ∷ Text label ∷ Text text ∷ Int (pos number) ∷ []
 
+abbrev pub with_place : Option (List ℕ) → List ℕ → Row → Row
+with_place owner label row =
+    column row 0 ∷ Null ∷ column row 2 ∷ column row 3 ∷ column row 4 ∷ or_null owner ∷ Text label ∷ column row 7 ∷ column row 8 ∷ []
+
 -- the row of a node at another path, under another node
 abbrev pub moved_to : List ℕ → Value → ℕ → Row → Row
 moved_to path parent number row =
@@ -140,6 +144,9 @@ moved_to path parent number row =
 
 abbrev pub set_label : List ℕ → List ℕ → ℕ → Rows → Rows
 set_label path label number rows = record rows { nodes = update_where (is_at path) (with_label label number) rows.nodes }
+
+abbrev pub set_place : List ℕ → Option (List ℕ) → List ℕ → Rows → Rows
+set_place path owner label rows = record rows { nodes = update_where (is_at path) (with_place owner label) rows.nodes }
 
 abbrev pub set_copy : List ℕ → List ℕ → List ℕ → ℕ → Rows → Rows
 set_copy path label text number rows = record rows { nodes = update_where (is_at path) (with_copy label text number) rows.nodes }
@@ -214,18 +221,29 @@ pub record Said : Type 0 where
   pub deny : Bool
   pub mask : ℕ
 
--- an entry at a place of the own list of a node
-abbrev pub insert_own : Value → ℕ → Said → Rows → Rows
-insert_own node place entry rows = insert_entry node false place entry.form entry.principal entry.invert entry.deny entry.mask rows
+-- an entry at a place of a list of a node
+abbrev pub insert_listed : Value → Bool → ℕ → Said → Rows → Rows
+insert_listed node protected place entry rows = insert_entry node protected place entry.form entry.principal entry.invert entry.deny entry.mask rows
 
 -- entries at the places from one on
+abbrev pub insert_list : Value → Bool → ℕ → List Said → Rows → Rows
+insert_list node protected place [] rows = rows
+insert_list node protected place (entry ∷ more) rows = insert_list node protected (place + 1) more (insert_listed node protected place entry rows)
+
+-- the same of the own list
+abbrev pub insert_own : Value → ℕ → Said → Rows → Rows
+insert_own node place entry rows = insert_listed node false place entry rows
+
 abbrev pub insert_entries : Value → ℕ → List Said → Rows → Rows
-insert_entries node place [] rows = rows
-insert_entries node place (entry ∷ more) rows = insert_entries node (place + 1) more (insert_own node place entry rows)
+insert_entries node place list rows = insert_list node false place list rows
 
 -- the own list of the node whose row has a number is this one
 abbrev pub write_list : Value → List Said → Rows → Rows
 write_list node list rows = insert_entries node 0 list (delete_own node rows)
+
+-- the protected and the own list of the node whose row has a number are these
+abbrev pub write_both : Value → List Said → List Said → Rows → Rows
+write_both node protected own rows = insert_list node false 0 own (insert_list node true 0 protected (delete_entries node rows))
 
 -- ACL (RFC 3744, 8.1): the node has this own list, and the epoch is another
 abbrev pub set_list : Value → List Said → ℕ → Rows → Rows

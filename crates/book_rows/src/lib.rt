@@ -6,12 +6,13 @@
 //! open connection shows what it showed; and a stop may leave the tables as before or as after it, and no third.
 //!
 //! Read `specs/Schema` first, the tables with their columns and rules; `specs/Writes`, what each statement and each
-//! edit makes of the rows; `specs/Steps`, what a call does to a connection; and `specs/Nodes`, `specs/Lists` and
-//! `specs/Levels`, the changes that edits make and what reads tell. Of the code, `nodes`, `cards` and `epochs` have
-//! one statement a function; `putting`, `changing`, `removing`, `copying`, `moving`, `labels` and `setting` the edits;
-//! `lists`, `levels` and `counting` the reads of several rows.
+//! edit makes of the rows; `specs/Steps`, what a call does to a connection; and `specs/Nodes`, `specs/Adopting`,
+//! `specs/Lists` and `specs/Levels`, the changes that edits make and what reads tell. Of the code, `nodes`, `cards` and
+//! `epochs` have one statement a function; `putting`, `changing`, `removing`, `copying`, `moving`, `labels`, `setting`
+//! and `adopting` the edits; `lists`, `levels` and `counting` the reads of several rows.
 #![tactic(auto)]
 
+mod adopting;
 mod cards;
 mod changing;
 mod copying;
@@ -26,6 +27,7 @@ mod putting;
 mod removing;
 mod setting;
 
+pub use adopting::{GroupRow, ListsRow, PlaceRow, adopt, both_lists_are_read};
 pub use changing::{add_book, remove_card};
 pub use copying::copy_card;
 pub use counting::count_children;

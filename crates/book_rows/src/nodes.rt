@@ -129,6 +129,27 @@ pub fn insert_node<'x, S: Alter>(
     Ok(())
 }
 
+/// Gives the node at a path another owner and another label.
+pub(crate) fn set_place<'x, S: Alter>(
+    transaction: &mut Transaction<'_, S>,
+    path: &'x str,
+    owner: Option<&'x str>,
+    label: &'x str,
+) -> Result<(), Error>
+    ensures same_reference { transaction.new.conn.ghost_name ≡ transaction.old.conn.ghost_name }
+    ensures survives { Survives (state S.Store transaction.old.conn.now) (state S.Store transaction.new.conn.now)
+        (λ _. ⊥) }
+    ensures kept { Keeps (state S.Store transaction.old.conn.now) (state S.Store transaction.new.conn.now) }
+    ensures done { Writes (state S.Store transaction.old.conn.now) (state S.Store transaction.new.conn.now) result
+        (writes.set_place path.now (option_copied owner.entry) label.now) }
+{
+    transaction.execute(
+        "UPDATE node SET owner = ?2, label = ?3 WHERE path = ?1",
+        params![path, owner, label],
+    )?;
+    Ok(())
+}
+
 /// Takes out the entries of the node with a number.
 pub(crate) fn delete_entries<S: Alter>(
     transaction: &mut Transaction<'_, S>,

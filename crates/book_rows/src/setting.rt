@@ -7,7 +7,7 @@ ghost use Rattle.sqlite.specs.State.{HasCleanDisk, Survives};
 ghost use Rattle.book_rows.specs.Lists.{OtherListsStay, WrittenListsAreRead};
 ghost use Rattle.book_rows.specs.Nodes.{said, setting_list, setting_members};
 ghost use Rattle.book_rows.specs.Writes as writes;
-ghost use Rattle.book_rows.specs.Steps.{Commits, Keeps, MayLeave, Performs, Stays, Writes};
+ghost use Rattle.book_rows.specs.Steps.{Advances, Commits, Keeps, MayLeave, Performs, Stays, Writes};
 
 use crate::epochs::{read_epoch, set_epoch};
 use crate::nodes::{LAST_NUMBER, look_up};
@@ -45,10 +45,11 @@ fn delete_own<S: Alter>(transaction: &mut Transaction<'_, S>, node: i64) -> Resu
     Ok(())
 }
 
-/// Adds an entry at a place of the own list of the node with a number.
+/// Adds an entry at a place of one of the two lists of the node with a number.
 fn insert_entry<S: Alter>(
     transaction: &mut Transaction<'_, S>,
     node: i64,
+    protected: bool,
     place: usize,
     entry: &EntryRow,
 ) -> Result<(), Error>
@@ -58,13 +59,13 @@ fn insert_entry<S: Alter>(
         (λ _. ⊥) }
     ensures kept { Keeps (state S.Store transaction.old.conn.now) (state S.Store transaction.new.conn.now) }
     ensures done { Writes (state S.Store transaction.old.conn.now) (state S.Store transaction.new.conn.now) result
-        (writes.insert_own (Int node) place (said entry.now)) }
+        (writes.insert_listed (Int node) protected place (said entry.now)) }
 {
     transaction.execute(
         "INSERT INTO ace (node, protected, place, form, principal, invert, deny, mask) VALUES (?1, ?2, ?3, ?4, ?5, ?6, ?7, ?8)",
         params![
             node,
-            false,
+            protected,
             place as i64,
             entry.form,
             &entry.principal,
@@ -73,6 +74,26 @@ fn insert_entry<S: Alter>(
             entry.mask
         ],
     )?;
+    Ok(())
+}
+
+/// Adds entries to one of the two lists of the node with a number, in order of place.
+pub(crate) fn insert_list<S: Alter>(
+    transaction: &mut Transaction<'_, S>,
+    node: i64,
+    protected: bool,
+    list: &[EntryRow],
+) -> Result<(), Error>
+    ensures same_reference { transaction.new.conn.ghost_name ≡ transaction.old.conn.ghost_name }
+    ensures survives { Survives (state S.Store transaction.old.conn.now) (state S.Store transaction.new.conn.now)
+        (λ _. ⊥) }
+    ensures kept { Keeps (state S.Store transaction.old.conn.now) (state S.Store transaction.new.conn.now) }
+    ensures done { Advances (state S.Store transaction.old.conn.now) (state S.Store transaction.new.conn.now) result
+        (writes.insert_list (Int node) protected 0 (map said list.now)) }
+{
+    'list: for (place, entry) in list.iter().enumerate() {
+        insert_entry(transaction, node, protected, place, entry)?;
+    }
     Ok(())
 }
 
@@ -90,10 +111,7 @@ fn write_list<S: Alter>(
         (writes.write_list (Int node) (map said list.now)) }
 {
     delete_own(transaction, node)?;
-    'list: for (place, entry) in list.iter().enumerate() {
-        insert_entry(transaction, node, place, entry)?;
-    }
-    Ok(())
+    insert_list(transaction, node, false, list)
 }
 
 /// Finds the node, and writes its own list; the epoch rises.
@@ -184,8 +202,27 @@ fn insert_member<'x, S: Alter>(
     Ok(())
 }
 
+/// Adds direct members to the group at a path.
+fn insert_members<S: Alter>(
+    transaction: &mut Transaction<'_, S>,
+    group: &str,
+    members: &[String],
+) -> Result<(), Error>
+    ensures same_reference { transaction.new.conn.ghost_name ≡ transaction.old.conn.ghost_name }
+    ensures survives { Survives (state S.Store transaction.old.conn.now) (state S.Store transaction.new.conn.now)
+        (λ _. ⊥) }
+    ensures kept { Keeps (state S.Store transaction.old.conn.now) (state S.Store transaction.new.conn.now) }
+    ensures done { Advances (state S.Store transaction.old.conn.now) (state S.Store transaction.new.conn.now) result
+        (writes.insert_members group.now (map string_bytes members.now)) }
+{
+    'members: for member in members {
+        insert_member(transaction, group, member.as_str())?;
+    }
+    Ok(())
+}
+
 /// Writes the direct members of the group at a path anew.
-fn write_members<S: Alter>(
+pub(crate) fn write_members<S: Alter>(
     transaction: &mut Transaction<'_, S>,
     group: &str,
     members: &[String],
@@ -198,10 +235,7 @@ fn write_members<S: Alter>(
         (writes.write_members group.now (map string_bytes members.now)) }
 {
     delete_members(transaction, group)?;
-    'members: for member in members {
-        insert_member(transaction, group, member.as_str())?;
-    }
-    Ok(())
+    insert_members(transaction, group, members)
 }
 
 /// Writes the members; the epoch rises.

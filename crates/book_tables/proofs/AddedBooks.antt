@@ -38,7 +38,7 @@ use Rattle.book_tables.proofs.RowFacts.{apart, row_added, KeepsNumbers, KeepsRow
 use Rattle.book_tables.proofs.WrittenCards.{new_list, owner_told, below_apart}
 use Rattle.book_tables.proofs.CardEdits.{unmapped}
 
-none_found : (p : Row → Bool) (xs : List Row) → AllByRecursion (λ x. p x ≡ false) xs → find p xs ≡ None
+pub none_found : (p : Row → Bool) (xs : List Row) → AllByRecursion (λ x. p x ≡ false) xs → find p xs ≡ None
 none_found p [] h = refl
 none_found p (x ∷ xs) h = rw (h.0) (none_found p xs h.1)
 

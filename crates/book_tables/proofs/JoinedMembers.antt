@@ -36,7 +36,7 @@ use Rattle.book_tables.proofs.OneValue as value
 use Rattle.book_tables.proofs.RowFacts.{kept_node, kept_entry, kept_removed, and_false}
 
 -- the members of these rows are those pairs
-abbrev AreMembers : List Row → Memberships → Type 0
+abbrev pub AreMembers : List Row → Memberships → Type 0
 AreMembers members pairs = (m : Membership) → is_some (find (is_member m) members) ≡ set.contains pairs m
 
 and_true : (b : Bool) → (b && true) ≡ b
@@ -98,9 +98,16 @@ module _ (group : List ℕ) where
   with_members [] rows pairs are = are
   with_members (member ∷ more) rows pairs are = with_members more (writes.insert_member group member rows) (set.insert pairs (pair member)) (with_pair rows.members pairs member are)
 
-  members_alone : (added : List (List ℕ)) (rows : Rows) → writes.insert_members group added rows ≡ record rows { members = (writes.insert_members group added rows).members }
+  pub members_alone : (added : List (List ℕ)) (rows : Rows) → writes.insert_members group added rows ≡ record rows { members = (writes.insert_members group added rows).members }
   members_alone [] rows = refl
   members_alone (member ∷ more) rows = members_alone more (writes.insert_member group member rows)
+
+-- the pairs of the group become those of the members
+pub members_rewritten : (group : List ℕ) (members : List (List ℕ)) (rows : Rows) (pairs : Memberships) → AreMembers rows.members pairs
+    → AreMembers (writes.write_members group members rows).members (members_set pairs group members)
+members_rewritten group members rows pairs are =
+    subst (λ joined. AreMembers (writes.write_members group members rows).members joined) (members_joined group _ members)
+    (with_members group members (writes.delete_members group rows) _ (without group rows.members pairs are))
 
 -- ---- the rows
 
@@ -112,8 +119,7 @@ module _ (group : List ℕ) (members : List (List ℕ)) (rows : Rows) (o : Offic
   after_is = ap (writes.set_epoch (o.epoch + 1)) (members_alone group members (writes.delete_members group rows))
 
   joined : AreMembers after.members (members_set o.pairs group members)
-  joined = subst (λ pairs. AreMembers after.members pairs) (members_joined group _ members)
-      (with_members group members (writes.delete_members group rows) _ (without group rows.members o.pairs given.gives.members))
+  joined = members_rewritten group members rows o.pairs given.gives.members
 
   pub gives_joined : Gives after (apply o (SetMembers group members))
   gives_joined = record {

@@ -39,3 +39,14 @@ pub mod ToldRows
 pub mod ChangesTold
 pub mod ChildrenTold
 pub mod OneSpelling
+pub mod Turns
+pub mod WellRows
+pub mod PlacedRows
+pub mod RelistedRows
+pub mod RejoinedGroups
+pub mod Comparisons
+pub mod TakenPlaces
+pub mod AdoptedRows
+pub mod ReadActing
+pub mod AdoptedOffices
+pub mod FoundMembers

@@ -10,3 +10,4 @@ pub mod BareOffice
 pub mod Listing
 pub mod Children
 pub mod LastChanges
+pub mod Adopting

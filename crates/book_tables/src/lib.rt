@@ -10,14 +10,18 @@
 //! `Tables::create` makes the tables of a new store, which stand for the empty Office, and `release` gives the connection
 //! back. `are_entries` is a part of what opening a store is to test: that each entry is spelled in the one way.
 //!
-//! Not there yet: `Tables` is no `Keeper`, since it has every read of the trait, but of the edits all but adopting a
-//! policy; and no call opens the tables of a store that is there. No crate but examples uses it yet.
+//! `Tables` is a `Keeper`, over any store: `keeping` hands each call of the trait to the call of its name. To adopt a policy
+//! is to read the Office but for its cards, to compare it with what it becomes (`differences`), and to write the rows that
+//! differ. `Tables::over` takes a connection to tables that are there; no call here tests what it finds in a store.
 #![tactic(auto)]
 
+mod adopting;
 mod bare_office;
 mod changes;
+mod differences;
 mod entries;
 mod faults;
+mod keeping;
 mod laws;
 mod levels;
 mod listing_rows;

@@ -60,6 +60,17 @@ impl<S: Alter> Tables<S> {
         }
     }
 
+    /// The tables through a connection, whose rows stand for what they stand for: none has failed yet. Takes no memory.
+    pub fn over(connection: Connection<S>) -> Tables<S>
+        ensures connection { result.connection ≡ connection }
+        ensures counted { result.failures ≡ 0 }
+    {
+        Tables {
+            connection,
+            failures: 0,
+        }
+    }
+
     /// Gives the connection back, as it is. Takes no memory.
     pub fn release(self) -> Connection<S>
         ensures { result ≡ self.connection }

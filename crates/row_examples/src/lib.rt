@@ -16,4 +16,6 @@ mod kept;
 #[cfg(test)]
 mod lists;
 #[cfg(test)]
+mod policies;
+#[cfg(test)]
 mod stores;

@@ -2,6 +2,14 @@
 
 use crate::offices::{add_book, keeper, put, set_list};
 use book_audit::audit_text;
+use book_office::MemoryKeeper;
+use std::alloc::Global;
+use std::process::Abort;
+
+fn compare(rt: &impl Abort, alloc: Global, keeper: &mut MemoryKeeper, wanted: &str) {
+    let text = audit_text(alloc, keeper).expect(rt, "memory");
+    assert_eq!(rt; text.as_str(), wanted);
+}
 
 /// The Office of the policy alone.
 const OF_THE_POLICY: &str = "epoch 1\n\
@@ -17,14 +25,6 @@ const OF_THE_POLICY: &str = "epoch 1\n\
     /people/ann owner -\n\
     /people/bob owner -\n\
     /people/gus owner -\n";
-
-#[test]
-fn an_audit_tells_the_epoch_the_members_and_every_list(rt: HostRuntime) {
-    let alloc = rt.alloc();
-    let mut keeper = keeper(&rt, alloc);
-    let text = audit_text(alloc, &mut keeper).expect(&rt, "memory");
-    assert_eq!(rt; text.as_str(), OF_THE_POLICY);
-}
 
 /// The byte order of whole paths is not the order of the tree: a hyphen and a dot stand before a slash, so that books
 /// come between the book `a` and its card. Each form of a principal and each kind of list once; a set that is nearly
@@ -50,9 +50,10 @@ const IN_BYTE_ORDER: &str = "epoch 4\n\
     /people/gus owner -\n";
 
 #[test]
-fn resources_stand_in_byte_order_of_whole_paths(rt: HostRuntime) {
+fn an_audit_tells_every_list_in_byte_order_of_paths(rt: HostRuntime) {
     let alloc = rt.alloc();
     let mut keeper = keeper(&rt, alloc);
+    compare(&rt, alloc, &mut keeper, OF_THE_POLICY);
     for book in ["a0", "a", "a.b", "a-b"] {
         add_book(&rt, alloc, &mut keeper, book);
     }
@@ -86,6 +87,5 @@ fn resources_stand_in_byte_order_of_whole_paths(rt: HostRuntime) {
         "/books/a0",
         &["grant all write-content bind"],
     );
-    let text = audit_text(alloc, &mut keeper).expect(&rt, "memory");
-    assert_eq!(rt; text.as_str(), IN_BYTE_ORDER);
+    compare(&rt, alloc, &mut keeper, IN_BYTE_ORDER);
 }

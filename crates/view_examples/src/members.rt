@@ -106,43 +106,9 @@ fn compare(
     }
 }
 
-/// A member that is there, and one that is not. What is no group has no members; nor has what is not there.
-const ONE_GROUP: &[&str] = &["p.vcf urn:p", "g.vcf - urn:p urn:q"];
-
-const ASKED_OF_ONE: &[(&str, &str, &str)] = &[
-    ("/people/bob", "g.vcf", "urn:p p.vcf\nurn:q\nreached p.vcf"),
-    ("/people/ann", "g.vcf", "urn:p p.vcf\nurn:q\nreached p.vcf"),
-    ("/people/bob", "p.vcf", "reached"),
-    ("/people/bob", "x.vcf", "reached"),
-    ("/people/gus", "g.vcf", "reached"),
-];
-
-/// The same once bob may not read the member's card: nothing tells of it. Ann may.
-const ASKED_OF_HIDDEN: &[(&str, &str, &str)] = &[
-    ("/people/bob", "g.vcf", "urn:p\nurn:q\nreached"),
-    ("/people/ann", "g.vcf", "urn:p p.vcf\nurn:q\nreached p.vcf"),
-];
-
-#[test]
-fn members_are_cards_that_the_caller_may_read(rt: HostRuntime) {
-    let alloc = rt.alloc();
-    let mut keeper = keeper(&rt, alloc);
-    put_all(&rt, alloc, &mut keeper, ONE_GROUP);
-    compare(&rt, alloc, &mut keeper, ASKED_OF_ONE);
-    set_list(
-        &rt,
-        alloc,
-        &mut keeper,
-        "/books/sales/p.vcf",
-        &["deny /people/bob read"],
-    );
-    compare(&rt, alloc, &mut keeper, ASKED_OF_HIDDEN);
-    equal_views_have_equal_members();
-}
-
 /// Groups of groups, one of which leads back to the first. Two cards have one UID; they are told in byte order of their
 /// names, which is not the order in which they came. A line that stands twice is told twice. A text that is no card has
-/// no UID.
+/// no UID. What is no group has no members; nor has what is not there.
 const MANY_GROUPS: &[&str] = &[
     "z.vcf urn:p",
     "b.vcf urn:p",
@@ -171,6 +137,7 @@ const ASKED_OF_MANY: &[(&str, &str, &str)] = &[
         "urn:self self.vcf\nreached self.vcf",
     ),
     ("/people/bob", "a.vcf", "reached"),
+    ("/people/bob", "none.vcf", "reached"),
 ];
 
 /// Once bob may not read the second group, no step goes through it.
@@ -197,22 +164,5 @@ fn steps_go_from_group_to_group(rt: HostRuntime) {
         &["deny /people/bob read"],
     );
     compare(&rt, alloc, &mut keeper, ASKED_WITHOUT_TWO);
-}
-
-/// A book that is not there has no cards.
-#[test]
-fn a_missing_book_has_no_members(rt: HostRuntime) {
-    let alloc = rt.alloc();
-    let mut keeper = keeper(&rt, alloc);
-    let circle = circle(&rt, alloc, &mut keeper, "/people/ann");
-    let members = group_members(
-        alloc,
-        &mut keeper,
-        &circle,
-        &name(&rt, alloc, "none"),
-        &name(&rt, alloc, "g.vcf"),
-    );
-    let members = members.expect(&rt, "memory");
-    let told = members_text(&rt, alloc, &members);
-    assert_eq!(rt; told.as_str(), "reached");
+    equal_views_have_equal_members();
 }

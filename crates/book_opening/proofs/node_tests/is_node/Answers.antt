@@ -1,0 +1,12 @@
+use Rattle.std.proofs.Common.{◌≡◌, rules}
+use Rattle.sqlite.specs.declared.types.Value.TheVariants.{Text}
+use Rattle.sqlite.specs.Order.{column}
+use Rattle.book_values.specs.Paths.{IsPath, path_text}
+use Rattle.book_opening.specs.Opening.{StandsAt}
+use Rattle.book_opening.proofs.PathRows.{stands}
+use Rattle.book_opening.proofs.node_tests.is_node.Goals as goal
+
+pub returns-then-not-branch : goal.returns-then-not-branch
+returns-then-not-branch c =
+    let found : IsPath c.in-Some.path × (column c.args.row.now 1 ≡ Text (path_text c.in-Some.path)) = search rules in
+    (λ none. search (rules, none), λ n. let at : StandsAt c.args.directory.now c.in-Some.path c.args.row.now = stands c.args.directory.now c.args.row.now c.in-Some.path found.0 found.1 n in search (rules, at))

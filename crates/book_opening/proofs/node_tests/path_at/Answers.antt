@@ -1,0 +1,14 @@
+use Rattle.std.proofs.Common.{◌≡◌, ◌≢◌, Some, rules, subst}
+use Rattle.sqlite.specs.Order.{column}
+use Rattle.book_rows.specs.Nodes.{text_in}
+use Rattle.book_values.specs.Paths.{IsPath, SpellsPath, path_text}
+use Rattle.book_opening.proofs.PathRows.{slashed}
+use Rattle.book_opening.proofs.node_tests.path_at.Goals as goal
+
+pub returns-then-not-branch-clause-none : goal.returns-then-not-branch-clause-none
+returns-then-not-branch-clause-none c =
+    let has : text_in (column c.args.row.now 1) ≡ Some c.in-Some.bytes.now = search rules in
+    let found : IsPath c.in-Some-2.path × SpellsPath c.in-Ok.text.now c.in-Some-2.path = search rules in
+    let same : c.in-Ok.text.now ≡ c.in-Some.bytes.now = search rules in
+    let apart : c.in-Some.bytes.now ≢ path_text c.in-Some-2.path = λ is. search (rules, is) in
+    slashed (column c.args.row.now 1) c.in-Some.bytes.now c.in-Some-2.path has found.0 (subst (λ t. SpellsPath t c.in-Some-2.path) same found.1) apart

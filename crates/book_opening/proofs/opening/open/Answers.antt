@@ -1,0 +1,14 @@
+use Rattle.sqlite.specs.Held.{state}
+use Rattle.book_rows.proofs.Keeping.{if_ok}
+use Rattle.book_opening.specs.Reading.{IsReopened}
+use Rattle.book_opening.proofs.opening.open.Goals as goal
+
+pub returns-in-Ok-clause-stands : goal.returns-in-Ok-clause-stands
+returns-in-Ok-clause-stands g c =
+    let reopened : IsReopened (state g.S.Store c.in-Ok.opened) = λ clean. ((c.in-Ok.ensures.opens clean).0, c.in-Ok.ensures.book clean) in
+    if_ok c.open_again.result _ _ (λ t opened clean. (opened clean).stands) (c.open_again.ensures.stands reopened)
+
+pub returns-in-Ok-clause-refused : goal.returns-in-Ok-clause-refused
+returns-in-Ok-clause-refused g c =
+    let reopened : IsReopened (state g.S.Store c.in-Ok.opened) = λ clean. ((c.in-Ok.ensures.opens clean).0, c.in-Ok.ensures.book clean) in
+    c.open_again.ensures.refused reopened

@@ -1,0 +1,5 @@
+pub mod WholeNodes
+pub mod Directories
+pub mod RowTests
+pub mod Opening
+pub mod Reading

@@ -1,0 +1,72 @@
+-- Tests on the columns that reads of whole tables show.
+use Rattle.std.specs.Prelude.{◌≡◌, ℕ, pos, nat_eq, nat_lt, nat_le, length, Bool, true, false, ◌&&◌, ◌||◌, [], ◌∷◌}
+use Rattle.sqlite.specs.declared.types.Value.{Value}
+use Rattle.sqlite.specs.declared.types.Value.TheVariants.{Null, Int, Text}
+use Rattle.sqlite.specs.Order.{Row, column}
+use Rattle.book_limits.specs.declared.TheConstants.{LAST_NUMBER}
+use Rattle.book_lists.specs.declared.entries.Entry.{Entry}
+use Rattle.book_rows.specs.Nodes.{number_in}
+use Rattle.book_rows.specs.Writes.{flag}
+use Rattle.book_tables.specs.Rows.{flag_in, entry_told, entry_values}
+
+-- ---- a value
+
+abbrev pub is_natural : Value → Bool
+is_natural (Int (pos n)) = true
+is_natural _ = false
+
+abbrev pub is_below : ℕ → Value → Bool
+is_below limit (Int (pos n)) = nat_lt n limit
+is_below limit _ = false
+
+abbrev pub is_zero : Value → Bool
+is_zero (Int (pos n)) = nat_eq n 0
+is_zero _ = false
+
+-- a form that names no principal
+abbrev pub is_word : Value → Bool
+is_word (Int (pos n)) = nat_lt 0 n && nat_lt n 6
+is_word _ = false
+
+abbrev pub is_text : Value → Bool
+is_text (Text t) = true
+is_text _ = false
+
+abbrev pub is_nothing : Value → Bool
+is_nothing Null = true
+is_nothing _ = false
+
+-- the form of a path with a text, and each other with NULL
+abbrev pub is_form : Value → Value → Bool
+is_form form principal = (is_zero form && is_text principal) || (is_word form && is_nothing principal)
+
+abbrev pub is_up_to : ℕ → Value → Bool
+is_up_to limit (Int (pos n)) = nat_le n limit
+is_up_to limit _ = false
+
+abbrev pub is_one : Value → Bool
+is_one (Int (pos n)) = nat_eq n 1
+is_one _ = false
+
+-- ---- a row of `meta`: version, epoch
+
+abbrev pub is_meta : Row → Bool
+is_meta row = nat_eq (length row) 2 && (is_one (column row 0) && is_up_to LAST_NUMBER (column row 1))
+
+-- ---- a row of `ace`: node, protected, place, form, principal, invert, deny, mask
+
+abbrev pub is_spelled : Row → Bool
+is_spelled row = is_form (column row 3) (column row 4) && (is_below 2 (column row 5) && (is_below 2 (column row 6) && is_below 256 (column row 7)))
+
+abbrev pub is_entry : Row → Bool
+is_entry row = is_below 2 (column row 1) && (is_natural (column row 2) && is_spelled row)
+
+-- the entry that the row tells
+abbrev pub entry_in : Row → Entry
+entry_in row = entry_told (column row 3) (column row 4) (column row 5) (column row 6) (column row 7)
+
+-- it is in one of the two lists of its node, and is spelled in the one way
+pub record IsSpelledEntry (row : Row) : Type 0 where
+  pub protected : column row 1 ≡ flag (flag_in (column row 1))
+  pub place : column row 2 ≡ Int (pos (number_in (column row 2)))
+  pub spelled : (column row 3 ∷ column row 4 ∷ column row 5 ∷ column row 6 ∷ column row 7 ∷ []) ≡ entry_values (entry_in row)

@@ -1,0 +1,19 @@
+-- What a read of all nodes shows.
+use Rattle.std.specs.Prelude.{◌≡◌, List, [], ◌∷◌, map, codes, ℕ, IsTrue}
+use Rattle.sqlite.specs.Order.{Row, column}
+use Rattle.sqlite.specs.State.{State}
+use Rattle.book_rows.specs.Rows.{Rows, rows_of, IsBook}
+
+abbrev pub list_whole_nodes : List ℕ
+list_whole_nodes = codes "SELECT id, path, parent, kind, owner, label, text, number FROM node ORDER BY id"
+
+-- number of the row, path, parent, kind, owner, label, text and change number of a node
+abbrev pub node_shown : Row → Row
+node_shown row = column row 0 ∷ column row 2 ∷ column row 3 ∷ column row 4 ∷ column row 5 ∷ column row 6 ∷ column row 7 ∷ column row 8 ∷ []
+
+abbrev pub whole_nodes : Rows → List Row
+whole_nodes rows = map node_shown rows.nodes
+
+-- an open connection shows all nodes, in order of the numbers of their rows
+abbrev pub ShowsWholeNodes : State → List Row → Type 0
+ShowsWholeNodes s shown = IsTrue s.is_open × (IsBook s.now → shown ≡ whole_nodes (rows_of s.now.trees))

@@ -1,0 +1,49 @@
+-- Adopting a policy: which Offices it leaves as they are, and what is known of the others before they are written.
+use Rattle.std.proofs.Common.{◌≡◌, Bool, true, false, not, List, refl, sym, ap, subst, ◌∙◌, true≢false}
+use Rattle.book_policies.specs.declared.parts.PolicyTables.{PolicyTables}
+use Rattle.book_values.specs.declared.offices.Office.{Office}
+use Rattle.book_adopting.specs.Adopting.{taken_over, adoption_of}
+use Rattle.book_adopting.specs.Sameness.{same_office}
+use Rattle.book_adopting.specs.TakingOver.{bare}
+use Rattle.book_adopting.specs.declared.adopting.Adoption.{Adoption}
+use Rattle.book_adopting.proofs.Adoptions.{adopting_nothing}
+use Rattle.book_adopting.proofs.BareAdoption.{adoption_told, bare_over}
+use Rattle.book_adopting.proofs.Samenesses.{same_office_is, office_itself}
+use Rattle.book_office.specs.declared.edits.Edit.TheVariants.{Adopt}
+use Rattle.book_office.specs.Edits.{apply}
+use Rattle.book_rows.specs.Adopting.{Place, Listed, Joined, adopting}
+use Rattle.book_tables.specs.Adopting.{AreDifferences}
+use Rattle.book_tables.proofs.AdoptedRows.{adoption_gives}
+use Rattle.book_tables.proofs.ReadActing.{GivesKnown}
+
+module _ (t : PolicyTables) where
+  -- it changes, and these are what differs
+  abbrev pub Changes : List Place → List Listed → List Joined → Office → Type 0
+  Changes places lists groups o = (taken_over t o ≡ o → ⊥) × AreDifferences (bare o) (bare (taken_over t o)) places lists groups
+
+  pub adopts_policy : (places : List Place) (lists : List Listed) (groups : List Joined) → GivesKnown (Adopt t) (adopting places lists groups) (Changes places lists groups)
+  adopts_policy places lists groups = record {
+    fits = λ rows o given. record { meta = (o.epoch, given.gives.meta) };
+    gives = λ rows after o given known made. adoption_gives t rows after o given known.0 places lists groups known.1 made;
+  }
+
+  -- ---- what the Office without cards tells
+
+  module _ (o office : Office) (bare_is : office ≡ bare o) where
+    changed_is : (adoption_of t office).changed ≡ not (same_office o (taken_over t o))
+    changed_is = ap (λ (a : Adoption). a.changed) (ap (adoption_of t) bare_is ∙ adoption_told t o)
+
+    pub told_stays : (adoption_of t office).changed ≡ false → apply o (Adopt t) ≡ o
+    told_stays unchanged = adopting_nothing t o (go (same_office o (taken_over t o)) refl (sym changed_is ∙ unchanged))
+      where
+        go : (b : Bool) → same_office o (taken_over t o) ≡ b → not b ≡ false → taken_over t o ≡ o
+        go true same e = sym (same_office_is o (taken_over t o) same)
+        go false same e = absurd (true≢false e)
+
+    pub told_changes : (adoption_of t office).changed ≡ true → (places : List Place) (lists : List Listed) (groups : List Joined)
+        → AreDifferences office (bare (taken_over t office)) places lists groups → Changes places lists groups o
+    told_changes changed places lists groups differ = (
+      (λ stays. true≢false (sym changed ∙ changed_is ∙ ap not (ap (same_office o) stays ∙ office_itself o))),
+      subst (λ p. AreDifferences (bare o) p places lists groups) (ap (λ p. bare (taken_over t p)) bare_is ∙ bare_over t o)
+          (subst (λ p. AreDifferences p (bare (taken_over t office)) places lists groups) bare_is differ),
+    )

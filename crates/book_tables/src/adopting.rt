@@ -1,0 +1,116 @@
+//! Adopting a policy: what differs is written, in one transaction.
+
+ghost use Rattle.std.specs.Prelude.{◌≡◌, false, map, true, IfOk, MatchOption, OnErr, OnOk};
+ghost use Rattle.book_adopting.specs.Adopting.{adoption_of as adoption_told, taken_over};
+ghost use Rattle.book_adopting.specs.TakingOver.{bare};
+ghost use Rattle.sqlite.specs.Held.{state};
+ghost use Rattle.sqlite.specs.State.{HasCleanDisk, Survives};
+ghost use Rattle.book_office.specs.Keeping.{Edits, failures_after};
+ghost use Rattle.book_office.specs.declared.edits.Edit.TheVariants.{Adopt};
+ghost use Rattle.book_rows.specs.Adopting.{adopting, joined, listed, placed};
+ghost use Rattle.book_rows.specs.Steps.{Commits, MayLeave, Stays};
+ghost use Rattle.book_tables.specs.Adopting.{AreDifferences, Rests};
+ghost use Rattle.book_tables.specs.Keeps.{standing_of};
+
+use crate::differences::{Differences, compare_offices};
+use crate::faults::fault_of;
+use crate::reading::shown_epoch;
+use crate::tables::Tables;
+use book_adopting::{adoption_of, office_under};
+use book_office::StoreFault;
+use book_policies::Policy;
+use book_rows::adopt;
+use book_values::Office;
+use sqlite::{Alter, Connection, Error, ErrorCode};
+use std::alloc::{AllocError, Global};
+
+/// A look at the epoch, outside a transaction: what a stop leaves is what the tables show.
+fn rest<S: Alter>(connection: &mut Connection<S>) -> Result<(), Error>
+    ensures rested { HasCleanDisk (state S.Store connection.new)
+        → OnOk result (Rests (state S.Store connection.old)) }
+    ensures stays { HasCleanDisk (state S.Store connection.new)
+        → Stays (state S.Store connection.old) (state S.Store connection.new) }
+    ensures survives { Survives (state S.Store connection.old) (state S.Store connection.new) (λ _. ⊥) }
+{
+    if !connection.is_autocommit() {
+        return Err(Error::SqliteFailure(ErrorCode::TransactionState));
+    }
+    shown_epoch(connection)?;
+    Ok(())
+}
+
+/// What differs between an Office without cards and changes and what it becomes under a policy; none where the Office
+/// stays as it is.
+fn differences_under(
+    alloc: Global,
+    policy: &Policy,
+    office: &Office,
+) -> Result<Option<Differences>, AllocError>
+    ensures { IfOk result (λ d. MatchOption d ((adoption_told policy.now office.now).changed ≡ false)
+        (λ d. ((adoption_told policy.now office.now).changed ≡ true)
+        × AreDifferences office.now (bare (taken_over policy.now office.now)) (map placed d.places.items)
+        (map listed d.lists.items) (map joined d.groups.items))) }
+{
+    if !adoption_of(alloc, office, policy)?.changed {
+        return Ok(None);
+    }
+    let new = office_under(alloc, policy, office)?;
+    Ok(Some(compare_offices(alloc, office, &new)?))
+}
+
+impl<S: Alter> Tables<S> {
+    /// Writes nothing.
+    fn stay(&mut self) -> Result<(), StoreFault>
+        ensures rested { HasCleanDisk (state S.Store self.new.connection)
+            → OnOk result (Rests (state S.Store self.old.connection)) }
+        ensures stays { HasCleanDisk (state S.Store self.new.connection)
+            → Stays (state S.Store self.old.connection) (state S.Store self.new.connection) }
+        ensures survives { Survives (state S.Store self.old.connection) (state S.Store self.new.connection) (λ _. ⊥) }
+        ensures counted { self.new.failures ≡ failures_after result self.old.failures }
+    {
+        match rest(&mut self.connection) {
+            Ok(()) => Ok(()),
+            Err(error) => Err(fault_of(error, &mut self.failures)),
+        }
+    }
+
+    /// Writes what differs; the epoch rises.
+    fn write(&mut self, written: &Differences) -> Result<(), StoreFault>
+        ensures made { HasCleanDisk (state S.Store self.new.connection)
+            → OnOk result (Commits (state S.Store self.old.connection) (state S.Store self.new.connection)
+            (adopting (map placed written.now.places.items) (map listed written.now.lists.items)
+            (map joined written.now.groups.items))) }
+        ensures kept { HasCleanDisk (state S.Store self.new.connection)
+            → OnErr result (Stays (state S.Store self.old.connection) (state S.Store self.new.connection)) }
+        ensures left { Survives (state S.Store self.old.connection) (state S.Store self.new.connection)
+            (MayLeave (state S.Store self.old.connection)
+            (adopting (map placed written.now.places.items) (map listed written.now.lists.items)
+            (map joined written.now.groups.items))) }
+        ensures counted { self.new.failures ≡ failures_after result self.old.failures }
+    {
+        match adopt(
+            &mut self.connection,
+            written.places.as_slice(),
+            written.lists.as_slice(),
+            written.groups.as_slice(),
+        ) {
+            Ok(()) => Ok(()),
+            Err(error) => Err(fault_of(error, &mut self.failures)),
+        }
+    }
+
+    /// Adopting a policy (own profile): what it names is added, and labels, owners of books, members and lists become
+    /// the policy's. What differs is told by the rows without those of cards, and nothing else is written; where
+    /// nothing differs the epoch stays. `Memory` is want of memory, `Store` any other failure.
+    pub fn adopt(&mut self, alloc: Global, policy: &Policy) -> Result<(), StoreFault>
+        ensures { Edits (standing_of (state S.Store self.old.connection) self.old.failures)
+            (standing_of (state S.Store self.new.connection) self.new.failures) result
+            (Adopt policy.now) }
+    {
+        let office = self.bare_office(alloc)?;
+        match differences_under(alloc, policy, &office)? {
+            Some(written) => self.write(&written),
+            None => self.stay(),
+        }
+    }
+}

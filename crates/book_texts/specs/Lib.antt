@@ -1,0 +1,4 @@
+pub mod Runs
+pub mod CardSummaries
+pub mod Failures
+pub mod ShortTexts

@@ -1,0 +1,147 @@
+//! Opening a store that is there: as it was left, and with rows that are changed by hand.
+
+use crate::stores::{found, name, tables, text};
+use book_opening::open;
+use book_tables::{OpenFault, Tables};
+use sqlite::{Connection, MemStore};
+use std::alloc::Global;
+use std::process::Abort;
+
+/// A store with the book `law`, one card in it, and the name of a card that was removed.
+fn law(rt: &impl Abort, alloc: Global) -> Connection<MemStore> {
+    let mut tables = tables(rt, alloc);
+    let law = name(rt, alloc, "law");
+    tables.add_book(alloc, &law, &None).expect(rt, "a book");
+    for card in ["a.vcf", "b.vcf"] {
+        let (card, content) = (name(rt, alloc, card), text(rt, alloc, "one"));
+        let put = tables.put_card(alloc, &law, &card, &None, &content);
+        put.expect(rt, "a card");
+    }
+    let removed = name(rt, alloc, "a.vcf");
+    let remove = tables.remove_card(alloc, &law, &removed);
+    remove.expect(rt, "removed");
+    tables.release()
+}
+
+fn opened(rt: &impl Abort, alloc: Global, connection: Connection<MemStore>) -> Tables<MemStore> {
+    let tables = open(alloc, connection);
+    tables.ok().expect(rt, "an Office")
+}
+
+/// What is told of a store in which a statement was run.
+fn told(alloc: Global, mut connection: Connection<MemStore>, sql: &str) -> &'static str {
+    if connection.execute(sql, &[]).is_err() {
+        return "refused";
+    }
+    match open(alloc, connection) {
+        Ok(_) => "opened",
+        Err((OpenFault::OtherVersion, _)) => "other-version",
+        Err((OpenFault::NoStore, _)) => "no-store",
+        Err((OpenFault::Memory, _)) => "memory",
+        Err((OpenFault::Store, _)) => "store",
+    }
+}
+
+/// A statement, and what is then told: each condition that the rows of an Office keep, broken once.
+const TOLD: &[(&str, &str)] = &[
+    (
+        "UPDATE node SET label = 'Law' WHERE path = '/books/law'",
+        "opened",
+    ),
+    ("UPDATE meta SET version = 2", "other-version"),
+    ("DELETE FROM meta", "no-store"),
+    ("INSERT INTO meta VALUES (1, 0)", "no-store"),
+    ("UPDATE meta SET epoch = 0 - 1", "no-store"),
+    (
+        "UPDATE node SET kind = 3 WHERE path = '/books/law'",
+        "no-store",
+    ),
+    (
+        "UPDATE node SET parent = 1 WHERE path = '/books/law'",
+        "no-store",
+    ),
+    (
+        "UPDATE node SET path = '/books/la w' WHERE path = '/books/law'",
+        "no-store",
+    ),
+    (
+        "UPDATE node SET text = 'x' WHERE path = '/books'",
+        "no-store",
+    ),
+    (
+        "UPDATE node SET text = NULL WHERE path = '/books/law/b.vcf'",
+        "no-store",
+    ),
+    (
+        "UPDATE node SET owner = '/books' WHERE path = '/books/law'",
+        "no-store",
+    ),
+    (
+        "UPDATE node SET number = 2 WHERE path = '/books/law'",
+        "no-store",
+    ),
+    (
+        "UPDATE node SET number = 3 WHERE path = '/books/law/b.vcf'",
+        "no-store",
+    ),
+    (
+        "UPDATE node SET number = 0 WHERE path = '/books/law/b.vcf'",
+        "no-store",
+    ),
+    (
+        "UPDATE node SET number = 1 WHERE path = '/people'",
+        "no-store",
+    ),
+    ("UPDATE gone SET name = 'b.vcf'", "no-store"),
+    ("UPDATE gone SET name = 'a/vcf'", "no-store"),
+    ("UPDATE gone SET book = 1", "no-store"),
+    (
+        "INSERT INTO member VALUES ('/groups', '/people')",
+        "no-store",
+    ),
+    (
+        "INSERT INTO ace VALUES (1, 0, 7, 5, NULL, 0, 1, 255)",
+        "opened",
+    ),
+    (
+        "INSERT INTO ace VALUES (1, 0, 7, 0, '/people', 0, 1, 255)",
+        "no-store",
+    ),
+    (
+        "INSERT INTO ace VALUES (1, 0, 7, 5, NULL, 0, 2, 255)",
+        "no-store",
+    ),
+    (
+        "INSERT INTO ace SELECT id, 1, 0, 5, NULL, 0, 1, 255 FROM node WHERE kind = 5",
+        "no-store",
+    ),
+];
+
+#[test]
+fn rows_of_no_office_are_no_store(rt: HostRuntime) {
+    let alloc = rt.alloc();
+    for (sql, wanted) in TOLD {
+        let told = told(alloc, law(&rt, alloc), sql);
+        assert_eq!(rt; told, *wanted, "{sql}");
+    }
+}
+
+/// The same Office, the removed name and the numbers too: a card that is put again takes the next one.
+#[test]
+fn a_store_is_opened_as_it_was_left(rt: HostRuntime) {
+    let alloc = rt.alloc();
+    let mut tables = opened(&rt, alloc, law(&rt, alloc));
+    let book = found(&rt, alloc, &mut tables, "/books/law");
+    assert_eq!(rt; book.as_str(), "\"\" - 3");
+    let (law, card) = (name(&rt, alloc, "law"), name(&rt, alloc, "a.vcf"));
+    let content = text(&rt, alloc, "two");
+    let put = tables.put_card(alloc, &law, &card, &None, &content);
+    put.expect(&rt, "a card");
+    for (at, wanted) in [
+        ("/books/law/a.vcf", "\"\" two 4"),
+        ("/books/law/b.vcf", "\"\" one 2"),
+    ] {
+        let there = found(&rt, alloc, &mut tables, at);
+        assert_eq!(rt; there.as_str(), wanted);
+    }
+}
