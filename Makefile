@@ -6,11 +6,12 @@
 #   make test    the gate: every proof from nothing, the edits that must fail, the tests, the programs, the streams
 #   make wrong   tries the wrong bodies that are too dear for each run of the gate: each must be refused
 #   make bench   proves and runs the benchmarks, which print figures
+#   make figures builds the program, and prints what its requests over a store in a file take
 #   make clean   removes what the others made
 #
 # They need rt, the command of the Rattle toolchain: on PATH, or in the kit whose folder RATTLE_KIT names.
 
-.PHONY: build demo streams test wrong bench clean
+.PHONY: build demo streams test wrong bench figures clean
 
 build:
 	@tools/build
@@ -31,6 +32,9 @@ bench:
 	@rt=$$(tools/find-rt) && \
 	echo "Proving and running the benchmarks: a few minutes the first time, then seconds." && \
 	cd crates/book_bench && "$$rt" run -- all
+
+figures: build
+	@tools/figures build/book_desk
 
 clean:
 	rm -rf build crates/*/out

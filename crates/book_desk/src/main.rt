@@ -1,24 +1,24 @@
 //! The program `book_desk` of the shared contact books. Its words are read by `book_words`. What `explain`, `card` and
-//! help do is done by `run` of `book_texts`, and what `pipe` and `serve` do by `serving`, over any reader and writers,
-//! whose contracts say what is written where they tell their bytes. Nothing stands above it: `main` joins them to the
-//! process.
+//! help do is done by `run` of `book_texts`, what `import`, `audit` and `pipe` do by `run` of `book_runs`, and what
+//! `serve` does by `serve` of `book_work`, over any store, reader and writers: their contracts say what is written where
+//! these tell their bytes. Nothing stands above it: `main` joins them to the process, to the files (`files`) and to the
+//! port.
 #![tactic(auto)]
 
 ghost use Rattle.std.specs.Prelude.{◌≡◌};
 ghost use Rattle.book_words.specs.WordsFaults.{words_status};
 
-mod failures;
-mod serving;
+mod files;
 
 use book_machine::Machine;
-use book_office::{Keeper, MemoryKeeper};
-use book_texts::{TextCommand, run};
+use book_office::{Keeper, MemoryKeeper, Policy};
+use book_runs::{open_store, run};
+use book_texts::TextCommand;
 use book_words::{Command, WordsFault, command_of, words_not_text};
-use failures::Failure;
-use serving::{adopt_file, pipe, serve, tell};
+use book_work::{Failure, Work, adopt_given, given_policy, serve, tell};
+use files::{FileConnection, Opened, close, open_files};
 use std::env;
-use std::fs::Files;
-use std::io::{self, Read, Write};
+use std::io::{self, Write};
 use std::net::{Net, TcpListener};
 use std::process::ExitCode;
 use std::rt::Env;
@@ -43,100 +43,177 @@ fn refuse<E: Write>(errors: &mut E, fault: &WordsFault) -> u8
     fault.status()
 }
 
-/// The command `pipe`: the policy, and then the requests.
-fn pipe_from<K: Keeper, R: Read, W: Write, E: Write>(
-    rt: &(impl Files + AllocGlobal),
-    machine: &mut Machine<K>,
-    policy: &Option<String>,
-    reader: &mut R,
+/// The commands that read one text, and help.
+fn print<W: Write, E: Write>(
+    rt: &HostRuntime,
+    command: &TextCommand,
     writer: &mut W,
     errors: &mut E,
 ) -> u8 {
-    match adopt_file(rt, machine, policy) {
-        Ok(()) => pipe(rt.alloc(), machine, reader, writer, errors),
-        Err(failure) => tell(errors, &failure),
-    }
+    book_texts::run(rt.alloc(), command, rt.reader(), writer, errors)
 }
 
-/// The command `serve`: the policy, then the port, and then the connections.
-fn serve_on<K: Keeper, N: Net + Files + AllocGlobal, W: Write, E: Write>(
-    rt: &N,
-    machine: &mut Machine<K>,
+/// The commands `import`, `audit` and `pipe`: the policy's file is read, the store's file is opened, and the work done.
+fn work<W: Write, E: Write>(
+    rt: &HostRuntime,
+    kind: Work,
+    store: &Option<String>,
     policy: &Option<String>,
-    port: u16,
-    connections: u16,
     writer: &mut W,
     errors: &mut E,
 ) -> u8 {
-    if let Err(failure) = adopt_file(rt, machine, policy) {
+    let Opened { store, policy } = match open_files(rt, store, policy) {
+        Ok(opened) => opened,
+        Err(failure) => return tell(errors, &failure),
+    };
+    let mut reader = rt.reader();
+    let (status, connection) = run(rt.alloc(), kind, store, policy, &mut reader, writer, errors);
+    close(connection);
+    status
+}
+
+/// Where `serve` listens, and how many connections it serves.
+#[derive(Clone, Copy)]
+struct Service {
+    port: u16,
+    connections: u16,
+}
+
+/// Adopts the policy, if there is one, then listens on the port, and then serves the connections.
+fn serve_on<K: Keeper, N: Net + AllocGlobal, W: Write, E: Write>(
+    rt: &N,
+    machine: &mut Machine<K>,
+    policy: &Option<Policy>,
+    service: Service,
+    writer: &mut W,
+    errors: &mut E,
+) -> u8 {
+    let alloc = rt.alloc();
+    if let Err(failure) = adopt_given(alloc, machine, policy) {
         return tell(errors, &failure);
     }
-    match TcpListener::bind(rt, ("127.0.0.1", port)) {
-        Ok(listener) => serve(rt.alloc(), machine, &listener, connections, writer, errors),
+    match TcpListener::bind(rt, ("127.0.0.1", service.port)) {
+        Ok(listener) => serve(
+            alloc,
+            machine,
+            &listener,
+            service.connections,
+            writer,
+            errors,
+        ),
         Err(_) => tell(errors, &Failure::Listen),
     }
 }
 
-/// The command `pipe`, over an empty Office in memory.
-fn pipe_in_memory<R: Read, W: Write, E: Write>(
-    rt: &(impl Files + AllocGlobal),
-    policy: &Option<String>,
-    reader: &mut R,
+/// Serves an empty Office in memory.
+fn serve_in_memory<N: Net + AllocGlobal, W: Write, E: Write>(
+    rt: &N,
+    policy: &Option<Policy>,
+    service: Service,
     writer: &mut W,
     errors: &mut E,
 ) -> u8 {
     let mut machine = Machine::new(MemoryKeeper::new(rt.alloc()));
-    pipe_from(rt, &mut machine, policy, reader, writer, errors)
+    serve_on(rt, &mut machine, policy, service, writer, errors)
 }
 
-/// The command `serve`, over an empty Office in memory.
-fn serve_in_memory<N: Net + Files + AllocGlobal, W: Write, E: Write>(
+/// Serves the Office of a store's file.
+fn serve_in_file<N: Net + AllocGlobal, W: Write, E: Write>(
     rt: &N,
-    policy: &Option<String>,
-    port: u16,
-    connections: u16,
+    store: FileConnection,
+    policy: &Option<Policy>,
+    service: Service,
     writer: &mut W,
     errors: &mut E,
 ) -> u8 {
-    let mut machine = Machine::new(MemoryKeeper::new(rt.alloc()));
-    serve_on(rt, &mut machine, policy, port, connections, writer, errors)
+    let tables = match open_store(rt.alloc(), store) {
+        Ok(tables) => tables,
+        Err(failure) => return tell(errors, &Failure::Store(failure)),
+    };
+    let mut machine = Machine::new(tables);
+    let status = serve_on(rt, &mut machine, policy, service, writer, errors);
+    close(Some(machine.release().release()));
+    status
+}
+
+/// Reads the policy's text, before the store is touched, and serves.
+fn serve_over<N: Net + AllocGlobal, W: Write, E: Write>(
+    rt: &N,
+    opened: Opened,
+    service: Service,
+    writer: &mut W,
+    errors: &mut E,
+) -> u8 {
+    let Opened { store, policy } = opened;
+    let policy = match given_policy(rt.alloc(), policy) {
+        Ok(policy) => policy,
+        Err(failure) => return tell(errors, &failure),
+    };
+    match store {
+        Some(store) => serve_in_file(rt, store, &policy, service, writer, errors),
+        None => serve_in_memory(rt, &policy, service, writer, errors),
+    }
+}
+
+/// The command `serve`: the policy's file is read, the store's file is opened, and connections are served.
+fn serve_with<W: Write, E: Write>(
+    rt: &HostRuntime,
+    store: &Option<String>,
+    policy: &Option<String>,
+    service: Service,
+    writer: &mut W,
+    errors: &mut E,
+) -> u8 {
+    match open_files(rt, store, policy) {
+        Ok(opened) => serve_over(rt, opened, service, writer, errors),
+        Err(failure) => tell(errors, &failure),
+    }
+}
+
+/// Does what the words ask for, and gives the status.
+fn perform<W: Write, E: Write>(
+    rt: &HostRuntime,
+    command: Command,
+    writer: &mut W,
+    errors: &mut E,
+) -> u8 {
+    match command {
+        Command::Explain => print(rt, &TextCommand::Explain, writer, errors),
+        Command::Card => print(rt, &TextCommand::Card, writer, errors),
+        Command::Help(text) => print(rt, &TextCommand::Help(text), writer, errors),
+        Command::Import { store, policy } => {
+            work(
+                rt,
+                Work::Import,
+                &Some(store),
+                &Some(policy),
+                writer,
+                errors,
+            )
+        }
+        Command::Audit { store } => work(rt, Work::Audit, &Some(store), &None, writer, errors),
+        Command::Pipe { store, policy } => { work(rt, Work::Pipe, &store, &policy, writer, errors) }
+        Command::Serve {
+            port,
+            connections,
+            store,
+            policy,
+        } => {
+            let service = Service { port, connections };
+            serve_with(rt, &store, &policy, service, writer, errors)
+        }
+    }
 }
 
 fn main(rt: HostRuntime) -> ExitCode {
-    let alloc = rt.alloc();
-    let mut reader = rt.reader();
     let mut writer = rt.stdout();
     let mut errors = rt.stderr();
     let command = match words_of(&rt) {
-        Ok(words) => command_of(alloc, words.as_slice()),
+        Ok(words) => command_of(rt.alloc(), words.as_slice()),
         Err(fault) => Err(fault),
     };
     let status = match command {
-        Ok(Command::Explain) => run(
-            alloc,
-            &TextCommand::Explain,
-            reader,
-            &mut writer,
-            &mut errors,
-        ),
-        Ok(Command::Card) => run(alloc, &TextCommand::Card, reader, &mut writer, &mut errors),
-        Ok(Command::Help(text)) => run(
-            alloc,
-            &TextCommand::Help(text),
-            reader,
-            &mut writer,
-            &mut errors,
-        ),
-        Ok(Command::Pipe { policy }) => {
-            pipe_in_memory(&rt, &policy, &mut reader, &mut writer, &mut errors)
-        }
-        Ok(
-            Command::Serve {
-                port,
-                connections,
-                policy,
-            },
-        ) => serve_in_memory(&rt, &policy, port, connections, &mut writer, &mut errors),
+        Ok(command) => perform(&rt, command, &mut writer, &mut errors),
         Err(fault) => refuse(&mut errors, &fault),
     };
     ExitCode::from(status)

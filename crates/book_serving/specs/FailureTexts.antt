@@ -1,16 +1,13 @@
 -- What is told on standard error where a policy was not adopted, or a stream was not served to its end (own profile).
-use Rattle.std.specs.Prelude.{ℕ, List, ◌++◌, codes}
-use Rattle.book_policy.specs.FaultNames.{fault_name}
+use Rattle.std.specs.Prelude.{ℕ, List, codes}
+use Rattle.book_machine.specs.declared.adoptions.AdoptFault.{AdoptFault}
 use Rattle.book_machine.specs.declared.adoptions.AdoptFault.TheVariants.{Full, Unavailable}
 use Rattle.book_wire.specs.declared.stream.StreamFault.{StreamFault}
 use Rattle.book_wire.specs.declared.stream.StreamFault.TheVariants.{Memory, Read, Write}
-use Rattle.book_serving.specs.declared.failures.AdoptionFault.{AdoptionFault}
-use Rattle.book_serving.specs.declared.failures.AdoptionFault.TheVariants.{Policy, Adopt}
 
-abbrev pub adoption_text : AdoptionFault → List ℕ
-adoption_text (Policy fault) = codes "policy: " ++ fault_name fault
-adoption_text (Adopt Full) = codes "adopt: full"
-adoption_text (Adopt Unavailable) = codes "adopt: unavailable"
+abbrev pub adoption_text : AdoptFault → List ℕ
+adoption_text Full = codes "adopt: full"
+adoption_text Unavailable = codes "adopt: unavailable"
 
 abbrev pub stream_text : StreamFault → List ℕ
 stream_text Memory = codes "stream: memory"

@@ -1,3 +1,2 @@
 pub mod Connections
 pub mod FailureTexts
-pub mod Serving

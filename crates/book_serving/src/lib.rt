@@ -1,8 +1,8 @@
 //! Serving a machine: its policy before the first request, and its connections, one after the other.
 //!
-//! It stands on `book_policy`, which reads a policy, on `book_machine`, which adopts it, and on `book_wire`, which
-//! serves a stream. The program above uses that `adopt_text` adopts the policy that a text spells or tells why not, and
-//! that `serve_connections` does to the Office what a run of requests does.
+//! It stands on `book_machine`, which adopts a policy, and on `book_wire`, which serves a stream. The crate above uses
+//! that `adopt` adopts a policy or tells why not, and that `serve_connections` does to the Office what a run of requests
+//! does.
 //!
 //! Read `adoptions` and `connections`, and `failures`, which has what is told on standard error.
 #![tactic(auto)]
@@ -11,6 +11,6 @@ mod adoptions;
 mod connections;
 mod failures;
 
-pub use adoptions::adopt_text;
+pub use adoptions::adopt;
 pub use connections::serve_connections;
-pub use failures::{AdoptionFault, StreamFailure};
+pub use failures::{AdoptionFailure, StreamFailure};

@@ -10,8 +10,8 @@ use crate::first::insert_first;
 use crate::tables::make_tables;
 use sqlite::{Alter, Connection, Error, ErrorCode, Transaction};
 
-/// Whether the store of a connection has no table, index or view.
-fn is_empty<S: Alter>(connection: &Connection<S>) -> bool
+/// Whether the store of a connection has no table, index or view, so that `create` can found it. No row is read.
+pub fn is_empty<S: Alter>(connection: &Connection<S>) -> bool
     ensures { IsTrue result ↔ ((state S.Store connection.now).now.schema ≡ no_schema) }
 {
     let schema = connection.schema();

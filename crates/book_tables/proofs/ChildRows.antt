@@ -49,7 +49,7 @@ same_front [] a b = refl
 same_front (x ∷ front) a b = ap (λ o. ordering_then o (slice_cmp nat_cmp (front ++ a) (front ++ b))) (tied_itself nat_cmp_total x) ∙ same_front front a b
 
 -- what holds of any two elements of a list that is in one order may tell another
-ascending_within : {X : Type 0} (R S : X → X → Type 0) (xs : List X) → ((a b : X) → Has xs a → Has xs b → R a b → S a b) → IsAscending R xs → IsAscending S xs
+pub ascending_within : {X : Type 0} (R S : X → X → Type 0) (xs : List X) → ((a b : X) → Has xs a → Has xs b → R a b → S a b) → IsAscending R xs → IsAscending S xs
 ascending_within R S [] tells up = tt
 ascending_within R S (x ∷ xs) tells up = (
   Rattle.sqlite_rules.proofs.ListLemmas.all_from (S x) xs (λ y there. tells x y (inl refl) (inr there) (all_has (R x) xs y up.0 there)),

@@ -28,11 +28,12 @@ use Rattle.book_tables.proofs.Looking.{found_has}
 use Rattle.book_tables.proofs.OfficeChildren.{listed_child, listed_children}
 use Rattle.book_tables.proofs.SameLists.{has_sorted}
 
-map_within : {X Y : Type 0} (f g : X → Y) (xs : List X) → ((x : X) → Has xs x → f x ≡ g x) → map f xs ≡ map g xs
+pub map_within : {X Y : Type 0} (f g : X → Y) (xs : List X) → ((x : X) → Has xs x → f x ≡ g x) → map f xs ≡ map g xs
 map_within f g [] same = refl
 map_within f g (x ∷ xs) same = (λ i. same x (inl refl) i ∷ map_within f g xs (λ y h. same y (inr h)) i)
 
-abbrev columns : Row → Row
+-- what is shown of a child's row
+abbrev pub columns : Row → Row
 columns row = column row 0 ∷ column row 2 ∷ column row 4 ∷ column row 5 ∷ column row 6 ∷ column row 8 ∷ []
 
 pub children_told : (s : State) (p : Path) → IsPath p → (children : List Listed) → ShowsListing s (path_text p) (text_above p) children → (o : Office) → StandsFor s o → children ≡ children_at o p

@@ -35,10 +35,11 @@ pub mod FoundedRows
 pub mod BookChanges
 pub mod GoneOnce
 pub mod ChangedRows
-pub mod ToldRows
 pub mod ChangesTold
 pub mod ChildrenTold
-pub mod OneSpelling
+pub mod NodeShares
+pub mod ChildShares
+pub mod ToldRows
 pub mod Turns
 pub mod WellRows
 pub mod PlacedRows

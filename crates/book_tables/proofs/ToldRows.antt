@@ -15,15 +15,17 @@ use Rattle.sqlite.specs.Tree.{rowid}
 use Rattle.book_values.proofs.OneName.{some_apart, same_some}
 use Rattle.book_rows.specs.declared.nodes.Found.{Found}
 use Rattle.book_rows.specs.Lists as lists
-use Rattle.book_rows.specs.Lists.{ShowsList, ShowsRows, ShowsChildren, entry_columns}
+use Rattle.book_rows.specs.Lists.{ShowsList, ShowsRows, ShowsChildren, ShowsChildEntries, entry_columns}
 use Rattle.book_rows.specs.Nodes.{Finds, Told, told, told_of}
 use Rattle.book_rows.specs.Rows.{rows_of, IsBook}
 use Rattle.book_rows.specs.Steps.{Looks}
 use Rattle.book_rows.specs.Writes.{entries_of}
-use Rattle.book_tables.specs.Children.{ShowsChild, ShowsListing, listed_shown, child_shown}
+use Rattle.book_tables.specs.Children.{ShowsListing, child_shown}
 use Rattle.book_tables.specs.LastChanges.{ShowsEntries, ShowsCard, ShowsChanges, changed_shown, own_shown, card_shown, removed_shown, changes_of}
 use Rattle.book_tables.specs.Listing.{entry_shown}
 use Rattle.book_tables.specs.Rows.{row_at, list_in}
+use Rattle.book_tables.specs.Shares.{DoNotFall, child_among}
+use Rattle.book_tables.proofs.ChildShares.{do_not_fall, shares_are}
 
 pub entries_told : (s : State) (id : ℤ) (protected : Bool) (rows : List Row) (list : List Entry) → ShowsList s id protected rows → list ≡ map (entry_shown 0) rows → ShowsEntries s id protected list
 entries_told s id protected rows list shows is = (
@@ -87,18 +89,6 @@ in_any_order s path number changes ordered shows same = (shows.0, λ book. IsPer
 
 -- ---- children
 
--- the child of a row whose lists were shown one after the other
-pub child_told : (old mid : State) (front : List ℕ) (row : Row) (protected own : List Entry) (listed : Listed) → Looks old mid → ShowsEntries old (id_in (column row 0)) true protected
-    → ShowsEntries mid (id_in (column row 0)) false own → listed ≡ listed_shown front protected own row → ShowsChild old front row listed
-child_told old mid front row protected own listed looks first second is book =
-    let later : own ≡ list_in (rows_of old.now.trees).entries (Int (id_in (column row 0))) false =
-    second.1 (subst IsBook (sym (looks.same book)) book) ∙ ap (λ (d : Database). list_in (rows_of d.trees).entries (Int (id_in (column row 0))) false) (looks.same book) in
-    is ∙ (λ i. listed_shown front (first.1 book i) (later i) row)
-
-pub child_before : (old mid : State) (front : List ℕ) (row : Row) (listed : Listed) → Looks old mid → ShowsChild mid front row listed → ShowsChild old front row listed
-child_before old mid front row listed looks shows book =
-    shows (subst IsBook (sym (looks.same book)) book) ∙ ap (λ (d : Database). child_shown (rows_of d.trees) front row) (looks.same book)
-
 pub none_listed : (s : State) (path front : List ℕ) (found : Option Found) → found ≡ None → Finds s path (option_map told found) → ShowsListing s path front []
 none_listed s path front found is finds = (finds.0, λ book. go book (row_at (rows_of s.now.trees) path) refl)
   where
@@ -108,7 +98,8 @@ none_listed s path front found is finds = (finds.0, λ book. go book (row_at (ro
     go book (Some node) e = some_apart (sym (ap (option_map told_of) e) ∙ sym (finds.1 book) ∙ ap (option_map told) is)
 
 module _ (old first second : State) (path front : List ℕ) (f : Found) (found : Option Found) (is : found ≡ Some f) (finds : Finds old path (option_map told found)) (look : Looks old first) (look_on : Looks first second)
-    (rows : List Row) (shows : ShowsChildren first f.id rows) (children : List Listed) (are_shown : IsBook second.now → children ≡ map (child_shown (rows_of second.now.trees) front) rows) where
+    (rows entries : List Row) (shows : ShowsChildren first f.id rows) (shows_entries : ShowsChildEntries second f.id entries) (children : List Listed)
+    (joined : DoNotFall entries → children ≡ map (child_among entries front) rows) where
   listed_at : IsBook old.now → (r : Option Row) → row_at (rows_of old.now.trees) path ≡ r
       → children ≡ unwrap_or (option_map (λ node. map (child_shown (rows_of old.now.trees) front) (lists.children_of (id_in (rowid node)) (rows_of old.now.trees))) r) []
   listed_at book None e = some_apart (sym (ap (option_map told) is) ∙ finds.1 book ∙ ap (option_map told_of) e)
@@ -121,7 +112,10 @@ module _ (old first second : State) (path front : List ℕ) (f : Found) (found :
       let b2 : IsBook second.now = subst IsBook (sym e2) book in
       let rows_are : rows ≡ lists.children_of (id_in (rowid node)) (rows_of old.now.trees) =
       shows.1 b1 ∙ ap (λ (d : Database). lists.children_of f.id (rows_of d.trees)) e1 ∙ ap (λ k. lists.children_of k (rows_of old.now.trees)) id in
-      are_shown b2 ∙ ap (λ (d : Database). map (child_shown (rows_of d.trees) front) rows) e2 ∙ ap (map (child_shown (rows_of old.now.trees) front)) rows_are
+      let entries_are : entries ≡ lists.child_entries (id_in (rowid node)) (rows_of old.now.trees) =
+      shows_entries.1 b2 ∙ ap (λ (d : Database). lists.child_entries f.id (rows_of d.trees)) e2 ∙ ap (λ k. lists.child_entries k (rows_of old.now.trees)) id in
+      joined (subst DoNotFall (sym entries_are) (do_not_fall old.now book (id_in (rowid node))))
+      ∙ (λ i. map (child_among (entries_are i) front) (rows_are i)) ∙ shares_are old.now book (id_in (rowid node)) front
 
   pub all_listed : ShowsListing old path front children
   all_listed = (finds.0, λ book. listed_at book (row_at (rows_of old.now.trees) path) refl)

@@ -63,10 +63,6 @@ listed_shown front protected own row = record {
 abbrev pub child_shown : Rows → List ℕ → Row → Listed
 child_shown rows front row = listed_shown front (list_in rows.entries (Int (id_in (column row 0))) true) (list_in rows.entries (Int (id_in (column row 0))) false) row
 
--- an open connection shows a child, from what was shown of its row
-abbrev pub ShowsChild : State → List ℕ → Row → Listed → Type 0
-ShowsChild s front row listed = IsBook s.now → listed ≡ child_shown (rows_of s.now.trees) front row
-
 -- an open connection shows the children of the node at a path, in order of their paths; none where no row has it
 abbrev pub ShowsListing : State → List ℕ → List ℕ → List Listed → Type 0
 ShowsListing s path front children =

@@ -3,7 +3,6 @@ pub mod Stands
 pub mod Keeps
 pub mod Reading
 pub mod Opened
-pub mod RowTests
 pub mod Laws
 pub mod Settings
 pub mod BareOffice
@@ -11,3 +10,4 @@ pub mod Listing
 pub mod Children
 pub mod LastChanges
 pub mod Adopting
+pub mod Shares

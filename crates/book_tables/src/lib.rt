@@ -8,7 +8,7 @@
 //! that was there, and a stop leaves what it could leave before or the edited one. A read meets the trait's clause too.
 //!
 //! `Tables::create` makes the tables of a new store, which stand for the empty Office, and `release` gives the connection
-//! back. `are_entries` is a part of what opening a store is to test: that each entry is spelled in the one way.
+//! back.
 //!
 //! `Tables` is a `Keeper`, over any store: `keeping` hands each call of the trait to the call of its name. To adopt a policy
 //! is to read the Office but for its cards, to compare it with what it becomes (`differences`), and to write the rows that
@@ -29,11 +29,10 @@ mod members;
 mod opening;
 mod places;
 mod reading;
-mod row_tests;
 mod settings;
+mod shares;
 mod tables;
 
 pub use laws::tables_stand_for_one_office;
 pub use opening::OpenFault;
-pub use row_tests::are_entries;
 pub use tables::Tables;

@@ -7,18 +7,19 @@ ghost use Rattle.book_office.specs.Keeping.{Reads};
 ghost use Rattle.book_office.specs.Resources.{children_at, count_at};
 ghost use Rattle.book_values.specs.Paths.{path_text};
 ghost use Rattle.book_rows.specs.Lists.{ShowsCount};
-ghost use Rattle.book_rows.specs.Rows.{rows_of, IsBook};
 ghost use Rattle.book_rows.specs.Steps.{Keeps, Spares, Stays};
 ghost use Rattle.book_tables.specs.Keeps.{standing_of};
-ghost use Rattle.book_tables.specs.Children.{ShowsChild, ShowsChildCount, ShowsListing, child_shown, listed_shown, text_above};
+ghost use Rattle.book_tables.specs.Children.{ShowsChildCount, ShowsListing, listed_shown, text_above};
+ghost use Rattle.book_tables.specs.Shares.{DoNotFall, child_among};
 
-use crate::changes::{list_of, name_behind};
+use crate::changes::name_behind;
 use crate::faults::fault_of;
 use crate::reading::{kind_of, owner_of};
+use crate::shares::{entries_of_node, list_told};
 use crate::tables::{Tables, text_of};
 use book_lists::Entry;
 use book_office::{Listed, StoreFault};
-use book_rows::{child_rows, count_children, look_up};
+use book_rows::{child_entry_rows, child_rows, count_children, look_up};
 use book_values::{Items, Path, Text};
 use sqlite::{Alter, Connection, Error, ErrorCode, Row, Transaction};
 use std::alloc::{AllocError, Global};
@@ -98,46 +99,29 @@ fn listed_of(
     })
 }
 
-/// A child with its lists.
-fn child_listed<S: Alter>(
-    alloc: Global,
-    transaction: &mut Transaction<'_, S>,
-    front: &str,
-    row: &Row,
-) -> Result<Listed, Error>
-    ensures same_reference { transaction.new.conn.ghost_name ≡ transaction.old.conn.ghost_name }
-    ensures survives { Survives (state S.Store transaction.old.conn.now) (state S.Store transaction.new.conn.now)
-        (λ _. ⊥) }
-    ensures kept { Keeps (state S.Store transaction.old.conn.now) (state S.Store transaction.new.conn.now) }
-    ensures stays { Spares (state S.Store transaction.old.conn.now) (state S.Store transaction.new.conn.now) result }
-    ensures shown { HasCleanDisk (state S.Store transaction.new.conn.now)
-        → IfOk result (λ listed. ShowsChild (state S.Store transaction.old.conn.now) front.now row.now listed) }
+/// A child with its lists, among the entries of all children in order of the child's number.
+fn child_listed(alloc: Global, front: &str, row: &Row, entries: &[Row]) -> Result<Listed, Error>
+    ensures { IfOk result (λ listed. DoNotFall entries.now → listed ≡ child_among entries.now front.now row.now) }
 {
-    let id = row.get(0)?;
-    let protected = list_of(alloc, transaction, id, true)?;
-    let own = list_of(alloc, transaction, id, false)?;
+    let its = entries_of_node(entries, row.get(0)?);
+    let protected = list_told(alloc, its, true)?;
+    let own = list_told(alloc, its, false)?;
     listed_of(alloc, front, row, protected, own)
 }
 
-/// The children whose rows are given, with two look-ups of lists for each.
-fn children_listed<S: Alter>(
+/// The children whose rows are given, with their lists.
+fn children_listed(
     alloc: Global,
-    transaction: &mut Transaction<'_, S>,
     front: &str,
     rows: &[Row],
+    entries: &[Row],
 ) -> Result<Vec<Listed>, Error>
-    ensures same_reference { transaction.new.conn.ghost_name ≡ transaction.old.conn.ghost_name }
-    ensures survives { Survives (state S.Store transaction.old.conn.now) (state S.Store transaction.new.conn.now)
-        (λ _. ⊥) }
-    ensures kept { Keeps (state S.Store transaction.old.conn.now) (state S.Store transaction.new.conn.now) }
-    ensures stays { Spares (state S.Store transaction.old.conn.now) (state S.Store transaction.new.conn.now) result }
-    ensures shown { HasCleanDisk (state S.Store transaction.new.conn.now)
-        → IfOk result (λ children. IsBook (state S.Store transaction.old.conn.now).now → children.items
-        ≡ map (child_shown (rows_of (state S.Store transaction.old.conn.now).now.trees) front.now) rows.now) }
+    ensures { IfOk result (λ children. DoNotFall entries.now
+        → children.items ≡ map (child_among entries.now front.now) rows.now) }
 {
     let mut children = Vec::with_capacity(alloc, rows.len())?;
     'children: for row in rows {
-        children.push(child_listed(alloc, transaction, front, row)?)?;
+        children.push(child_listed(alloc, front, row, entries)?)?;
     }
     Ok(children)
 }
@@ -161,7 +145,8 @@ fn listing_at<S: Alter>(
         return Ok(Vec::new(alloc));
     };
     let rows = child_rows(transaction, node.id)?;
-    children_listed(alloc, transaction, front, &rows)
+    let entries = child_entry_rows(transaction, node.id)?;
+    children_listed(alloc, front, &rows, &entries)
 }
 
 /// The same, in a transaction of its own.
@@ -185,8 +170,8 @@ fn shown_listing<S: Alter>(
 }
 
 impl<S: Alter> Tables<S> {
-    /// The children of a resource, in byte order of their names; none where none is mapped. One look-up of all rows, and
-    /// two of lists for each child. `Memory` is want of memory, `Store` any other failure of the store.
+    /// The children of a resource, in byte order of their names; none where none is mapped. Three
+    /// statements, however many there are. `Memory` is want of memory, `Store` any other failure of the store.
     pub fn children(&mut self, alloc: Global, path: &Path) -> Result<Items<Listed>, StoreFault>
         ensures { Reads (standing_of (state S.Store self.old.connection) self.old.failures)
             (standing_of (state S.Store self.new.connection) self.new.failures) result

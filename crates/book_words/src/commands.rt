@@ -1,10 +1,10 @@
 //! The command that the words name.
 
-ghost use Rattle.std.specs.Prelude.{◌≡◌, ◌⊎◌, IfOk, IfSome, map, option_map, string_bytes};
+ghost use Rattle.std.specs.Prelude.{◌≡◌, ◌⊎◌, IfOk, IfSome, codes, map, string_bytes, option_map};
 ghost use Rattle.clap.specs.Faults.{fault_of};
 ghost use Rattle.clap.specs.Values.{kind_of};
-ghost use Rattle.clap.specs.Words.{first_of, found_of, rows_of, subcommand_of, subcommand_rows_of};
-ghost use Rattle.book_words.specs.CommandLine.{program_app, HasNumber, IsHelp, IsMatched, Reads, ReadsAs, ReadsPipe, ReadsServe};
+ghost use Rattle.clap.specs.Words.{found_of, rows_of, subcommand_of, subcommand_rows_of};
+ghost use Rattle.book_words.specs.CommandLine.{program_app, HasNumber, IsHelp, IsMatched, NamesFile, Reads, ReadsAs};
 ghost use Rattle.book_words.specs.WordsFaults.{words_status};
 
 use crate::programs::program;
@@ -28,8 +28,22 @@ pub enum Command {
     Explain,
     /// Tell what the card on standard input says.
     Card,
+    /// Adopt a policy in a store.
+    Import {
+        /// The file of the store.
+        store: String,
+        /// The file of the policy.
+        policy: String,
+    },
+    /// Print who is in which group, and the access lists of a store.
+    Audit {
+        /// The file of the store.
+        store: String,
+    },
     /// Serve the requests on standard input.
     Pipe {
+        /// The file of the store; without one it is in memory.
+        store: Option<String>,
         /// The file of a policy that is adopted first.
         policy: Option<String>,
     },
@@ -39,6 +53,8 @@ pub enum Command {
         port: u16,
         /// How many connections are served, 1 to 10,000.
         connections: u16,
+        /// The file of the store; without one it is in memory.
+        store: Option<String>,
         /// The file of a policy that is adopted first.
         policy: Option<String>,
     },
@@ -92,9 +108,9 @@ impl fmt::Display for WordsFault {
     }
 }
 
-/// The text of an option, if the words give one.
-fn text_in(alloc: Global, found: &ArgMatches<'_>, id: &str) -> Result<Option<String>, AllocError>
-    ensures { IfOk result (λ text. option_map string_bytes text ≡ first_of id.now (rows_of (found_of found.now))) }
+/// The file that an option or a word names, if the words have it.
+fn file_in(alloc: Global, found: &ArgMatches<'_>, id: &str) -> Result<Option<String>, AllocError>
+    ensures { IfOk result (NamesFile (rows_of (found_of found.now)) id.now) }
 {
     match found.get_str(id) {
         Some(text) => Ok(Some(String::from_str(alloc, text)?)),
@@ -111,7 +127,7 @@ fn number_in(found: &ArgMatches<'_>, id: &str) -> Option<u16>
 
 /// The command `serve` with what the words give it; none where a number is missing or out of range.
 fn serve_of(alloc: Global, found: &ArgMatches<'_>) -> Result<Option<Command>, AllocError>
-    ensures { IfOk result (λ command. IfSome command (ReadsServe (rows_of (found_of found.now)))) }
+    ensures { IfOk result (λ command. IfSome command (ReadsAs (codes "serve") (rows_of (found_of found.now)))) }
 {
     let Some(port) = number_in(found, "port") else {
         return Ok(None);
@@ -122,20 +138,46 @@ fn serve_of(alloc: Global, found: &ArgMatches<'_>) -> Result<Option<Command>, Al
     if connections == 0 || connections > MAX_CONNECTIONS {
         return Ok(None);
     }
-    let policy = text_in(alloc, found, "policy")?;
+    let store = file_in(alloc, found, "store")?;
+    let policy = file_in(alloc, found, "policy")?;
     Ok(Some(Command::Serve {
         port,
         connections,
+        store,
         policy,
     }))
 }
 
 /// The command `pipe` with what the words give it.
 fn pipe_of(alloc: Global, found: &ArgMatches<'_>) -> Result<Option<Command>, AllocError>
-    ensures { IfOk result (λ command. IfSome command (ReadsPipe (rows_of (found_of found.now)))) }
+    ensures { IfOk result (λ command. IfSome command (ReadsAs (codes "pipe") (rows_of (found_of found.now)))) }
 {
-    let policy = text_in(alloc, found, "policy")?;
-    Ok(Some(Command::Pipe { policy }))
+    let store = file_in(alloc, found, "store")?;
+    let policy = file_in(alloc, found, "policy")?;
+    Ok(Some(Command::Pipe { store, policy }))
+}
+
+/// The command `import` with what the words give it; none where a file is missing.
+fn import_of(alloc: Global, found: &ArgMatches<'_>) -> Result<Option<Command>, AllocError>
+    ensures { IfOk result (λ command. IfSome command (ReadsAs (codes "import") (rows_of (found_of found.now)))) }
+{
+    let Some(store) = file_in(alloc, found, "store")? else {
+        return Ok(None);
+    };
+    let Some(policy) = file_in(alloc, found, "policy")? else {
+        return Ok(None);
+    };
+    Ok(Some(Command::Import { store, policy }))
+}
+
+/// The command `audit` with what the words give it; none where the file is missing.
+fn audit_of(alloc: Global, found: &ArgMatches<'_>) -> Result<Option<Command>, AllocError>
+    ensures { IfOk result (λ command. IfSome command (ReadsAs (codes "audit") (rows_of (found_of found.now)))) }
+{
+    let Some(store) = file_in(alloc, found, "store")? else {
+        return Ok(None);
+    };
+    Ok(Some(Command::Audit { store }))
 }
 
 /// The subcommand that was met, with its matches.
@@ -156,6 +198,8 @@ fn command_named(
     match name {
         "explain" => Ok(Some(Command::Explain)),
         "card" => Ok(Some(Command::Card)),
+        "import" => import_of(alloc, found),
+        "audit" => audit_of(alloc, found),
         "pipe" => pipe_of(alloc, found),
         "serve" => serve_of(alloc, found),
         _ => Ok(None),
@@ -207,8 +251,8 @@ pub fn words_not_text(alloc: Global) -> WordsFault {
 /// Reads the words after the program's name. Help or the version that they ask for is a command of its own.
 ///
 /// A command that it answers is the one that clap's matches of the words give: the subcommand that was met, its port
-/// from 0 to 65,535, its number of connections from 1 to 10,000, and the file that its `--policy` names, if it does. Help
-/// is answered only where clap takes the words to ask for it.
+/// from 0 to 65,535, its number of connections from 1 to 10,000, and the files of its store and its policy, if they name
+/// them. Help is answered only where clap takes the words to ask for it.
 ///
 /// # Errors
 ///

@@ -76,19 +76,64 @@ or at any time memory, at line 0.
 Status: 0 valid, 1 refused input, 2 usage, 3 memory, or a failed read or write.
 ";
 
-pub(crate) const PIPE: &str = "Serves the requests on standard input, over a store in memory";
+pub(crate) const IMPORT: &str = "Adopts a policy in a store";
+
+pub(crate) const IMPORT_TEXT: &str = "\
+The policy says who belongs where and who may do what. As in:
+  book_desk import --store office.db examples/policies/office.toml
+
+Output:
+  changed, epoch N | unchanged, epoch N
+N is the number of the accesses that the store has had: it rises with each policy that changes anything, and then every
+sync token that was given before is refused.
+
+Told on standard error, each on a line, where nothing was changed
+  input: read           the policy could not be read
+  store: FAULT          the store can't be had: other-version, no-store, memory, or store
+  input: not-utf-8      the policy is not UTF-8
+  policy: FAULT         the policy is refused: not-toml, other-version, bad-key, bad-name, name-twice,
+                        unknown-principal, unknown-resource, unknown-privilege, too-many, or memory
+  adopt: FAULT          the policy was not adopted: full, or unavailable
+or where it was adopted
+  output: write         it could not be told
+
+Status: 0 adopted; 1 the policy is refused; 2 usage; 3 the store, memory, or a failed read or write.
+";
+
+pub(crate) const AUDIT: &str = "Prints the memberships and the access lists of a store";
+
+pub(crate) const AUDIT_TEXT: &str = "\
+As in: book_desk audit --store office.db
+
+Output:
+  epoch N
+  member GROUP MEMBER               a direct membership, in byte order of the lines
+  PATH owner OWNER                  a resource, in byte order of the paths; - where it has no owner
+    protected grant|deny [not] WHO NAME ..   its protected list, in order
+    own grant|deny [not] WHO NAME ..         its own list, in order
+WHO is a person, a group, or one of all, authenticated, unauthenticated, owner, self.
+
+Told on standard error, on a line
+  store: FAULT          the store can't be had or read: other-version, no-store, memory, or store
+  output: write         it could not be told
+
+Status: 0 printed; 2 usage; 3 the store, memory, or a failed write.
+";
+
+pub(crate) const PIPE: &str = "Serves the requests on standard input";
 
 pub(crate) const PIPE_TEXT: &str = "\
 Input: requests of HTTP/1.1 (RFC 9112), one after the other. A file is given by <, as in:
-  book_desk pipe --policy examples/policies/office.toml < requests.txt
+  book_desk pipe --store office.db --policy examples/policies/office.toml < requests.txt
 The field x-office-caller has the bare name of the person who asks; without it, nobody asks. The policy, which says who
-belongs where and who may do what, is adopted before the first request; without one nobody may do anything. The store is
-empty when the program starts, and is gone when it ends.
+belongs where and who may do what, is adopted before the first request; in a store that has had none nobody may do
+anything. Without --store the store is in memory: it is empty when the program starts, and is gone when it ends.
 
 Output: the replies, in order. A request that can't be read as one closes the stream after its reply.
 
 Told on standard error, each on a line
   input: read           the policy could not be read
+  store: FAULT          the store can't be had: other-version, no-store, memory, or store
   input: not-utf-8      the policy is not UTF-8
   policy: FAULT         the policy is refused: not-toml, other-version, bad-key, bad-name, name-twice,
                         unknown-principal, unknown-resource, unknown-privilege, too-many, or memory
@@ -96,15 +141,15 @@ Told on standard error, each on a line
   stream: FAULT         serving ended: memory, read, or write
 
 Status: 0 each request was answered, or the stream closed after a reply; 1 the input ends within a request, or the
-policy is refused; 2 usage; 3 memory, or a failed read or write.
+policy is refused; 2 usage; 3 the store, memory, or a failed read or write.
 ";
 
-pub(crate) const SERVE: &str = "Serves connections to 127.0.0.1, over a store in memory";
+pub(crate) const SERVE: &str = "Serves connections to 127.0.0.1";
 
 pub(crate) const SERVE_TEXT: &str = "\
 It listens on 127.0.0.1, prints 'listening on 127.0.0.1:PORT', and serves so many connections, one after the other, each
 as pipe serves its input. As in:
-  book_desk serve --port 8080 --connections 100 --policy examples/policies/office.toml
+  book_desk serve --port 8080 --connections 100 --store office.db --policy examples/policies/office.toml
   curl -H 'x-office-caller: ann' -X OPTIONS -i http://127.0.0.1:8080/books/sales
 Who can reach the port can name any caller: it is for a gateway on the same machine, which sets the field
 x-office-caller to the person that it knows, and takes it out of what strangers send.
@@ -113,10 +158,17 @@ Told on standard error, each on a line: what pipe tells, 'stream: FAULT' for eac
 other, and 'listen: failed' where the port can't be had or a connection can't be taken.
 
 Status: 0 all connections were served, also those that ended within a request; 1 the policy is refused; 2 usage;
-3 memory or a failed read or write, also in one connection, or listening failed.
+3 the store, memory or a failed read or write, also in one connection, or listening failed.
 ";
 
 pub(crate) const POLICY: &str = "The file of a policy in TOML, which is adopted first";
+
+pub(crate) const POLICY_WORD: &str = "The file of the policy, in TOML";
+
+pub(crate) const FOUNDED_STORE: &str = "The file of the store; an empty or missing one is founded";
+
+pub(crate) const KEPT_STORE: &str =
+    "The file of the store; an empty or missing one is founded; without it the store is in memory";
 
 pub(crate) const PORT: &str = "The port, 0 to 65535; 0 takes a free one";
 

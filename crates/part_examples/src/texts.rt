@@ -209,15 +209,61 @@ fn words(rt: &impl Abort, alloc: Global, line: &str) -> Vec<String> {
 fn help_of(rt: &impl Abort, alloc: Global, words: &[String]) -> String {
     match command_of(alloc, words).ok().expect(rt, "a command") {
         Command::Help(text) => text,
-        Command::Explain | Command::Card | Command::Pipe { .. } | Command::Serve { .. } => {
-            String::new(alloc)
-        }
+        Command::Explain
+        | Command::Card
+        | Command::Import { .. }
+        | Command::Audit { .. }
+        | Command::Pipe { .. }
+        | Command::Serve { .. } => String::new(alloc),
     }
 }
 
-/// The name of a policy's file.
-fn file(rt: &impl Abort, alloc: Global) -> Option<String> {
-    Some(String::from_str(alloc, "office.toml").expect(rt, "memory"))
+/// The name of a file.
+fn file(rt: &impl Abort, alloc: Global, name: &str) -> String {
+    String::from_str(alloc, name).expect(rt, "memory")
+}
+
+/// Words that name a command over a store, and the command.
+#[test]
+fn reads_words_of_a_store(rt: HostRuntime) {
+    let alloc = rt.alloc();
+    let cases = [
+        (
+            "import --store office.db office.toml",
+            Command::Import {
+                store: file(&rt, alloc, "office.db"),
+                policy: file(&rt, alloc, "office.toml"),
+            },
+        ),
+        (
+            "import office.toml --store=office.db",
+            Command::Import {
+                store: file(&rt, alloc, "office.db"),
+                policy: file(&rt, alloc, "office.toml"),
+            },
+        ),
+        (
+            "audit --store office.db",
+            Command::Audit {
+                store: file(&rt, alloc, "office.db"),
+            },
+        ),
+        (
+            "pipe --policy office.toml --store office.db",
+            Command::Pipe {
+                store: Some(file(&rt, alloc, "office.db")),
+                policy: Some(file(&rt, alloc, "office.toml")),
+            },
+        ),
+    ];
+    for (line, command) in cases {
+        let words = words(&rt, alloc, line);
+        assert_eq!(rt;
+            command_of(alloc, words.as_slice()).ok(),
+            Some(command),
+            "{line}"
+        );
+    }
 }
 
 /// Words that name a command to serve, and the command.
@@ -225,11 +271,18 @@ fn file(rt: &impl Abort, alloc: Global) -> Option<String> {
 fn reads_words_that_serve(rt: HostRuntime) {
     let alloc = rt.alloc();
     let cases = [
-        ("pipe", Command::Pipe { policy: None }),
+        (
+            "pipe",
+            Command::Pipe {
+                store: None,
+                policy: None,
+            },
+        ),
         (
             "pipe --policy office.toml",
             Command::Pipe {
-                policy: file(&rt, alloc),
+                store: None,
+                policy: Some(file(&rt, alloc, "office.toml")),
             },
         ),
         (
@@ -237,15 +290,17 @@ fn reads_words_that_serve(rt: HostRuntime) {
             Command::Serve {
                 port: 0,
                 connections: 1,
+                store: None,
                 policy: None,
             },
         ),
         (
-            "serve --policy=office.toml --connections 10000 --port 65535",
+            "serve --policy=office.toml --connections 10000 --port 65535 --store office.db",
             Command::Serve {
                 port: 65_535,
                 connections: 10_000,
-                policy: file(&rt, alloc),
+                store: Some(file(&rt, alloc, "office.db")),
+                policy: Some(file(&rt, alloc, "office.toml")),
             },
         ),
     ];
@@ -281,6 +336,15 @@ fn reads_words(rt: HostRuntime) {
         ("--help", "card     Reads a card"),
         ("card --help", "Usage: book_desk card\n"),
         ("help card", "member-without-group"),
+        ("--help", "import   Adopts a policy in a store"),
+        (
+            "import --help",
+            "Usage: book_desk import --store <FILE> <POLICY>\n",
+        ),
+        ("help import", "unchanged, epoch N"),
+        ("--help", "audit    Prints the memberships"),
+        ("audit --help", "Usage: book_desk audit --store <FILE>\n"),
+        ("help audit", "member GROUP MEMBER"),
         ("--help", "pipe     Serves the requests"),
         ("pipe --help", "Usage: book_desk pipe [OPTIONS]\n"),
         ("help serve", "--connections <N>"),
@@ -311,6 +375,22 @@ fn refuses_words(rt: HostRuntime) {
         ("--store", "error: unexpected argument '--store' found"),
         ("explain this", "error: unexpected argument 'this' found"),
         ("card a.vcf", "error: unexpected argument 'a.vcf' found"),
+        (
+            "import office.toml",
+            "error: the following required arguments were not provided",
+        ),
+        (
+            "import --store office.db",
+            "error: the following required arguments were not provided",
+        ),
+        (
+            "import --store office.db a.toml b.toml",
+            "error: unexpected argument 'b.toml' found",
+        ),
+        (
+            "audit",
+            "error: the following required arguments were not provided",
+        ),
         (
             "pipe requests",
             "error: unexpected argument 'requests' found",

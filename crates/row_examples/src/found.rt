@@ -1,8 +1,7 @@
 //! What is found of a store that is there: its schema, its version, and its rows.
 
 use crate::stores::{node, store, whole_rows};
-use book_store::{all_entry_rows, create, is_book_schema, reopen, says_other_version};
-use book_tables::are_entries;
+use book_store::{create, is_book_schema, reopen, says_other_version};
 use sqlite::{Connection, MemStore};
 use std::process::Abort;
 
@@ -14,41 +13,6 @@ fn is_other(rt: &impl Abort, connection: &mut Connection<MemStore>) -> bool {
     assert!(rt; connection.is_autocommit());
     let mut transaction = connection.transaction();
     says_other_version(&mut transaction).expect(rt, "the version")
-}
-
-fn entries_pass(rt: &impl Abort, connection: &mut Connection<MemStore>) -> bool {
-    assert!(rt; connection.is_autocommit());
-    let mut transaction = connection.transaction();
-    let rows = all_entry_rows(&mut transaction).expect(rt, "entries");
-    are_entries(&rows)
-}
-
-#[test]
-fn entries_are_spelled_in_one_way(rt: HostRuntime) {
-    let alloc = rt.alloc();
-    let mut connection = store(&rt, alloc);
-    assert!(rt; entries_pass(&rt, &mut connection));
-    let word = "INSERT INTO ace VALUES (1, 1, 0, 5, NULL, 0, 1, 255)";
-    run(&rt, &mut connection, word);
-    let path = "INSERT INTO ace VALUES (2, 0, 3, 0, '/people/ann', 1, 0, 0)";
-    run(&rt, &mut connection, path);
-    assert!(rt; entries_pass(&rt, &mut connection));
-    for wrong in [
-        "mask = 256",
-        "form = 6",
-        "form = 0",
-        "invert = 2",
-        "place = -1",
-        "protected = 2",
-    ] {
-        let sql = format!(in alloc; "UPDATE ace SET {wrong} WHERE node = 1").expect(&rt, wrong);
-        run(&rt, &mut connection, sql.as_str());
-        assert!(rt; !entries_pass(&rt, &mut connection), "{wrong}");
-        let right = "protected = 1, place = 0, form = 5, invert = 0, mask = 255";
-        let sql = format!(in alloc; "UPDATE ace SET {right} WHERE node = 1").expect(&rt, right);
-        run(&rt, &mut connection, sql.as_str());
-    }
-    assert!(rt; entries_pass(&rt, &mut connection));
 }
 
 #[test]

@@ -1,0 +1,277 @@
+-- The entries of one child among those of all children are the entries of its lists: a sorted list, sifted, is the sifted list, sorted.
+use Rattle.std.proofs.Common.{◌≡◌, inl, inr, ℕ, suc, ℤ, Bool, true, false, not, cond, ◌&&◌, List, [], ◌∷◌, map, filter, drop, None, refl, sym, ap, subst, ◌∙◌, true≢false, arith, Ordering, Less, Equal, Greater, is_gt, int_cmp, int_eq}
+use Rattle.std.specs.Prelude.{◌≤ℤ◌, int_lt}
+use Rattle.std.specs.Cmp.{IsTotalOrder}
+use Rattle.std.specs.List.{AllByRecursion}
+use Rattle.std.specs.Ordering.{ordering_reverse, ordering_then}
+use Rattle.std.proofs.lemmas.Bool.{and_parts}
+use Rattle.std.proofs.lemmas.Cmp.{tied_itself, upto, on_total, then_total}
+use Rattle.std.proofs.lemmas.Int.{ints}
+use Rattle.sqlite.specs.declared.types.Value.{Value}
+use Rattle.sqlite.specs.declared.types.Value.TheVariants.{Null, Int, Real, Text, Blob}
+use Rattle.sqlite.specs.Edit.{id_in}
+use Rattle.sqlite.specs.Effect.{Database, IsDatabase}
+use Rattle.sqlite.specs.Kind.TheVariants as kinds
+use Rattle.sqlite.specs.Ops.{is_null}
+use Rattle.sqlite.specs.Order.{Row, column, value_cmp}
+use Rattle.sqlite.specs.Tree.{rowid}
+use Rattle.sqlite_trees.specs.Tree.{IsAscending}
+use Rattle.sqlite_value.proofs.OrderLemmas.{value_cmp_total, value_cmp-Int}
+use Rattle.sqlite_schema.specs.declared.schema.Column.{Column}
+use Rattle.sqlite_schema.specs.declared.schema.Constraint.TheVariants.{Datatype, NotNull}
+use Rattle.sqlite_schema.specs.Rules.{is_of as is_kind, are_typed, are_present, has_computed}
+use Rattle.sqlite_rules.specs.Lists.{Has}
+use Rattle.sqlite_rules.proofs.ListLemmas.{all_has, all_from, has_filtered, some_from}
+use Rattle.sqlite_keyed.specs.Lists.{insert_sorted, sort_by}
+use Rattle.sqlite_keyed.proofs.ListLemmas.{all_weaker, all-filter, filter-map, map-map, ascending-map}
+use Rattle.sqlite_trees.proofs.ListLemmas.{filter_same}
+use Rattle.sqlite_catalog.proofs.ListFacts.{filter_within}
+use Rattle.book_lists.specs.declared.entries.Entry.{Entry}
+use Rattle.book_rows.specs.Lists.{by_list, by_path, listed_columns, child_entries, children_of}
+use Rattle.book_rows.specs.Rows.{Rows, rows_of, has, IsBook}
+use Rattle.book_rows.specs.Schema.{book_schema, node_table, ace_table, ace_columns}
+use Rattle.book_rows.specs.Writes.{by_place, flag, is_below, is_entry, is_under}
+use Rattle.book_rows.proofs.Shapes.{key_is}
+use Rattle.book_rows.proofs.Typing.{typed_at}
+use Rattle.book_tables.specs.Children.{child_shown, listed_shown}
+use Rattle.book_tables.specs.Listing.{entry_shown}
+use Rattle.book_tables.specs.Rows.{entry_of, list_in}
+use Rattle.book_tables.specs.Shares.{DoNotFall, child_among, is_listed, is_of, list_among, list_of, node_in}
+use Rattle.book_tables.proofs.ChildRows.{ascending_within, by_path_total}
+use Rattle.book_tables.proofs.ChildrenTold.{columns, map_within}
+use Rattle.book_tables.proofs.Looking.{has_int, int_itself, same_ints}
+use Rattle.book_tables.proofs.SameLists.{has_sorted}
+
+-- ---- a sorted list
+
+module _ {X : Type 0} (cmp : X → X → Ordering) (total : IsTotalOrder cmp) where
+  abbrev pub AtMost : X → X → Type 0
+  AtMost a b = is_gt (cmp a b) ≡ false
+
+  reversed : (o : Ordering) → is_gt o ≡ true → is_gt (ordering_reverse o) ≡ false
+  reversed Less h = absurd (true≢false (sym h))
+  reversed Equal h = refl
+  reversed Greater h = refl
+
+  still_at_most : (x y : X) (xs : List X) → AtMost x y → AllByRecursion (AtMost y) xs → AllByRecursion (AtMost x) xs
+  still_at_most x y xs first above = all_weaker (AtMost y) (AtMost x) (λ z. upto total x y z first) xs above
+
+  -- it has its place among what it is at most
+  at_most_inserted : (x new : X) (xs : List X) → AtMost x new → AllByRecursion (AtMost x) xs → AllByRecursion (AtMost x) (insert_sorted cmp new xs)
+  at_most_inserted x new [] h above = (h, tt)
+  at_most_inserted x new (y ∷ xs) h above =
+      elim (is_gt (cmp new y)) as (λ b. AllByRecursion (AtMost x) (cond b (y ∷ insert_sorted cmp new xs) (new ∷ y ∷ xs)))
+      [ true ↦ (above.0, at_most_inserted x new xs h above.1) | false ↦ (h, above) ]
+
+  up_inserted : (new : X) (xs : List X) → IsAscending AtMost xs → IsAscending AtMost (insert_sorted cmp new xs)
+  up_inserted new [] up = (tt, tt)
+  up_inserted new (x ∷ xs) up = go (is_gt (cmp new x)) refl (up_inserted new xs up.1)
+    where
+      go : (b : Bool) → is_gt (cmp new x) ≡ b → IsAscending AtMost (insert_sorted cmp new xs) → IsAscending AtMost (cond b (x ∷ insert_sorted cmp new xs) (new ∷ x ∷ xs))
+      go true e more = (at_most_inserted x new xs (ap is_gt (total.antisymm x new) ∙ reversed (cmp new x) e) up.0, more)
+      go false e more = ((e, still_at_most new x xs e up.0), up)
+
+  pub up_sorted : (xs : List X) → IsAscending AtMost (sort_by cmp xs)
+  up_sorted [] = tt
+  up_sorted (x ∷ xs) = up_inserted x (sort_by cmp xs) (up_sorted xs)
+
+  inserted_first : (new : X) (xs : List X) → AllByRecursion (AtMost new) xs → insert_sorted cmp new xs ≡ new ∷ xs
+  inserted_first new [] above = refl
+  inserted_first new (x ∷ xs) above = rw above.0 refl
+
+  module _ (p : X → Bool) where
+    kept_inserted : (new : X) (xs : List X) → p new ≡ true → IsAscending AtMost xs → filter p (insert_sorted cmp new xs) ≡ insert_sorted cmp new (filter p xs)
+    kept_inserted new [] passes up = rw passes refl
+    kept_inserted new (x ∷ xs) passes up = go (is_gt (cmp new x)) refl (kept_inserted new xs passes up.1)
+      where
+        later : (c : Bool) → p x ≡ c → is_gt (cmp new x) ≡ true → filter p (insert_sorted cmp new xs) ≡ insert_sorted cmp new (filter p xs)
+            → filter p (x ∷ insert_sorted cmp new xs) ≡ insert_sorted cmp new (filter p (x ∷ xs))
+        later true h e more = rw (h, e) (ap (λ l. x ∷ l) more)
+        later false h e more = rw h more
+
+        go : (b : Bool) → is_gt (cmp new x) ≡ b → filter p (insert_sorted cmp new xs) ≡ insert_sorted cmp new (filter p xs)
+            → filter p (cond b (x ∷ insert_sorted cmp new xs) (new ∷ x ∷ xs)) ≡ insert_sorted cmp new (filter p (x ∷ xs))
+        go true e more = later (p x) refl e more
+        go false e more =
+            ap (λ b. cond b (new ∷ filter p (x ∷ xs)) (filter p (x ∷ xs))) passes
+            ∙ sym (inserted_first new (filter p (x ∷ xs)) (all-filter (AtMost new) p (x ∷ xs) (e, still_at_most new x xs e up.0)))
+
+    left_inserted : (new : X) (xs : List X) → p new ≡ false → filter p (insert_sorted cmp new xs) ≡ filter p xs
+    left_inserted new [] fails = rw fails refl
+    left_inserted new (x ∷ xs) fails = go (is_gt (cmp new x)) (left_inserted new xs fails)
+      where
+        go : (b : Bool) → filter p (insert_sorted cmp new xs) ≡ filter p xs → filter p (cond b (x ∷ insert_sorted cmp new xs) (new ∷ x ∷ xs)) ≡ filter p (x ∷ xs)
+        go true more = ap (λ l. cond (p x) (x ∷ l) l) more
+        go false more = ap (λ b. cond b (new ∷ filter p (x ∷ xs)) (filter p (x ∷ xs))) fails
+
+    pub sifted_sorted : (xs : List X) → filter p (sort_by cmp xs) ≡ sort_by cmp (filter p xs)
+    sifted_sorted [] = refl
+    sifted_sorted (x ∷ xs) = go (p x) refl (sifted_sorted xs)
+      where
+        go : (b : Bool) → p x ≡ b → filter p (sort_by cmp xs) ≡ sort_by cmp (filter p xs)
+            → filter p (insert_sorted cmp x (sort_by cmp xs)) ≡ sort_by cmp (cond b (x ∷ filter p xs) (filter p xs))
+        go true e more = kept_inserted x (sort_by cmp xs) e (up_sorted xs) ∙ ap (insert_sorted cmp x) more
+        go false e more = left_inserted x (sort_by cmp xs) e ∙ more
+
+  -- orders that are one where P holds sort it alike
+  module _ (other : X → X → Ordering) (P : X → Type 0) (one : (a b : X) → P a → P b → cmp a b ≡ other a b) where
+    inserted_alike : (new : X) (xs : List X) → P new → AllByRecursion P xs → insert_sorted cmp new xs ≡ insert_sorted other new xs
+    inserted_alike new [] h all = refl
+    inserted_alike new (x ∷ xs) h all =
+        ap (λ o. cond (is_gt o) (x ∷ insert_sorted cmp new xs) (new ∷ x ∷ xs)) (one new x h all.0)
+        ∙ ap (λ l. cond (is_gt (other new x)) (x ∷ l) (new ∷ x ∷ xs)) (inserted_alike new xs h all.1)
+
+    pub sorted_alike : (xs : List X) → AllByRecursion P xs → sort_by cmp xs ≡ sort_by other xs
+    sorted_alike [] all = refl
+    sorted_alike (x ∷ xs) all =
+        inserted_alike x (sort_by cmp xs) all.0 (all_from P (sort_by cmp xs) (λ y h. all_has P xs y all.1 (has_sorted cmp total xs y h)))
+        ∙ ap (insert_sorted other x) (sorted_alike xs all.1)
+
+both_tests : {X : Type 0} (p q : X → Bool) (xs : List X) → filter q (filter p xs) ≡ filter (λ x. p x && q x) xs
+both_tests p q [] = refl
+both_tests p q (x ∷ xs) = go (p x) refl (both_tests p q xs)
+  where
+    go : (b : Bool) → p x ≡ b → filter q (filter p xs) ≡ filter (λ y. p y && q y) xs
+        → filter q (cond b (x ∷ filter p xs) (filter p xs)) ≡ cond (b && q x) (x ∷ filter (λ y. p y && q y) xs) (filter (λ y. p y && q y) xs)
+    go true e more = ap (λ l. cond (q x) (x ∷ l) l) more
+    go false e more = more
+
+-- ---- the columns of an entry
+
+by_list_total : IsTotalOrder by_list
+by_list_total =
+    then_total (on_total (λ (r : Row). column r 1) value_cmp_total) (then_total (on_total (λ (r : Row). column r 2) value_cmp_total) (on_total (λ (r : Row). column r 3) value_cmp_total))
+
+-- the node and the list are whole numbers
+pub record IsNumbered (row : Row) : Type 0 where
+  pub node : column row 1 ≡ Int (id_in (column row 1))
+  pub list : column row 2 ≡ Int (id_in (column row 2))
+
+int_there : (v : Value) → is_null v ≡ false → is_kind kinds.Integer v ≡ true → v ≡ Int (id_in v)
+int_there Null there typed = absurd (true≢false there)
+int_there (Int n) there typed = refl
+int_there (Real x) there typed = absurd (true≢false (sym typed))
+int_there (Text t) there typed = absurd (true≢false (sym typed))
+int_there (Blob b) there typed = absurd (true≢false (sym typed))
+
+present : (b : Bool) → not b ≡ true → b ≡ false
+present false h = refl
+present true h = absurd (true≢false (sym h))
+
+behind_number : (row : Row) (i : ℕ) → column (drop 1 row) i ≡ column row (suc i)
+behind_number [] i = refl
+behind_number (v ∷ row) i = refl
+
+flag_is : (b : Bool) → flag b ≡ Int (id_in (flag b))
+flag_is true = refl
+flag_is false = refl
+
+at_most_numbers : (n m : ℤ) → is_gt (int_cmp n m) ≡ false → n ≤ℤ m
+at_most_numbers n m h = go (int_lt n m) (int_lt m n) refl refl h
+  where
+    go : (a b : Bool) → int_lt n m ≡ a → int_lt m n ≡ b → is_gt (cond a Less (cond b Greater Equal)) ≡ false → n ≤ℤ m
+    go true b p q k = grind (arith, ints)
+    go false true p q k = absurd (true≢false k)
+    go false false p q k = grind (arith, ints)
+
+first_at_most : (o rest : Ordering) → is_gt (ordering_then o rest) ≡ false → is_gt o ≡ false
+first_at_most Less rest h = refl
+first_at_most Equal rest h = refl
+first_at_most Greater rest h = h
+
+module _ (db : Database) (book : IsBook db) where
+  abbrev rows : Rows
+  rows = rows_of db.trees
+
+  rules : IsDatabase (record { schema = book_schema; trees = db.trees })
+  rules = subst (λ k. IsDatabase (record { schema = k; trees = db.trees })) book.schema book.rules
+
+  numbered : (row : Row) → Has rows.entries row → IsNumbered row
+  numbered row there =
+      let types = (and_parts (are_typed None 0 ace_columns (drop 1 row)) (has_computed ace_table row) (all_has _ rows.entries row (rules.obeys.rules Datatype).1.0 there)).0 in
+      let node = and_parts _ _ (all_has (λ r. are_present None 0 ace_columns r ≡ true) rows.entries row (rules.obeys.rules NotNull).1.0 there) in
+      let list = and_parts _ _ node.1 in
+      let at = λ (i : ℕ) (c : Column). typed_at None 0 ace_columns (drop 1 row) i c types in
+      record {
+        node = int_there (column row 1) (present (is_null (column row 1)) node.0) (ap (is_kind kinds.Integer) (sym (behind_number row 0)) ∙ at 0 _ refl refl refl);
+        list = int_there (column row 2) (present (is_null (column row 2)) list.0) (ap (is_kind kinds.Integer) (sym (behind_number row 1)) ∙ at 1 _ refl refl refl);
+      }
+
+  module _ (id : ℤ) where
+    abbrev below : List Row
+    below = filter (is_below (Int id) rows.nodes) rows.entries
+
+    abbrev sorted : List Row
+    sorted = sort_by by_list below
+
+    in_table : (row : Row) → Has sorted row → Has rows.entries row
+    in_table row h = (has_filtered (is_below (Int id) rows.nodes) rows.entries row (has_sorted by_list by_list_total below row h)).0
+
+    not_above : (a b : Row) → IsNumbered a → IsNumbered b → is_gt (by_list a b) ≡ false → id_in (column a 1) ≤ℤ id_in (column b 1)
+    not_above a b na nb h =
+        let first : is_gt (value_cmp (column a 1) (column b 1)) ≡ false = first_at_most (value_cmp (column a 1) (column b 1)) (ordering_then (value_cmp (column a 2) (column b 2)) (value_cmp (column a 3) (column b 3))) h in
+        at_most_numbers (id_in (column a 1)) (id_in (column b 1)) (sym (ap is_gt ((λ i. value_cmp (na.node i) (nb.node i)) ∙ value_cmp-Int (id_in (column a 1)) (id_in (column b 1)))) ∙ first)
+
+    pub do_not_fall : DoNotFall (child_entries id rows)
+    do_not_fall =
+        ascending-map (λ a b. node_in a ≤ℤ node_in b) listed_columns sorted
+        (ascending_within (AtMost by_list by_list_total) (λ a b. id_in (column a 1) ≤ℤ id_in (column b 1)) sorted
+        (λ a b in_a in_b h. not_above a b (numbered a (in_table a in_a)) (numbered b (in_table b in_b)) h) (up_sorted by_list by_list_total below))
+
+    -- ---- the lists of one child
+
+    module _ (child : Row) (there : Has rows.nodes child) (under : is_under (Int id) child ≡ true) (protected : Bool) where
+      abbrev number : ℤ
+      number = id_in (rowid child)
+
+      number_is : column child 0 ≡ Int number
+      number_is = key_is child (all_has _ rows.nodes child (book.rising node_table (inl refl)).1 there)
+
+      abbrev its : Row → Bool
+      its = is_entry (Int number) protected
+
+      -- what is told of an entry of one of its lists
+      tells : (row : Row) → IsNumbered row → its row ≡ true → (column row 1 ≡ Int number) × (column row 2 ≡ flag protected)
+      tells row n passes =
+          let both = and_parts (has 1 (Int number) row) (has 2 (flag protected) row) passes in
+          let second : has 2 (Int (id_in (flag protected))) row ≡ true = ap (λ v. has 2 v row) (sym (flag_is protected)) ∙ both.1 in
+          (n.node ∙ ap Int (same_ints 1 row (id_in (column row 1)) number n.node both.0), n.list ∙ ap Int (same_ints 2 row (id_in (column row 2)) (id_in (flag protected)) n.list second) ∙ sym (flag_is protected))
+
+      tested : (row : Row) → IsNumbered row → (is_of number (listed_columns row) && is_listed protected (listed_columns row)) ≡ its row
+      tested row n =
+          (λ i. sym (has_int 1 row (id_in (column row 1)) number n.node) i && sym (ap (λ v. has 2 v row) (flag_is protected) ∙ has_int 2 row (id_in (column row 2)) (id_in (flag protected)) n.list) i)
+
+      one_place : (a b : Row) → (column a 1 ≡ Int number) × (column a 2 ≡ flag protected) → (column b 1 ≡ Int number) × (column b 2 ≡ flag protected) → by_list a b ≡ by_place a b
+      one_place a b in_a in_b =
+          (λ i. ordering_then (value_cmp (in_a.0 i) (in_b.0 i)) (ordering_then (value_cmp (in_a.1 i) (in_b.1 i)) (by_place a b)))
+          ∙ ap (λ o. ordering_then o (ordering_then (value_cmp (flag protected) (flag protected)) (by_place a b))) (tied_itself value_cmp_total (Int number))
+          ∙ ap (λ o. ordering_then o (by_place a b)) (tied_itself value_cmp_total (flag protected))
+
+      its_below : (row : Row) → Has rows.entries row → its row ≡ true → is_below (Int id) rows.nodes row ≡ true
+      its_below row in_entries passes =
+          some_from _ rows.nodes child there
+          (ap (λ b. b && has 0 (column row 1) child) under ∙ ap (λ v. has 0 v child) (tells row (numbered row in_entries) passes).0 ∙ has_int 0 child number number number_is ∙ int_itself number)
+
+      sifted : filter its sorted ≡ sort_by by_place (filter its rows.entries)
+      sifted =
+          sifted_sorted by_list by_list_total its below ∙ ap (sort_by by_list) (filter_within its (is_below (Int id) rows.nodes) rows.entries its_below)
+          ∙ sorted_alike by_list by_list_total by_place (λ r. (column r 1 ≡ Int number) × (column r 2 ≡ flag protected)) one_place (filter its rows.entries)
+          (all_from _ (filter its rows.entries) (λ r h. let found = has_filtered its rows.entries r h in tells r (numbered r found.0) found.1))
+
+      pub share_is : list_of (child_entries id rows) number protected ≡ list_in rows.entries (Int number) protected
+      share_is =
+          ap (λ shown. list_among protected shown) (filter-map (is_of number) listed_columns sorted)
+          ∙ ap (map (entry_shown 2)) (filter-map (is_listed protected) listed_columns (filter (λ r. is_of number (listed_columns r)) sorted))
+          ∙ map-map (entry_shown 2) listed_columns (filter (λ r. is_listed protected (listed_columns r)) (filter (λ r. is_of number (listed_columns r)) sorted))
+          ∙ ap (map entry_of) (both_tests (λ r. is_of number (listed_columns r)) (λ r. is_listed protected (listed_columns r)) sorted
+          ∙ filter_same (λ r. is_of number (listed_columns r) && is_listed protected (listed_columns r)) its sorted (all_from _ sorted (λ r h. tested r (numbered r (in_table r h)))) ∙ sifted)
+
+    -- children with the lists that are told of all of them are the children with their lists
+    pub shares_are : (front : List ℕ) → map (child_among (child_entries id rows) front) (children_of id rows) ≡ map (child_shown rows front) (children_of id rows)
+    shares_are front =
+        let under = filter (is_under (Int id)) rows.nodes in
+        map-map (child_among (child_entries id rows) front) columns (sort_by by_path under)
+        ∙ map_within (λ x. child_among (child_entries id rows) front (columns x)) (λ x. child_shown rows front (columns x)) (sort_by by_path under) (λ x h.
+        let found = has_filtered (is_under (Int id)) rows.nodes x (has_sorted by_path by_path_total under x h) in
+        λ i. listed_shown front (share_is x found.0 found.1 true i) (share_is x found.0 found.1 false i) (columns x))
+        ∙ sym (map-map (child_shown rows front) columns (sort_by by_path under))
