@@ -243,6 +243,8 @@ const LAST_NUMBER: &[Step] = &[
     ("bob PUT /books/sales/b.vcf BO", "507 full"),
     ("bob PUT /books/sales/c.vcf BO", "507 full"),
     ("bob DELETE /books/sales/b.vcf", "507 full"),
+    ("bob COPY /books/sales/a.vcf /books/sales/b.vcf", "507 full"),
+    ("bob MOVE /books/sales/a.vcf /books/law/a.vcf", "507 full"),
     ("bob PROPPATCH /books/sales/b.vcf label X", "507 full"),
     ("bob PROPPATCH /books/sales label X", "200"),
     (
@@ -253,19 +255,26 @@ const LAST_NUMBER: &[Step] = &[
     ("bob DELETE /books/sales", "204"),
 ];
 
-/// One number is left.
+/// One number is left. A MOVE within a book takes two.
 const LAST_NUMBER_BUT_ONE: &[Step] = &[
     ("bob PUT /books/sales/b.vcf BO", "204"),
     ("bob PUT /books/sales/c.vcf BO", "201"),
     ("bob PROPPATCH /books/sales/b.vcf label X", "200"),
     ("bob DELETE /books/sales/b.vcf", "204"),
+    ("bob MOVE /books/sales/a.vcf /books/sales/z.vcf", "507 full"),
+    ("bob COPY /books/sales/a.vcf /books/sales/c.vcf", "204"),
+    ("bob MOVE /books/sales/a.vcf /books/law/a.vcf", "201"),
 ];
+
+/// Two numbers are left.
+const LAST_NUMBER_BUT_TWO: &[Step] = &[("bob MOVE /books/sales/a.vcf /books/sales/z.vcf", "201")];
 
 #[test]
 fn the_last_number_does_not_rise(rt: HostRuntime) {
     for (number, steps) in [
         (9_007_199_254_740_991, LAST_NUMBER),
         (9_007_199_254_740_990, LAST_NUMBER_BUT_ONE),
+        (9_007_199_254_740_989, LAST_NUMBER_BUT_TWO),
     ] {
         let keeper = failing_keeper(&rt, rt.alloc(), OPEN, u64::MAX, Some(number));
         let mut machine = Machine::new(keeper);

@@ -80,11 +80,13 @@ fn lists_and_privileges_are_told_where_granted(rt: HostRuntime) {
     run_on_new(&rt, rt.alloc(), LISTS);
 }
 
-/// A child may deny what its parent grants, and owners are those of the child.
+/// A child may deny what its parent grants. Owners are those of the child, and `self` is the child.
 const APART: &[&str] = &[
     "own /books grant owner read",
     "own /books/sales grant /people/bob read read-acl",
     "own /books/sales/a.vcf deny /people/bob read-acl",
+    "own /people grant all read",
+    "own /people/bob deny not self read",
 ];
 
 const APART_STEPS: &[Step] = &[
@@ -109,6 +111,22 @@ const APART_STEPS: &[Step] = &[
          200 /books/sales | displayname [Sales]\n\
          200 /books/sales/a.vcf | displayname [A]\n\
          200 /books/sales/b.vcf | displayname [B]",
+    ),
+    (
+        "ann PROPFIND /people find-children displayname",
+        "207\n\
+         200 /people | displayname []\n\
+         200 /people/ann | displayname []\n\
+         403 read /people/bob /people/bob 1\n\
+         200 /people/gus | displayname []",
+    ),
+    (
+        "bob PROPFIND /people find-children displayname",
+        "207\n\
+         200 /people | displayname []\n\
+         200 /people/ann | displayname []\n\
+         200 /people/bob | displayname []\n\
+         200 /people/gus | displayname []",
     ),
 ];
 

@@ -191,8 +191,8 @@ fn rulings_are_for_who_is_asked_about(rt: HostRuntime) {
     run_on_new(&rt, rt.alloc(), RULINGS);
 }
 
-/// `owner` is read at the card, also in an entry of its book: bob owns the card, and ann the book. `self` is read at the
-/// person, also in an entry of the home.
+/// `owner` is read at the card, also in an entry of its book, and in a sync report: bob owns one card, and ann the other
+/// and the book. `self` is read at the person, also in an entry of the home.
 const READ_AT: &[Step] = &[
     ("adopt office", "changed, epoch 1"),
     ("bob PUT /books/sales/b.vcf BELL", "201"),
@@ -209,6 +209,11 @@ const READ_AT: &[Step] = &[
         "bob REPORT /books/law/b.vcf effective /people/ann",
         "200\nread -\nwrite-content -\nwrite-properties -\nbind -\nunbind -\nread-acl -\nwrite-acl -\n\
          read-current-user-privilege-set -",
+    ),
+    ("ann PUT /books/law/c.vcf BO", "201"),
+    (
+        "ann REPORT /books/law sync",
+        "207\n2 c.vcf [] 44 bytes\ndata:,law/1/2",
     ),
     ("adopt other", "changed, epoch 2"),
     (

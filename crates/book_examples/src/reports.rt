@@ -11,7 +11,8 @@ use std::alloc::Global;
 use std::process::Abort;
 
 /// The initial report has what the caller may read. Each later one tells the names that changed since its token, once,
-/// with the last number: also those that the caller may not read, as removed. A name may be removed and made again.
+/// with the last number: also those that the caller may not read, as removed. A protected entry of the book comes
+/// before those of a card. A name may be removed and made again.
 const CHANGES: &[Step] = &[
     ("bob PUT /books/sales/b.vcf BO", "201"),
     ("ann PUT /books/sales/f.vcf BELL", "201"),
@@ -20,7 +21,7 @@ const CHANGES: &[Step] = &[
         "207\n1 b.vcf [] 44 bytes\n2 f.vcf [] 47 bytes\ndata:,sales/1/2",
     ),
     (
-        "ann ACL /books/sales/f.vcf list deny /people/bob read",
+        "ann ACL /books/sales/f.vcf list deny owner read ; deny /people/bob read",
         "200",
     ),
     (

@@ -286,6 +286,10 @@ fn fronts_of_a_card_are_told(rt: HostRuntime) {
     for (len, fault) in FRONTS {
         check(&rt, rt.alloc(), front(BO, *len), fault);
     }
+    for len in 0..GROUP.len() {
+        let fault = fault_of(&rt, rt.alloc(), front(GROUP, len));
+        assert!(rt; fault.as_str() != "line 0: memory", "{len}");
+    }
 }
 
 /// A card with so many bytes of FN, and 37 more.

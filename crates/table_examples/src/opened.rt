@@ -23,14 +23,19 @@ fn law(rt: &impl Abort, alloc: Global) -> Connection<MemStore> {
     tables.release()
 }
 
+/// A store with no tables.
+fn bare(rt: &impl Abort, alloc: Global) -> Connection<MemStore> {
+    Connection::open_in_memory(alloc).expect(rt, "memory")
+}
+
 fn opened(rt: &impl Abort, alloc: Global, connection: Connection<MemStore>) -> Tables<MemStore> {
     let tables = open(alloc, connection);
     tables.ok().expect(rt, "an Office")
 }
 
-/// What is told of a store in which a statement was run.
+/// What is told of a store in which statements were run.
 fn told(alloc: Global, mut connection: Connection<MemStore>, sql: &str) -> &'static str {
-    if connection.execute(sql, &[]).is_err() {
+    if connection.execute_batch(sql).is_err() {
         return "refused";
     }
     match open(alloc, connection) {
@@ -42,7 +47,8 @@ fn told(alloc: Global, mut connection: Connection<MemStore>, sql: &str) -> &'sta
     }
 }
 
-/// A statement, and what is then told: each condition that the rows of an Office keep, broken once.
+/// Statements, and what is then told: each condition that the rows of an Office keep, broken once, and rules that are
+/// not those of the tables, taken away or added.
 const TOLD: &[(&str, &str)] = &[
     (
         "UPDATE node SET label = 'Law' WHERE path = '/books/law'",
@@ -115,6 +121,66 @@ const TOLD: &[(&str, &str)] = &[
         "INSERT INTO ace SELECT id, 1, 0, 5, NULL, 0, 1, 255 FROM node WHERE kind = 5",
         "no-store",
     ),
+    (
+        "INSERT INTO ace VALUES (1, 0, 0 - 1, 5, NULL, 0, 1, 255)",
+        "no-store",
+    ),
+    (
+        "INSERT INTO ace VALUES (1, 0, 7, 5, NULL, 0, 1, 256)",
+        "no-store",
+    ),
+    (
+        "INSERT INTO ace VALUES (1, 0, 7, 6, NULL, 0, 1, 255)",
+        "no-store",
+    ),
+    (
+        "INSERT INTO ace VALUES (1, 0, 7, 0, NULL, 0, 1, 255)",
+        "no-store",
+    ),
+    (
+        "INSERT INTO ace VALUES (1, 0, 7, 5, NULL, 2, 1, 255)",
+        "no-store",
+    ),
+    (
+        "INSERT INTO ace VALUES (1, 2, 7, 5, NULL, 0, 1, 255)",
+        "no-store",
+    ),
+    ("DROP INDEX node_owner", "no-store"),
+    ("CREATE INDEX node_label ON node (label)", "no-store"),
+    (
+        "CREATE TABLE note (id INTEGER PRIMARY KEY) STRICT",
+        "no-store",
+    ),
+    ("CREATE VIEW names AS SELECT path FROM node", "no-store"),
+    (
+        "DROP TABLE meta; CREATE TABLE meta (version INTEGER, epoch INTEGER NOT NULL) STRICT; INSERT INTO meta VALUES (1, 0)",
+        "no-store",
+    ),
+    (
+        "DROP TABLE member; CREATE TABLE member (grp TEXT NOT NULL, member TEXT NOT NULL REFERENCES node (path), PRIMARY KEY (grp, member)) STRICT; CREATE INDEX member_member ON member (member)",
+        "no-store",
+    ),
+    (
+        "DROP TABLE gone; UPDATE meta SET version = 2",
+        "other-version",
+    ),
+];
+
+/// Statements on a store with no tables, and what is then told.
+const TOLD_OF_OTHERS: &[(&str, &str)] = &[
+    ("", "no-store"),
+    (
+        "CREATE TABLE note (id INTEGER PRIMARY KEY) STRICT",
+        "no-store",
+    ),
+    (
+        "CREATE TABLE meta (version INTEGER NOT NULL); INSERT INTO meta VALUES (2)",
+        "other-version",
+    ),
+    (
+        "CREATE TABLE meta (version INTEGER NOT NULL); INSERT INTO meta VALUES (2), (2)",
+        "no-store",
+    ),
 ];
 
 #[test]
@@ -122,6 +188,10 @@ fn rows_of_no_office_are_no_store(rt: HostRuntime) {
     let alloc = rt.alloc();
     for (sql, wanted) in TOLD {
         let told = told(alloc, law(&rt, alloc), sql);
+        assert_eq!(rt; told, *wanted, "{sql}");
+    }
+    for (sql, wanted) in TOLD_OF_OTHERS {
+        let told = told(alloc, bare(&rt, alloc), sql);
         assert_eq!(rt; told, *wanted, "{sql}");
     }
 }

@@ -1,13 +1,15 @@
-//! Worked examples of targets, phrases, JSON bodies and streams, and nothing else: a crate with tests is proved twice,
-//! so they stand here, and the crates below have none.
+//! Worked examples of targets, phrases, JSON bodies, streams and connections, and nothing else: a crate with tests is
+//! proved twice, so they stand here, and the crates below have none.
 //!
 //! The wanted answers are those of the rules (RFC 9110, RFC 4918, RFC 3744, RFC 6578, RFC 8259 and own profile), worked
-//! out by hand. They are tables of texts: `offices` has the one function that owns a machine, `conversations` the bodies of
-//! replies, and `replies` those that no request of the examples has.
+//! out by hand. They are tables of texts: `offices` has the machines, `conversations` the bodies of replies, and
+//! `replies` those that no request of the examples has.
 #![tactic(auto)]
 
 #[cfg(test)]
 mod bodies;
+#[cfg(test)]
+mod connections;
 #[cfg(test)]
 mod conversations;
 #[cfg(test)]

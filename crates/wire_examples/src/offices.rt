@@ -37,7 +37,7 @@ grant = [\"read\", \"bind\"]
 ";
 
 /// A machine in memory that has adopted a policy.
-fn machine(rt: &impl Abort, alloc: Global, policy: &str) -> Machine<MemoryKeeper> {
+pub(crate) fn machine(rt: &impl Abort, alloc: Global, policy: &str) -> Machine<MemoryKeeper> {
     let policy = read_policy(alloc, policy).ok().expect(rt, "a policy");
     let mut machine = Machine::new(MemoryKeeper::new(alloc));
     machine
@@ -47,7 +47,7 @@ fn machine(rt: &impl Abort, alloc: Global, policy: &str) -> Machine<MemoryKeeper
     machine
 }
 
-/// Gives its bytes in pieces of one size; after so many reads each fails.
+/// Gives its bytes in pieces of one size; one read fails, after so many.
 #[derive(Drop)]
 struct Input<'a> {
     rest: &'a [u8],
@@ -57,10 +57,10 @@ struct Input<'a> {
 
 impl Read for Input<'_> {
     fn read(&mut self, buf: &mut [u8]) -> io::Result<usize> {
-        if self.reads == 0 {
-            return Err(ErrorKind::Other.into());
+        self.reads = self.reads.wrapping_sub(1);
+        if self.reads == u64::MAX {
+            return Err(ErrorKind::Interrupted.into());
         }
-        self.reads -= 1;
         let count = self.size.min(self.rest.len()).min(buf.len());
         buf[..count].copy_from_slice(&self.rest[..count]);
         self.rest = &self.rest[count..];
@@ -68,7 +68,7 @@ impl Read for Input<'_> {
     }
 }
 
-/// Takes at most so many bytes a write; after so many writes each fails.
+/// Takes at most so many bytes a write; one write fails, after so many.
 #[derive(Drop)]
 struct Output {
     taken: Vec<u8>,
@@ -78,10 +78,10 @@ struct Output {
 
 impl Write for Output {
     fn write(&mut self, buf: &[u8]) -> io::Result<usize> {
-        if self.writes == 0 {
-            return Err(ErrorKind::Other.into());
+        self.writes = self.writes.wrapping_sub(1);
+        if self.writes == u64::MAX {
+            return Err(ErrorKind::Interrupted.into());
         }
-        self.writes -= 1;
         let count = self.size.min(buf.len());
         self.taken.extend_from_slice(&buf[..count])?;
         Ok(count)
@@ -99,9 +99,9 @@ pub(crate) struct Cutting {
     pub(crate) read: usize,
     /// The most bytes of a write.
     pub(crate) write: usize,
-    /// How many reads succeed.
+    /// How many reads succeed before the one that fails.
     pub(crate) reads: u64,
-    /// How many writes succeed.
+    /// How many writes succeed before the one that fails.
     pub(crate) writes: u64,
 }
 

@@ -5,15 +5,15 @@ use book_wire::{Ended, Served, StreamFault};
 use std::alloc::Global;
 use std::process::Abort;
 
-/// A stream, what is written for it, how many requests were answered, how it ends, and how many changes the book of sales
-/// has afterwards.
+/// A stream, what is written for it, how many requests were answered, how it ends, and how many changes the book of
+/// sales has afterwards.
 type Row<'a> = (&'a str, &'a str, u64, Ended, u64);
 
 /// An OPTIONS, and a PUT of whose body 37 bytes are missing.
 const CUT: &str =
     "OPTIONS /books/sales HTTP/1.1\r\nx-office-caller: bob\r\n\r\nPUT /books/sales/n.vcf HTTP/1.1\r\nx-office-caller: bob\r\nContent-Length: 47\r\n\r\nBEGIN:VCAR";
 
-/// Streams in pieces of several sizes.
+/// Streams in pieces of several sizes; a piece of 100 bytes ends within the second head of the stream that is cut.
 const ROWS: &[Row<'static>] = &[
     ("", "", 0, Ended::Clean, 0),
     (
@@ -94,7 +94,7 @@ fn check(rt: &impl Abort, alloc: Global, row: &Row<'_>, cutting: Cutting) {
 #[test]
 fn streams_are_answered_in_pieces_of_any_size(rt: HostRuntime) {
     for row in ROWS {
-        for (read, write) in [(1, 1000), (7, 5), (70, 1000), (1000, 1000)] {
+        for (read, write) in [(1, 1000), (7, 5), (100, 1000), (1000, 1000)] {
             let cutting = Cutting {
                 read,
                 write,
@@ -141,9 +141,28 @@ const ALL_THREE: Result<Served, StreamFault> = Ok(Served {
     ended: Ended::Clean,
 });
 
-/// How many reads of 60 bytes and how many writes of 30 succeed; how many bytes of the replies are written, how many
-/// requests acted, and how the stream ends. Where a read fails each whole request was answered, and no other acted; where
-/// a write fails only the last may have acted unanswered.
+/// Each front of the three requests does what its whole requests do, and no more.
+#[test]
+fn fronts_act_by_their_whole_requests(rt: HostRuntime) {
+    let alloc = rt.alloc();
+    for (length, _) in THREE_CARDS.as_bytes().iter().enumerate() {
+        let (whole, more) = (length / 121, length % 121);
+        let answer = answered(&rt, alloc, POLICY, &THREE_CARDS.as_bytes()[..length], WHOLE);
+        let served = Served {
+            requests: whole as u64,
+            ended: if more == 0 { Ended::Clean } else { Ended::Cut },
+        };
+        assert_eq!(rt; answer.served, Ok(served), "{length}");
+        assert!(rt; THREE_CREATED.starts_with(answer.text.as_str()));
+        assert_eq!(rt; answer.text.len(), 43 * whole, "{length}");
+        assert!(rt; has_changes(&rt, alloc, &answer, whole as u64), "{length}");
+    }
+}
+
+/// The read or the write that fails, by the number of those before it: reads of 60 bytes, and writes of 30. How many
+/// bytes of the replies are written, how many requests acted, and how the stream ends. Neither is repeated, though the
+/// next would succeed. Where a read fails each whole request was answered, and no other acted; where a write fails only
+/// the last may have acted unanswered.
 const FAILURES: &[(u64, u64, usize, u64, Result<Served, StreamFault>)] = &[
     (0, u64::MAX, 0, 0, Err(StreamFault::Read)),
     (1, u64::MAX, 0, 0, Err(StreamFault::Read)),
@@ -179,4 +198,8 @@ fn reads_and_writes_fail(rt: HostRuntime) {
         assert_eq!(rt; answer.served, *served);
         assert!(rt; has_changes(&rt, alloc, &answer, *acted));
     }
+    let full = Cutting { write: 0, ..WHOLE };
+    let answer = answered(&rt, alloc, POLICY, THREE_CARDS.as_bytes(), full);
+    assert_eq!(rt; answer.served, Err(StreamFault::Write));
+    assert!(rt; has_changes(&rt, alloc, &answer, 1));
 }
