@@ -6,13 +6,14 @@
 #   make test    the gate: every proof from nothing, the edits that must fail, the tests, the programs, the streams
 #   make wrong   tries the wrong bodies that are too dear for each run of the gate: each must be refused
 #   make turned  turns meanings of the code, and sees that the example that guards each fails: no proof is tried
+#   make faults  makes stores, memory and disks fail at each point at which they can, and compares what is answered and kept
 #   make bench   proves and runs the benchmarks, which print figures
 #   make figures builds the program, and prints what its requests over a store in a file take
 #   make clean   removes what the others made
 #
 # They need rt, the command of the Rattle toolchain: on PATH, or in the kit whose folder RATTLE_KIT names.
 
-.PHONY: build demo streams test wrong turned bench figures clean
+.PHONY: build demo streams test wrong turned faults bench figures clean
 
 build:
 	@tools/build
@@ -31,6 +32,9 @@ wrong:
 
 turned:
 	@tools/turned
+
+faults:
+	@tools/faults
 
 bench:
 	@rt=$$(tools/find-rt) && \

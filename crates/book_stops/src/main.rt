@@ -1,0 +1,85 @@
+//! What a stop leaves of a store. Over a store in memory each kind of edit is made again and again: first the log and
+//! then the database file fails from its call k on, for each k counting from 0 until the file passes every call. What is
+//! left tells the Office before the edit or the one after it, and the one after it where the edit was answered `Ok`: once
+//! as the program alone stops, so that all that was written is kept, and once as the machine stops, so that what was not
+//! synced is lost. Each time the store is then closed and opened once more, and tells the same.
+//!
+//! It prints a line a kind, `NAME: N stops, B before, A after, W wrong`, where B, A and W count both ways of stopping, and
+//! last `N stops, W wrong`; the status is 1 where one is wrong. Words name the kinds; without any all are tried. Which
+//! Offices are wanted is told by a keeper in memory.
+//!
+//! Read `cases` for what is edited, `disks` for the files, `texts` for what is compared, and then `stops`.
+#![tactic(auto)]
+
+mod cases;
+mod counts;
+mod disks;
+mod plans;
+mod stops;
+mod texts;
+
+use anyhow::{Context, Result};
+use cases::{CASES, Case};
+use counts::Count;
+use disks::Disk;
+use sqlite_disk::Files;
+use std::env;
+use std::process::ExitCode;
+use std::rt::Env;
+use stops::{start_files, stops_of};
+
+/// The kinds that the words name.
+fn asked_cases(rt: &(impl AllocGlobal + Env)) -> Result<Vec<Case>> {
+    let mut asked = Vec::new(rt.alloc());
+    for word in env::args(rt)?.skip(1) {
+        asked.push(Case::named(word.as_str()).context("no such kind of edit")?)?;
+    }
+    Ok(asked)
+}
+
+/// Tries the stops of a kind, and prints their line.
+fn print_stops(rt: &(impl AllocGlobal + Print), start: &Files<Disk>, case: Case) -> Result<Count> {
+    let count = stops_of(rt.alloc(), start, case.plan)?;
+    let name = case.name;
+    let Count {
+        stops,
+        before,
+        after,
+        wrong,
+    } = count;
+    println!(rt; "{name}: {stops} stops, {before} before, {after} after, {wrong} wrong")?;
+    Ok(count)
+}
+
+/// Tries the stops of each of these kinds.
+fn print_each(
+    rt: &(impl AllocGlobal + Print),
+    start: &Files<Disk>,
+    cases: &[Case],
+) -> Result<Count> {
+    let mut all = Count::none();
+    for case in cases {
+        all = all.plus(print_stops(rt, start, *case)?);
+    }
+    Ok(all)
+}
+
+/// Tries the stops of the kinds that are asked for, or of all where none is.
+fn print_asked(rt: &(impl AllocGlobal + Print), asked: &[Case]) -> Result<Count> {
+    let start = start_files(rt.alloc())?;
+    if asked.is_empty() {
+        return print_each(rt, &start, &CASES);
+    }
+    print_each(rt, &start, asked)
+}
+
+fn main(rt: HostRuntime) -> Result<ExitCode> {
+    let asked = asked_cases(&rt)?;
+    let all = print_asked(&rt, asked.as_slice())?;
+    let (stops, wrong) = (all.stops, all.wrong);
+    println!(&rt; "{stops} stops, {wrong} wrong")?;
+    if wrong > 0 {
+        return Ok(ExitCode::FAILURE);
+    }
+    Ok(ExitCode::SUCCESS)
+}

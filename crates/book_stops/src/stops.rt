@@ -1,0 +1,186 @@
+//! The stops of an edit, each tried once.
+
+use crate::counts::{Count, Left};
+use crate::disks::{
+    Disk, Side, Store, close, connect, crash, empty_files, fused_files, is_spent, kept_files,
+};
+use crate::plans::Plan;
+use crate::texts::{Texts, make_start, office_text, wanted_texts};
+use anyhow::{Result, bail, ensure};
+use book_office::{Edit, Keeper};
+use book_opening::open;
+use book_tables::Tables;
+use sqlite::Connection;
+use sqlite_disk::Files;
+use std::alloc::Global;
+
+/// The seeds of the opens of a store, in turn: as it is made, as it is edited, after a stop and after a restart.
+const SEEDS: [u64; 4] = [1, 2, 3, 4];
+
+/// More calls than a trial makes of a file.
+const MOST_CALLS: u64 = 1_000;
+
+/// What an edit left, where a file may have failed.
+#[derive(Drop)]
+struct Trial {
+    files: Files<Disk>,
+    /// Whether the edit was answered `Ok`.
+    is_done: bool,
+}
+
+/// The files of tables that are closed.
+fn closed(tables: Tables<Store>) -> Result<Files<Disk>> {
+    match close(tables.release()) {
+        (files, false) => Ok(files),
+        (_, true) => bail!("a new store does not close"),
+    }
+}
+
+/// Makes the Office at the start over new tables.
+fn filled(alloc: Global, mut tables: Tables<Store>) -> Result<Files<Disk>> {
+    make_start(alloc, &mut tables)?;
+    closed(tables)
+}
+
+/// Makes the Office at the start over the connection to a new store.
+fn founded(alloc: Global, connection: Connection<Store>) -> Result<Files<Disk>> {
+    match Tables::create(connection) {
+        Ok(tables) => filled(alloc, tables),
+        Err(_) => bail!("no new store"),
+    }
+}
+
+/// The files of a store with the Office at the start.
+pub(crate) fn start_files(alloc: Global) -> Result<Files<Disk>> {
+    match connect(alloc, empty_files(alloc), SEEDS[0]) {
+        Ok(connection) => founded(alloc, connection),
+        Err(_) => bail!("no new files"),
+    }
+}
+
+/// Whether the keeper makes the edit.
+fn is_made<K: Keeper>(alloc: Global, keeper: &mut K, edit: &Edit) -> bool {
+    keeper.act(alloc, edit).is_ok()
+}
+
+/// Makes the edit over a store that was opened, and closes it.
+fn edited(alloc: Global, connection: Connection<Store>, edit: &Edit) -> Trial {
+    let mut tables = Tables::over(connection);
+    let is_done = is_made(alloc, &mut tables, edit);
+    let (files, _) = close(tables.release());
+    Trial { files, is_done }
+}
+
+/// Opens the files, makes the edit, and closes them.
+fn tried(alloc: Global, files: Files<Disk>, edit: &Edit) -> Trial {
+    match connect(alloc, files, SEEDS[1]) {
+        Ok(connection) => edited(alloc, connection, edit),
+        Err(files) => Trial {
+            files,
+            is_done: false,
+        },
+    }
+}
+
+/// An Office as a text, and the files of its store.
+type Told = Option<(String, Files<Disk>)>;
+
+/// The Office of the tables, and their files after they were closed.
+fn told_by_tables(alloc: Global, mut tables: Tables<Store>) -> Told {
+    let text = office_text(alloc, &mut tables).ok()?;
+    match close(tables.release()) {
+        (files, false) => Some((text, files)),
+        (_, true) => None,
+    }
+}
+
+/// The same of the tables of a store; none where it has no tables.
+fn told_by_store(alloc: Global, connection: Connection<Store>) -> Told {
+    match open(alloc, connection) {
+        Ok(tables) => told_by_tables(alloc, tables),
+        Err(_) => None,
+    }
+}
+
+/// The same of the tables that the files give; none where they give no tables.
+fn told(alloc: Global, files: Files<Disk>, seed: u64) -> Told {
+    match connect(alloc, files, seed) {
+        Ok(connection) => told_by_store(alloc, connection),
+        Err(_) => None,
+    }
+}
+
+/// The Office that the files tell after a stop, and again after a restart; none where they tell none, or another again.
+fn told_twice(alloc: Global, files: Files<Disk>) -> Option<String> {
+    let (text, files) = told(alloc, files, SEEDS[2])?;
+    let (again, _) = told(alloc, files, SEEDS[3])?;
+    if again == text { Some(text) } else { None }
+}
+
+/// What a stop left by the Office that is told: the one after the edit where it was answered `Ok`, and else that or the
+/// one before.
+fn judged(texts: &Texts, is_done: bool, told: Option<String>) -> Left {
+    let Some(told) = told else {
+        return Left::Wrong;
+    };
+    if !is_done && told == texts.before {
+        return Left::Before;
+    }
+    if told == texts.after {
+        return Left::After;
+    }
+    Left::Wrong
+}
+
+/// What a trial left: as the program stopped, and as the machine did.
+fn left_by(alloc: Global, texts: &Texts, trial: Trial) -> Result<Count> {
+    let Trial { mut files, is_done } = trial;
+    let mut count = Count::none();
+    let kept = kept_files(alloc, &files)?;
+    count.add(judged(texts, is_done, told_twice(alloc, kept)));
+    crash(&mut files);
+    count.add(judged(texts, is_done, told_twice(alloc, files)));
+    Ok(count)
+}
+
+/// The stops of an edit where one of the files fails, counting the calls that it passes upwards until it passes all.
+fn stops_at(
+    alloc: Global,
+    start: &Files<Disk>,
+    edit: &Edit,
+    texts: &Texts,
+    side: Side,
+) -> Result<Count> {
+    let mut count = Count::none();
+    for calls in 0..MOST_CALLS {
+        let mut trial = tried(alloc, fused_files(alloc, start, side, calls)?, edit);
+        let (is_spent, is_done) = (is_spent(&mut trial.files), trial.is_done);
+        let left = left_by(alloc, texts, trial)?;
+        if !is_spent {
+            ensure!(is_done && left.wrong == 0, "an edit with no stop is wrong");
+            return Ok(count);
+        }
+        count = count.plus(left);
+        count.add_stop();
+    }
+    bail!("an edit stops at each call")
+}
+
+/// The stops of an edit, of the log and then of the database file.
+fn stops_of_edit(alloc: Global, start: &Files<Disk>, edit: &Edit, texts: &Texts) -> Result<Count> {
+    let log = stops_at(alloc, start, edit, texts, Side::Log)?;
+    let database = stops_at(alloc, start, edit, texts, Side::Database)?;
+    Ok(log.plus(database))
+}
+
+/// The stops of an edit, with the Offices that are wanted.
+fn stops_judged(alloc: Global, start: &Files<Disk>, edit: &Edit) -> Result<Count> {
+    let texts = wanted_texts(alloc, edit)?;
+    stops_of_edit(alloc, start, edit, &texts)
+}
+
+/// The stops of an edit of the Office at the start.
+pub(crate) fn stops_of(alloc: Global, start: &Files<Disk>, plan: Plan) -> Result<Count> {
+    let edit = plan.edit(alloc)?;
+    stops_judged(alloc, start, &edit)
+}
