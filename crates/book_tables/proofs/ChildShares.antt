@@ -34,9 +34,10 @@ use Rattle.book_rows.specs.Writes.{by_place, flag, is_below, is_entry, is_under}
 use Rattle.book_rows.proofs.Shapes.{key_is}
 use Rattle.book_rows.proofs.Typing.{typed_at}
 use Rattle.book_tables.specs.Children.{child_shown, listed_shown}
+use Rattle.book_tables.specs.LastChanges.{AreCardsOf, card_shown, changed_shown}
 use Rattle.book_tables.specs.Listing.{entry_shown}
 use Rattle.book_tables.specs.Rows.{entry_of, list_in}
-use Rattle.book_tables.specs.Shares.{DoNotFall, child_among, is_listed, is_of, list_among, list_of, node_in}
+use Rattle.book_tables.specs.Shares.{DoNotFall, card_among, child_among, is_listed, is_of, list_among, list_of, node_in}
 use Rattle.book_tables.proofs.ChildRows.{ascending_within, by_path_total}
 use Rattle.book_tables.proofs.ChildrenTold.{columns, map_within}
 use Rattle.book_tables.proofs.Looking.{has_int, int_itself, same_ints}
@@ -275,3 +276,12 @@ module _ (db : Database) (book : IsBook db) where
         let found = has_filtered (is_under (Int id)) rows.nodes x (has_sorted by_path by_path_total under x h) in
         λ i. listed_shown front (share_is x found.0 found.1 true i) (share_is x found.0 found.1 false i) (columns x))
         ∙ sym (map-map (child_shown rows front) columns (sort_by by_path under))
+
+    -- and so are changed cards
+    pub cards_are : (front : List ℕ) (shown : List Row) → AreCardsOf rows id shown → map (card_among (child_entries id rows) front) shown ≡ map (card_shown rows front) shown
+    cards_are front [] cards = refl
+    cards_are front (row ∷ shown) cards =
+        let number : node_in row ≡ id_in (rowid cards.0.0) = ap id_in cards.0.3 in
+        let own : list_of (child_entries id rows) (node_in row) false ≡ list_in rows.entries (Int (node_in row)) false =
+        ap (λ k. list_of (child_entries id rows) k false) number ∙ share_is cards.0.0 cards.0.1 cards.0.2 false ∙ ap (λ k. list_in rows.entries (Int k) false) (sym number) in
+        λ i. changed_shown front (own i) row ∷ cards_are front shown cards.1 i

@@ -1,5 +1,5 @@
 -- What is told of rows with their lists, one by one.
-use Rattle.std.proofs.Common.{◌≡◌, ℕ, ℤ, Bool, true, ◌+◌, ◌<◌, false, List, [], ◌∷◌, ◌++◌, map, take, length, get_or, codes, Option, Some, None, option_map, unwrap_or, refl, sym, ap, subst, ◌∙◌, IsPermutation}
+use Rattle.std.proofs.Common.{◌≡◌, ℕ, ℤ, Bool, true, ◌+◌, ◌<◌, false, List, [], ◌∷◌, ◌++◌, ◌&&◌, map, filter, take, length, get_or, codes, Option, Some, None, option_map, unwrap_or, refl, sym, ap, subst, ◌∙◌, IsPermutation}
 use Rattle.std.proofs.lemmas.List.{map-append, take_more}
 use Rattle.std.proofs.lemmas.List.Sorted.{IsPermutation-refl, IsPermutation-trans, IsPermutation-map, IsPermutation-append}
 use Rattle.sqlite.specs.declared.types.Value.TheVariants.{Int}
@@ -7,6 +7,8 @@ use Rattle.sqlite.specs.Edit.{id_in}
 use Rattle.sqlite.specs.Effect.{Database}
 use Rattle.sqlite.specs.Order.{Row, column}
 use Rattle.sqlite.specs.State.{State}
+use Rattle.std.proofs.lemmas.Bool.{and_parts}
+use Rattle.sqlite_rules.proofs.ListLemmas.{all_from, has_filtered}
 use Rattle.sqlite_keyed.proofs.ListLemmas.{map-map}
 use Rattle.book_lists.specs.declared.entries.Entry.{Entry}
 use Rattle.book_office.specs.declared.nodes.Changed.{Changed}
@@ -17,15 +19,16 @@ use Rattle.book_rows.specs.declared.nodes.Found.{Found}
 use Rattle.book_rows.specs.Lists as lists
 use Rattle.book_rows.specs.Lists.{ShowsList, ShowsRows, ShowsChildren, ShowsChildEntries, entry_columns}
 use Rattle.book_rows.specs.Nodes.{Finds, Told, told, told_of}
-use Rattle.book_rows.specs.Rows.{rows_of, IsBook}
+use Rattle.book_rows.specs.Rows.{Rows, rows_of, IsBook}
 use Rattle.book_rows.specs.Steps.{Looks}
-use Rattle.book_rows.specs.Writes.{entries_of}
+use Rattle.book_rows.specs.Writes.{entries_of, is_under}
 use Rattle.book_tables.specs.Children.{ShowsListing, child_shown}
-use Rattle.book_tables.specs.LastChanges.{ShowsEntries, ShowsCard, ShowsChanges, changed_shown, own_shown, card_shown, removed_shown, changes_of}
+use Rattle.book_tables.specs.LastChanges.{AreCardsOf, ShowsEntries, ShowsCard, ShowsCards, ShowsChanges, changed_shown, own_shown, card_shown, removed_shown, changes_of}
 use Rattle.book_tables.specs.Listing.{entry_shown}
 use Rattle.book_tables.specs.Rows.{row_at, list_in}
-use Rattle.book_tables.specs.Shares.{DoNotFall, child_among}
-use Rattle.book_tables.proofs.ChildShares.{do_not_fall, shares_are}
+use Rattle.book_tables.specs.Shares.{DoNotFall, card_among, child_among}
+use Rattle.book_tables.proofs.ChildShares.{cards_are, do_not_fall, shares_are}
+use Rattle.book_tables.proofs.SameLists.{has_mapped, has_permuted}
 
 pub entries_told : (s : State) (id : ℤ) (protected : Bool) (rows : List Row) (list : List Entry) → ShowsList s id protected rows → list ≡ map (entry_shown 0) rows → ShowsEntries s id protected list
 entries_told s id protected rows list shows is = (
@@ -55,10 +58,22 @@ none_changed s path number found is finds = (finds.0, λ book. go book (row_at (
     go book None e = IsPermutation-refl []
     go book (Some node) e = some_apart (sym (ap (option_map told_of) e) ∙ sym (finds.1 book) ∙ ap (option_map told) is)
 
+-- what is shown of the changed cards of a book is shown of its cards
+cards_found : (rows : Rows) (id : ℤ) (number : ℕ) (cards : List Row) → IsPermutation (lists.changed_after id number rows) cards → AreCardsOf rows id cards
+cards_found rows id number cards same = all_from _ cards (λ shown h.
+    let changed = has_mapped _ (filter (λ row. is_under (Int id) row && lists.is_above 8 number row) rows.nodes) shown (has_permuted (lists.changed_after id number rows) cards same shown h) in
+    let found = has_filtered (λ row. is_under (Int id) row && lists.is_above 8 number row) rows.nodes changed.0 changed.1 in
+    (changed.0, found.0, (and_parts (is_under (Int id) changed.0) (lists.is_above 8 number changed.0) found.1).0, ap (λ row. column row 0) changed.2))
+
+pub many_told : (s : State) (id : ℤ) (front : List ℕ) (rows entries : List Row) (changes : List Changed) → ShowsChildEntries s id entries → (DoNotFall entries → changes ≡ map (card_among entries front) rows) → ShowsCards s id front rows changes
+many_told s id front rows entries changes shows joined book cards =
+    let is = shows.1 book in
+    joined (subst DoNotFall (sym is) (do_not_fall s.now book id)) ∙ ap (λ es. map (card_among es front) rows) is ∙ cards_are s.now book id front rows cards
+
 module _ (old first second third : State) (path front : List ℕ) (number : ℕ) (f : Found) (found : Option Found) (is : found ≡ Some f) (finds : Finds old path (option_map told found))
     (look : Looks old first) (look_on : Looks first second) (look_last : Looks second third) (cards names : List Row)
     (shows_cards : ShowsRows first (lists.changed_after f.id number) cards) (shows_names : ShowsRows second (lists.gone_after f.id number) names) (front_is : front ≡ path ++ codes "/")
-    (shown changes : List Changed) (are_shown : IsBook third.now → shown ≡ map (card_shown (rows_of third.now.trees) front) cards) (changes_are : changes ≡ shown ++ map removed_shown names) where
+    (shown changes : List Changed) (are_shown : ShowsCards third f.id front cards shown) (changes_are : changes ≡ shown ++ map removed_shown names) where
   at_node : IsBook old.now → (r : Option Row) → row_at (rows_of old.now.trees) path ≡ r → IsPermutation (unwrap_or (option_map (changes_of (rows_of old.now.trees) (path ++ codes "/") number) r) []) changes
   at_node book None e = some_apart (sym (ap (option_map told) is) ∙ finds.1 book ∙ ap (option_map told_of) e)
   at_node book (Some node) e =
@@ -75,8 +90,10 @@ module _ (old first second third : State) (path front : List ℕ) (number : ℕ)
       subst (λ k. IsPermutation (lists.changed_after k number rows) cards) id (subst (λ (d : Database). IsPermutation (lists.changed_after f.id number (rows_of d.trees)) cards) e1 (shows_cards.1 b1)) in
       let in_names : IsPermutation (lists.gone_after (id_in (rowid node)) number rows) names =
       subst (λ k. IsPermutation (lists.gone_after k number rows) names) id (subst (λ (d : Database). IsPermutation (lists.gone_after f.id number (rows_of d.trees)) names) e2 (shows_names.1 b2)) in
+      let are_cards : AreCardsOf (rows_of third.now.trees) f.id cards =
+      subst (λ (d : Database). AreCardsOf (rows_of d.trees) f.id cards) (sym e3) (subst (λ k. AreCardsOf rows k cards) (sym id) (cards_found rows (id_in (rowid node)) number cards in_cards)) in
       let all : changes ≡ map (card_shown rows (path ++ codes "/")) cards ++ map removed_shown names =
-      changes_are ∙ ap (λ l. l ++ map removed_shown names) (are_shown b3 ∙ ap (λ (d : Database). map (card_shown (rows_of d.trees) front) cards) e3 ∙ ap (λ t. map (card_shown rows t) cards) front_is) in
+      changes_are ∙ ap (λ l. l ++ map removed_shown names) (are_shown b3 are_cards ∙ ap (λ (d : Database). map (card_shown (rows_of d.trees) front) cards) e3 ∙ ap (λ t. map (card_shown rows t) cards) front_is) in
       subst (IsPermutation (changes_of rows (path ++ codes "/") number node)) (sym all)
       (IsPermutation-append _ _ _ _ (IsPermutation-map (card_shown rows (path ++ codes "/")) _ _ in_cards) (IsPermutation-map removed_shown _ _ in_names))
 

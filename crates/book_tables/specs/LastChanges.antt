@@ -1,16 +1,19 @@
 -- The last changes of a book, as rows tell them.
-use Rattle.std.specs.Prelude.{◌≡◌, ℕ, ℤ, Bool, ◌<◌, false, List, [], ◌++◌, map, drop, length, codes, Some, None, option_map, unwrap_or, IsTrue, IsPermutation}
+use Rattle.std.specs.Prelude.{◌≡◌, ℕ, ℤ, Bool, ◌<◌, true, false, List, [], ◌++◌, map, drop, length, codes, Some, None, option_map, unwrap_or, IsTrue, IsPermutation}
+use Rattle.std.specs.List.{AllByRecursion}
 use Rattle.sqlite.specs.declared.types.Value.TheVariants.{Int}
 use Rattle.sqlite.specs.Edit.{id_in}
 use Rattle.sqlite.specs.Order.{Row, column}
 use Rattle.sqlite.specs.State.{State}
 use Rattle.sqlite.specs.Tree.{rowid}
+use Rattle.sqlite_rules.specs.Lists.{Has}
 use Rattle.sqlite_trees.specs.Tree.{IsAscending}
 use Rattle.book_lists.specs.declared.entries.Entry.{Entry}
 use Rattle.book_office.specs.declared.nodes.Changed.{Changed}
 use Rattle.book_rows.specs.Lists as lists
 use Rattle.book_rows.specs.Nodes.{number_in, text_in}
 use Rattle.book_rows.specs.Rows.{Rows, rows_of, IsBook}
+use Rattle.book_rows.specs.Writes.{is_under}
 use Rattle.book_tables.specs.Rows.{row_at, list_in}
 
 -- the change of a card with this own list: what is shown of its row is number, path, owner, label, text and change number, and its name stands behind what its path begins with
@@ -48,6 +51,14 @@ ShowsEntries s id protected list = IsTrue s.is_open × (IsBook s.now → list �
 -- it shows the change of a card, from what was shown of its row
 abbrev pub ShowsCard : State → List ℕ → Row → Changed → Type 0
 ShowsCard s front row changed = IsBook s.now → changed ≡ card_shown (rows_of s.now.trees) front row
+
+-- each of these rows is shown of a card of the book with a number
+abbrev pub AreCardsOf : Rows → ℤ → List Row → Type 0
+AreCardsOf rows book = AllByRecursion (λ shown. (card : Row) × Has rows.nodes card × (is_under (Int book) card ≡ true) × (column shown 0 ≡ rowid card))
+
+-- it shows the changes of those cards, with their lists
+abbrev pub ShowsCards : State → ℤ → List ℕ → List Row → List Changed → Type 0
+ShowsCards s book front rows changes = IsBook s.now → AreCardsOf (rows_of s.now.trees) book rows → changes ≡ map (card_shown (rows_of s.now.trees) front) rows
 
 -- an open connection shows the changes of a book above a number, in some order
 abbrev pub ShowsChanges : State → List ℕ → ℕ → List Changed → Type 0

@@ -5,9 +5,11 @@ use Rattle.sqlite.specs.Edit.{id_in}
 use Rattle.sqlite.specs.Order.{Row, column}
 use Rattle.sqlite_trees.specs.Tree.{IsAscending}
 use Rattle.book_lists.specs.declared.entries.Entry.{Entry}
+use Rattle.book_office.specs.declared.nodes.Changed.{Changed}
 use Rattle.book_office.specs.declared.nodes.Listed.{Listed}
 use Rattle.book_rows.specs.Writes.{flag}
 use Rattle.book_tables.specs.Children.{listed_shown}
+use Rattle.book_tables.specs.LastChanges.{changed_shown}
 use Rattle.book_tables.specs.Listing.{entry_shown}
 
 -- the number of the node whose row or whose entry it is
@@ -35,3 +37,7 @@ list_of shown node protected = list_among protected (filter (is_of node) shown)
 -- the child of a row, with its lists
 abbrev pub child_among : List Row → List ℕ → Row → Listed
 child_among shown front row = listed_shown front (list_of shown (node_in row) true) (list_of shown (node_in row) false) row
+
+-- the change of a card, with its own list
+abbrev pub card_among : List Row → List ℕ → Row → Changed
+card_among shown front row = changed_shown front (list_of shown (node_in row) false) row

@@ -9,19 +9,24 @@ ghost use Rattle.book_office.specs.Resources.{changed_after};
 ghost use Rattle.book_rows.specs.Rows.{rows_of, IsBook};
 ghost use Rattle.book_rows.specs.Steps.{Keeps, Spares, Stays};
 ghost use Rattle.book_tables.specs.Keeps.{standing_of};
-ghost use Rattle.book_tables.specs.LastChanges.{ShowsEntries, ShowsCard, ShowsChanges, changed_shown, card_shown, removed_shown, DoRise};
+ghost use Rattle.book_tables.specs.LastChanges.{ShowsEntries, ShowsCard, ShowsCards, ShowsChanges, changed_shown, card_shown, removed_shown, DoRise};
+ghost use Rattle.book_tables.specs.Shares.{DoNotFall, card_among};
 
 use crate::entries::entries_of;
 use crate::faults::fault_of;
 use crate::reading::owner_of;
+use crate::shares::{entries_of_node, list_told};
 use crate::tables::{Tables, book_text};
 use book_limits::LAST_NUMBER;
 use book_lists::{Entry, Name};
 use book_office::{Changed, StoreFault};
-use book_rows::{changed_rows, entry_rows, gone_rows, look_up};
+use book_rows::{changed_rows, child_entry_rows, entry_rows, gone_rows, look_up};
 use book_values::{Items, StoredCard, Text};
 use sqlite::{Alter, Connection, Error, ErrorCode, Row, Transaction};
 use std::alloc::Global;
+
+/// Up to this many cards the lists are looked up one by one: a look-up of all at once looks at every entry of the store.
+const FEW_CARDS: usize = 64;
 
 /// The name that a text is; an error where it is none.
 fn name_of(alloc: Global, text: &str) -> Result<Name, Error>
@@ -79,7 +84,7 @@ fn removed_of(alloc: Global, row: &Row) -> Result<Changed, Error>
 }
 
 /// The protected or the own list of the node with a number.
-pub(crate) fn list_of<S: Alter>(
+fn list_of<S: Alter>(
     alloc: Global,
     transaction: &mut Transaction<'_, S>,
     node: i64,
@@ -140,6 +145,76 @@ fn changed_cards<S: Alter>(
     Ok(changes)
 }
 
+/// The change of a card, with its own list among the entries of all cards of the book in order of the card's number.
+fn card_joined(alloc: Global, front: &str, row: &Row, entries: &[Row]) -> Result<Changed, Error>
+    ensures { IfOk result (λ changed. DoNotFall entries.now → changed ≡ card_among entries.now front.now row.now) }
+{
+    let its = entries_of_node(entries, row.get(0)?);
+    let own = list_told(alloc, its, false)?;
+    changed_of(alloc, front, row, own)
+}
+
+/// The changes of cards, with their own lists among those entries.
+fn cards_joined(
+    alloc: Global,
+    front: &str,
+    rows: &[Row],
+    entries: &[Row],
+) -> Result<Vec<Changed>, Error>
+    ensures { IfOk result (λ changes. DoNotFall entries.now
+        → changes.items ≡ map (card_among entries.now front.now) rows.now) }
+{
+    let mut changes = Vec::with_capacity(alloc, rows.len())?;
+    'cards: for row in rows {
+        changes.push(card_joined(alloc, front, row, entries)?)?;
+    }
+    Ok(changes)
+}
+
+/// The changes of cards of the book with a number, with one look-up of the lists of all its cards.
+fn many_cards<S: Alter>(
+    alloc: Global,
+    transaction: &mut Transaction<'_, S>,
+    book: i64,
+    front: &str,
+    rows: &[Row],
+) -> Result<Vec<Changed>, Error>
+    ensures same_reference { transaction.new.conn.ghost_name ≡ transaction.old.conn.ghost_name }
+    ensures survives { Survives (state S.Store transaction.old.conn.now) (state S.Store transaction.new.conn.now)
+        (λ _. ⊥) }
+    ensures kept { Keeps (state S.Store transaction.old.conn.now) (state S.Store transaction.new.conn.now) }
+    ensures stays { Spares (state S.Store transaction.old.conn.now) (state S.Store transaction.new.conn.now) result }
+    ensures shown { HasCleanDisk (state S.Store transaction.new.conn.now)
+        → IfOk result (λ changes. ShowsCards (state S.Store transaction.old.conn.now) book front.now rows.now changes.items) }
+{
+    let entries = child_entry_rows(transaction, book)?;
+    cards_joined(alloc, front, rows, &entries)
+}
+
+/// The changes of cards of the book with a number: the lists of few are looked up one by one, those of many at once.
+fn cards_of<S: Alter>(
+    alloc: Global,
+    transaction: &mut Transaction<'_, S>,
+    book: i64,
+    front: &str,
+    rows: &[Row],
+) -> Result<Vec<Changed>, Error>
+    ensures same_reference { transaction.new.conn.ghost_name ≡ transaction.old.conn.ghost_name }
+    ensures survives { Survives (state S.Store transaction.old.conn.now) (state S.Store transaction.new.conn.now)
+        (λ _. ⊥) }
+    ensures kept { Keeps (state S.Store transaction.old.conn.now) (state S.Store transaction.new.conn.now) }
+    ensures stays { Spares (state S.Store transaction.old.conn.now) (state S.Store transaction.new.conn.now) result }
+    ensures shown { HasCleanDisk (state S.Store transaction.new.conn.now)
+        → IfOk result (λ changes. ShowsCards (state S.Store transaction.old.conn.now) book front.now rows.now changes.items) }
+{
+    let are_many = rows.len() > FEW_CARDS;
+    if are_many {
+        many_cards(alloc, transaction, book, front, rows)
+    } else {
+        changed_cards(alloc, transaction, front, rows)
+    }
+}
+
 /// Adds the changes of removed names.
 fn push_removed(alloc: Global, changes: &mut Vec<Changed>, rows: &[Row]) -> Result<(), Error>
     ensures { OnOk result (changes.new.items ≡ changes.old.items ++ map removed_shown rows.now) }
@@ -172,7 +247,7 @@ fn changes_at<S: Alter>(
     let front = format!(in alloc; "{path}/")?;
     let cards = changed_rows(transaction, book.id, number)?;
     let names = gone_rows(transaction, book.id, number)?;
-    let mut changes = changed_cards(alloc, transaction, front.as_str(), &cards)?;
+    let mut changes = cards_of(alloc, transaction, book.id, front.as_str(), &cards)?;
     push_removed(alloc, &mut changes, &names)?;
     Ok(changes)
 }
@@ -239,8 +314,8 @@ fn up_to_last(number: u64) -> u64
 
 impl<S: Alter> Tables<S> {
     /// The last changes of a book above a number, in order of number, each with the card that has the name; none where
-    /// there is no such book. Its cost grows with the changes, not with the book. `Memory` is want of memory, `Store`
-    /// any other failure of the store.
+    /// there is no such book. The own lists of few cards are looked up one by one, those of many at once. `Memory` is
+    /// want of memory, `Store` any other failure of the store.
     pub fn changes_after(
         &mut self,
         alloc: Global,

@@ -3,9 +3,8 @@ use Rattle.std.proofs.Common.{◌≡◌, ◌++◌, [], None, map, codes, FitsSig
 use Rattle.std.proofs.lemmas.Int.{to_z-of_z}
 use Rattle.sqlite.specs.Held.{state}
 use Rattle.sqlite.specs.State.{HasCleanDisk}
-use Rattle.book_rows.specs.Rows.{rows_of}
 use Rattle.book_rows.proofs.Keeping.{unseen_then}
-use Rattle.book_tables.specs.LastChanges.{ShowsChanges, card_shown, removed_shown}
+use Rattle.book_tables.specs.LastChanges.{ShowsCards, ShowsChanges, removed_shown}
 use Rattle.book_tables.proofs.ToldRows.{none_changed, all_changed}
 use Rattle.book_tables.proofs.changes.changes_at.Goals as goal
 
@@ -22,7 +21,7 @@ returns-clause-shown g c clean =
     let first = state g.S.Store c.look_up.new.transaction.conn.now in
     let second = state g.S.Store c.changed_rows.new.transaction.conn.now in
     let third = state g.S.Store c.gone_rows.new.transaction.conn.now in
-    let clean_third : HasCleanDisk third = omega (arith, c.changed_cards.ensures.survives.clean, clean) in
+    let clean_third : HasCleanDisk third = omega (arith, c.cards_of.ensures.survives.clean, clean) in
     let clean_second : HasCleanDisk second = omega (arith, c.gone_rows.ensures.survives.clean, clean_third) in
     let clean_first : HasCleanDisk first = omega (arith, c.changed_rows.ensures.survives.clean, clean_second) in
     let range : FitsSigned w64 c.in-Some.book.id = search rules in
@@ -31,7 +30,7 @@ returns-clause-shown g c clean =
     all_changed old first second third c.args.path.now c.as_str.result.now c.args.number c.in-Some.book c.in_ok-book.field-0 c.in-Some.is (c.in_ok-book.ensures.found clean_first)
     (c.in_ok-book.ensures.stays clean_first) (c.in_ok-cards.ensures.stays clean_second) (c.in_ok-names.ensures.stays clean_third) c.in_ok-cards.cards.items c.in_ok-names.names.items
     (rw id at (c.in_ok-cards.ensures.shown clean_second)) (rw id at (c.in_ok-names.ensures.shown clean_third)) front_is c.in_ok-changes.changes.items c.push_removed.new.changes.items
-    (λ book. c.in_ok-changes.ensures.shown clean book ∙ ap (map (card_shown (rows_of third.now.trees) c.as_str.result.now)) c.deref.ensures.value)
+    (subst (λ l. ShowsCards third c.in-Some.book.id c.as_str.result.now l c.in_ok-changes.changes.items) c.deref.ensures.value (rw id at (c.in_ok-changes.ensures.shown clean)))
     (c.in_ok-push_removed.ensures ∙ ap (λ l. c.in_ok-changes.changes.items ++ map removed_shown l) c.deref-2.ensures.value)
 
 pub returns-clause-survives : goal.returns-clause-survives
@@ -40,5 +39,5 @@ returns-clause-survives g c =
     let first = state g.S.Store c.look_up.new.transaction.conn.now in
     let second = state g.S.Store c.changed_rows.new.transaction.conn.now in
     let third = state g.S.Store c.gone_rows.new.transaction.conn.now in
-    let new = state g.S.Store c.changed_cards.new.transaction.conn.now in
-    unseen_then old first new c.look_up.ensures.survives (unseen_then first second new c.changed_rows.ensures.survives (unseen_then second third new c.gone_rows.ensures.survives c.changed_cards.ensures.survives))
+    let new = state g.S.Store c.cards_of.new.transaction.conn.now in
+    unseen_then old first new c.look_up.ensures.survives (unseen_then first second new c.changed_rows.ensures.survives (unseen_then second third new c.gone_rows.ensures.survives c.cards_of.ensures.survives))
