@@ -146,7 +146,7 @@ module _ (rows : Rows) (o : Office) (gives : Gives rows o) (shaped : IsShaped Ta
         (at_most 1 (change_keys (whole_nodes rows) (gone_shown rows)) different (id, pos n))
 
     card_text : (a : List ℕ) (n : ℕ) → (x : HasCardRow a n) → column x.row 2 ≡ Text (card_path b a)
-    card_text a n x = found_at rows o gives shaped (card_path b a) x.row x.found
+    card_text a n x = found_at rows gives.nodes shaped (card_path b a) x.row x.found
 
     two_cards : (a c : List ℕ) (n : ℕ) → IsName a → IsName c → HasCardRow a n → HasCardRow c n → a ≢ c → ⊥
     two_cards a c n named_a named_c x y apart =

@@ -89,7 +89,7 @@ module _ (db : Database) (book : IsBook db) (o : Office) (gives : Gives (rows_of
   pub is_its_name : (x : Row) (in_gone : Has rows.gone x) → is_gone (rowid (removed_is x in_gone).there.0) (removed_is x in_gone).name x ≡ true
   is_its_name x in_gone =
       let it = removed_is x in_gone in
-      let number = number_of_row rows o gives (nodes_of db book).shaped (book_path it.book) it.there.0 it.there.1 in
+      let number = number_of_row rows gives.nodes (nodes_of db book).shaped (book_path it.book) it.there.0 it.there.1 in
       let first = has_number 1 x (rowid it.there.0) number.0 (it.there.2 ∙ number.1) number.1 in
       let second = has_text 2 x it.name it.name it.spelled ∙ same_itself it.name in
       λ i. first i && second i
@@ -103,7 +103,7 @@ module _ (db : Database) (book : IsBook db) (o : Office) (gives : Gives (rows_of
   unfoldable pub gone_changed : (k : Key) (x : Row) → Has rows.gone x → k ≡ gone_change (gone_row_shown x) → IsChange k
   gone_changed k x in_gone is =
       let it = removed_is x in_gone in
-      let number = number_of_row rows o gives (nodes_of db book).shaped (book_path it.book) it.there.0 it.there.1 in
+      let number = number_of_row rows gives.nodes (nodes_of db book).shaped (book_path it.book) it.there.0 it.there.1 in
       let first : id_in (column x 1) ≡ number.0 = ap id_in (it.there.2 ∙ number.1) in
       let second : id_in (column x 3) ≡ pos (number_in (column x 3)) = ap id_in it.number in
       record {
@@ -147,7 +147,7 @@ module _ (db : Database) (book : IsBook db) (o : Office) (gives : Gives (rows_of
       let both = sym a.key_is ∙ c.key_is in
       let number : a.number ≡ c.number = same_number a.number c.number (ap (λ (k : Key). k.1) both) in
       let same : rowid a.book_row ≡ rowid c.book_row = a.id_is ∙ ap (λ (k : Key). Int k.0) both ∙ sym c.id_is in
-      let texts = numbers_apart rows o gives (nodes_of db book).shaped (book_path a.b) (book_path c.b) a.book_row c.book_row a.found c.found same in
+      let texts = numbers_apart rows gives.nodes (nodes_of db book).shaped (book_path a.b) (book_path c.b) a.book_row c.book_row a.found c.found same in
       let books : a.b ≡ c.b = book_name (one_text (path.Book a.b) (path.Book c.b) a.named c.named texts) in
       let its : HasNumber o a.b c.name a.number = subst (λ n. HasNumber o a.b c.name n) (sym number) (subst (λ b. HasNumber o b c.name c.number) (sym books) c.has) in
       record { rows_are = same; books = books; names = numbers_tell_names o sound a.b a.name c.name a.number a.has its }

@@ -79,7 +79,7 @@ module _ (db : Database) (book : IsBook db) (o : Office) (gives : Gives (rows_of
       let node = all_has (IsNode rows) rows.nodes x gives.nodes there in
       let card = card_of node.0 (ap (λ v. nat_eq (number_in v) 5) (sym node.1.kind) ∙ of_card) in
       let at : IsNodeAt rows x (path.Card card.0 card.1) = subst (IsNodeAt rows x) card.2 node.1 in
-      let number = number_of_row rows o gives (nodes_of db book).shaped (book_path card.0) at.parent.0 at.parent.1 in
+      let number = number_of_row rows gives.nodes (nodes_of db book).shaped (book_path card.0) at.parent.0 at.parent.1 in
       record { b = card.0; c = card.1; at = at; book_row = at.parent.0; found = at.parent.1; id = number.0; id_is = number.1; under = at.parent.2 ∙ number.1 }
 
   -- a book has few cards
@@ -121,7 +121,7 @@ module _ (db : Database) (book : IsBook db) (o : Office) (gives : Gives (rows_of
       let node = all_has (IsNode rows) rows.nodes x.0 gives.nodes x.1 in
       let at = book_of node.0 (ap (λ v. nat_eq (number_in v) 4) (sym node.1.kind) ∙ ap (is_of_kind 4) (sym x.2) ∙ of_book) in
       let parent : IsParent rows (column x.0 3) (Some path.Books) = subst (λ p. IsParent rows (column x.0 3) (parent_of p)) at.1 node.1.parent in
-      let number = number_of_row rows o gives (nodes_of db book).shaped (path_text path.Books) home found in
+      let number = number_of_row rows gives.nodes (nodes_of db book).shaped (path_text path.Books) home found in
       let one : parent.0 ≡ home = same_some _ _ (sym parent.1 ∙ found) in
       ap (has 2 (rowid home)) x.2 ∙ has_number 3 x.0 (rowid home) number.0 (parent.2 ∙ ap rowid one ∙ number.1) number.1)
 

@@ -144,7 +144,7 @@ module _ (db : Database) (book : IsBook db) (o : Office) (gives : Gives (rows_of
   numbered x there =
       let it = member_row x there in
       let r = shown_is_at rows it.group it.group_there.node it.group_there.there in
-      let number = number_of_row rows o gives (nodes_of db book).shaped it.group r.0 r.1 in
+      let number = number_of_row rows gives.nodes (nodes_of db book).shaped it.group r.0 r.1 in
       let its : number_at (whole_nodes rows) it.group ≡ Some number.0 = number_shown rows it.group ∙ ap (option_map (λ row. id_in (rowid row))) r.1 ∙ ap (λ v. Some (id_in v)) number.1 in
       (r.0, r.1, number.0, number.1, ap (λ v. unwrap_or (number_at (whole_nodes rows) (unwrap_or (text_in v) [])) (pos 0)) it.group_is ∙ ap (λ n. unwrap_or n (pos 0)) its)
 
@@ -154,7 +154,7 @@ module _ (db : Database) (book : IsBook db) (o : Office) (gives : Gives (rows_of
       let a = numbered x in_x in
       let b = numbered y in_y in
       let one : rowid a.0 ≡ rowid b.0 = a.3 ∙ ap Int (sym a.4 ∙ same ∙ b.4) ∙ sym b.3 in
-      let groups = numbers_apart rows o gives (nodes_of db book).shaped (member_row x in_x).group (member_row y in_y).group a.0 b.0 a.1 b.1 one in
+      let groups = numbers_apart rows gives.nodes (nodes_of db book).shaped (member_row x in_x).group (member_row y in_y).group a.0 b.0 a.1 b.1 one in
       has_text 1 y (member_row x in_x).group (member_row x in_x).group ((member_row y in_y).group_is ∙ ap Text (sym groups)) ∙ same_itself (member_row x in_x).group
 
   few_keys : (k : Key) → length (filter (λ x. same_key k (group_key (whole_nodes rows) (pair_shown x), pos 0)) rows.members) ≤ MAX_MEMBERS

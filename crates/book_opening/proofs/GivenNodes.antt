@@ -34,7 +34,7 @@ module _ (db : Database) (book : IsBook db) (o : Office) (gives : Gives (rows_of
   pub below_number : (v : Value) (above : Option Path) → IsParent rows v above → IsBelow (whole_nodes rows) above v
   below_number v None h = h
   below_number v (Some p) (row, found, is) =
-      let number = number_of_row rows o gives (nodes_of db book).shaped (path_text p) row found in
+      let number = number_of_row rows gives.nodes (nodes_of db book).shaped (path_text p) row found in
       (number.0, number_shown rows (path_text p) ∙ ap (option_map (λ r. id_in (rowid r))) found ∙ ap (λ v. Some (id_in v)) number.1, is ∙ number.1)
 
   each_row : (row : Row) → Has rows.nodes row → IsNodeRow (whole_nodes rows) (node_shown row)

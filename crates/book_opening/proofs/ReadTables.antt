@@ -6,7 +6,7 @@ use Rattle.sqlite.specs.State.{State}
 use Rattle.book_rows.specs.Lists.{ShowsRows, pairs_of}
 use Rattle.book_rows.specs.Rows.{Rows, rows_of, IsBook}
 use Rattle.book_rows.specs.Steps.{Looks}
-use Rattle.book_rows.proofs.ListsShown.{looks_then}
+use Rattle.book_rows.proofs.Keeping.{looks_then}
 use Rattle.book_store.specs.Whole.{entries_shown, gone_shown, meta_shown}
 use Rattle.book_opening.specs.Reading.{ShowsLists, ShowsRest, ShowsTables}
 use Rattle.book_opening.specs.WholeNodes.{ShowsWholeNodes}

@@ -91,7 +91,7 @@ module _ (rows : Rows) (o : Office) (shaped : IsShaped TableShape rows.nodes) (b
       let changes = built.changes name book here in
       let card_name = λ (c : List ℕ) (card : StoredCard) (at : get book.cards c ≡ Some card). changes.names c (changes.changed c (λ none. some_apart (sym at ∙ none))) in
       row_at_path rows o built.gives (path.Book name) named (book_resource book) there (λ row found is.
-      let number = number_of_row rows o built.gives shaped (book_path name) row found in
+      let number = number_of_row rows built.gives.nodes shaped (book_path name) row found in
       record {
         properties = properties (path.Book name) named kind.Book book.changes.number book.properties there;
         cards = λ c card at. sound_card rows o built.gives shaped are.each_node are.each_entry are.lists name c named (card_name c card at) book card here at;

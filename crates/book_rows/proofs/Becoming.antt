@@ -127,7 +127,7 @@ works_entries olds = refl
 
 -- ---- a permutation of at most one
 
-empty_permutation : {X : Type 0} (ys : List X) → IsPermutation [] ys → ys ≡ []
+pub empty_permutation : {X : Type 0} (ys : List X) → IsPermutation [] ys → ys ≡ []
 empty_permutation [] h = refl
 empty_permutation (y ∷ ys) h = absurd (omega (arith, length_permutation [] (y ∷ ys) h))
 

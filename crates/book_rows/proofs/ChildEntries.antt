@@ -39,10 +39,10 @@ use Rattle.book_rows.proofs.Ordering.{then_equal}
 -- ---- entries with one node, list and place agree on the key
 
 -- the entry has a node, a list and a place
-abbrev HasKey : Row → Type 0
+abbrev pub HasKey : Row → Type 0
 HasKey row = (is_null (column row 1) ≡ false) × (is_null (column row 2) ≡ false) × (is_null (column row 3) ≡ false)
 
-abbrev key : List ℕ
+abbrev pub key : List ℕ
 key = 1 ∷ 2 ∷ 3 ∷ []
 
 same_key : (a b : Row) → equal Binary (column a 1) (column b 1) ≡ true → equal Binary (column a 2) (column b 2) ≡ true → equal Binary (column a 3) (column b 3) ≡ true → agree plain key a key b ≡ true
@@ -68,7 +68,7 @@ rest_apart : (a : Row) → HasKey a → (rows : List Row) → AllByRecursion Has
 rest_apart a na [] keys apart = tt
 rest_apart a na (r ∷ rows) keys apart = (tie a r na keys.0 apart.0, rest_apart a na rows keys.1 apart.1)
 
-lists_apart : (rows : List Row) → AllByRecursion HasKey rows → IsAscending (λ a b. agree plain key a key b ≡ false) rows → IsAscending (λ a b. is_eq (by_list a b) ≡ false) rows
+pub lists_apart : (rows : List Row) → AllByRecursion HasKey rows → IsAscending (λ a b. agree plain key a key b ≡ false) rows → IsAscending (λ a b. is_eq (by_list a b) ≡ false) rows
 lists_apart [] keys apart = tt
 lists_apart (r ∷ rows) keys apart = (rest_apart r keys.0 rows keys.1 apart.0, lists_apart rows keys.1 apart.1)
 
@@ -83,7 +83,7 @@ has_key row h =
     let place = and_parts _ _ list.1 in
     (present (is_null (column row 1)) node.0, present (is_null (column row 2)) list.0, present (is_null (column row 3)) place.0)
 
-all_keys : (rows : List Row) → AllByRecursion (λ row. are_present None 0 ace_columns row ≡ true) rows → AllByRecursion HasKey rows
+pub all_keys : (rows : List Row) → AllByRecursion (λ row. are_present None 0 ace_columns row ≡ true) rows → AllByRecursion HasKey rows
 all_keys [] h = tt
 all_keys (r ∷ rows) h = (has_key r h.0, all_keys rows h.1)
 

@@ -9,6 +9,7 @@ use Rattle.sqlite.specs.Listing.{understood}
 use Rattle.sqlite.specs.State.{State, IsUnchanged, IsRolledBack, KeepsCommit, IsNotRun, FailsToShow, FailsToQuery, IsTooLate, ShowsRows, Shown, Survives}
 use Rattle.sqlite.proofs.Callers.{IsPlain}
 use Rattle.sqlite.proofs.StateLemmas.{survives_then}
+use Rattle.book_rows.specs.Rows.{IsBook}
 use Rattle.book_rows.specs.Schema.{book_schema}
 use Rattle.book_rows.specs.Steps.{Looks}
 
@@ -96,3 +97,11 @@ looked sql plain params old new rows h = record {
 -- two steps of which a stop leaves nothing more are one
 pub unseen_then : (a b c : State) → Survives a b (λ _. ⊥) → Survives b c (λ _. ⊥) → Survives a c (λ _. ⊥)
 unseen_then a b c one two = survives_then a b c (λ _. ⊥) (λ _. ⊥) (λ _. ⊥) (λ _ db none. none) (λ _ db none. none) one two
+
+-- ---- reads one after the other
+
+pub looks_then : (a b c : State) → Looks a b → Looks b c → Looks a c
+looks_then a b c first second = record {
+  mode = second.mode ∙ first.mode;
+  same = λ book. second.same (subst IsBook (sym (first.same book)) book) ∙ first.same book;
+}

@@ -28,6 +28,6 @@ pub mod Counts
 pub mod ListSettings
 pub mod ChildEntries
 pub mod WrittenLists
-pub mod ListsShown
+pub mod EntriesAt
 pub mod PolicyWrites
 pub mod WrittenBoth

@@ -330,6 +330,28 @@ pub list_child_entries_unlisted : reads_listing book_schema text.list_child_entr
 unfolding understood everything
 list_child_entries_unlisted = refl
 
+-- the entries of which the node at a path is the node, in order
+abbrev pub entries_at_query : Query
+entries_at_query = record plain_query {
+  from = inner 0 (inner 2 end);
+  filter = equals 2 0 ∷ op2 (Compare Eq Binary) (col 2 1) (col 1 0) ∷ [];
+  project = col 2 1 ∷ col 2 2 ∷ col 2 4 ∷ col 2 5 ∷ col 2 6 ∷ col 2 7 ∷ col 2 8 ∷ [];
+  order = (col 2 1, ascending Binary) ∷ (col 2 2, ascending Binary) ∷ (col 2 3, ascending Binary) ∷ [];
+}
+
+pub list_entries_at_is : command_of (understood book_schema text.list_entries_at)
+    ≡ Select (record { lets = []; body = entries_at_query }) (codes "node" ∷ codes "protected" ∷ codes "form" ∷ codes "principal" ∷ codes "invert" ∷ codes "deny" ∷ codes "mask" ∷ [])
+unfolding understood everything
+list_entries_at_is = refl
+
+pub list_entries_at_plain : IsPlain (understood book_schema text.list_entries_at)
+unfolding understood everything
+list_entries_at_plain = (refl, refl)
+
+pub list_entries_at_unlisted : reads_listing book_schema text.list_entries_at ≡ false
+unfolding understood everything
+list_entries_at_unlisted = refl
+
 pub read_epoch_is : command_of (understood book_schema text.read_epoch) ≡ Select (record { lets = []; body = record plain_query { from = inner 8 end; project = col 1 1 ∷ col 1 2 ∷ [] } }) (codes "version" ∷ codes "epoch" ∷ [])
 unfolding understood everything
 read_epoch_is = refl

@@ -13,7 +13,7 @@ module _ {X : Type 0} (p : X → Bool) where
   none_passes [] h = refl
   none_passes (x ∷ xs) h = rw (h.0) (none_passes xs h.1)
 
-  drawn : (x : X) → p x ≡ true → (xs : List X) → AllByRecursion (λ y. p x ≡ true → p y ≡ false) xs → AllByRecursion (λ y. p y ≡ false) xs
+  pub drawn : (x : X) → p x ≡ true → (xs : List X) → AllByRecursion (λ y. p x ≡ true → p y ≡ false) xs → AllByRecursion (λ y. p y ≡ false) xs
   drawn x is [] h = tt
   drawn x is (y ∷ ys) h = (h.0 is, drawn x is ys h.1)
 

@@ -5,5 +5,4 @@ pub mod Writes
 pub mod Steps
 pub mod Nodes
 pub mod Lists
-pub mod Levels
 pub mod Adopting

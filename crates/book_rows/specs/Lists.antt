@@ -72,6 +72,14 @@ child_entries id rows = map listed_columns (sort_by by_list (filter (is_below (I
 abbrev pub ShowsChildEntries : State → ℤ → List Row → Type 0
 ShowsChildEntries s id shown = IsTrue s.is_open × (IsBook s.now → shown ≡ child_entries id (rows_of s.now.trees))
 
+-- the entries of the node at a path, its own list before its protected one, in order of their places; none where no row has the path
+abbrev pub entries_at : List ℕ → Rows → List Row
+entries_at path rows = unwrap_or (option_map (λ node. map listed_columns (sort_by by_list (filter (has 1 (rowid node)) rows.entries))) (find (is_at path) rows.nodes)) []
+
+-- an open connection shows the entries of the node at a path
+abbrev pub ShowsEntriesAt : State → List ℕ → List Row → Type 0
+ShowsEntriesAt s path shown = IsTrue s.is_open × (IsBook s.now → shown ≡ entries_at path (rows_of s.now.trees))
+
 -- how many children the node at a path has, 0 where there is none; SQL counts no further than the last whole number
 abbrev pub count_at : List ℕ → Rows → ℕ
 count_at path rows = unwrap_or (option_map (λ node. min 9223372036854775807 (length (filter (is_under (rowid node)) rows.nodes))) (find (is_at path) rows.nodes)) 0

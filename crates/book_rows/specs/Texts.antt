@@ -38,6 +38,10 @@ find_node = codes "SELECT id, kind, owner, label, text, number FROM node WHERE p
 abbrev pub list_entries : List ℕ
 list_entries = codes "SELECT form, principal, invert, deny, mask FROM ace WHERE node = ?1 AND protected = ?2 ORDER BY place"
 
+-- the entries of the node at a path
+abbrev pub list_entries_at : List ℕ
+list_entries_at = codes "SELECT ace.node, protected, form, principal, invert, deny, mask FROM node, ace WHERE path = ?1 AND ace.node = node.id ORDER BY ace.node, protected, place"
+
 -- ---- those that write
 
 abbrev pub insert_node : List ℕ

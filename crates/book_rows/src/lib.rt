@@ -6,10 +6,10 @@
 //! open connection shows what it showed; and a stop may leave the tables as before or as after it, and no third.
 //!
 //! Read `specs/Schema` first, the tables with their columns and rules; `specs/Writes`, what each statement and each
-//! edit makes of the rows; `specs/Steps`, what a call does to a connection; and `specs/Nodes`, `specs/Adopting`,
-//! `specs/Lists` and `specs/Levels`, the changes that edits make and what reads tell. Of the code, `nodes`, `cards` and
+//! edit makes of the rows; `specs/Steps`, what a call does to a connection; and `specs/Nodes`, `specs/Adopting`
+//! and `specs/Lists`, the changes that edits make and what reads tell. Of the code, `nodes`, `cards` and
 //! `epochs` have one statement a function; `putting`, `changing`, `removing`, `copying`, `moving`, `labels`, `setting`
-//! and `adopting` the edits; `lists`, `levels` and `counting` the reads of several rows.
+//! and `adopting` the edits; `lists` and `counting` the reads of several rows.
 #![tactic(auto)]
 
 mod adopting;
@@ -19,7 +19,6 @@ mod copying;
 mod counting;
 mod epochs;
 mod labels;
-mod levels;
 mod lists;
 mod moving;
 mod nodes;
@@ -33,8 +32,9 @@ pub use copying::copy_card;
 pub use counting::count_children;
 pub use epochs::read_epoch;
 pub use labels::{label_card, label_node};
-pub use levels::{NodeLists, lists_at};
-pub use lists::{changed_rows, child_entry_rows, child_rows, entry_rows, gone_rows, member_rows};
+pub use lists::{
+    changed_rows, child_entry_rows, child_rows, entry_rows, entry_rows_at, gone_rows, member_rows,
+};
 pub use moving::move_card;
 pub use nodes::{Found, insert_node, look_up};
 pub use putting::put_card;

@@ -3,7 +3,7 @@
 ghost use Rattle.std.specs.Prelude.{◌≡◌, ◌<◌, ◌^◌, IfOk};
 ghost use Rattle.sqlite.specs.Held.{state};
 ghost use Rattle.sqlite.specs.State.{HasCleanDisk, Survives};
-ghost use Rattle.book_rows.specs.Lists.{ShowsList, ShowsRows, ShowsChildren, ShowsChildEntries, pairs_of, gone_after, changed_after};
+ghost use Rattle.book_rows.specs.Lists.{ShowsList, ShowsRows, ShowsChildren, ShowsChildEntries, ShowsEntriesAt, pairs_of, gone_after, changed_after};
 ghost use Rattle.book_rows.specs.Steps.{Keeps, Spares};
 
 use sqlite::{Alter, Error, Row, Transaction, params};
@@ -26,6 +26,27 @@ pub fn entry_rows<S: Alter>(
     transaction.query_all(
         "SELECT form, principal, invert, deny, mask FROM ace WHERE node = ?1 AND protected = ?2 ORDER BY place",
         params![node, protected],
+    )
+}
+
+/// The entries of the node at a path, its own list before its protected one, in order of their places; none where no
+/// row has the path: the node's number, whether the list is the protected one, form, principal, invert, deny and mask
+/// of each.
+pub fn entry_rows_at<S: Alter>(
+    transaction: &mut Transaction<'_, S>,
+    path: &str,
+) -> Result<Vec<Row>, Error>
+    ensures same_reference { transaction.new.conn.ghost_name ≡ transaction.old.conn.ghost_name }
+    ensures survives { Survives (state S.Store transaction.old.conn.now) (state S.Store transaction.new.conn.now)
+        (λ _. ⊥) }
+    ensures kept { Keeps (state S.Store transaction.old.conn.now) (state S.Store transaction.new.conn.now) }
+    ensures stays { Spares (state S.Store transaction.old.conn.now) (state S.Store transaction.new.conn.now) result }
+    ensures shown { HasCleanDisk (state S.Store transaction.new.conn.now)
+        → IfOk result (λ rows. ShowsEntriesAt (state S.Store transaction.old.conn.now) path.now rows.items) }
+{
+    transaction.query_all(
+        "SELECT ace.node, protected, form, principal, invert, deny, mask FROM node, ace WHERE path = ?1 AND ace.node = node.id ORDER BY ace.node, protected, place",
+        params![path],
     )
 }
 

@@ -36,6 +36,7 @@ use Rattle.book_rows.proofs.Once.{PassesOnce}
 use Rattle.book_tables.specs.Rows.{row_at, resource_of, removed_from}
 use Rattle.book_tables.specs.Stands.{IsNodeAt, IsRemoved, Gives}
 use Rattle.book_tables.specs.LastChanges.{card_shown, removed_shown, changes_of}
+use Rattle.book_tables.proofs.RowFacts.{row_number}
 use Rattle.book_tables.proofs.Acting.{AreNodes}
 use Rattle.book_tables.proofs.BookChanges.{IsChange, are_changes, changes_are}
 use Rattle.book_tables.proofs.ChildRows.{found_once, row_of, its_resource, its_name, under_is, child_row}
@@ -103,11 +104,8 @@ module _ (rows : Rows) (o : Office) (gives : Gives rows o) (nodes : AreNodes row
   last_number name k at = omega (arith, (sound_book.within name k at).1, sound_book.last)
 
   -- the number of a row
-  row_number : (x : Row) → Has rows.nodes x → Int (id_in (rowid x)) ≡ rowid x
-  row_number x there = let k = Rattle.book_rows.proofs.Shapes.int_of (rowid x) (all_has _ rows.nodes x nodes.shaped.1 there) in ap (λ v. Int (id_in v)) k.1 ∙ sym k.1
-
   book_number : Int (id_in (rowid node)) ≡ rowid node
-  book_number = row_number node (found_has (is_at (book_path b)) rows.nodes node found).0
+  book_number = row_number rows nodes.shaped node (found_has (is_at (book_path b)) rows.nodes node found).0
 
   abbrev is_changed : Row → Bool
   is_changed row = is_under (Int (id_in (rowid node))) row && is_above 8 m row
@@ -130,7 +128,7 @@ module _ (rows : Rows) (o : Office) (gives : Gives rows o) (nodes : AreNodes row
   shows_card x c card k there at here last is =
       let number : number_in (column x 8) ≡ k = ap (λ (r : Resource). r.number) is ∙ ap (λ r. unwrap_or r 0) last in
       let name = its_name rows o gives nodes sound (path.Book b) named node found x (path.Card b c) at refl in
-      let own = ap (λ v. Rattle.book_tables.specs.Rows.list_in rows.entries v false) (row_number x there) ∙ ap (λ (r : Resource). r.own) is in
+      let own = ap (λ v. Rattle.book_tables.specs.Rows.list_in rows.entries v false) (row_number rows nodes.shaped x there) ∙ ap (λ (r : Resource). r.own) is in
       λ i. record {
         number = number i;
         name = name i;

@@ -125,23 +125,23 @@ module _ (rows : Rows) (o : Office) (gives : Gives rows o) (nodes : AreNodes row
 
     parent_is : (x : Row) (q : Path) → IsPath q → is_under (rowid node) x ≡ true → IsParent rows (column x 3) (Some q) → q ≡ p
     parent_is x q named passes (s, at, is) =
-        let k = number_of_row rows o gives nodes.shaped (path_text p) node found in
-        let ks = number_of_row rows o gives nodes.shaped (path_text q) s at in
+        let k = number_of_row rows gives.nodes nodes.shaped (path_text p) node found in
+        let ks = number_of_row rows gives.nodes nodes.shaped (path_text q) s at in
         let number : ks.0 ≡ k.0 = same_ints 3 x ks.0 k.0 (is ∙ ks.1) (ap (λ v. is_under v x) (sym k.1) ∙ passes) in
-        one_text q p named is_path (numbers_apart rows o gives nodes.shaped (path_text q) (path_text p) s node at found (ks.1 ∙ ap Int number ∙ sym k.1))
+        one_text q p named is_path (numbers_apart rows gives.nodes nodes.shaped (path_text q) (path_text p) s node at found (ks.1 ∙ ap Int number ∙ sym k.1))
 
     above_is : (x : Row) (q : Path) → IsNodeAt rows x q → is_under (rowid node) x ≡ true → parent_of q ≡ Some p
     above_is x q n passes = go (parent_of q) refl n.parent
       where
         go : (above : Option Path) → parent_of q ≡ above → IsParent rows (column x 3) above → above ≡ Some p
         go None e null =
-            let k = number_of_row rows o gives nodes.shaped (path_text p) node found in
+            let k = number_of_row rows gives.nodes nodes.shaped (path_text p) node found in
             absurd (true≢false (sym passes ∙ ap (λ v. is_under v x) k.1 ∙ has_null 3 x k.0 null))
         go (Some a) e parent = ap Some (parent_is x a (above_named q a n.named e) passes parent)
 
     pub under_is : (x : Row) (q : Path) → IsNodeAt rows x q → parent_of q ≡ Some p → is_under (rowid node) x ≡ true
     under_is x q n above =
-        let k = number_of_row rows o gives nodes.shaped (path_text p) node found in
+        let k = number_of_row rows gives.nodes nodes.shaped (path_text p) node found in
         let parent : IsParent rows (column x 3) (Some p) = subst (IsParent rows (column x 3)) above n.parent in
         let is : column x 3 ≡ Int k.0 = parent.2 ∙ ap rowid (same_some _ _ (sym parent.1 ∙ found)) ∙ k.1 in
         ap (λ v. is_under v x) k.1 ∙ has_int 3 x k.0 k.0 is ∙ int_itself k.0

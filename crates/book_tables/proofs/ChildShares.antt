@@ -1,5 +1,5 @@
--- The entries of one child among those of all children are the entries of its lists: a sorted list, sifted, is the sifted list, sorted.
-use Rattle.std.proofs.Common.{◌≡◌, inl, inr, ℕ, suc, ℤ, Bool, true, false, not, cond, ◌&&◌, List, [], ◌∷◌, map, filter, drop, None, refl, sym, ap, subst, ◌∙◌, true≢false, arith, Ordering, Less, Equal, Greater, is_gt, int_cmp, int_eq}
+-- The entries of one list among those of its node, or of all children, are the entries of the list: a sorted list, sifted, is the sifted list, sorted.
+use Rattle.std.proofs.Common.{◌≡◌, inl, ℕ, suc, ℤ, Bool, true, false, not, cond, ◌&&◌, List, [], ◌∷◌, map, filter, drop, None, refl, sym, ap, subst, ◌∙◌, true≢false, arith, Ordering, Less, Equal, Greater, is_gt, int_cmp}
 use Rattle.std.specs.Prelude.{◌≤ℤ◌, int_lt}
 use Rattle.std.specs.Cmp.{IsTotalOrder}
 use Rattle.std.specs.List.{AllByRecursion}
@@ -26,7 +26,6 @@ use Rattle.sqlite_keyed.specs.Lists.{insert_sorted, sort_by}
 use Rattle.sqlite_keyed.proofs.ListLemmas.{all_weaker, all-filter, filter-map, map-map, ascending-map}
 use Rattle.sqlite_trees.proofs.ListLemmas.{filter_same}
 use Rattle.sqlite_catalog.proofs.ListFacts.{filter_within}
-use Rattle.book_lists.specs.declared.entries.Entry.{Entry}
 use Rattle.book_rows.specs.Lists.{by_list, by_path, listed_columns, child_entries, children_of}
 use Rattle.book_rows.specs.Rows.{Rows, rows_of, has, IsBook}
 use Rattle.book_rows.specs.Schema.{book_schema, node_table, ace_table, ace_columns}
@@ -198,6 +197,48 @@ module _ (db : Database) (book : IsBook db) where
         list = int_there (column row 2) (present (is_null (column row 2)) list.0) (ap (is_kind kinds.Integer) (sym (behind_number row 1)) ∙ at 1 _ refl refl refl);
       }
 
+  -- ---- the lists of one node
+
+  module _ (number : ℤ) (protected : Bool) where
+    abbrev its : Row → Bool
+    its = is_entry (Int number) protected
+
+    -- what is told of an entry of one of its lists
+    tells : (row : Row) → IsNumbered row → its row ≡ true → (column row 1 ≡ Int number) × (column row 2 ≡ flag protected)
+    tells row n passes =
+        let both = and_parts (has 1 (Int number) row) (has 2 (flag protected) row) passes in
+        let second : has 2 (Int (id_in (flag protected))) row ≡ true = ap (λ v. has 2 v row) (sym (flag_is protected)) ∙ both.1 in
+        (n.node ∙ ap Int (same_ints 1 row (id_in (column row 1)) number n.node both.0), n.list ∙ ap Int (same_ints 2 row (id_in (column row 2)) (id_in (flag protected)) n.list second) ∙ sym (flag_is protected))
+
+    listed : (row : Row) → IsNumbered row → is_listed protected (listed_columns row) ≡ has 2 (flag protected) row
+    listed row n = sym (ap (λ v. has 2 v row) (flag_is protected) ∙ has_int 2 row (id_in (column row 2)) (id_in (flag protected)) n.list)
+
+    tested : (row : Row) → IsNumbered row → (is_of number (listed_columns row) && is_listed protected (listed_columns row)) ≡ its row
+    tested row n = (λ i. sym (has_int 1 row (id_in (column row 1)) number n.node) i && listed row n i)
+
+    one_place : (a b : Row) → (column a 1 ≡ Int number) × (column a 2 ≡ flag protected) → (column b 1 ≡ Int number) × (column b 2 ≡ flag protected) → by_list a b ≡ by_place a b
+    one_place a b in_a in_b =
+        (λ i. ordering_then (value_cmp (in_a.0 i) (in_b.0 i)) (ordering_then (value_cmp (in_a.1 i) (in_b.1 i)) (by_place a b)))
+        ∙ ap (λ o. ordering_then o (ordering_then (value_cmp (flag protected) (flag protected)) (by_place a b))) (tied_itself value_cmp_total (Int number))
+        ∙ ap (λ o. ordering_then o (by_place a b)) (tied_itself value_cmp_total (flag protected))
+
+    in_place : sort_by by_list (filter its rows.entries) ≡ sort_by by_place (filter its rows.entries)
+    in_place =
+        sorted_alike by_list by_list_total by_place (λ r. (column r 1 ≡ Int number) × (column r 2 ≡ flag protected)) one_place (filter its rows.entries)
+        (all_from _ (filter its rows.entries) (λ r h. let found = has_filtered its rows.entries r h in tells r (numbered r found.0) found.1))
+
+    -- a list among all entries of the node
+    pub list_is_told : list_among protected (map listed_columns (sort_by by_list (filter (has 1 (Int number)) rows.entries))) ≡ list_in rows.entries (Int number) protected
+    list_is_told =
+        let own = filter (has 1 (Int number)) rows.entries in
+        ap (map (entry_shown 2)) (filter-map (is_listed protected) listed_columns (sort_by by_list own))
+        ∙ map-map (entry_shown 2) listed_columns (filter (λ r. is_listed protected (listed_columns r)) (sort_by by_list own))
+        ∙ ap (map entry_of) (sifted_sorted by_list by_list_total (λ r. is_listed protected (listed_columns r)) own
+        ∙ ap (sort_by by_list) (filter_same (λ r. is_listed protected (listed_columns r)) (has 2 (flag protected)) own
+        (all_from _ own (λ r h. listed r (numbered r (has_filtered (has 1 (Int number)) rows.entries r h).0)))
+        ∙ both_tests (has 1 (Int number)) (has 2 (flag protected)) rows.entries)
+        ∙ in_place)
+
   module _ (id : ℤ) where
     abbrev below : List Row
     below = filter (is_below (Int id) rows.nodes) rows.entries
@@ -228,36 +269,15 @@ module _ (db : Database) (book : IsBook db) where
       number_is : column child 0 ≡ Int number
       number_is = key_is child (all_has _ rows.nodes child (book.rising node_table (inl refl)).1 there)
 
-      abbrev its : Row → Bool
-      its = is_entry (Int number) protected
-
-      -- what is told of an entry of one of its lists
-      tells : (row : Row) → IsNumbered row → its row ≡ true → (column row 1 ≡ Int number) × (column row 2 ≡ flag protected)
-      tells row n passes =
-          let both = and_parts (has 1 (Int number) row) (has 2 (flag protected) row) passes in
-          let second : has 2 (Int (id_in (flag protected))) row ≡ true = ap (λ v. has 2 v row) (sym (flag_is protected)) ∙ both.1 in
-          (n.node ∙ ap Int (same_ints 1 row (id_in (column row 1)) number n.node both.0), n.list ∙ ap Int (same_ints 2 row (id_in (column row 2)) (id_in (flag protected)) n.list second) ∙ sym (flag_is protected))
-
-      tested : (row : Row) → IsNumbered row → (is_of number (listed_columns row) && is_listed protected (listed_columns row)) ≡ its row
-      tested row n =
-          (λ i. sym (has_int 1 row (id_in (column row 1)) number n.node) i && sym (ap (λ v. has 2 v row) (flag_is protected) ∙ has_int 2 row (id_in (column row 2)) (id_in (flag protected)) n.list) i)
-
-      one_place : (a b : Row) → (column a 1 ≡ Int number) × (column a 2 ≡ flag protected) → (column b 1 ≡ Int number) × (column b 2 ≡ flag protected) → by_list a b ≡ by_place a b
-      one_place a b in_a in_b =
-          (λ i. ordering_then (value_cmp (in_a.0 i) (in_b.0 i)) (ordering_then (value_cmp (in_a.1 i) (in_b.1 i)) (by_place a b)))
-          ∙ ap (λ o. ordering_then o (ordering_then (value_cmp (flag protected) (flag protected)) (by_place a b))) (tied_itself value_cmp_total (Int number))
-          ∙ ap (λ o. ordering_then o (by_place a b)) (tied_itself value_cmp_total (flag protected))
-
-      its_below : (row : Row) → Has rows.entries row → its row ≡ true → is_below (Int id) rows.nodes row ≡ true
+      its_below : (row : Row) → Has rows.entries row → its number protected row ≡ true → is_below (Int id) rows.nodes row ≡ true
       its_below row in_entries passes =
           some_from _ rows.nodes child there
-          (ap (λ b. b && has 0 (column row 1) child) under ∙ ap (λ v. has 0 v child) (tells row (numbered row in_entries) passes).0 ∙ has_int 0 child number number number_is ∙ int_itself number)
+          (ap (λ b. b && has 0 (column row 1) child) under ∙ ap (λ v. has 0 v child) (tells number protected row (numbered row in_entries) passes).0 ∙ has_int 0 child number number number_is ∙ int_itself number)
 
-      sifted : filter its sorted ≡ sort_by by_place (filter its rows.entries)
+      sifted : filter (its number protected) sorted ≡ sort_by by_place (filter (its number protected) rows.entries)
       sifted =
-          sifted_sorted by_list by_list_total its below ∙ ap (sort_by by_list) (filter_within its (is_below (Int id) rows.nodes) rows.entries its_below)
-          ∙ sorted_alike by_list by_list_total by_place (λ r. (column r 1 ≡ Int number) × (column r 2 ≡ flag protected)) one_place (filter its rows.entries)
-          (all_from _ (filter its rows.entries) (λ r h. let found = has_filtered its rows.entries r h in tells r (numbered r found.0) found.1))
+          sifted_sorted by_list by_list_total (its number protected) below ∙ ap (sort_by by_list) (filter_within (its number protected) (is_below (Int id) rows.nodes) rows.entries its_below)
+          ∙ in_place number protected
 
       pub share_is : list_of (child_entries id rows) number protected ≡ list_in rows.entries (Int number) protected
       share_is =
@@ -265,7 +285,7 @@ module _ (db : Database) (book : IsBook db) where
           ∙ ap (map (entry_shown 2)) (filter-map (is_listed protected) listed_columns (filter (λ r. is_of number (listed_columns r)) sorted))
           ∙ map-map (entry_shown 2) listed_columns (filter (λ r. is_listed protected (listed_columns r)) (filter (λ r. is_of number (listed_columns r)) sorted))
           ∙ ap (map entry_of) (both_tests (λ r. is_of number (listed_columns r)) (λ r. is_listed protected (listed_columns r)) sorted
-          ∙ filter_same (λ r. is_of number (listed_columns r) && is_listed protected (listed_columns r)) its sorted (all_from _ sorted (λ r h. tested r (numbered r (in_table r h)))) ∙ sifted)
+          ∙ filter_same (λ r. is_of number (listed_columns r) && is_listed protected (listed_columns r)) (its number protected) sorted (all_from _ sorted (λ r h. tested number protected r (numbered r (in_table r h)))) ∙ sifted)
 
     -- children with the lists that are told of all of them are the children with their lists
     pub shares_are : (front : List ℕ) → map (child_among (child_entries id rows) front) (children_of id rows) ≡ map (child_shown rows front) (children_of id rows)

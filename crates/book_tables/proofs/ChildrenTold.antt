@@ -22,6 +22,7 @@ use Rattle.book_rows.proofs.Shapes.{int_of}
 use Rattle.book_tables.specs.Children.{ShowsListing, child_shown, text_above}
 use Rattle.book_tables.specs.Rows.{row_at}
 use Rattle.book_tables.specs.Stands.{Stands, StandsFor}
+use Rattle.book_tables.proofs.RowFacts.{row_number}
 use Rattle.book_tables.proofs.Acting.{AreNodes, nodes_of}
 use Rattle.book_tables.proofs.ChildRows.{by_path_total, told_child, rows_are_children, none_below}
 use Rattle.book_tables.proofs.Looking.{found_has}
@@ -48,21 +49,18 @@ children_told s p is_path children shows o stands = shows.1 st.book ∙ go (row_
     nodes : AreNodes rows
     nodes = nodes_of s.now st.book
 
-    row_number : (x : Row) → Has rows.nodes x → Int (id_in (rowid x)) ≡ rowid x
-    row_number x there = let k = int_of (rowid x) (all_has _ rows.nodes x nodes.shaped.1 there) in ap (λ v. Int (id_in v)) k.1 ∙ sym k.1
-
     alike : (node : Row) (x : Row) → Has (sort_by by_path (filter (is_under (rowid node)) rows.nodes)) x → child_shown rows (text_above p) (columns x) ≡ listed_child (told_child (text_above p) rows.entries x)
     alike node x h =
         let there = (has_filtered (is_under (rowid node)) rows.nodes x (has_sorted by_path by_path_total (filter (is_under (rowid node)) rows.nodes) x h)).0 in
         ap (λ v. record (child_shown rows (text_above p) (columns x)) {
           protected = Rattle.book_tables.specs.Rows.list_in rows.entries v true;
           own = Rattle.book_tables.specs.Rows.list_in rows.entries v false;
-        }) (row_number x there)
+        }) (row_number rows nodes.shaped x there)
 
     go : (r : Option Row) → row_at rows (path_text p) ≡ r → unwrap_or (option_map (λ node. map (child_shown rows (text_above p)) (lists.children_of (id_in (rowid node)) rows)) r) [] ≡ children_at o p
     go None e = sym (listed_children o p ∙ ap (map listed_child) (none_below rows o st.gives nodes st.sound p is_path e))
     go (Some node) e =
-        let number = row_number node (found_has (is_at (path_text p)) rows.nodes node e).0 in
+        let number = row_number rows nodes.shaped node (found_has (is_at (path_text p)) rows.nodes node e).0 in
         let under = filter (is_under (rowid node)) rows.nodes in
         ap (λ v. map (child_shown rows (text_above p)) (map columns (sort_by by_path (filter (is_under v) rows.nodes)))) number
         ∙ map-map (child_shown rows (text_above p)) columns (sort_by by_path under)

@@ -36,12 +36,12 @@ module _ (rows : Rows) (o : Office) (gives : Gives rows o) (shaped : IsShaped Ta
   -- rows of different books have different numbers
   books_apart : (a : List ℕ) (r : Row) → row_at rows (book_path a) ≡ Some r → IsName a → a ≢ b → (v : Value) (x : Row) → v ≡ rowid r → has 1 v x ≡ true → has 1 id x ≡ true → ((y : ℤ) × (column x 1 ≡ Int y)) → ⊥
   books_apart a r found named_a differs v x v_is at_r at_b (y, y_is) =
-      let k_r = number_of_row rows o gives shaped (book_path a) r found in
-      let k_b = number_of_row rows o gives shaped (book_path b) book_row at_book in
+      let k_r = number_of_row rows gives.nodes shaped (book_path a) r found in
+      let k_b = number_of_row rows gives.nodes shaped (book_path b) book_row at_book in
       let is_r : y ≡ k_r.0 = same_ints 1 x y k_r.0 y_is (ap (λ w. has 1 w x) (sym k_r.1 ∙ sym v_is) ∙ at_r) in
       let is_b : y ≡ k_b.0 = same_ints 1 x y k_b.0 y_is (ap (λ w. has 1 w x) (sym k_b.1) ∙ at_b) in
       let one : rowid r ≡ id = k_r.1 ∙ ap Int (sym is_r ∙ is_b) ∙ sym k_b.1 in
-      let texts = numbers_apart rows o gives shaped (book_path a) (book_path b) r book_row found at_book one in
+      let texts = numbers_apart rows gives.nodes shaped (book_path a) (book_path b) r book_row found at_book one in
       differs (book_name (one_text (path.Book a) (path.Book b) named_a named texts))
 
   -- ---- a name was taken out
@@ -51,7 +51,7 @@ module _ (rows : Rows) (o : Office) (gives : Gives rows o) (shaped : IsShaped Ta
     other_book : (a name : List ℕ) (r : Row) → row_at rows (book_path a) ≡ Some r → a ≢ b → IsName a → (x : Row) → Has gone x → is_gone (rowid r) name x ≡ true → is_gone id c x ≡ false
     other_book a name r found differs named_a x in_gone passes =
         let it = all_has (IsRemoved rows) gone x all in_gone in
-        let k_x = number_of_row rows o gives shaped (book_path it.book) it.there.0 it.there.1 in
+        let k_x = number_of_row rows gives.nodes shaped (book_path it.book) it.there.0 it.there.1 in
         by_bool (is_gone id c x) (λ h. books_apart a r found named_a differs (rowid r) x refl (and_parts _ _ passes).0 (and_parts _ _ h).0 (k_x.0, it.there.2 ∙ k_x.1))
 
     other_name : (name : List ℕ) (v : Value) → name ≢ c → (x : Row) → Has gone x → is_gone v name x ≡ true → is_gone id c x ≡ false
@@ -88,7 +88,7 @@ module _ (rows : Rows) (o : Office) (gives : Gives rows o) (shaped : IsShaped Ta
 
     not_new : (i : ℤ) (a name : List ℕ) (r : Row) → row_at rows (book_path a) ≡ Some r → IsName a → (a ≡ b → name ≢ c) → is_gone (rowid r) name (new i) ≡ false
     not_new i a name r found named_a other = by_bool (is_gone (rowid r) name (new i)) (λ h.
-        let k_b = number_of_row rows o gives shaped (book_path b) book_row at_book in
+        let k_b = number_of_row rows gives.nodes shaped (book_path b) book_row at_book in
         let its : c ≡ name = is_same c name (sym (has_text 2 (new i) c name refl) ∙ (and_parts _ _ h).1) in
         let own : has 1 id (new i) ≡ true = ap (λ w. has 1 w (new i)) k_b.1 ∙ has_int 1 (new i) k_b.0 k_b.0 (sym v_is ∙ k_b.1) ∙ int_itself k_b.0 in
         by_names a b (λ _. ⊥)
@@ -107,7 +107,7 @@ module _ (rows : Rows) (o : Office) (gives : Gives rows o) (shaped : IsShaped Ta
 
     pub added_here : (i : ℤ) → find (is_gone id c) gone ≡ None → removed_from (grown i) c (Some book_row) ≡ Some n
     added_here i none =
-        let k_b = number_of_row rows o gives shaped (book_path b) book_row at_book in
+        let k_b = number_of_row rows gives.nodes shaped (book_path b) book_row at_book in
         let own : has 1 id (new i) ≡ true = ap (λ w. has 1 w (new i)) k_b.1 ∙ has_int 1 (new i) k_b.0 k_b.0 (sym v_is ∙ k_b.1) ∙ int_itself k_b.0 in
         let its : is_gone id c (new i) ≡ true = (λ j. own j && has 2 (Text c) (new i)) ∙ has_text 2 (new i) c c refl ∙ same_itself c in
         ap (option_map (λ row. number_in (column row 3)))

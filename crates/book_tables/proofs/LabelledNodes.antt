@@ -62,11 +62,11 @@ module _ (p : Path) (other : IsOther p) (label : List ℕ) (rows : Rows) (o : Of
 
   untouched : (t : List ℕ) (found : Option Row) → row_at rows t ≡ found → t ≢ at → option_map upd found ≡ found
   untouched t None is h = refl
-  untouched t (Some r) is h = ap (λ x. Some (cond x (with_label label n r) r)) (is_at_found rows o given.gives given.nodes.shaped t at r is ∙ apart t at h)
+  untouched t (Some r) is h = ap (λ x. Some (cond x (with_label label n r) r)) (is_at_found rows given.gives.nodes given.nodes.shaped t at r is ∙ apart t at h)
 
   node_then : row_at after at ≡ Some (with_label label n node)
   node_then = found_then at ∙ ap (option_map upd) at_node
-      ∙ ap (λ t. Some (cond t (with_label label n node) node)) (is_at_found rows o given.gives given.nodes.shaped at at node at_node ∙ same_itself at)
+      ∙ ap (λ t. Some (cond t (with_label label n node) node)) (is_at_found rows given.gives.nodes given.nodes.shaped at at node at_node ∙ same_itself at)
 
   keeps_numbers : KeepsNumbers rows after
   keeps_numbers t r found = by_names t at (λ _. (s : Row) × (row_at after t ≡ Some s) × (rowid s ≡ rowid r))

@@ -1,15 +1,14 @@
 -- Rows of lists tell the lists of an Office.
-use Rattle.std.proofs.Common.{◌≡◌, ℕ, Bool, true, false, List, [], ◌∷◌, ◌++◌, map, Option, Some, None, option_map, unwrap_or, refl, sym, ap, ◌∙◌, append_assoc}
+use Rattle.std.proofs.Common.{◌≡◌, ℕ, Bool, true, false, List, [], ◌∷◌, ◌++◌, map, filter, Option, Some, None, option_map, unwrap_or, refl, sym, ap, ◌∙◌, append_assoc}
 use Rattle.std.specs.List.{AllByRecursion}
 use Rattle.sqlite.specs.declared.types.Value.{Value}
 use Rattle.sqlite.specs.declared.types.Value.TheVariants.{Int}
 use Rattle.sqlite.specs.Edit.{id_in}
+use Rattle.sqlite.specs.Effect.{Database}
 use Rattle.sqlite.specs.Order.{Row}
 use Rattle.sqlite.specs.State.{State}
 use Rattle.sqlite.specs.Tree.{rowid}
-use Rattle.sqlite_keyed.proofs.ListLemmas.{map-map}
-use Rattle.sqlite_trees.specs.View.{IsShaped}
-use Rattle.sqlite_trees.specs.declared.store.Shape.TheVariants.{Table as TableShape}
+use Rattle.sqlite_keyed.specs.Lists.{sort_by}
 use Rattle.book_values.specs.declared.offices.Office.{Office}
 use Rattle.book_values.specs.declared.paths.Path.{Path}
 use Rattle.book_values.specs.declared.paths.Path.TheVariants as path
@@ -18,31 +17,35 @@ use Rattle.book_office.specs.Levels.{level_at, lists_at}
 use Rattle.book_office.specs.Resources.{Resource, resource_at}
 use Rattle.book_office.specs.declared.nodes.Level.{Level}
 use Rattle.book_office.specs.declared.nodes.Lists.{Lists}
-use Rattle.book_rows.specs.Lists.{entry_columns}
-use Rattle.book_rows.specs.Rows.{Rows, rows_of}
-use Rattle.book_rows.specs.Writes.{entries_of}
-use Rattle.book_tables.specs.Listing.{entry_shown, list_told, level_told, ShowsLists}
-use Rattle.book_tables.specs.Rows.{entry_of, list_in, row_at, resource_of}
+use Rattle.book_rows.specs.Lists.{by_list, listed_columns}
+use Rattle.book_rows.specs.Rows.{Rows, rows_of, has, IsBook}
+use Rattle.book_rows.specs.Writes.{is_at}
+use Rattle.book_tables.specs.Levels.{list_told, level_told, ShowsLists}
+use Rattle.book_tables.specs.Shares.{list_among}
+use Rattle.book_tables.specs.Rows.{list_in, row_at, resource_of}
 use Rattle.book_tables.specs.Stands.{Gives, StandsFor}
 use Rattle.book_tables.proofs.Acting.{nodes_of}
+use Rattle.book_tables.proofs.ChildShares.{list_is_told}
 use Rattle.book_tables.proofs.LabelledNodes.{map_twice}
-use Rattle.book_tables.proofs.RowFacts.{number_of_row}
+use Rattle.book_tables.proofs.Looking.{found_has}
+use Rattle.book_tables.proofs.RowFacts.{row_number}
 
-module _ (rows : Rows) (o : Office) (gives : Gives rows o) (shaped : IsShaped TableShape rows.nodes) where
-  number_is : (t : List ℕ) (row : Row) → row_at rows t ≡ Some row → Int (id_in (rowid row)) ≡ rowid row
-  number_is t row found = let n = number_of_row rows o gives shaped t row found in ap (λ v. Int (id_in v)) n.1 ∙ sym n.1
+module _ (db : Database) (book : IsBook db) (o : Office) (gives : Gives (rows_of db.trees) o) where
+  abbrev rows : Rows
+  rows = rows_of db.trees
 
-  -- the list of the row at a path, in the columns that are shown and in its own
+  -- the list of the row at a path, among the entries that are shown and as the node's
   list_is : (t : List ℕ) (protected : Bool) → list_told rows t protected ≡ unwrap_or (option_map (λ node. list_in rows.entries (rowid node) protected) (row_at rows t)) []
   list_is t protected = go (row_at rows t) refl
     where
       go : (r : Option Row) → row_at rows t ≡ r
-          → map (entry_shown 0) (unwrap_or (option_map (λ node. map entry_columns (entries_of rows.entries (Int (id_in (rowid node))) protected)) r) [])
+          → list_among protected (unwrap_or (option_map (λ node. map listed_columns (sort_by by_list (filter (has 1 (rowid node)) rows.entries))) r) [])
           ≡ unwrap_or (option_map (λ node. list_in rows.entries (rowid node) protected) r) []
       go None e = refl
       go (Some node) e =
-          map-map (entry_shown 0) entry_columns (entries_of rows.entries (Int (id_in (rowid node))) protected)
-          ∙ ap (λ (id : Value). map entry_of (entries_of rows.entries id protected)) (number_is t node e)
+          let number = row_number rows (nodes_of db book).shaped node (found_has (is_at t) rows.nodes node e).0 in
+          ap (λ (id : Value). list_among protected (map listed_columns (sort_by by_list (filter (has 1 id) rows.entries)))) (sym number)
+          ∙ list_is_told db book (id_in (rowid node)) protected ∙ ap (λ (id : Value). list_in rows.entries id protected) number
 
   -- what the row at a path gives of its resource
   read_is : {A : Type 0} (read : Resource → A) (none : A) (q : Path) → IsPath q
@@ -74,7 +77,7 @@ above_are (path.Card b c) is = (is, (is.0, (tt, (tt, tt))))
 pub lists_are : (s : State) (p : Path) → IsPath p → (found : Lists) → ShowsLists s p found → (o : Office) → StandsFor s o → found ≡ lists_at o p
 lists_are s p is_path found shows o stands =
     let st = stands.0 shows.0 in
-    shows.1 st.book ∙ (λ i. record { levels = levels_are (rows_of s.now.trees) o st.gives (nodes_of s.now st.book).shaped (levels p) (above_are p is_path) i })
+    shows.1 st.book ∙ (λ i. record { levels = levels_are s.now st.book o st.gives (levels p) (above_are p is_path) i })
 
 -- one more level is told
 pub one_more_level : (f : Path → Level) (told : List Level) (level : Level) (q : Path) (rest : List Path) (all : List Level)

@@ -116,8 +116,8 @@ module _ (p : Path) (list : List Entry) (rows : Rows) (o : Office) (given : Give
   elsewhere : (t : List ℕ) (found : Option Row) → row_at rows t ≡ found → t ≢ at → option_map (resource_of entries) found ≡ option_map (resource_of rows.entries) found
   elsewhere t None is apart = refl
   elsewhere t (Some r) is apart =
-      let k = number_of_row rows o given.gives given.nodes.shaped t r is in
-      let other : id ≢ k.0 = λ e. apart (numbers_apart rows o given.gives given.nodes.shaped t at r node is at_node (k.1 ∙ ap Int (sym e) ∙ sym id_is)) in
+      let k = number_of_row rows given.gives.nodes given.nodes.shaped t r is in
+      let other : id ≢ k.0 = λ e. apart (numbers_apart rows given.gives.nodes given.nodes.shaped t at r node is at_node (k.1 ∙ ap Int (sym e) ∙ sym id_is)) in
       let stays : (pr : Bool) → list_in entries (rowid r) pr ≡ list_in rows.entries (rowid r) pr =
       λ pr. ap (λ v. list_in entries v pr) k.1 ∙ list_of_other rows id k.0 said other pr ∙ ap (λ v. list_in rows.entries v pr) (sym k.1) in
       ap Some (λ i. record (resource_of rows.entries r) { protected = stays true i; own = stays false i })

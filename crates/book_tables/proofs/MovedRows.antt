@@ -183,7 +183,7 @@ module _ (rows : Rows) (o : Office) (gives : Gives rows o) (shaped : IsShaped Ta
 
   upd1_other : (t : List ℕ) (found : Option Row) → row_at rows t ≡ found → t ≢ sbp → option_map upd1 found ≡ found
   upd1_other t None is h = refl
-  upd1_other t (Some r) is h = ap (λ x. Some (cond x (with_number n1 r) r)) (is_at_found rows o gives shaped t sbp r is ∙ apart t sbp h)
+  upd1_other t (Some r) is h = ap (λ x. Some (cond x (with_number n1 r) r)) (is_at_found rows gives.nodes shaped t sbp r is ∙ apart t sbp h)
 
   between_other : (t : List ℕ) → t ≢ dcp → t ≢ sbp → row_at between t ≡ row_at rows t
   between_other t not_dcp not_sbp = between_not t not_dcp ∙ upd1_other t (row_at rows t) refl not_sbp
@@ -193,7 +193,7 @@ module _ (rows : Rows) (o : Office) (gives : Gives rows o) (shaped : IsShaped Ta
 
   between_book : row_at between sbp ≡ Some (with_number n1 source_row)
   between_book = between_not sbp (book_card sb tb tc named_sb named_tb named_tc) ∙ ap (option_map upd1) at_source
-      ∙ ap (λ t. Some (cond t (with_number n1 source_row) source_row)) (is_at_found rows o gives shaped sbp sbp source_row at_source ∙ same_itself sbp)
+      ∙ ap (λ t. Some (cond t (with_number n1 source_row) source_row)) (is_at_found rows gives.nodes shaped sbp sbp source_row at_source ∙ same_itself sbp)
 
   abbrev here1 : get (remove sbook.cards sc) sc ≡ None
   here1 = removed_here sbook.cards sc

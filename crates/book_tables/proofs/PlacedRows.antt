@@ -30,11 +30,11 @@ use Rattle.book_tables.specs.Adopting.{Compared, place_said, text_or_empty}
 use Rattle.book_tables.specs.Rows.{row_at, resource_in, resource_of, list_in, removed_in, removed_from, kind_code, kind_numbered}
 use Rattle.book_tables.specs.Stands.{IsNode, IsEntry, IsRemoved, IsParent}
 use Rattle.book_tables.proofs.Looking.{found_has, find-update_where, has_int}
-use Rattle.book_tables.proofs.RowFacts.{apart, row_added, KeepsNumbers, KeepsRows, kept_node, kept_entry, kept_removed, has_appended, has_updated, all_updated, all_from_has}
+use Rattle.book_tables.proofs.RowFacts.{apart, row_added, KeepsNumbers, KeepsRows, kept_node, kept_entry, kept_removed, has_appended, has_updated, all_updated, all_from_has, is_at_found}
 use Rattle.book_tables.proofs.AddedBooks.{none_found}
 use Rattle.book_tables.proofs.Turns.{turned}
 use Rattle.book_tables.proofs.WrittenCards.{new_list, owner_told, below_apart}
-use Rattle.book_tables.proofs.WellRows.{AreWell, Rewrites, is_at_found, updated_shaped, rewrites_nothing, rewrites_both}
+use Rattle.book_tables.proofs.WellRows.{AreWell, Rewrites, updated_shaped, rewrites_nothing, rewrites_both}
 
 kind_told : (k : Kind) → kind_numbered (kind_code k) ≡ k
 kind_told kind.Root = refl
@@ -72,7 +72,7 @@ module _ (rows : Rows) (well : AreWell rows) (p : Path) (properties : Properties
 
   -- the row that is found at a text, and what is found afterwards
   found_now : (t : List ℕ) (r : Row) → row_at rows t ≡ Some r → row_at there_after t ≡ Some (cond (same t at) (f r) r)
-  found_now t r found = found_then t ∙ ap (option_map upd) found ∙ ap (λ b. Some (cond b (f r) r)) (is_at_found rows well t at r found)
+  found_now t r found = found_then t ∙ ap (option_map upd) found ∙ ap (λ b. Some (cond b (f r) r)) (is_at_found rows well.nodes well.shaped t at r found)
 
   there_numbers : KeepsNumbers rows there_after
   there_numbers t r found = go (same t at) (found_now t r found)

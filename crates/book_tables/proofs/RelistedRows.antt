@@ -28,10 +28,10 @@ use Rattle.book_tables.specs.Settings.{entry_said}
 use Rattle.book_tables.specs.Stands.{IsNode, IsEntry, IsRemoved}
 use Rattle.book_tables.proofs.Looking.{found_has}
 use Rattle.book_tables.proofs.OneValue.{one_number}
-use Rattle.book_tables.proofs.RowFacts.{kept_node, kept_entry, kept_removed}
+use Rattle.book_tables.proofs.RowFacts.{kept_node, kept_entry, kept_removed, number_of_row, numbers_apart}
 use Rattle.book_tables.proofs.SaidEntries.{entry_in, said_spelled, entry_is_told, entries_in_columns, entries_told}
 use Rattle.book_tables.proofs.Turns.{turned}
-use Rattle.book_tables.proofs.WellRows.{AreWell, Rewrites, number_of_row, numbers_apart, rewrites_nothing, rewrites_both}
+use Rattle.book_tables.proofs.WellRows.{AreWell, Rewrites, rewrites_nothing, rewrites_both}
 use Rattle.book_tables.proofs.WrittenCards.{all_filter_weaker}
 
 -- ---- the entries that are written
@@ -110,8 +110,8 @@ module _ (rows : Rows) (well : AreWell rows) (p : Path) (properties : Properties
   elsewhere t apart = by_option (row_at rows t)
       (λ none. ap (option_map (resource_of entries)) none ∙ sym (ap (option_map (resource_of rows.entries)) none))
       (λ r found.
-      let k = number_of_row rows well t r found in
-      let other : id ≢ k.0 = λ e. apart (numbers_apart rows well t at r node found at_node (k.1 ∙ ap Int (sym e) ∙ sym id_is)) in
+      let k = number_of_row rows well.nodes well.shaped t r found in
+      let other : id ≢ k.0 = λ e. apart (numbers_apart rows well.nodes well.shaped t at r node found at_node (k.1 ∙ ap Int (sym e) ∙ sym id_is)) in
       let stays : (list : Bool) → list_in entries (rowid r) list ≡ list_in rows.entries (rowid r) list =
       λ list. ap (λ v. list_in entries v list) k.1 ∙ other_list k.0 other list ∙ ap (λ v. list_in rows.entries v list) (sym k.1) in
       let is : resource_of entries r ≡ resource_of rows.entries r = λ i. record (resource_of rows.entries r) { protected = stays true i; own = stays false i } in

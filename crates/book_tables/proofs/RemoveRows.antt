@@ -44,9 +44,9 @@ module _ (rows : Rows) (o : Office) (gives : Gives rows o) (shaped : IsShaped Ta
 
   parent_is_book : (r : Row) (q : Path) → IsPath q → is_under id r ≡ true → IsParent rows (column r 3) (Some q) → q ≡ path.Book b
   parent_is_book r q named_q under (s, found, is) =
-      let ks = number_of_row rows o gives shaped (path_text q) s found in
+      let ks = number_of_row rows gives.nodes shaped (path_text q) s found in
       let same_number = same_ints 3 r ks.0 k (is ∙ ks.1) under in
-      one_text q (path.Book b) named_q named (numbers_apart rows o gives shaped (path_text q) (book_path b) s book_row found at_book (ks.1 ∙ ap Int same_number ∙ sym k_is))
+      one_text q (path.Book b) named_q named (numbers_apart rows gives.nodes shaped (path_text q) (book_path b) s book_row found at_book (ks.1 ∙ ap Int same_number ∙ sym k_is))
 
   -- what stands under the book is a card of it
   under_card : (r : Row) (p : Path) → IsPath p → IsParent rows (column r 3) (parent_of p) → is_under id r ≡ true → (c : List ℕ) × (p ≡ path.Card b c)
@@ -77,7 +77,7 @@ module _ (rows : Rows) (o : Office) (gives : Gives rows o) (shaped : IsShaped Ta
 
   not_own : (r : Row) (p : Path) → Has rows.nodes r → IsNodeAt rows r p → p ≢ path.Book b → has 0 id r ≡ false
   not_own r p there n no_book = by_bool (has 0 id r) (λ own.
-      let texts = same_words (path_text p) (book_path b) (sym n.path ∙ ap (λ x. column x 2) (own_row r there own) ∙ found_at rows o gives shaped (book_path b) book_row at_book) in
+      let texts = same_words (path_text p) (book_path b) (sym n.path ∙ ap (λ x. column x 2) (own_row r there own) ∙ found_at rows gives.nodes shaped (book_path b) book_row at_book) in
       no_book (one_text p (path.Book b) n.named named texts))
 
   abbrev inner : List Row
@@ -238,7 +238,7 @@ module _ (rows : Rows) (o : Office) (gives : Gives rows o) (shaped : IsShaped Ta
       let r_is = key_is r (all_has _ rows.nodes r shaped.1 f.0) in
       ap (option_map (λ g. number_in (column g 3))) (find-delete_where (is_gone (rowid r) name) (has 1 id) rows.gone (all_from_has _ rows.gone (λ x in_gone passes.
       let it = all_has (IsRemoved rows) rows.gone x gives.removed in_gone in
-      let ky = number_of_row rows o gives shaped (book_path it.book) it.there.0 it.there.1 in
+      let ky = number_of_row rows gives.nodes shaped (book_path it.book) it.there.0 it.there.1 in
       let its : column x 1 ≡ Int _ = it.there.2 ∙ ky.1 ∙ ap Int (same_ints 1 x ky.0 _ (it.there.2 ∙ ky.1) (ap (λ v. has 1 v x) (sym r_is) ∙ (and_parts _ _ passes).0)) in
       has_int 1 x _ k its ∙ sym (has_int 0 r _ k r_is) ∙ not_own r (path.Book a) f.0 (path_of (path.Book a) named_a r f.0 f.1) (λ e. differs (book_name e)))))
 
@@ -274,7 +274,7 @@ module _ (rows : Rows) (o : Office) (gives : Gives rows o) (shaped : IsShaped Ta
       let ks = node_number s f.0 in
       let numbers = same_ints 3 child (key s) n (is ∙ ks) hit in
       let one = same_rowid rows.nodes s node shaped.0 f.0 there (ks ∙ ap Int numbers ∙ sym node_is) in
-      let texts = same_words (path_text above) (card_path b c) (sym (found_at rows o gives shaped (path_text above) s found) ∙ ap (λ x. column x 2) one ∙ at_card.path) in
+      let texts = same_words (path_text above) (card_path b c) (sym (found_at rows gives.nodes shaped (path_text above) s found) ∙ ap (λ x. column x 2) one ∙ at_card.path) in
       no_card b c (one_text above (path.Card b c) is_path at_card.named texts)
 
   parents_apart : (child node : Row) (n : ℤ) (c : List ℕ) → Has rows.nodes node → rowid node ≡ Int n → IsNodeAt rows node (path.Card b c) → has 3 (Int n) child ≡ true
@@ -321,7 +321,7 @@ module _ (rows : Rows) (o : Office) (gives : Gives rows o) (shaped : IsShaped Ta
         ap (λ v. has 1 v name) m ∙ by_bool (has 1 (Int (key node)) name) (λ hit.
         let numbers = same_ints 1 name (key it.there.0) (key node) its hit in
         let one = same_rowid rows.nodes it.there.0 node shaped.0 f.0 there (node_number it.there.0 f.0 ∙ ap Int numbers ∙ sym m) in
-        let texts = same_words (book_path it.book) (card_path b at.0) (sym (found_at rows o gives shaped (book_path it.book) it.there.0 it.there.1) ∙ ap (λ x. column x 2) one ∙ at.1.path) in
+        let texts = same_words (book_path it.book) (card_path b at.0) (sym (found_at rows gives.nodes shaped (book_path it.book) it.there.0 it.there.1) ∙ ap (λ x. column x 2) one ∙ at.1.path) in
         let paths : path.Book it.book ≡ path.Card b at.0 = one_text (path.Book it.book) (path.Card b at.0) it.named at.1.named texts in
         book_or_card paths);
   }

@@ -108,7 +108,7 @@ module _ (rows : Rows) (o : Office) (gives : Gives rows o) (shaped : IsShaped Ta
   -- a row at another text is another
   pub other_row : (t : List ℕ) → t ≢ cp → (r : Row) → Has rows.nodes r → is_at t r ≡ true → has 0 id r ≡ false
   other_row t differs r there at = by_bool (has 0 id r) (λ own.
-      true≢false (sym at ∙ ap (is_at t) (own_row r there own) ∙ is_at_found rows o gives shaped cp t card_row at_card ∙ apart cp t (λ is. differs (sym is))))
+      true≢false (sym at ∙ ap (is_at t) (own_row r there own) ∙ is_at_found rows gives.nodes shaped cp t card_row at_card ∙ apart cp t (λ is. differs (sym is))))
 
   abbrev pub nodes_left : List Row
   nodes_left = delete_where (has 0 id) rows.nodes
@@ -126,14 +126,14 @@ module _ (rows : Rows) (o : Office) (gives : Gives rows o) (shaped : IsShaped Ta
   -- the lists of other rows stay
   pub lists_left : (t : List ℕ) (r : Row) → row_at rows t ≡ Some r → t ≢ cp → (pr : Bool) → list_in entries_left (rowid r) pr ≡ list_in rows.entries (rowid r) pr
   lists_left t r found differs pr =
-      let k_r = number_of_row rows o gives shaped t r found in
+      let k_r = number_of_row rows gives.nodes shaped t r found in
       ap (λ es. map entry_of (sort_by by_place es)) (filter-delete_where (is_entry (rowid r) pr) (has 1 id) rows.entries (all_from_has _ rows.entries (λ e in_entries passes.
       by_bool (has 1 id e) (λ own.
       let it = all_has (IsEntry rows) rows.entries e gives.entries in_entries in
       let its = it.its ∙ node_number it.node it.there in
       let is_r = same_ints 1 e (key it.node) k_r.0 its (ap (λ v. has 1 v e) (sym k_r.1) ∙ (and_parts _ _ passes).0) in
       let is_card = same_ints 1 e (key it.node) (key card_row) its own in
-      differs (numbers_apart rows o gives shaped t cp r card_row found at_card (k_r.1 ∙ ap Int (sym is_r ∙ is_card) ∙ sym id_is))))))
+      differs (numbers_apart rows gives.nodes shaped t cp r card_row found at_card (k_r.1 ∙ ap Int (sym is_r ∙ is_card) ∙ sym id_is))))))
 
   -- a row that is left keeps its number and is there
   pub entry_left : (after : Rows) → ((x : Row) → Has nodes_left x → (y : Row) × Has after.nodes y × (rowid y ≡ rowid x)) → (e : Row) → Has entries_left e → IsEntry after e
@@ -148,7 +148,7 @@ module _ (rows : Rows) (o : Office) (gives : Gives rows o) (shaped : IsShaped Ta
   -- a row whose number is in a column is at no path but the card's
   not_above : (above : Path) → IsPath above → IsNoCard above → (s : Row) → row_at rows (path_text above) ≡ Some s → rowid s ≡ rowid card_row → ⊥
   not_above above is_path no_card s found is =
-      no_card b c (one_text above (path.Card b c) is_path (named, named_card) (numbers_apart rows o gives shaped (path_text above) cp s card_row found at_card is))
+      no_card b c (one_text above (path.Card b c) is_path (named, named_card) (numbers_apart rows gives.nodes shaped (path_text above) cp s card_row found at_card is))
 
   no_child : (child : Row) → Has rows.nodes child → has 3 id child ≡ false
   no_child child there =
@@ -156,14 +156,14 @@ module _ (rows : Rows) (o : Office) (gives : Gives rows o) (shaped : IsShaped Ta
       by_parent n.0 n.1.named (λ above. IsParent rows (column child 3) above → has 3 id child ≡ false)
       (λ null. has_null 3 child (key card_row) null)
       (λ above is_path no_card (s, found, is). by_bool (has 3 id child) (λ hit.
-      let ks = number_of_row rows o gives shaped (path_text above) s found in
+      let ks = number_of_row rows gives.nodes shaped (path_text above) s found in
       not_above above is_path no_card s found (ks.1 ∙ ap Int (same_ints 3 child ks.0 (key card_row) (is ∙ ks.1) hit) ∙ sym id_is)))
       n.1.parent
 
   no_name : (name : Row) → Has rows.gone name → has 1 id name ≡ false
   no_name name there =
       let it = all_has (IsRemoved rows) rows.gone name gives.removed there in
-      let ks = number_of_row rows o gives shaped (book_path it.book) it.there.0 it.there.1 in
+      let ks = number_of_row rows gives.nodes shaped (book_path it.book) it.there.0 it.there.1 in
       by_bool (has 1 id name) (λ hit.
       not_above (path.Book it.book) it.named (λ a d e. cc) it.there.0 it.there.1 (ks.1 ∙ ap Int (same_ints 1 name ks.0 (key card_row) (it.there.2 ∙ ks.1) hit) ∙ sym id_is))
 
@@ -204,11 +204,11 @@ module _ (rows : Rows) (o : Office) (gives : Gives rows o) (shaped : IsShaped Ta
 
     untouched : (t : List ℕ) (found : Option Row) → row_at rows t ≡ found → t ≢ bp → option_map upd found ≡ found
     untouched t None is h = refl
-    untouched t (Some r) is h = ap (λ x. Some (cond x (with_number n r) r)) (is_at_found rows o gives shaped t bp r is ∙ apart t bp h)
+    untouched t (Some r) is h = ap (λ x. Some (cond x (with_number n r) r)) (is_at_found rows gives.nodes shaped t bp r is ∙ apart t bp h)
 
     book_then : row_at after bp ≡ Some (with_number n book_row)
     book_then = found_then bp ∙ ap (option_map upd) (others_left bp cards_apart ∙ at_book_row)
-        ∙ ap (λ t. Some (cond t (with_number n book_row) book_row)) (is_at_found rows o gives shaped bp bp book_row at_book_row ∙ same_itself bp)
+        ∙ ap (λ t. Some (cond t (with_number n book_row) book_row)) (is_at_found rows gives.nodes shaped bp bp book_row at_book_row ∙ same_itself bp)
 
     elsewhere : (t : List ℕ) → t ≢ bp → t ≢ cp → row_at after t ≡ row_at rows t
     elsewhere t not_book not_card = found_then t ∙ ap (option_map upd) (others_left t not_card) ∙ untouched t (row_at rows t) refl not_book

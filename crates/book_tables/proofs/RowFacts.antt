@@ -6,6 +6,7 @@ use Rattle.std.proofs.lemmas.List.Folds.{find-append}
 use Rattle.std.proofs.lemmas.Cmp.{tied_itself}
 use Rattle.sqlite.specs.declared.types.Value.{Value}
 use Rattle.sqlite.specs.declared.types.Value.TheVariants.{Int, Text}
+use Rattle.sqlite.specs.Edit.{id_in}
 use Rattle.sqlite.specs.Order.{Row, column, value_cmp}
 use Rattle.sqlite.specs.Tree.{rowid}
 use Rattle.sqlite_trees.specs.View.{IsShaped}
@@ -102,12 +103,16 @@ pub kept_removed : (rows after : Rows) → KeepsNumbers rows after → (row : Ro
 kept_removed rows after keeps row r =
     record { book = r.book; named = r.named; there = kept_parent rows after keeps (column row 1) (Some (path.Book r.book)) r.there; name = r.name; spelled = r.spelled; number = r.number }
 
-module _ (rows : Rows) (o : Office) (gives : Gives rows o) (shaped : IsShaped TableShape rows.nodes) where
+-- the number of a row
+pub row_number : (rows : Rows) → IsShaped TableShape rows.nodes → (x : Row) → Has rows.nodes x → Int (id_in (rowid x)) ≡ rowid x
+row_number rows shaped x there = let k = int_of (rowid x) (all_has _ rows.nodes x shaped.1 there) in ap (λ v. Int (id_in v)) k.1 ∙ sym k.1
+
+module _ (rows : Rows) (nodes : AllByRecursion (IsNode rows) rows.nodes) (shaped : IsShaped TableShape rows.nodes) where
   -- the row that is found at a text has it
   pub found_at : (t : List ℕ) (r : Row) → row_at rows t ≡ Some r → column r 2 ≡ Text t
   found_at t r found =
       let there = found_has (is_at t) rows.nodes r found in
-      let node = all_has (IsNode rows) rows.nodes r gives.nodes there.0 in
+      let node = all_has (IsNode rows) rows.nodes r nodes there.0 in
       node.1.path ∙ ap Text (is_same (path_text node.0) t (sym (has_text 2 r (path_text node.0) t node.1.path) ∙ there.1))
 
   pub is_at_found : (t u : List ℕ) (r : Row) → row_at rows t ≡ Some r → is_at u r ≡ same t u

@@ -31,26 +31,6 @@ pub record AreWell (rows : Rows) : Type 0 where
   pub removed : AllByRecursion (IsRemoved rows) rows.gone
   pub shaped : IsShaped TableShape rows.nodes
 
-module _ (rows : Rows) (well : AreWell rows) where
-  -- the row that is found at a text has it
-  pub found_at : (t : List ℕ) (r : Row) → row_at rows t ≡ Some r → column r 2 ≡ Text t
-  found_at t r found =
-      let there = found_has (is_at t) rows.nodes r found in
-      let node = all_has (IsNode rows) rows.nodes r well.nodes there.0 in
-      node.1.path ∙ ap Text (is_same (path_text node.0) t (sym (has_text 2 r (path_text node.0) t node.1.path) ∙ there.1))
-
-  pub is_at_found : (t u : List ℕ) (r : Row) → row_at rows t ≡ Some r → is_at u r ≡ same t u
-  is_at_found t u r found = has_text 2 r t u (found_at t r found)
-
-  pub number_of_row : (t : List ℕ) (r : Row) → row_at rows t ≡ Some r → (n : ℤ) × (rowid r ≡ Int n)
-  number_of_row t r found = int_of (rowid r) (all_has _ rows.nodes r well.shaped.1 (found_has (is_at t) rows.nodes r found).0)
-
-  -- rows at different texts have different numbers
-  pub numbers_apart : (t u : List ℕ) (r s : Row) → row_at rows t ≡ Some r → row_at rows u ≡ Some s → rowid r ≡ rowid s → t ≡ u
-  numbers_apart t u r s at_t at_u is =
-      let one = same_rowid rows.nodes r s well.shaped.0 (found_has (is_at t) rows.nodes r at_t).0 (found_has (is_at u) rows.nodes s at_u).0 is in
-      is_same t u (sym (is_at_found t u r at_t) ∙ ap (is_at u) one ∙ (found_has (is_at u) rows.nodes s at_u).1)
-
 -- ---- rows that are written over keep their numbers
 
 module _ (p : Row → Bool) (f : Row → Row) (keeps : (r : Row) → rowid (f r) ≡ rowid r) where

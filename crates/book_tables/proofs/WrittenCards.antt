@@ -122,12 +122,12 @@ module _ (rows : Rows) (o : Office) (gives : Gives rows o) (shaped : IsShaped Ta
   upd r = cond (is_at bp r) (with_number n r) r
 
   book_then : upd book_row ≡ with_number n book_row
-  book_then = ap (λ t. cond t (with_number n book_row) book_row) (is_at_found rows o gives shaped bp bp book_row at_book ∙ same_itself bp)
+  book_then = ap (λ t. cond t (with_number n book_row) book_row) (is_at_found rows gives.nodes shaped bp bp book_row at_book ∙ same_itself bp)
 
   -- a row that is found at another text isn't the book's
   untouched : (t : List ℕ) (found : Option Row) → row_at rows t ≡ found → t ≢ bp → option_map upd found ≡ found
   untouched t None is h = refl
-  untouched t (Some r) is h = ap (λ x. Some (cond x (with_number n r) r)) (is_at_found rows o gives shaped t bp r is ∙ apart t bp h)
+  untouched t (Some r) is h = ap (λ x. Some (cond x (with_number n r) r)) (is_at_found rows gives.nodes shaped t bp r is ∙ apart t bp h)
 
   abbrev left : List Row
   left = delete_where (is_gone book_id c) rows.gone
@@ -260,17 +260,17 @@ module _ (rows : Rows) (o : Office) (gives : Gives rows o) (shaped : IsShaped Ta
     found_then t = row_changed written bp t (with_number n) (numbered_keeps n) ∙ ap (option_map upd) (row_changed rows.nodes cp t f alike.columns)
 
     text_at : column (f old) 2 ≡ Text cp
-    text_at = alike.columns.path old ∙ found_at rows o gives shaped cp old at_card
+    text_at = alike.columns.path old ∙ found_at rows gives.nodes shaped cp old at_card
 
     not_written : (t : List ℕ) (found : Option Row) → row_at rows t ≡ found → t ≢ cp → option_map upd_card found ≡ found
     not_written t None is h = refl
-    not_written t (Some r) is h = ap (λ x. Some (cond x (f r) r)) (is_at_found rows o gives shaped t cp r is ∙ apart t cp h)
+    not_written t (Some r) is h = ap (λ x. Some (cond x (f r) r)) (is_at_found rows gives.nodes shaped t cp r is ∙ apart t cp h)
 
     are_old : AreWritten rows_old (f old)
     are_old = record {
       touched_book = found_then bp ∙ ap (option_map upd) (not_written bp (row_at rows bp) refl (λ is. cards_apart (sym is)) ∙ at_book) ∙ ap Some book_then;
       at_card = found_then cp ∙ ap (λ x. option_map upd (option_map upd_card x)) at_card
-          ∙ ap (λ t. Some (upd (cond t (f old) old))) (is_at_found rows o gives shaped cp cp old at_card ∙ same_itself cp)
+          ∙ ap (λ t. Some (upd (cond t (f old) old))) (is_at_found rows gives.nodes shaped cp cp old at_card ∙ same_itself cp)
           ∙ ap (λ t. Some (cond t (with_number n (f old)) (f old))) (has_text 2 (f old) cp bp text_at ∙ apart cp bp cards_apart);
       elsewhere = λ t not_book not_card. found_then t ∙ ap (option_map upd) (not_written t (row_at rows t) refl not_card) ∙ untouched t (row_at rows t) refl not_book;
       entries = refl;

@@ -11,3 +11,4 @@ pub mod Children
 pub mod LastChanges
 pub mod Adopting
 pub mod Shares
+pub mod Levels

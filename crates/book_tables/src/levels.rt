@@ -7,13 +7,13 @@ ghost use Rattle.book_office.specs.Keeping.{Reads};
 ghost use Rattle.book_office.specs.Levels.{lists_at};
 ghost use Rattle.book_rows.specs.Steps.{Keeps, Spares, Stays};
 ghost use Rattle.book_tables.specs.Keeps.{standing_of};
-ghost use Rattle.book_tables.specs.Listing.{ShowsLevel, ShowsLists};
+ghost use Rattle.book_tables.specs.Levels.{ShowsLevel, ShowsLists};
 
-use crate::entries::entries_of;
 use crate::faults::fault_of;
+use crate::shares::list_told;
 use crate::tables::Tables;
 use book_office::{Level, Lists, StoreFault};
-use book_rows::lists_at;
+use book_rows::entry_rows_at;
 use book_values::{Items, Path};
 use sqlite::{Alter, Connection, Error, ErrorCode, Transaction};
 use std::alloc::Global;
@@ -33,9 +33,9 @@ fn level_of<S: Alter>(
         → IfOk result (λ level. ShowsLevel (state S.Store transaction.old.conn.now) path level) }
 {
     let text = path.text(alloc)?;
-    let rows = lists_at(alloc, transaction, text.as_str())?;
-    let protected = entries_of(alloc, &rows.protected)?;
-    let own = entries_of(alloc, &rows.own)?;
+    let rows = entry_rows_at(transaction, text.as_str())?;
+    let protected = list_told(alloc, &rows, true)?;
+    let own = list_told(alloc, &rows, false)?;
     Ok(Level {
         path,
         protected,
@@ -87,9 +87,8 @@ fn shown_lists<S: Alter>(
 }
 
 impl<S: Alter> Tables<S> {
-    /// The lists of the resource at a path and of each ancestor; the lists of a path that is not mapped are empty. A
-    /// look-up by path for each, and one for each of its two lists. `Memory` is want of memory, `Store` any other
-    /// failure of the store.
+    /// The lists of the resource at a path and of each ancestor; the lists of a path that is not mapped are empty. One
+    /// statement for each. `Memory` is want of memory, `Store` any other failure of the store.
     pub fn lists(&mut self, alloc: Global, path: &Path) -> Result<Lists, StoreFault>
         ensures { Reads (standing_of (state S.Store self.old.connection) self.old.failures)
             (standing_of (state S.Store self.new.connection) self.new.failures) result

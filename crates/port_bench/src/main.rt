@@ -1,112 +1,32 @@
-//! What the store itself takes, for `tools/figures` to stand beside what requests take: `port_bench FILE`. To one plain
-//! table of a new file it adds rows of 1,000 bytes, each in a transaction of its own, and then looks them up by their
-//! paths; without a word it does so in memory. To standard error it prints the mean time of each, which no test compares;
-//! to standard output how many rows there were.
+//! What the store and the system take by themselves, for `tools/figures` and `tools/trips` to stand beside what requests
+//! take. `port_bench FILE` times rows of a new store in that file, and `port_bench` of one in memory; `port_bench echo
+//! REQUEST REPLY` serves one connection over loopback, and answers every so many bytes with as many others.
 #![tactic(auto)]
 
-use anyhow::{Result, ensure};
-use sqlite::{Alter, Connection, params};
-use std::alloc::Global;
+mod echo;
+mod rows;
+
+use anyhow::Result;
+use echo::echo;
+use rows::print_times;
+use sqlite::Connection;
 use std::env;
-use std::io::Eprint;
-use std::rt::Clock;
-use std::time::Instant;
 
-/// What the benchmark takes of the system.
-trait Bench: Clock + AllocGlobal + Print + Eprint {}
-
-impl<R: Clock + AllocGlobal + Print + Eprint> Bench for R {}
-
-/// How many rows there are.
-const ROWS: u32 = 500;
-
-/// How often each is looked up.
-const TURNS: u32 = 20;
-
-/// The bytes of a row's text.
-const LENGTH: usize = 1000;
-
-const TABLE: &str =
-    "CREATE TABLE card (id INTEGER PRIMARY KEY, path TEXT NOT NULL UNIQUE, text TEXT NOT NULL) STRICT";
-
-fn path_of(alloc: Global, number: u32) -> Result<String> {
-    Ok(format!(in alloc; "/books/all/c{number:06}.vcf")?)
-}
-
-fn text_of(alloc: Global) -> Result<String> {
-    let mut text = String::new(alloc);
-    for _ in 0..LENGTH {
-        text.push('n')?;
+/// The number that a word spells, or 1.
+fn number(word: Option<String>) -> usize {
+    match word {
+        Some(word) => word.parse::<usize>().unwrap_or(1),
+        None => 1,
     }
-    Ok(text)
-}
-
-fn insert<S: Alter>(
-    alloc: Global,
-    connection: &mut Connection<S>,
-    number: u32,
-    text: &str,
-) -> Result<()> {
-    let path = path_of(alloc, number)?;
-    let rows = connection.execute(
-        "INSERT INTO card (path, text) VALUES (?1, ?2)",
-        params![path.as_str(), text],
-    )?;
-    ensure!(rows == 1, "no row is added");
-    Ok(())
-}
-
-fn find<S: Alter>(alloc: Global, connection: &mut Connection<S>, number: u32) -> Result<()> {
-    let path = path_of(alloc, number)?;
-    let row = connection.query_row(
-        "SELECT id, text FROM card WHERE path = ?1",
-        params![path.as_str()],
-    )?;
-    let text: String = row.get(1)?;
-    ensure!(text.len() == LENGTH, "a wrong row is found");
-    Ok(())
-}
-
-fn insert_all<S: Alter>(alloc: Global, connection: &mut Connection<S>) -> Result<()> {
-    let text = text_of(alloc)?;
-    for number in 0..ROWS {
-        insert(alloc, connection, number, text.as_str())?;
-    }
-    Ok(())
-}
-
-fn find_all<S: Alter>(alloc: Global, connection: &mut Connection<S>) -> Result<()> {
-    for _ in 0..TURNS {
-        for number in 0..ROWS {
-            find(alloc, connection, number)?;
-        }
-    }
-    Ok(())
-}
-
-/// Prints what one of so many took since a start.
-fn print_mean(rt: &impl Bench, name: &str, start: &Instant, count: u32) -> Result<()> {
-    let micros = start.elapsed(rt)?.as_secs_f64() * 1e6 / f64::from(count);
-    eprintln!(rt; "  {name}: {micros:.0} us")?;
-    Ok(())
-}
-
-/// Makes the table, and prints both times.
-fn print_times<S: Alter>(rt: &impl Bench, connection: &mut Connection<S>) -> Result<()> {
-    connection.execute(TABLE, &[])?;
-    let start = Instant::now(rt)?;
-    insert_all(rt.alloc(), connection)?;
-    print_mean(rt, "a transaction of one row", &start, ROWS)?;
-    let start = Instant::now(rt)?;
-    find_all(rt.alloc(), connection)?;
-    print_mean(rt, "a look-up by path", &start, ROWS * TURNS)?;
-    println!(rt; "{ROWS} rows")?;
-    Ok(())
 }
 
 fn main(rt: HostRuntime) -> Result<()> {
-    match env::args(&rt)?.nth(1) {
-        Some(file) => print_times(&rt, &mut Connection::open(&rt, file.as_str())?),
-        None => print_times(&rt, &mut Connection::open_in_memory(rt.alloc())?),
+    let mut words = env::args(&rt)?.skip(1);
+    let Some(word) = words.next() else {
+        return print_times(&rt, &mut Connection::open_in_memory(rt.alloc())?);
+    };
+    if word.as_str() == "echo" {
+        return echo(&rt, number(words.next()), number(words.next()));
     }
+    print_times(&rt, &mut Connection::open(&rt, word.as_str())?)
 }

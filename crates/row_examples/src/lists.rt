@@ -1,6 +1,6 @@
 //! Own lists and members of groups (RFC 3744, sections 8.1 and 4.3).
 
-use crate::stores::{entries_of_children, epoch, list, members, own_list, store};
+use crate::stores::{entries_at, entries_of_children, epoch, list, members, store};
 use book_rows::{EntryRow, add_book, set_list, set_members};
 use sqlite::{Connection, Error, MemStore};
 use std::alloc::Global;
@@ -49,9 +49,12 @@ fn own_lists_are_written_in_order(rt: HostRuntime) {
     let protected = list(&rt, alloc, &mut connection, "/books", true);
     assert_eq!(rt; protected.as_str(), "");
     assert_eq!(rt; epoch(&rt, &mut connection), 1);
-    let found = own_list(&rt, alloc, &mut connection, "/books");
-    assert_eq!(rt; found.as_str(), own.as_str());
-    let none = own_list(&rt, alloc, &mut connection, "/books/law");
+    let found = entries_at(&rt, alloc, &mut connection, "/books");
+    assert_eq!(rt;
+        found.as_str(),
+        "4 0 0 /people/bob 0 1 255; 4 0 1 - 0 0 1; 4 0 0 /groups/staff 0 0 30"
+    );
+    let none = entries_at(&rt, alloc, &mut connection, "/books/law");
     assert_eq!(rt; none.as_str(), "");
     let list_of_one = [entry(&rt, alloc, 4, None, false, 255)];
     set(&rt, &mut connection, "/books", &list_of_one);

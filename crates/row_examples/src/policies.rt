@@ -1,6 +1,6 @@
 //! Adopting a policy (own profile): nodes, lists and members in one transaction.
 
-use crate::stores::{children, epoch, list, members, store};
+use crate::stores::{children, entries_at, epoch, list, members, store};
 use book_rows::{EntryRow, GroupRow, ListsRow, PlaceRow, adopt};
 use sqlite::Error;
 use std::alloc::Global;
@@ -78,6 +78,8 @@ fn a_policy_is_adopted(rt: HostRuntime) {
     assert_eq!(rt; protected.as_str(), "4 - 0 0 255");
     let own = list(&rt, alloc, &mut connection, "/books/law", false);
     assert_eq!(rt; own.as_str(), "3 - 0 1 1");
+    let found = entries_at(&rt, alloc, &mut connection, "/books/law");
+    assert_eq!(rt; found.as_str(), "9 0 3 - 0 1 1; 9 1 4 - 0 0 255");
     let pairs = members(&rt, alloc, &mut connection);
     assert_eq!(rt;
         pairs.as_str(),

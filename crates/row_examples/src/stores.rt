@@ -1,7 +1,7 @@
 //! A store in memory, and its rows as texts.
 
 use book_rows::{
-    changed_rows, child_entry_rows, child_rows, entry_rows, gone_rows, insert_node, lists_at,
+    changed_rows, child_entry_rows, child_rows, entry_rows, entry_rows_at, gone_rows, insert_node,
     look_up, member_rows, read_epoch,
 };
 use book_store::{all_entry_rows, all_gone_rows, all_meta_rows, all_node_rows, create};
@@ -123,6 +123,19 @@ pub(crate) fn entries_of_children(
     told(rt, alloc, &rows, "nnntnnn")
 }
 
+/// The same of each entry of the node at a path.
+pub(crate) fn entries_at(
+    rt: &impl Abort,
+    alloc: Global,
+    connection: &mut Connection<MemStore>,
+    path: &str,
+) -> String {
+    assert!(rt; connection.is_autocommit());
+    let mut transaction = connection.transaction();
+    let rows = entry_rows_at(&mut transaction, path).expect(rt, path);
+    told(rt, alloc, &rows, "nnntnnn")
+}
+
 /// Form, principal, invert, deny and mask of each entry of a list.
 pub(crate) fn list(
     rt: &impl Abort,
@@ -136,20 +149,6 @@ pub(crate) fn list(
     let mut transaction = connection.transaction();
     let rows = entry_rows(&mut transaction, id, protected).expect(rt, path);
     told(rt, alloc, &rows, "ntnnn")
-}
-
-/// The own list of the node at a path, as `list` tells it; its protected list has none.
-pub(crate) fn own_list(
-    rt: &impl Abort,
-    alloc: Global,
-    connection: &mut Connection<MemStore>,
-    path: &str,
-) -> String {
-    assert!(rt; connection.is_autocommit());
-    let mut transaction = connection.transaction();
-    let lists = lists_at(alloc, &mut transaction, path).expect(rt, path);
-    assert_eq!(rt; lists.protected.len(), 0);
-    told(rt, alloc, &lists.own, "ntnnn")
 }
 
 /// Path and change number of each card of a book that is changed after a number.

@@ -1,8 +1,7 @@
 use Rattle.std.proofs.Common.{arith}
 use Rattle.sqlite.specs.Held.{state}
 use Rattle.sqlite.specs.State.{HasCleanDisk}
-use Rattle.book_rows.proofs.Keeping.{unseen_then}
-use Rattle.book_rows.proofs.ListsShown.{looks_then}
+use Rattle.book_rows.proofs.Keeping.{looks_then, unseen_then}
 use Rattle.book_opening.proofs.ReadTables.{tables_read}
 use Rattle.book_opening.proofs.reading.read_tables.Goals as goal
 

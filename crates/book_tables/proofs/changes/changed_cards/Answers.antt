@@ -3,9 +3,8 @@ use Rattle.std.proofs.lemmas.List.{take_all}
 use Rattle.sqlite.specs.Held.{state}
 use Rattle.sqlite.specs.State.{HasCleanDisk}
 use Rattle.book_rows.specs.Rows.{rows_of}
-use Rattle.book_rows.proofs.Keeping.{unseen_then}
+use Rattle.book_rows.proofs.Keeping.{looks_then, unseen_then}
 use Rattle.book_rows.proofs.ListSettings.{commit_stays}
-use Rattle.book_rows.proofs.ListsShown.{looks_then}
 use Rattle.book_tables.specs.LastChanges.{card_shown}
 use Rattle.book_tables.proofs.ToldRows.{card_before, told_next}
 use Rattle.book_tables.proofs.changes.changed_cards.Goals as goal

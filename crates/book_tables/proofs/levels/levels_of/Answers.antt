@@ -5,10 +5,9 @@ use Rattle.sqlite.specs.Held.{state}
 use Rattle.sqlite.specs.State.{HasCleanDisk}
 use Rattle.book_values.specs.Paths.{levels}
 use Rattle.book_rows.specs.Rows.{rows_of, IsBook}
-use Rattle.book_rows.proofs.Keeping.{unseen_then}
+use Rattle.book_rows.proofs.Keeping.{looks_then, unseen_then}
 use Rattle.book_rows.proofs.ListSettings.{commit_stays}
-use Rattle.book_rows.proofs.ListsShown.{looks_then}
-use Rattle.book_tables.specs.Listing.{level_told, ShowsLevel}
+use Rattle.book_tables.specs.Levels.{level_told, ShowsLevel}
 use Rattle.book_tables.proofs.LevelsTold.{one_more_level}
 use Rattle.book_tables.proofs.levels.levels_of.Goals as goal
 

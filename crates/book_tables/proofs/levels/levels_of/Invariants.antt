@@ -5,7 +5,7 @@ use Rattle.sqlite.specs.State.{HasCleanDisk, Survives}
 use Rattle.book_values.specs.Paths.{levels}
 use Rattle.book_rows.specs.Rows.{rows_of, IsBook}
 use Rattle.book_rows.specs.Steps.{Keeps, Looks}
-use Rattle.book_tables.specs.Listing.{level_told}
+use Rattle.book_tables.specs.Levels.{level_told}
 use Rattle.book_tables.proofs.levels.levels_of.Given as goal
 
 -- the levels so far and those to come are those of the path, and the connection was open once one is there
