@@ -9,7 +9,7 @@ use Rattle.std.specs.Ordering.{eq_by_cmp}
 use Rattle.std.specs.Str.{bytes_eq}
 use Rattle.std.proofs.lemmas.Cmp.{nat_list_eq_equiv}
 use Rattle.std.proofs.lemmas.Map.Text.{is_eq-slice_cmp}
-use Rattle.book_lists.proofs.Pairing.{memberships_total, memberships_exact, same_membership, same_path, path_itself, both_true}
+use Rattle.book_lists.proofs.Pairing.{memberships_total, memberships_exact, same_membership, same_path, path_itself}
 use Rattle.book_lists.specs.Memberships.{Memberships, membership_cmp, set_of}
 use Rattle.book_lists.specs.Names.{IsName}
 use Rattle.book_policies.specs.Policies.{IsShort}
@@ -20,13 +20,7 @@ use Rattle.book_policies.specs.declared.parts.PolicyTables.{PolicyTables}
 use Rattle.book_adopting.specs.Adopting.{is_group_of, adopted_pairs}
 use Rattle.book_adopting.specs.TakingOver.{kept_pairs}
 use Rattle.book_adopting.proofs.Adoptions.{contains_adopted}
-
-tied : (q e : Membership) → eq_by_cmp membership_cmp q e ≡ true → e ≡ q
-tied q e h =
-    let both = both_true _ _ (sym (same_membership e q) ∙ h) in
-    let g : e.group ≡ q.group = same_path _ _ both.0 in
-    let m : e.member ≡ q.member = same_path _ _ both.1 in
-    λ i. record { group = g i; member = m i }
+use Rattle.book_policies.proofs.Members.{tied}
 
 -- ---- the groups of a policy
 

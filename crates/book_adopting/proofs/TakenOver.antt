@@ -1,8 +1,6 @@
 -- What an Office that takes over a policy has, put together from the parts that are made aside.
-use Rattle.std.proofs.Common.{◌≡◌, ℕ, ◌+◌, List, [], ◌∷◌, Bool, true, false, cond, ◌&&◌, T, codes, Option, Some, None, option_map, refl, sym, ap, ◌∙◌, subst}
-use Rattle.std.specs.declared.cmp.Ordering.{Ordering}
-use Rattle.std.specs.declared.cmp.Ordering.TheVariants.{Less, Equal, Greater}
-use Rattle.std.specs.Ordering.{is_eq, is_lt}
+use Rattle.std.proofs.Common.{◌≡◌, ℕ, ◌+◌, List, [], ◌∷◌, Bool, true, false, cond, T, codes, Option, Some, None, option_map, refl, sym, ap, ◌∙◌, subst}
+use Rattle.std.specs.Ordering.{is_eq}
 use Rattle.std.specs.Cmp.Lexicographic.{nat_list_cmp_total}
 use Rattle.std.specs.FinMap.{get, insert, empty, len, entries, entries_sorted, find, is_sorted, get-entries, get-empty, same_map}
 use Rattle.std.specs.FinMap.Entries.{below_all}
@@ -24,21 +22,9 @@ use Rattle.book_adopting.proofs.Adoptions.{person_after, book_after, person_ther
 use Rattle.book_adopting.proofs.Merges.{made_of, get_mapped}
 use Rattle.book_values.proofs.OneName.{some_apart, same_some, changed_here, changed_elsewhere, len_changed}
 use Rattle.book_adopting.proofs.Samenesses.{same_office_is, office_itself}
+use Rattle.book_values.proofs.Members.{less, first, second}
 
 -- ---- entries put into a map or changed in it, in turn
-
-less : (r : Ordering) → T (is_lt r) → r ≡ Less
-less Less h = refl
-less Equal h = absurd h
-less Greater h = absurd h
-
-first : (a b : Bool) → T (a && b) → T a
-first true b h = tt
-first false b h = h
-
-second : (a b : Bool) → T (a && b) → T b
-second true b h = h
-second false b h = absurd h
 
 -- a name below those of all entries is not among them
 none_below : {X : Type 0} (q : List ℕ) (es : List (List ℕ × X)) → T (below_all name_cmp q es) → find name_cmp q es ≡ None

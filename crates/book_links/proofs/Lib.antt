@@ -1,4 +1,3 @@
-pub mod Searches
 pub mod Linking
 pub mod Steps
 pub mod Determined

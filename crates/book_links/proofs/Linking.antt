@@ -5,7 +5,7 @@ use Rattle.std.proofs.lemmas.List.{append-nil}
 use Rattle.std.proofs.lemmas.List.Folds.{list_any-append}
 use Rattle.std.proofs.lemmas.Map.Text.{is_eq-slice_cmp}
 use Rattle.std.specs.BTreeMap.{is_at}
-use Rattle.std.specs.FinMap.{get, insert, remove, same_map}
+use Rattle.std.specs.FinMap.{get, insert, remove}
 use Rattle.std.specs.FinSet as set
 use Rattle.std.specs.List.Sorted.{IsStrictlySortedBy}
 use Rattle.std.specs.Map.{lookup, keys_of}
@@ -15,7 +15,7 @@ use Rattle.book_lists.specs.GroupEntries.{GroupEntries, pairs_in, groups_at}
 use Rattle.book_lists.specs.Principals.{path_cmp}
 use Rattle.book_lists.proofs.GroupLists.{contains-pairs_in}
 use Rattle.book_lists.proofs.Pairing.{same_path}
-use Rattle.book_values.proofs.NameMapLaws.{names_apart, same, put_at, removed_at}
+use Rattle.book_values.proofs.NameMapLaws.{put_at, put_back}
 use Rattle.book_values.specs.Names.{NamesTo}
 use Rattle.book_links.specs.Reaching.{names_at, pushed_at}
 use Rattle.book_links.specs.Steps.{AreNamesOf, has_uid, names_with}
@@ -58,15 +58,6 @@ targets_more old new sorted sorted' start ends targets are updated to from =
 
 -- ---- names by UID
 -- a list that was taken out and is put back with one name more
-put_back : {V : Type 0} (m : NamesTo V) (k : List ℕ) (v : V) → insert (remove m k) k v ≡ insert m k v
-put_back m k v = same_map nat_list_cmp_total names_apart _ _ (λ q.
-    put_at (remove m k) k v q ∙ ap (cond (same q k) (Some v)) (removed_at m k q)
-    ∙ turned _ _ _ (same q k) ∙ sym (put_at m k v q))
-  where
-    turned : {A : Type 0} (x y z : A) (b : Bool) → cond b x (cond b y z) ≡ cond b x z
-    turned x y z true = refl
-    turned x y z false = refl
-
 pub pushed_back : (m taken new : NamesTo (List (List ℕ))) (uid name : List ℕ) (found : Option (List (List ℕ))) (names : List (List ℕ))
     → found ≡ get m uid → names ≡ unwrap_or found [] → taken ≡ remove m uid → new ≡ insert taken uid (names ++ name ∷ []) → new ≡ pushed_at m uid name
 pushed_back m taken new uid name found names there is was put =

@@ -4,15 +4,13 @@
 //! It stands on `book_lists` and `book_values`, and knows of a card no more than its name, its UID and its members. The
 //! crate above uses that `members_among` answers the members of a card among cards (`AreMembersOf`).
 //!
-//! Read `cards` and `members` first; then `links`, the search along links from UID to UID, over `text_sets`; and
-//! `text_maps`, by which cards are found by their UID; and `laws`.
+//! Read `cards` and `members` first; then `links`, the search along links from UID to UID, over `text_sets`; and `laws`.
 #![tactic(auto)]
 
 mod cards;
 mod laws;
 mod links;
 mod members;
-mod text_maps;
 mod text_sets;
 
 pub use cards::CardRef;

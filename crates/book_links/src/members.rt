@@ -6,10 +6,9 @@ ghost use Rattle.book_links.specs.Steps.{AreMembers, AreMembersOf, AreNamesOf, I
 
 use crate::cards::{CardRef, card_named};
 use crate::links::Links;
-use crate::text_maps::TextMap;
 use crate::text_sets::TextSet;
 use book_lists::Name;
-use book_values::{Items, Text};
+use book_values::{Items, Text, TextMap};
 use std::alloc::{AllocError, Global};
 
 /// A MEMBER line of a card.

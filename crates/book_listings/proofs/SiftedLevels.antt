@@ -19,7 +19,7 @@ listed_more b levels i level within at =
     entries_more level.path b (flat_map (standing_in b) (take i levels)) (list_in b level)
     ∙ ap entries_of (levels_more b levels i level within at [])
 
-entries_both : (xs ys : List EffectiveEntry) → entries_of (xs ++ ys) ≡ entries_of xs ++ entries_of ys
+pub entries_both : (xs ys : List EffectiveEntry) → entries_of (xs ++ ys) ≡ entries_of xs ++ entries_of ys
 entries_both xs ys = map-append (λ (e : EffectiveEntry). e.entry) xs ys
 
 module _ (own : Level) (above : List Level) where

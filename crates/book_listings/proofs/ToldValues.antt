@@ -35,7 +35,7 @@ module _ (circle : CircleOf) (here : Here) (leaf : Leaf) where
   later_first x xs i f h zero y lt at = let same : x ≡ y = cc in subst (λ z. bears circle here leaf z ≡ false) same f
   later_first x xs i f h (suc k) y lt at = h k y (omega (arith, lt)) at
 
-  told_granted : (es : List Entry) → grants es circle here leaf ≡ true → Grants es circle here leaf
+  pub told_granted : (es : List Entry) → grants es circle here leaf ≡ true → Grants es circle here leaf
   told_granted [] e = absurd cc
   told_granted (x ∷ es) e =
       elim (bears circle here leaf x) as (λ b. bears circle here leaf x ≡ b → (if b then not x.deny else grants es circle here leaf) ≡ true → Grants (x ∷ es) circle here leaf) [

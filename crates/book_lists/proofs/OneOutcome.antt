@@ -16,13 +16,7 @@ use Rattle.book_lists.specs.Callers.{IsCircle}
 use Rattle.book_lists.specs.Circles.{CircleOf}
 use Rattle.book_lists.specs.Decisions.{IsAllowed, IsDenial, IsGrantedSet, IfDenied}
 use Rattle.book_lists.specs.Memberships.{Memberships}
-
--- ---- what a fact determines
-same_test : (a b : Bool) (P : Type 0) → (a ≡ true) ↔ P → (b ≡ true) ↔ P → a ≡ b
-same_test true true P f g = refl
-same_test true false P f g = sym (g.1 (f.0 refl))
-same_test false true P f g = f.1 (g.0 refl)
-same_test false false P f g = refl
+use Rattle.book_rights.proofs.Masks.{same_test}
 
 leaf_at : ℕ → Leaf
 leaf_at n = get_or (Read ∷ WriteContent ∷ WriteProperties ∷ Bind ∷ Unbind ∷ ReadAcl ∷ WriteAcl ∷ ReadCurrentUserPrivilegeSet ∷ []) n Read

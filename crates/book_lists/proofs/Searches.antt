@@ -1,4 +1,4 @@
--- The search for the principals to which a principal belongs.
+-- The search for what chains of pairs lead to from some starts: groups from their members.
 use Rattle.std.proofs.Common.{◌≡◌, ℕ, ◌+◌, ◌≤◌, Bool, true, false, cond, ◌||◌, List, [], ◌∷◌, ◌++◌, ◌⊎◌, inl, inr, ◌↔◌, refl, sym, ap, ◌∙◌, arith, unwrap_or, Some}
 use Rattle.std.specs.BTreeMap.{is_at}
 use Rattle.std.specs.FinSet as set
@@ -14,7 +14,7 @@ use Rattle.book_lists.specs.Memberships.{Memberships, IsDirect, Descends, Belong
 use Rattle.book_lists.specs.Principals.{path_cmp}
 use Rattle.book_lists.proofs.Pairing.{same_path, path_itself}
 
--- ---- what is found, with one principal more
+-- ---- what is found, with one text more
 found_more : (found : set.FinSet path_cmp) (p q : List ℕ) → set.contains (set.insert found p) q ≡ (bytes_eq p q || set.contains found q)
 found_more found p q = set.contains-insert nat_list_cmp_total found p q ∙ ap (λ b. b || set.contains found q) (is_eq-slice_cmp q p ∙ nat_list_eq_equiv.symm q p)
 
@@ -26,7 +26,11 @@ or_right : (a b : Bool) → b ≡ true → (a || b) ≡ true
 or_right true b h = refl
 or_right false b h = h
 
-module _ (pairs : Memberships) (start : List ℕ) where
+-- one of the starts belongs to it
+abbrev pub FromStarts : Memberships → List (List ℕ) → List ℕ → Type 0
+FromStarts pairs starts q = (s : List ℕ) × (has_path starts s ≡ true) × Belongs pairs s q
+
+module _ (pairs : Memberships) (starts : List (List ℕ)) where
   -- found, or still to be looked at
   abbrev pub IsReached : set.FinSet path_cmp → List (List ℕ) → List ℕ → Type 0
   IsReached found work q = (set.contains found q ≡ true) ⊎ (has_path work q ≡ true)
@@ -34,23 +38,20 @@ module _ (pairs : Memberships) (start : List ℕ) where
   -- a search so far: it began at the start, reaches only what the start belongs to, and of what is found it has reached
   -- the groups
   pub record Searches (found : set.FinSet path_cmp) (work : List (List ℕ)) : Type 0 where
-    pub starts : IsReached found work start
-    pub sound : (q : List ℕ) → IsReached found work q → Belongs pairs start q
+    pub begun : (s : List ℕ) → has_path starts s ≡ true → IsReached found work s
+    pub sound : (q : List ℕ) → IsReached found work q → FromStarts pairs starts q
     pub closed : (group member : List ℕ) → IsDirect pairs group member → set.contains found member ≡ true → IsReached found work group
 
-  pub search_begins : Searches set.empty (start ∷ [])
+  pub search_begins : Searches set.empty starts
   search_begins = record {
-    starts = inr (or_left (bytes_eq start start) false (path_itself start));
-    sound = λ q r. begun q r;
+    begun = λ s has. inr has;
+    sound = λ q r. from_start q r;
     closed = λ group member direct has. absurd (false≢true (sym (set.contains-empty path_cmp member) ∙ has));
   }
     where
-      begun : (q : List ℕ) → IsReached set.empty (start ∷ []) q → Belongs pairs start q
-      begun q (inl has) = absurd (false≢true (sym (set.contains-empty path_cmp q) ∙ has))
-      begun q (inr has) = elim (or_cases (bytes_eq start q) false has) [
-        | inl same ↦ inl (same_path start q same)
-        | inr never ↦ absurd (false≢true never)
-      ]
+      from_start : (q : List ℕ) → IsReached set.empty starts q → FromStarts pairs starts q
+      from_start q (inl has) = absurd (false≢true (sym (set.contains-empty path_cmp q) ∙ has))
+      from_start q (inr has) = (q, has, inl refl)
 
   module _ (found : set.FinSet path_cmp) (work : List (List ℕ)) (member : List ℕ) where
     split : (q : List ℕ) → has_path (work ++ member ∷ []) q ≡ true → (has_path work q ≡ true) ⊎ (bytes_eq member q ≡ true)
@@ -65,10 +66,10 @@ module _ (pairs : Memberships) (start : List ℕ) where
     still_in_work : (q : List ℕ) → has_path work q ≡ true → has_path (work ++ member ∷ []) q ≡ true
     still_in_work q has = list_any-append (λ p. bytes_eq p q) work (member ∷ []) ∙ or_left _ _ has
 
-    -- the last principal of the work is found already
+    -- the last text of the work is found already
     pub seen_again : set.contains found member ≡ true → Searches found (work ++ member ∷ []) → Searches found work
     seen_again there s = record {
-      starts = kept start s.starts;
+      begun = λ q has. kept q (s.begun q has);
       sound = λ q r. s.sound q (wider q r);
       closed = λ group p direct has. kept group (s.closed group p direct has);
     }
@@ -88,7 +89,7 @@ module _ (pairs : Memberships) (start : List ℕ) where
     pub seen_first : (added : List (List ℕ)) → ((q : List ℕ) → (has_path added q ≡ true) ↔ IsDirect pairs q member)
         → Searches found (work ++ member ∷ []) → Searches (set.insert found member) (work ++ added)
     seen_first added direct s = record {
-      starts = kept start s.starts;
+      begun = λ q has. kept q (s.begun q has);
       sound = λ q r. reached q r;
       closed = λ group p pair has. elim (or_cases _ _ (sym (found_more found member p) ∙ has)) [
         | inl same ↦ inr (of_added group ((direct group).1 (ap (λ m. set.contains pairs (record { group = group; member = m })) (same_path member p same) ∙ pair)))
@@ -109,16 +110,19 @@ module _ (pairs : Memberships) (start : List ℕ) where
           | inr same ↦ inl (found_more found member q ∙ or_left (bytes_eq member q) _ same)
         ]
 
-        belongs : Belongs pairs start member
+        belongs : FromStarts pairs starts member
         belongs = s.sound member (inr in_work)
 
-        joined : (q : List ℕ) → IsDirect pairs q member → Belongs pairs start member → Belongs pairs start q
-        joined q pair (inl same) = inr (member, [], (pair, sym same))
-        joined q pair (inr chain) = inr (member, chain.0 ∷ chain.1, (pair, chain.2))
+        joined_to : (start q : List ℕ) → IsDirect pairs q member → Belongs pairs start member → Belongs pairs start q
+        joined_to start q pair (inl same) = inr (member, [], (pair, sym same))
+        joined_to start q pair (inr chain) = inr (member, chain.0 ∷ chain.1, (pair, chain.2))
 
-        reached : (q : List ℕ) → IsReached (set.insert found member) (work ++ added) q → Belongs pairs start q
+        joined : (q : List ℕ) → IsDirect pairs q member → FromStarts pairs starts member → FromStarts pairs starts q
+        joined q pair from = (from.0, from.1, joined_to from.0 q pair from.2)
+
+        reached : (q : List ℕ) → IsReached (set.insert found member) (work ++ added) q → FromStarts pairs starts q
         reached q (inl has) = elim (or_cases _ _ (sym (found_more found member q) ∙ has)) [
-          | inl same ↦ let B : List ℕ → Type 0 = Belongs pairs start in rw (← same_path member q same) belongs
+          | inl same ↦ let B : List ℕ → Type 0 = FromStarts pairs starts in rw (← same_path member q same) belongs
           | inr old ↦ s.sound q (inl old)
         ]
         reached q (inr has) = elim (or_cases (has_path work q) (has_path added q) (sym (list_any-append (λ p. bytes_eq p q) work added) ∙ has)) [
@@ -126,21 +130,34 @@ module _ (pairs : Memberships) (start : List ℕ) where
           | inr new ↦ joined q ((direct q).0 new) belongs
         ]
 
-  -- with no work left exactly the principals to which the start belongs are found
-  pub search_ends : (found : set.FinSet path_cmp) → Searches found [] → (q : List ℕ) → (set.contains found q ≡ true) ↔ Belongs pairs start q
-  search_ends found s q = (λ has. s.sound q (inl has), λ b. all q b)
+  -- with no work left exactly what chains lead to from the starts is found
+  pub search_ends : (found : set.FinSet path_cmp) → Searches found [] → (q : List ℕ) → (set.contains found q ≡ true) ↔ FromStarts pairs starts q
+  search_ends found s q = (λ has. s.sound q (inl has), λ b. all b.0 q b.1 b.2)
     where
       only : (p : List ℕ) → IsReached found [] p → set.contains found p ≡ true
       only p (inl has) = has
       only p (inr never) = absurd (false≢true never)
 
-      climbs : (group : List ℕ) (members : List (List ℕ)) → Descends pairs group members start → set.contains found group ≡ true
-      climbs group [] same = ap (set.contains found) same ∙ only start s.starts
-      climbs group (member ∷ members) d = only group (s.closed group member d.0 (climbs member members d.1))
+      climbs : (start : List ℕ) → has_path starts start ≡ true → (group : List ℕ) (members : List (List ℕ)) → Descends pairs group members start → set.contains found group ≡ true
+      climbs start is group [] same = ap (set.contains found) same ∙ only start (s.begun start is)
+      climbs start is group (member ∷ members) d = only group (s.closed group member d.0 (climbs start is member members d.1))
 
-      all : (q : List ℕ) → Belongs pairs start q → set.contains found q ≡ true
-      all q (inl same) = ap (set.contains found) (sym same) ∙ only start s.starts
-      all q (inr chain) = climbs q (chain.0 ∷ chain.1) chain.2
+      all : (start q : List ℕ) → has_path starts start ≡ true → Belongs pairs start q → set.contains found q ≡ true
+      all start q is (inl same) = ap (set.contains found) (sym same) ∙ only start (s.begun start is)
+      all start q is (inr chain) = climbs start is q (chain.0 ∷ chain.1) chain.2
+
+-- from one start: exactly the principals to which it belongs
+pub search_ends_alone : (pairs : Memberships) (start : List ℕ) (found : set.FinSet path_cmp) → Searches pairs (start ∷ []) found [] → (q : List ℕ) → (set.contains found q ≡ true) ↔ Belongs pairs start q
+search_ends_alone pairs start found s q = (
+  λ has. from_it ((search_ends pairs (start ∷ []) found s q).0 has),
+  λ belongs. (search_ends pairs (start ∷ []) found s q).1 (start, or_left (bytes_eq start start) false (path_itself start), belongs),
+)
+  where
+    from_it : FromStarts pairs (start ∷ []) q → Belongs pairs start q
+    from_it (s, has, belongs) = elim (or_cases (bytes_eq start s) false has) [
+      | inl same ↦ let B : List ℕ → Type 0 = λ p. Belongs pairs p q in rw (same_path start s same) belongs
+      | inr never ↦ absurd (false≢true never)
+    ]
 
 -- ---- the search ends: the groups of a member are added to the work once
 -- how many groups the members that are not found have

@@ -1,17 +1,14 @@
 -- Offices that agree for a caller tell the same in reports.
-use Rattle.std.proofs.Common.{◌≡◌, ℕ, ◌<◌, zero, suc, Bool, true, false, not, List, [], ◌∷◌, map, filter, Option, Some, None, Result, is_some, option_map, option_and_then, unwrap_or, slice_get, refl, sym, ap, ◌∙◌, subst, arith}
+use Rattle.std.proofs.Common.{◌≡◌, ℕ, true, false, List, map, filter, Option, Some, None, Result, is_some, option_map, option_and_then, unwrap_or, refl, sym, ap, ◌∙◌, subst}
 use Rattle.std.specs.Prelude.{if◌then◌else◌}
 use Rattle.std.specs.FinMap.{get}
 use Rattle.book_rights.specs.Leaves.{each_leaf}
 use Rattle.book_rights.specs.Needs.{only}
-use Rattle.book_rights.specs.declared.privileges.Leaf.{Leaf}
 use Rattle.book_rights.specs.declared.privileges.Leaf.TheVariants.{Read}
 use Rattle.book_lists.specs.Callers.{IsCircle}
 use Rattle.book_lists.specs.Circles.{CircleOf}
-use Rattle.book_lists.specs.Decisions.{bears, Grants}
+use Rattle.book_lists.specs.Decisions.{Grants}
 use Rattle.book_lists.specs.declared.circles.Caller.{Caller}
-use Rattle.book_lists.specs.declared.entries.Entry.{Entry}
-use Rattle.book_lists.specs.declared.entries.Here.{Here}
 use Rattle.book_links.specs.declared.members.Members.{Members}
 use Rattle.book_members.specs.Members.{AreMembersAt}
 use Rattle.book_values.proofs.OneName.{some_apart, same_some}
@@ -42,6 +39,7 @@ use Rattle.book_machine.specs.declared.messages.SyncFrom.{SyncFrom}
 use Rattle.book_machine.specs.declared.messages.SyncFrom.TheVariants.{Start, After, Unknown}
 use Rattle.book_machine.specs.declared.plans.Plan.{Plan}
 use Rattle.book_machine.specs.declared.refusals.Refusal.{Refusal}
+use Rattle.book_listings.proofs.ToldValues.{told_granted}
 
 -- two Offices tell the same in each report, to who has this circle: in sync reports, in what is seen of each name of a
 -- book, and in what rests on outlines
@@ -49,29 +47,6 @@ pub record AreReportedAlike (o p : Office) (circle : CircleOf) : Type 0 where
   pub synced : (b : List ℕ) (from : SyncFrom) → report_from o circle b from ≡ report_from p circle b from
   pub seen_alike : (b c : List ℕ) → seen o circle b c ≡ seen p circle b c
   pub outlines : outline o ≡ outline p
-
--- ---- what entries grant
-not_true : (b : Bool) → not b ≡ true → b ≡ false
-not_true true e = absurd cc
-not_true false e = refl
-
-module _ (circle : CircleOf) (here : Here) (leaf : Leaf) where
-  -- no earlier entry bears on the leaf
-  none_earlier : (x : Entry) (es : List Entry) (i k : ℕ) (earlier : Entry) → bears circle here leaf x ≡ false
-      → ((k : ℕ) (earlier : Entry) → k < i → slice_get es k ≡ Some earlier → bears circle here leaf earlier ≡ false)
-      → k < suc i → slice_get (x ∷ es) k ≡ Some earlier → bears circle here leaf earlier ≡ false
-  none_earlier x es i zero earlier here_not rest before at = subst (λ e. bears circle here leaf e ≡ false) (same_some x earlier at) here_not
-  none_earlier x es i (suc k) earlier here_not rest before at = rest k earlier (omega (arith, before)) at
-
-  granted_by : (es : List Entry) → grants es circle here leaf ≡ true → Grants es circle here leaf
-  granted_by [] e = absurd cc
-  granted_by (x ∷ es) e =
-      elim (bears circle here leaf x) as (λ b. bears circle here leaf x ≡ b → (if b then not x.deny else grants es circle here leaf) ≡ true → Grants (x ∷ es) circle here leaf) [
-        | true ↦ λ is h. (0, x, record { there = refl; bearing = is; first = λ k earlier before at. absurd (omega (arith, before)) }, not_true x.deny h)
-        | false ↦ λ is h.
-            let rest = granted_by es h in
-            (suc rest.0, rest.1, record { there = rest.2.there; bearing = rest.2.bearing; first = λ k earlier before at. none_earlier x es rest.0 k earlier is rest.2.first before at }, rest.3)
-      ] refl e
 
 -- ---- what is seen of a card
 owner_is : (c : List ℕ) (found : Option Book) (s : StoredCard) → option_and_then (λ (book : Book). get book.cards c) found ≡ Some s
@@ -92,7 +67,7 @@ module _ (o p : Office) (caller : Caller) (agree : Agree o p caller) (circle : C
     may_read s at reads =
         let es = entries_in_force o (path.Card b c) in
         let here = here_of o (path.Card b c) in
-        let granted : Grants es circle here Read = subst (λ h. Grants es circle h Read) (here_is s at) (granted_by circle (here_of_card s) Read es reads) in
+        let granted : Grants es circle here Read = subst (λ h. Grants es circle h Read) (here_is s at) (told_granted circle (here_of_card s) Read es reads) in
         record {
           circle = circle;
           is_circle = is_circle;

@@ -9,7 +9,7 @@ use Rattle.book_adopting.specs.Adopting.{taken_over}
 use Rattle.book_office.specs.Edits.{apply, raises_epoch, set_label}
 use Rattle.book_adopting.specs.Sameness.{same_office}
 
-label_leaves_epoch : (p : Path) (label : List ℕ) (o : Office) → (set_label p label o).epoch ≡ o.epoch
+pub label_leaves_epoch : (p : Path) (label : List ℕ) (o : Office) → (set_label p label o).epoch ≡ o.epoch
 label_leaves_epoch path.Root label o = refl
 label_leaves_epoch path.People label o = refl
 label_leaves_epoch path.Groups label o = refl

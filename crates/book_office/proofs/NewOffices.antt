@@ -1,19 +1,16 @@
 -- The Office of a new keeper is sound.
-use Rattle.std.proofs.Common.{◌≡◌, ℕ, List, Bool, true, ◌&&◌, Some, None, sym, ap, ◌∙◌, arith}
-use Rattle.std.specs.FinMap.{get, empty, get-empty, len-empty}
+use Rattle.std.proofs.Common.{◌≡◌, Bool, true, ◌&&◌, None, sym, ap, ◌∙◌, arith}
+use Rattle.std.specs.FinMap.{empty, len-empty}
 use Rattle.std.specs.FinSet as set
 use Rattle.book_lists.proofs.Pairing.{memberships_total, memberships_exact}
 use Rattle.book_lists.specs.Memberships.{membership_cmp}
 use Rattle.book_lists.specs.Names.{name_cmp}
 use Rattle.book_lists.specs.declared.memberships.Membership.{Membership}
-use Rattle.book_values.proofs.OneName.{some_apart}
+use Rattle.book_values.proofs.OneName.{nothing_in}
 use Rattle.book_office.specs.Edits.{empty_office, empty_properties}
 use Rattle.book_office.specs.Sound.{IsSound, AreSoundProperties}
 use Rattle.book_values.specs.declared.offices.Book.{Book}
 use Rattle.book_values.specs.declared.offices.Office.{Office}
-
-nothing_in : {V P : Type 0} (q : List ℕ) (v : V) → get (empty {X = V} {R = name_cmp}) q ≡ Some v → P
-nothing_in q v e = some_apart (sym e ∙ get-empty name_cmp q)
 
 -- no pair is kept of none
 none_kept : (p : Membership → Bool) → set.retain (set.empty {R = membership_cmp}) p ≡ set.empty

@@ -1,6 +1,6 @@
 -- A book stays sound when a name of it is touched.
-use Rattle.std.proofs.Common.{◌≡◌, ◌≢◌, inl, inr, ℕ, ◌+◌, ◌<◌, List, Option, Some, None, sym, ◌∙◌, subst, le_trans, arith}
-use Rattle.std.specs.FinMap.{get, empty, get-empty, len-empty}
+use Rattle.std.proofs.Common.{◌≡◌, ◌≢◌, inl, inr, ℕ, ◌+◌, ◌<◌, List, Option, Some, None, sym, subst, le_trans, arith}
+use Rattle.std.specs.FinMap.{get, len-empty}
 use Rattle.book_lists.specs.Names.{IsName}
 use Rattle.book_values.specs.Changes.{touched, AreNumbers}
 use Rattle.book_values.specs.declared.collections.changes.Numbers.{Numbers}
@@ -14,7 +14,7 @@ use Rattle.book_lists.specs.Names.{name_cmp}
 use Rattle.book_office.specs.Sound.{IsOwner, IsSoundCard, IsSoundBook}
 use Rattle.book_values.proofs.NameMapLaws.{len_put, len_removed}
 use Rattle.book_values.proofs.Touches.{touched_are}
-use Rattle.book_values.proofs.OneName.{some_apart, same_some, where_some, is_there, by_put, by_removed}
+use Rattle.book_values.proofs.OneName.{some_apart, same_some, where_some, is_there, by_put, by_removed, nothing_in}
 
 -- a book, sound before, whose name is touched
 module _ (o : Office) (book : Book) (name : List ℕ) (sound : IsSoundBook o book) where
@@ -73,9 +73,6 @@ module _ (o : Office) (book : Book) (name : List ℕ) (sound : IsSoundBook o boo
   pub card_named : get book.cards name ≢ None → IsName name
   card_named mapped = where_some (get book.cards name) mapped (λ card e.
       where_some (get book.changes.last name) (sound.changed name card e) (sound.names name))
-
-nothing_in : {V P : Type 0} (q : List ℕ) (v : V) → get (empty {X = V} {R = name_cmp}) q ≡ Some v → P
-nothing_in q v e = some_apart (sym e ∙ get-empty name_cmp q)
 
 pub new_book_sound : (o : Office) (owner : Option (List ℕ)) → IsOwner o owner → IsSoundBook o (new_book owner)
 new_book_sound o owner known = record {

@@ -20,11 +20,11 @@ pub homes_are_there : HomesAreThere
 homes_are_there o = (λ e. some_apart e, λ e. some_apart e, λ e. some_apart e, λ e. some_apart e)
 
 -- what a value read from another was read from
-from_map : {A B P : Type 0} (f : A → B) (r : Option A) (y : B) → option_map f r ≡ Some y → ((x : A) → r ≡ Some x → f x ≡ y → P) → P
+pub from_map : {A B P : Type 0} (f : A → B) (r : Option A) (y : B) → option_map f r ≡ Some y → ((x : A) → r ≡ Some x → f x ≡ y → P) → P
 from_map f None y e use_it = some_apart (sym e)
 from_map f (Some x) y e use_it = use_it x refl (same_some _ _ e)
 
-from_and_then : {A B P : Type 0} (f : A → Option B) (r : Option A) (y : B) → option_and_then f r ≡ Some y → ((x : A) → r ≡ Some x → f x ≡ Some y → P) → P
+pub from_and_then : {A B P : Type 0} (f : A → Option B) (r : Option A) (y : B) → option_and_then f r ≡ Some y → ((x : A) → r ≡ Some x → f x ≡ Some y → P) → P
 from_and_then f None y e use_it = some_apart (sym e)
 from_and_then f (Some x) y e use_it = use_it x refl e
 
@@ -73,7 +73,7 @@ resources_stand_in_place o sound (path.Card b c) r e = from_and_then (λ (book :
       number = λ _ other. absurd (other refl);
     })))
 
-removed_unmapped : (card : Option StoredCard) (last : Option ℕ) (n : ℕ) → unless_mapped card last ≡ Some n → (card ≡ None) × (last ≡ Some n)
+pub removed_unmapped : (card : Option StoredCard) (last : Option ℕ) (n : ℕ) → unless_mapped card last ≡ Some n → (card ≡ None) × (last ≡ Some n)
 removed_unmapped None last n e = (refl, e)
 removed_unmapped (Some card) last n e = some_apart (sym e)
 

@@ -28,7 +28,7 @@ use Rattle.book_store.specs.Whole.{gone_shown}
 use Rattle.book_tables.specs.Rows.{row_at, resource_of, removed_from}
 use Rattle.book_tables.specs.Stands.{Gives}
 use Rattle.book_tables.proofs.Looking.{found_has, has_text}
-use Rattle.book_tables.proofs.OfficeChildren.{from_map}
+use Rattle.book_office.proofs.StandingResources.{from_map}
 use Rattle.book_tables.proofs.RowFacts.{same_rowid, found_at}
 use Rattle.book_tables.proofs.SameLists.{has_map}
 use Rattle.book_opening.specs.Directories.{is_of_kind}

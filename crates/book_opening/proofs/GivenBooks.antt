@@ -34,6 +34,7 @@ use Rattle.book_opening.proofs.CountedRows.{count_shown, count_bounded, count_we
 use Rattle.book_opening.proofs.Counts.{is_key}
 use Rattle.book_opening.proofs.GivenLists.{has_number}
 use Rattle.book_opening.proofs.SoundResources.{row_at_path}
+use Rattle.book_opening.proofs.RowForms.{book_at}
 
 abbrev card_key : Row → Key
 card_key row = (id_in (column row 2), pos 0)
@@ -48,16 +49,6 @@ card_of (path.Person n) h = absurd (true≢false (sym h))
 card_of (path.Group n) h = absurd (true≢false (sym h))
 card_of (path.Book b) h = absurd (true≢false (sym h))
 card_of (path.Card b c) h = (b, c, refl)
-
-book_of : (p : Path) → nat_eq (kind_code (kind_of p)) 4 ≡ true → (b : List ℕ) × (p ≡ path.Book b)
-book_of path.Root h = absurd (true≢false (sym h))
-book_of path.People h = absurd (true≢false (sym h))
-book_of path.Groups h = absurd (true≢false (sym h))
-book_of path.Books h = absurd (true≢false (sym h))
-book_of (path.Person n) h = absurd (true≢false (sym h))
-book_of (path.Group n) h = absurd (true≢false (sym h))
-book_of (path.Book b) h = (b, refl)
-book_of (path.Card b c) h = absurd (true≢false (sym h))
 
 module _ (db : Database) (book : IsBook db) (o : Office) (gives : Gives (rows_of db.trees) o) (sound : IsSound o) where
   abbrev rows : Rows
@@ -119,7 +110,7 @@ module _ (db : Database) (book : IsBook db) (o : Office) (gives : Gives (rows_of
   books_under home found = count_weaker (is_of_kind 4) (has 2 (rowid home)) (whole_nodes rows) (λ z there of_book.
       let x = has_mapped node_shown rows.nodes z there in
       let node = all_has (IsNode rows) rows.nodes x.0 gives.nodes x.1 in
-      let at = book_of node.0 (ap (λ v. nat_eq (number_in v) 4) (sym node.1.kind) ∙ ap (is_of_kind 4) (sym x.2) ∙ of_book) in
+      let at = book_at node.0 (ap (λ v. nat_eq (number_in v) 4) (sym node.1.kind) ∙ ap (is_of_kind 4) (sym x.2) ∙ of_book) in
       let parent : IsParent rows (column x.0 3) (Some path.Books) = subst (λ p. IsParent rows (column x.0 3) (parent_of p)) at.1 node.1.parent in
       let number = number_of_row rows gives.nodes (nodes_of db book).shaped (path_text path.Books) home found in
       let one : parent.0 ≡ home = same_some _ _ (sym parent.1 ∙ found) in

@@ -1,5 +1,5 @@
 -- The rows of a sound Office pass as those of an Office: each member, each removed name, and version and epoch.
-use Rattle.std.proofs.Common.{◌≡◌, ◌≢◌, ℕ, suc, Bool, true, false, not, ◌&&◌, nat_eq, List, [], ◌∷◌, ◌++◌, codes, map, drop, find, Option, Some, None, option_map, unwrap_or, refl, sym, ap, subst, ◌∙◌, true≢false}
+use Rattle.std.proofs.Common.{◌≡◌, ◌≢◌, ℕ, Bool, true, false, not, ◌&&◌, nat_eq, List, [], ◌∷◌, ◌++◌, codes, map, drop, find, Option, Some, None, option_map, unwrap_or, refl, sym, ap, subst, ◌∙◌, true≢false}
 use Rattle.std.specs.FinMap.{get}
 use Rattle.std.specs.List.{AllByRecursion}
 use Rattle.std.proofs.lemmas.Bool.{and_parts}
@@ -37,7 +37,7 @@ use Rattle.book_rows.proofs.Typing.{typed_at}
 use Rattle.book_tables.specs.Rows.{row_at, is_member, removed_from, resource_of}
 use Rattle.book_tables.specs.Stands.{IsRemoved, Gives}
 use Rattle.book_tables.proofs.Looking.{found_has, has_text}
-use Rattle.book_tables.proofs.OfficeChildren.{from_and_then}
+use Rattle.book_office.proofs.StandingResources.{from_and_then}
 use Rattle.book_opening.specs.Directories.{node_at}
 use Rattle.book_opening.specs.WholeNodes.{node_shown}
 use Rattle.book_opening.specs.Opening.{IsMemberRow, IsGoneRow, IsMetaRows}
@@ -45,6 +45,7 @@ use Rattle.book_opening.proofs.HeldResources.{its_path, held_group, held_princip
 use Rattle.book_opening.proofs.NumberedRows.{mapped_all, one_is_found, shown_node, has_number}
 use Rattle.book_opening.proofs.RowForms.{rows, nodes, name_shown}
 use Rattle.book_opening.proofs.ShownNodes.{shown_at}
+use Rattle.book_tables.proofs.ChildShares.{behind_number}
 
 -- ---- texts that are there
 
@@ -59,10 +60,6 @@ not_null : (b : Bool) → not b ≡ true → b ≡ false
 not_null true h = absurd (true≢false (sym h))
 not_null false h = refl
 
-column_behind : (row : Row) (i : ℕ) → column (drop 1 row) i ≡ column row (suc i)
-column_behind [] i = refl
-column_behind (v ∷ row) i = refl
-
 abbrev pub pair_shown : Row → Row
 pair_shown row = column row 1 ∷ column row 2 ∷ []
 
@@ -73,8 +70,8 @@ module _ (db : Database) (book : IsBook db) where
   member_typed : (row : Row) → Has (rows db book).members row → (is_of kinds.Text (column row 1) ≡ true) × (is_of kinds.Text (column row 2) ≡ true)
   member_typed row there =
       let typed = (and_parts (are_typed None 0 member_columns (drop 1 row)) (has_computed member_table row) (all_has _ (rows db book).members row (typed_rows.obeys.rules Datatype).1.1.0 there)).0 in (
-        ap (is_of kinds.Text) (sym (column_behind row 0)) ∙ typed_at None 0 member_columns (drop 1 row) 0 _ typed refl refl refl,
-        ap (is_of kinds.Text) (sym (column_behind row 1)) ∙ typed_at None 0 member_columns (drop 1 row) 1 _ typed refl refl refl,
+        ap (is_of kinds.Text) (sym (behind_number row 0)) ∙ typed_at None 0 member_columns (drop 1 row) 0 _ typed refl refl refl,
+        ap (is_of kinds.Text) (sym (behind_number row 1)) ∙ typed_at None 0 member_columns (drop 1 row) 1 _ typed refl refl refl,
       )
 
   member_present : (row : Row) → Has (rows db book).members row → (is_null (column row 1) ≡ false) × (is_null (column row 2) ≡ false)

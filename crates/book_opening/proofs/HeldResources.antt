@@ -24,7 +24,7 @@ use Rattle.book_rows.specs.Writes.{is_at}
 use Rattle.book_tables.specs.Rows.{row_at, kind_code, resource_of}
 use Rattle.book_tables.specs.Stands.{IsNode, IsNodeAt, Gives}
 use Rattle.book_tables.proofs.Looking.{found_has, has_text}
-use Rattle.book_tables.proofs.OfficeChildren.{from_map, from_and_then}
+use Rattle.book_office.proofs.StandingResources.{from_map, from_and_then}
 use Rattle.book_opening.specs.Directories.{node_at}
 use Rattle.book_opening.specs.Opening.{HasPrincipal, HasGroup, IsKnown, IsContent, IsChangeNumber}
 use Rattle.book_opening.specs.WholeNodes.{node_shown, whole_nodes}

@@ -27,7 +27,6 @@ use Rattle.book_store.specs.Whole.{entries_shown}
 use Rattle.book_tables.specs.Rows.{entry_of, list_in, flag_in}
 use Rattle.book_tables.specs.Stands.{Gives}
 use Rattle.book_tables.proofs.Looking.{same_ints}
-use Rattle.book_tables.proofs.OfficeChildren.{length_map}
 use Rattle.book_tables.proofs.SameLists.{has_map, has_mapped, has_sorted}
 use Rattle.book_opening.specs.Directories.{node_of}
 use Rattle.book_opening.specs.Opening.{IsNodeRow, IsEntryRow, Key, same_key, AreAtMost, list_keys}
@@ -35,6 +34,7 @@ use Rattle.book_opening.specs.WholeNodes.{whole_nodes}
 use Rattle.book_opening.proofs.CountedRows.{count_keys, same_keys, at_most}
 use Rattle.book_opening.proofs.RowsOfPaths.{form_known}
 use Rattle.book_opening.proofs.ShownNodes.{node_of_is}
+use Rattle.std.proofs.lemmas.List.{length-map}
 
 pub by_place_total : IsTotalOrder by_place
 by_place_total = record {
@@ -44,7 +44,7 @@ by_place_total = record {
 }
 
 pub length_list : (entries : List Row) (v : Value) (list : Bool) → length (list_in entries v list) ≡ length (filter (is_entry v list) entries)
-length_list entries v list = length_map entry_of (entries_of entries v list) ∙ sym (length_permutation (entries_of entries v list) (filter (is_entry v list) entries) (IsPermutation-sort_by by_place by_place_total (filter (is_entry v list) entries)))
+length_list entries v list = length-map (entries_of entries v list) entry_of ∙ sym (length_permutation (entries_of entries v list) (filter (is_entry v list) entries) (IsPermutation-sort_by by_place by_place_total (filter (is_entry v list) entries)))
 
 pub flag_is_int : (b : Bool) → flag b ≡ Int (id_in (flag b))
 flag_is_int true = refl

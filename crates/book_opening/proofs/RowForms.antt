@@ -91,7 +91,7 @@ one_meta (r ∷ []) epoch widths is =
 -- ---- nodes
 
 -- a path whose kind is a book's is that of a book
-book_at : (p : Path) → nat_eq (kind_code (kind_of p)) 4 ≡ true → (b : List ℕ) × (p ≡ path.Book b)
+pub book_at : (p : Path) → nat_eq (kind_code (kind_of p)) 4 ≡ true → (b : List ℕ) × (p ≡ path.Book b)
 book_at path.Root h = absurd (true≢false (sym h))
 book_at path.People h = absurd (true≢false (sym h))
 book_at path.Groups h = absurd (true≢false (sym h))

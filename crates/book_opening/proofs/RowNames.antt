@@ -26,7 +26,7 @@ use Rattle.book_rows.specs.Rows.{has, IsBook}
 use Rattle.book_rows.specs.Writes.{is_at, is_gone}
 use Rattle.book_tables.specs.Rows.{row_at, removed_from, removed_in}
 use Rattle.book_tables.proofs.Looking.{found_has, has_text}
-use Rattle.book_tables.proofs.OfficeChildren.{from_map}
+use Rattle.book_office.proofs.StandingResources.{from_map}
 use Rattle.book_opening.specs.Directories.{node_at}
 use Rattle.book_opening.specs.WholeNodes.{node_shown}
 use Rattle.book_opening.specs.Opening.{IsNodeRow, IsEntryRow, IsGoneRow}

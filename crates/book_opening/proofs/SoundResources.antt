@@ -24,7 +24,7 @@ use Rattle.book_store.specs.Whole.{entries_shown}
 use Rattle.book_tables.specs.Rows.{row_at, resource_of}
 use Rattle.book_tables.specs.Stands.{Gives}
 use Rattle.book_tables.proofs.Looking.{found_has}
-use Rattle.book_tables.proofs.OfficeChildren.{from_map}
+use Rattle.book_office.proofs.StandingResources.{from_map}
 use Rattle.book_opening.specs.Opening.{IsContent, IsChangeNumber, IsNodeRow, IsEntryRow, AreAtMost, list_keys}
 use Rattle.book_opening.specs.WholeNodes.{whole_nodes}
 use Rattle.book_opening.proofs.RowsOfPaths.{row_of, owner_known}

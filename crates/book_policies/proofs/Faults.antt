@@ -27,9 +27,7 @@ use Rattle.book_policies.proofs.Members.{each_paired_all, few_direct}
 use Rattle.book_policies.proofs.Names.{all_fine, all_named, all_once, can_add, each_added, len_added, all_there}
 use Rattle.book_policies.proofs.Paths.{principal_spelled, place_spelled}
 use Rattle.std.specs.FinSet.{contains-empty}
-
-nothing : {V P : Type 0} (q : List ℕ) (v : V) → get (empty {X = V} {R = name_cmp}) q ≡ Some v → P
-nothing q v e = let none = get-empty {X = _} name_cmp q in let clash : Some v ≡ None = sym e ∙ none in absurd cc
+use Rattle.book_values.proofs.OneName.{nothing_in}
 
 none_short : AreShort empty
 none_short q = rw (get-empty name_cmp q) (omega arith)
@@ -99,9 +97,9 @@ module _ (persons : List PersonPart) (groups : List GroupPart) (books : List Boo
     -- ---- and make a policy
     pub is_policy : IsPolicy t
     is_policy = record {
-      persons = each_added (λ p. IsShort p.label) named_person (λ name label. IsName name × IsShort label) empty persons (λ q v e. nothing q v e) (λ k d within. (f.names.of_persons k d within, f.labels.of_persons k d within));
-      groups = each_added (λ g. IsShort g.label) named_group (λ name label. IsName name × IsShort label) empty groups (λ q v e. nothing q v e) (λ k d within. (f.names.of_groups k d within, f.labels.of_groups k d within));
-      books = each_added (BookFits t.persons t.groups) named_book (λ name book. IsName name × IsShort book.label × IsKnownOwner t.persons t.groups book.owner) empty books (λ q v e. nothing q v e)
+      persons = each_added (λ p. IsShort p.label) named_person (λ name label. IsName name × IsShort label) empty persons (λ q v e. nothing_in q v e) (λ k d within. (f.names.of_persons k d within, f.labels.of_persons k d within));
+      groups = each_added (λ g. IsShort g.label) named_group (λ name label. IsName name × IsShort label) empty groups (λ q v e. nothing_in q v e) (λ k d within. (f.names.of_groups k d within, f.labels.of_groups k d within));
+      books = each_added (BookFits t.persons t.groups) named_book (λ name book. IsName name × IsShort book.label × IsKnownOwner t.persons t.groups book.owner) empty books (λ q v e. nothing_in q v e)
           (λ k d within. (f.names.of_books k d within, f.labels.of_books k d within, known_owner t.persons t.groups _ (f.known.owners k d within)));
       members = each_paired_all (λ (m : Membership). ((name : List ℕ) × (m.group ≡ group_path name) × (get t.groups name ≢ None)) × IsKnown t.persons t.groups m.member) set.empty groups
           (λ q e. let clash : true ≡ false = sym e ∙ contains-empty membership_cmp q in absurd cc)

@@ -20,7 +20,7 @@ one_of : (a b : Bool) → (a || b) ≡ true → (a ≡ true) ⊎ (b ≡ true)
 one_of true b e = inl refl
 one_of false b e = inr e
 
-tied : (q e : Membership) → eq_by_cmp membership_cmp q e ≡ true → e ≡ q
+pub tied : (q e : Membership) → eq_by_cmp membership_cmp q e ≡ true → e ≡ q
 tied q e h =
     let both = both_true _ _ (sym (same_membership e q) ∙ h) in
     let g : e.group ≡ q.group = same_path _ _ both.0 in

@@ -3,13 +3,12 @@
 //! It stands on `book_lists` and `book_values`. The crate above uses that contracts see `Policy` as what it says, that a
 //! policy has none of the faults that its parts may have, and that it tells the entries at the text of a path by a look-up.
 //!
-//! Read `parts` and `policies` first, then `reading` and `text_maps`.
+//! Read `parts` and `policies` first, then `reading`.
 #![tactic(auto)]
 
 mod parts;
 mod policies;
 mod reading;
-mod text_maps;
 
 pub use parts::{
     BookPart, EntryPart, GroupPart, PersonPart, PolicyBook, PolicyEntry, PolicyTables,

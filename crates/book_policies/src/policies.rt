@@ -8,10 +8,9 @@ use crate::parts::{BookPart, EntryPart, GroupPart, PersonPart, PolicyTables};
 use crate::reading::{
     ReadEntries, read_books, read_entries, read_groups, read_members, read_persons,
 };
-use crate::text_maps::TextMap;
 use book_limits::MAX_NAMED;
 use book_lists::Entry;
-use book_values::{Items, Text};
+use book_values::{Items, Text, TextMap};
 use std::alloc::{AllocError, Global};
 use std::marker::Model;
 

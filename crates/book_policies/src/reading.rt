@@ -9,11 +9,10 @@ ghost use Rattle.book_policies.specs.Policies.{HoldsSome, IsKnown, IsPlaceOf, Is
 ghost use Rattle.book_policies.specs.Reading.{BookFits, CanAdd, EntriesFit, EntryFits, GroupsFit, HasRoom, IsNew, MembersFit, PersonsFit, pushed_at, with_entries, with_entry};
 
 use crate::parts::{BookPart, EntryPart, GroupPart, PersonPart, PolicyBook, PolicyEntry};
-use crate::text_maps::TextMap;
 use book_limits::{MAX_ENTRIES, MAX_LABEL_BYTES, MAX_MEMBERS};
 use book_lists::{Entry, Name, Pairs, Principal, Who};
 use book_rights::LeafSet;
-use book_values::{Items, NameMap, Path, PathFault, Text};
+use book_values::{Items, NameMap, Path, PathFault, Text, TextMap};
 use std::alloc::{AllocError, Global};
 
 /// The name of something that is added to a map, if it is a name, the label is short, and the name is not there.

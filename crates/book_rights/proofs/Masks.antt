@@ -116,7 +116,7 @@ meets_of a b below = (
 )
 
 -- ---- equal sets
-same_test : (a b : Bool) (P : Type 0) → (a ≡ true) ↔ P → (b ≡ true) ↔ P → a ≡ b
+pub same_test : (a b : Bool) (P : Type 0) → (a ≡ true) ↔ P → (b ≡ true) ↔ P → a ≡ b
 same_test true true P f g = refl
 same_test true false P f g = sym (g.1 (f.0 refl))
 same_test false true P f g = f.1 (g.0 refl)

@@ -5,20 +5,19 @@ use Rattle.std.proofs.lemmas.List.{length-append, length-map}
 use Rattle.std.proofs.lemmas.Option.{slice_get_within}
 use Rattle.book_rights.specs.declared.privileges.Leaf.{Leaf}
 use Rattle.book_lists.specs.Circles.{CircleOf}
-use Rattle.book_lists.specs.Decisions.{bears, denying, Decides, Grants, IsUndecided}
+use Rattle.book_lists.specs.Decisions.{bears, denying, Decides, Grants}
 use Rattle.book_lists.specs.declared.entries.Entry.{Entry}
 use Rattle.book_lists.specs.declared.entries.Here.{Here}
 use Rattle.book_lists.proofs.FirstBearings.{decides_more, left_at, one_decider}
-use Rattle.book_listings.specs.Verdicts.{deciding_entry, entries_of, entry_in, paths_of}
+use Rattle.book_listings.specs.Verdicts.{entries_of, entry_in, paths_of}
 use Rattle.book_listings.specs.declared.messages.DecidingEntry.{DecidingEntry}
 use Rattle.book_office.specs.Levels.{standing_at}
 use Rattle.book_office.specs.declared.nodes.EffectiveEntry.{EffectiveEntry}
 use Rattle.book_values.specs.declared.paths.Path.{Path}
 use Rattle.book_rulings.specs.Rulings.{IsDecidedBy, IsRuling, RulingsAreTheGrants}
 use Rattle.book_rulings.specs.Scanning.{IsProgress, Passes}
-use Rattle.book_rulings.specs.declared.messages.Ruling.{Ruling}
-use Rattle.book_rulings.specs.declared.ruling.Progress.{Progress}
 use Rattle.book_rulings.specs.declared.ruling.Progress.TheVariants.{Open, Decided}
+use Rattle.book_listings.proofs.SiftedLevels.{entries_both}
 
 -- ---- places in two lists
 right_at : {A : Type 0} (xs ys : List A) (i j : ℕ) (x : A) → i ≡ length xs + j → slice_get ys j ≡ Some x → slice_get (xs ++ ys) i ≡ Some x
@@ -50,10 +49,6 @@ module _ (circle : CircleOf) (here : Here) (leaf : Leaf) (xs ys : List Entry) (p
   }
 
 -- ---- the entries of two lists, and where they stand
-entries_joined : (xs ys : List EffectiveEntry) → entries_of (xs ++ ys) ≡ entries_of xs ++ entries_of ys
-entries_joined [] ys = refl
-entries_joined (x ∷ xs) ys = ap (λ r. x.entry ∷ r) (entries_joined xs ys)
-
 paths_joined : (xs ys : List EffectiveEntry) → paths_of (xs ++ ys) ≡ paths_of xs ++ paths_of ys
 paths_joined [] ys = refl
 paths_joined (x ∷ xs) ys = ap (λ r. x.path ∷ r) (paths_joined xs ys)
@@ -82,7 +77,7 @@ module _ (before : List EffectiveEntry) (p : Path) (b : Bool) (list : List Entry
   joined = before ++ map (standing_at p b) list
 
   both_is : entries_of joined ≡ entries_of before ++ list
-  both_is = entries_joined before (map (standing_at p b) list) ∙ ap (λ r. entries_of before ++ r) (entries_standing p b list)
+  both_is = entries_both before (map (standing_at p b) list) ∙ ap (λ r. entries_of before ++ r) (entries_standing p b list)
 
   pub still_decided : (named : DecidingEntry) (grant : Bool) → IsProgress before circle here leaf (Decided named grant) → IsProgress joined circle here leaf (Decided named grant)
   still_decided named grant d = (

@@ -11,18 +11,12 @@ use Rattle.book_values.proofs.NameMapLaws.{names_apart}
 use Rattle.std.proofs.lemmas.Bool.Decides.{nat_tests}
 use Rattle.book_values.specs.Changes.{Change, by_number, changes_after}
 use Rattle.book_sync.specs.Copies.{last_number}
-use Rattle.book_values.proofs.Members.{Mem, mem_map, find_mem, mem_some, mem_get, get_mem}
-use Rattle.book_sync.proofs.Filters.{less, first, second, mem_filter, filter_mem}
+use Rattle.book_values.proofs.Members.{Mem, mem_map, find_mem, mem_some, mem_get, get_mem, less, first, second}
+use Rattle.book_sync.proofs.Filters.{mem_filter, filter_mem}
+use Rattle.book_values.proofs.Indexes.{unswap}
 
 swapped : List (List ℕ × ℕ) → List Change
 swapped es = map (λ e. (e.1, e.0)) es
-
-pub unswap : (es : List (List ℕ × ℕ)) (n : ℕ) (q : List ℕ) → Mem {A = Change} (n, q) (map (λ (e : List ℕ × ℕ). (e.1, e.0)) es) → Mem {A = List ℕ × ℕ} (q, n) es
-unswap [] n q m = absurd m
-unswap (e ∷ es) n q m = elim m [
-  | inl is ↦ inl (let a : n ≡ e.1 = ap (λ p. p.0) is in let b : q ≡ e.0 = ap (λ p. p.1) is in λ i. (b i, a i))
-  | inr r ↦ inr (unswap es n q r)
-]
 
 module _ (last : NamesTo ℕ) where
   -- a change above a number is the last of its name

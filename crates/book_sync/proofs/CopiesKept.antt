@@ -30,6 +30,7 @@ use Rattle.book_values.proofs.NameMapLaws.{by_names}
 use Rattle.book_values.proofs.OneName.{some_apart, by_changed, by_put, put_here, put_elsewhere, removed_elsewhere}
 use Rattle.book_sync.specs.declared.messages.Seen.{Seen}
 use Rattle.book_sync.specs.Copies.{grants, here_of_card, seen, shown, last_change, Right, KeptBook, Kept, Later}
+use Rattle.book_office.proofs.Epochs.{label_leaves_epoch}
 
 -- the lists above a card
 pub record ListsAbove : Type 0 where
@@ -232,16 +233,6 @@ label_kept (path.Group n) label o = record { pairs = refl; root_protected = refl
 label_kept (path.Book b) label o = with_book_kept o b (λ (book : Book). record book { properties = record book.properties { label = label } })
     (λ x. record { protected = refl; own = refl; number = omega arith; names = λ c. inl (refl, refl) })
 label_kept (path.Card b c) label o = with_book_kept o b (λ (book : Book). label_card c label (get book.cards c) book) (λ x. labelled_kept c label (get x.cards c) x)
-
-label_leaves_epoch : (p : Path) (label : List ℕ) (o : Office) → (set_label p label o).epoch ≡ o.epoch
-label_leaves_epoch path.Root label o = refl
-label_leaves_epoch path.People label o = refl
-label_leaves_epoch path.Groups label o = refl
-label_leaves_epoch path.Books label o = refl
-label_leaves_epoch (path.Person n) label o = refl
-label_leaves_epoch (path.Group n) label o = refl
-label_leaves_epoch (path.Book b) label o = refl
-label_leaves_epoch (path.Card b c) label o = refl
 
 adopted_later : (t : PolicyTables) (o : Office) (b : Bool) → same_office o (taken_over t o) ≡ b
     → Later o (cond b (taken_over t o) (record (taken_over t o) { epoch = (taken_over t o).epoch + 1 }))

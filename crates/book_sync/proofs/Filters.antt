@@ -1,22 +1,6 @@
 -- Elements of filtered lists.
-use Rattle.std.proofs.Common.{◌≡◌, inl, inr, Bool, true, false, cond, T, ◌&&◌, List, [], ◌∷◌, filter, refl, subst}
-use Rattle.std.specs.declared.cmp.Ordering.{Ordering}
-use Rattle.std.specs.declared.cmp.Ordering.TheVariants.{Less, Equal, Greater}
-use Rattle.std.specs.Ordering.{is_lt}
+use Rattle.std.proofs.Common.{◌≡◌, inl, inr, Bool, true, false, cond, List, [], ◌∷◌, filter, refl, subst}
 use Rattle.book_values.proofs.Members.{Mem}
-
-pub less : (o : Ordering) → T (is_lt o) → o ≡ Less
-less Less h = refl
-less Equal h = absurd h
-less Greater h = absurd h
-
-pub first : (a b : Bool) → T (a && b) → T a
-first true b h = tt
-first false b h = h
-
-pub second : (a b : Bool) → T (a && b) → T b
-second true b h = h
-second false b h = absurd h
 
 pub mem_filter : {A : Type 0} (p : A → Bool) (x : A) (xs : List A) → Mem x xs → p x ≡ true → Mem x (filter p xs)
 mem_filter p x [] m t = m

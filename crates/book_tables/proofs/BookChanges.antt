@@ -1,5 +1,5 @@
 -- The last changes of a book, by their numbers.
-use Rattle.std.proofs.Common.{◌≡◌, inl, inr, ℕ, suc, add-one, ◌<◌, true, List, [], ◌∷◌, map, nat_lt, Some, sym, ap, subst, ◌∙◌, arith, Less, nat_cmp}
+use Rattle.std.proofs.Common.{◌≡◌, ℕ, suc, add-one, ◌<◌, true, List, [], ◌∷◌, map, nat_lt, Some, sym, ap, subst, ◌∙◌, arith, Less, nat_cmp}
 use Rattle.std.specs.List.{IsAllAdjacentAnswer}
 use Rattle.std.specs.Cmp.{nat_cmp_total, ranked}
 use Rattle.std.specs.Cmp.Lexicographic.{nat_list_cmp_total}
@@ -14,10 +14,11 @@ use Rattle.book_office.specs.Resources.{changed_in}
 use Rattle.book_values.specs.Changes.{Change, by_number, changes_after}
 use Rattle.book_values.specs.Names.{NamesTo}
 use Rattle.book_values.specs.declared.offices.Book.{Book}
-use Rattle.book_values.proofs.Members.{Mem, mem_map, find_mem, mem_some, mem_get, get_mem}
+use Rattle.book_values.proofs.Members.{mem_map, find_mem, mem_some, mem_get, get_mem}
 use Rattle.book_values.proofs.NameMapLaws.{names_apart}
 use Rattle.book_tables.proofs.SameLists.{has_map, has_mapped, keys_rise}
 use Rattle.book_tables.proofs.OfficeChildren.{has_mem, mem_has}
+use Rattle.book_values.proofs.Indexes.{unswap}
 
 above : (a b : ℕ) → a < b → nat_lt a b ≡ true
 above a b h = grind (arith, nat_tests)
@@ -31,11 +32,6 @@ IsEarlier a b = a.number < b.number
 
 pub not_both : (a b : Changed) → IsEarlier a b → IsEarlier b a → ⊥
 not_both a b ab ba = omega (arith, ab, ba)
-
-unswap : (es : List (List ℕ × ℕ)) (n : ℕ) (q : List ℕ) → Mem {A = Change} (n, q) (map (λ (e : List ℕ × ℕ). (e.1, e.0)) es) → Mem {A = List ℕ × ℕ} (q, n) es
-unswap [] n q m = absurd m
-unswap (e ∷ es) n q (inl is) = inl (let a : n ≡ e.1 = ap (λ p. p.0) is in let b : q ≡ e.0 = ap (λ p. p.1) is in λ i. (b i, a i))
-unswap (e ∷ es) n q (inr r) = inr (unswap es n q r)
 
 module _ (last : NamesTo ℕ) where
   listed : List Change

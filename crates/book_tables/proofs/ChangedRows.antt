@@ -1,5 +1,5 @@
 -- The changes that rows tell are those of the Office that they give.
-use Rattle.std.proofs.Common.{◌≡◌, inl, inr, ℕ, ℤ, pos, ◌<ℤ◌, ◌<◌, ◌≤◌, Bool, true, false, ◌&&◌, List, [], ◌∷◌, ◌++◌, map, filter, find, drop, length, codes, Option, Some, None, option_map, option_and_then, unwrap_or, refl, sym, ap, subst, ◌∙◌, arith, Ordering, Less, Equal, Greater, is_gt, int_cmp, IsPermutation, true≢false}
+use Rattle.std.proofs.Common.{◌≡◌, inl, inr, ℕ, ℤ, pos, ◌<ℤ◌, ◌<◌, ◌≤◌, Bool, true, false, ◌&&◌, List, [], ◌∷◌, ◌++◌, map, filter, find, codes, Some, None, option_map, option_and_then, unwrap_or, refl, sym, ap, subst, ◌∙◌, arith, Ordering, Less, Equal, Greater, is_gt, int_cmp, true≢false}
 use Rattle.std.proofs.lemmas.Bool.{and_parts}
 use Rattle.std.proofs.lemmas.Cmp.{int_ranked}
 use Rattle.std.proofs.lemmas.Int.{ints}
@@ -41,9 +41,9 @@ use Rattle.book_tables.proofs.Acting.{AreNodes}
 use Rattle.book_tables.proofs.BookChanges.{IsChange, are_changes, changes_are}
 use Rattle.book_tables.proofs.ChildRows.{found_once, row_of, its_resource, its_name, under_is, child_row}
 use Rattle.book_tables.proofs.Looking.{found_has, has_text}
-use Rattle.book_tables.proofs.OfficeChildren.{from_map}
 use Rattle.book_tables.proofs.LeftRows.{book_name}
 use Rattle.book_tables.proofs.SameLists.{has_map, has_mapped}
+use Rattle.book_office.proofs.StandingResources.{from_map, removed_unmapped}
 
 -- ---- a number above another
 
@@ -83,10 +83,6 @@ card_below (path.Person n) b e = absurd (let is = same_some _ _ e in cc)
 card_below (path.Group n) b e = absurd (let is = same_some _ _ e in cc)
 card_below (path.Book n) b e = absurd (let is = same_some _ _ e in cc)
 card_below (path.Card a c) b e = (c, ap (λ z. path.Card z c) (book_name (same_some _ _ e)))
-
-unmapped : (card : Option StoredCard) (last : Option ℕ) (n : ℕ) → unless_mapped card last ≡ Some n → (card ≡ None) × (last ≡ Some n)
-unmapped None last n e = (refl, e)
-unmapped (Some card) last n e = some_apart (sym e)
 
 both : (a b : Bool) → a ≡ true → b ≡ true → (a && b) ≡ true
 both a b p q = (λ i. p i && b) ∙ q
@@ -162,7 +158,7 @@ module _ (rows : Rows) (o : Office) (gives : Gives rows o) (nodes : AreNodes row
       let own = ap (λ v. has 1 v x) (sym book_number) ∙ two.0 in
       let name_is : has 2 (Text it.name) x ≡ true = has_text 2 x it.name it.name it.spelled ∙ same_itself it.name in
       let gone = found_once (is_gone (rowid node) it.name) rows.gone x (once (rowid node) it.name) f.0 (both _ _ own name_is) in
-      let last = unmapped _ _ _ (removed_is it.name ∙ ap (option_map (λ row. number_in (column row 3))) gone) in
+      let last = removed_unmapped _ _ _ (removed_is it.name ∙ ap (option_map (λ row. number_in (column row 3))) gone) in
       let whole : removed_shown (name_columns x) ≡ record { number = number_in (column x 3); name = it.name; card = None } =
       (λ i. record { number = number_in (column x 3); name = unwrap_or (text_in (it.spelled i)) []; card = None }) in
       subst (IsChange book n) (sym whole)

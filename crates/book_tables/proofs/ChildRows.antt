@@ -3,7 +3,6 @@ use Rattle.std.proofs.Common.{◌≡◌, inl, inr, ℕ, Bool, true, false, List,
 use Rattle.std.proofs.Math.Seq.{drop-append_seam}
 use Rattle.std.proofs.lemmas.List.Sorted.{length_permutation}
 use Rattle.std.proofs.lemmas.Cmp.{tied_itself}
-use Rattle.std.specs.List.{AllByRecursion}
 use Rattle.std.specs.Option.{option_to_list}
 use Rattle.std.specs.Cmp.{IsTotalOrder, nat_cmp_total}
 use Rattle.std.specs.Cmp.Lexicographic.{slice_cmp}
@@ -41,7 +40,8 @@ use Rattle.book_tables.proofs.Looking.{found_has, has_text, has_int, same_ints, 
 use Rattle.book_tables.proofs.RowFacts.{number_of_row, numbers_apart}
 use Rattle.book_tables.proofs.LeftRows.{has_null}
 use Rattle.book_tables.proofs.SameLists.{same_members, has_map, has_mapped, has_sorted, sorted_has, sorted_rises}
-use Rattle.book_tables.proofs.OfficeChildren.{Child, offspring, IsChild, IsBefore, one_way, children_rise, are_children, children_are, counted_children, text_below}
+use Rattle.book_tables.proofs.OfficeChildren.{Child, offspring, IsBefore, one_way, children_rise, are_children, children_are, counted_children, text_below}
+use Rattle.std.proofs.lemmas.List.{length-map}
 
 -- texts that begin alike stand in the order of what follows
 pub same_front : (front a b : List ℕ) → slice_cmp nat_cmp (front ++ a) (front ++ b) ≡ slice_cmp nat_cmp a b
@@ -210,7 +210,7 @@ module _ (rows : Rows) (o : Office) (gives : Gives rows o) (nodes : AreNodes row
     pub count_is : length under ≡ count_at o p
     count_is =
         length_permutation (sort_by by_path under) under (IsPermutation-sort_by by_path by_path_total under)
-        ∙ sym (Rattle.book_tables.proofs.OfficeChildren.length_map tell (sort_by by_path under))
+        ∙ sym (length-map (sort_by by_path under) tell)
         ∙ ap length rows_are_children ∙ sym (counted_children o p)
 
   -- where nothing is, nothing is below

@@ -158,7 +158,7 @@ present : (b : Bool) → not b ≡ true → b ≡ false
 present false h = refl
 present true h = absurd (true≢false (sym h))
 
-behind_number : (row : Row) (i : ℕ) → column (drop 1 row) i ≡ column row (suc i)
+pub behind_number : (row : Row) (i : ℕ) → column (drop 1 row) i ≡ column row (suc i)
 behind_number [] i = refl
 behind_number (v ∷ row) i = refl
 

@@ -1,12 +1,11 @@
 -- Children that an open connection shows are those of the Office for which it stands.
 use Rattle.std.proofs.Common.{◌≡◌, inl, inr, true, false, List, [], ◌∷◌, map, filter, Option, Some, None, option_map, unwrap_or, refl, sym, ap, ◌∙◌}
-use Rattle.sqlite.specs.declared.types.Value.TheVariants.{Int}
 use Rattle.sqlite.specs.Edit.{id_in}
 use Rattle.sqlite.specs.Order.{Row, column}
 use Rattle.sqlite.specs.State.{State}
 use Rattle.sqlite.specs.Tree.{rowid}
 use Rattle.sqlite_rules.specs.Lists.{Has}
-use Rattle.sqlite_rules.proofs.ListLemmas.{all_has, has_filtered}
+use Rattle.sqlite_rules.proofs.ListLemmas.{has_filtered}
 use Rattle.sqlite_keyed.specs.Lists.{sort_by}
 use Rattle.sqlite_keyed.proofs.ListLemmas.{map-map}
 use Rattle.book_values.specs.declared.offices.Office.{Office}
@@ -18,7 +17,6 @@ use Rattle.book_rows.specs.Lists as lists
 use Rattle.book_rows.specs.Lists.{by_path}
 use Rattle.book_rows.specs.Rows.{Rows, rows_of}
 use Rattle.book_rows.specs.Writes.{is_at, is_under}
-use Rattle.book_rows.proofs.Shapes.{int_of}
 use Rattle.book_tables.specs.Children.{ShowsListing, child_shown, text_above}
 use Rattle.book_tables.specs.Rows.{row_at}
 use Rattle.book_tables.specs.Stands.{Stands, StandsFor}

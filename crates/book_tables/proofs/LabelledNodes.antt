@@ -1,7 +1,5 @@
 -- The label of a resource that is no card: the rows give the Office with the label.
 use Rattle.std.proofs.Common.{◌≡◌, ◌≢◌, ℕ, true, false, cond, List, Option, Some, None, option_map, refl, sym, ap, subst, ◌∙◌}
-use Rattle.std.specs.FinMap.{get}
-use Rattle.std.specs.List.{AllByRecursion}
 use Rattle.sqlite.specs.Order.{Row, column}
 use Rattle.sqlite.specs.Tree.{rowid}
 use Rattle.sqlite_trees.proofs.ListLemmas.{all_weaker}

@@ -40,7 +40,7 @@ use Rattle.book_tables.proofs.TouchedOffices.{touched_office}
 use Rattle.book_tables.proofs.WrittenCards.{node_changed, numbered_keeps, row_changed}
 use Rattle.book_tables.proofs.CardEdits.{card_told, not_gone}
 use Rattle.book_tables.proofs.RemovedCards as removed
-use Rattle.book_tables.proofs.RemovedCards.{KeepsAbove, IsNoCard, node_kept, gone_kept}
+use Rattle.book_tables.proofs.RemovedCards.{KeepsAbove, node_kept, gone_kept}
 use Rattle.book_tables.proofs.GoneNames as gone
 
 -- ---- a row that goes to another path

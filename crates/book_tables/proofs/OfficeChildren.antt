@@ -1,5 +1,5 @@
 -- The children of a resource of an Office: their names and what they are, in byte order of their names.
-use Rattle.std.proofs.Common.{◌≡◌, inl, inr, ℕ, suc, List, [], ◌∷◌, ◌++◌, map, length, codes, Option, Some, None, option_map, option_and_then, unwrap_or, refl, sym, ap, subst, ◌∙◌, Less}
+use Rattle.std.proofs.Common.{◌≡◌, inl, inr, ℕ, List, [], ◌∷◌, ◌++◌, map, length, codes, Option, Some, None, option_map, option_and_then, unwrap_or, refl, sym, ap, subst, ◌∙◌, Less}
 use Rattle.std.specs.Cmp.Lexicographic.{nat_list_cmp_total}
 use Rattle.std.specs.FinMap.{get, len, entries, entries_sorted, len-entries}
 use Rattle.sqlite_trees.specs.Tree.{IsAscending}
@@ -21,6 +21,8 @@ use Rattle.book_values.proofs.OneName.{some_apart, same_some, by_option}
 use Rattle.book_office.specs.Resources.{Resource, resource_at, children_at, count_at, listed, listed_cards, properties_resource, book_resource, card_resource, card_in, number_of}
 use Rattle.book_tables.specs.Children.{last_name, text_above}
 use Rattle.book_tables.proofs.SameLists.{has_map, has_mapped, keys_rise}
+use Rattle.book_office.proofs.StandingResources.{from_map, from_and_then}
+use Rattle.std.proofs.lemmas.List.{length-map}
 
 -- a name, and the resource that has it
 abbrev pub Child : Type 0
@@ -42,12 +44,8 @@ offspring o (path.Card b c) = []
 abbrev pub listed_child : Child → Rattle.book_office.specs.declared.nodes.Listed.Listed
 listed_child k = listed k.0 k.1
 
-pub length_map : {A B : Type 0} (f : A → B) (xs : List A) → length (map f xs) ≡ length xs
-length_map f [] = refl
-length_map f (x ∷ xs) = ap suc (length_map f xs)
-
 counted : {V : Type 0} (m : NamesTo V) (f : List ℕ × V → Child) → len m ≡ length (map f (entries m))
-counted m f = len-entries m ∙ sym (length_map f (entries m))
+counted m f = len-entries m ∙ sym (length-map (entries m) f)
 
 -- they are what is counted
 pub counted_children : (o : Office) (p : Path) → count_at o p ≡ length (offspring o p)
@@ -156,14 +154,6 @@ are_children o (path.Book b) k h = by_option (get o.books b)
       there = ap (option_and_then (λ (book : Book). card_in book e.0)) some ∙ ap (option_map (card_resource (number_of book e.0))) at ∙ ap (λ c. Some c.1) (sym is);
     }))
 are_children o (path.Card b c) k h = absurd h
-
-pub from_map : {A B P : Type 0} (f : A → B) (r : Option A) (y : B) → option_map f r ≡ Some y → ((x : A) → r ≡ Some x → f x ≡ y → P) → P
-from_map f None y e use_it = some_apart (sym e)
-from_map f (Some x) y e use_it = use_it x refl (same_some _ _ e)
-
-pub from_and_then : {A B P : Type 0} (f : A → Option B) (r : Option A) (y : B) → option_and_then f r ≡ Some y → ((x : A) → r ≡ Some x → f x ≡ Some y → P) → P
-from_and_then f None y e use_it = some_apart (sym e)
-from_and_then f (Some x) y e use_it = use_it x refl e
 
 in_entries : {V : Type 0} (m : NamesTo V) (f : List ℕ × V → Child) (n : List ℕ) (r : Resource) (v : V) → get m n ≡ Some v → f (n, v) ≡ (n, r) → Has (map f (entries m)) (n, r)
 in_entries m f n r v at is = subst (Has (map f (entries m))) is (has_map f (entries m) (n, v) (is_entry m n v at))

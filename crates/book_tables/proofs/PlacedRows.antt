@@ -1,5 +1,5 @@
 -- The rows after places were written: at each path the resource has the owner and the label, or is a new one.
-use Rattle.std.proofs.Common.{◌≡◌, ◌≢◌, ◌⊎◌, inl, inr, ℕ, ℤ, ◌<ℤ◌, pos, Bool, true, false, cond, ◌&&◌, List, [], ◌∷◌, ◌++◌, map, find, Option, Some, None, option_map, refl, sym, ap, subst, ◌∙◌}
+use Rattle.std.proofs.Common.{◌≡◌, ◌≢◌, ◌⊎◌, inl, inr, ℕ, ℤ, ◌<ℤ◌, Bool, true, false, cond, ◌&&◌, List, [], ◌∷◌, map, find, Option, Some, None, option_map, refl, sym, ap, subst, ◌∙◌}
 use Rattle.std.specs.List.{AllByRecursion}
 use Rattle.sqlite.specs.declared.types.Value.{Value}
 use Rattle.sqlite.specs.declared.types.Value.TheVariants.{Int, Text}
@@ -12,7 +12,6 @@ use Rattle.sqlite_trees.proofs.ListLemmas.{all_weaker, all-append}
 use Rattle.sqlite_trees.proofs.TreeLemmas.{IsShaped-put_row}
 use Rattle.sqlite_rules.proofs.ListLemmas.{all_has}
 use Rattle.sqlite_keyed.proofs.KeyedLemmas.{int_eq_apart}
-use Rattle.book_lists.specs.Names.{IsName}
 use Rattle.book_values.specs.declared.offices.Properties.{Properties}
 use Rattle.book_values.specs.declared.paths.Kind.{Kind}
 use Rattle.book_values.specs.declared.paths.Kind.TheVariants as kind

@@ -1,6 +1,5 @@
 -- The rows after both lists of places were written: at each of their paths the resource has the lists.
-use Rattle.std.proofs.Common.{◌≡◌, ◌≢◌, ℕ, ◌+◌, ℤ, Bool, true, false, cond, ◌&&◌, List, [], ◌∷◌, ◌++◌, map, Option, Some, None, option_map, refl, sym, ap, subst, ◌∙◌}
-use Rattle.std.proofs.lemmas.Bool.{and_parts}
+use Rattle.std.proofs.Common.{◌≡◌, ◌≢◌, ℕ, ◌+◌, ℤ, Bool, true, false, cond, ◌&&◌, List, [], ◌∷◌, map, Option, Some, None, option_map, refl, sym, ap, subst, ◌∙◌}
 use Rattle.std.specs.List.{AllByRecursion}
 use Rattle.sqlite.specs.declared.types.Value.{Value}
 use Rattle.sqlite.specs.declared.types.Value.TheVariants.{Int}
@@ -14,12 +13,12 @@ use Rattle.book_lists.specs.declared.entries.Entry.{Entry}
 use Rattle.book_values.specs.declared.offices.Properties.{Properties}
 use Rattle.book_values.specs.declared.paths.Path.{Path}
 use Rattle.book_values.specs.Paths.{path_text}
-use Rattle.book_values.proofs.NameMapLaws.{same, same_itself, by_names}
+use Rattle.book_values.proofs.NameMapLaws.{same, by_names}
 use Rattle.book_values.proofs.OneName.{by_option}
 use Rattle.book_office.specs.Resources.{Resource}
 use Rattle.book_rows.specs.Adopting.{Listed, list_found, write_lists, in_turn}
 use Rattle.book_rows.specs.Rows.{Rows, has}
-use Rattle.book_rows.specs.Writes.{Said, is_at, is_entry, entry_row, flag, delete_entries, insert_listed, insert_list, write_both}
+use Rattle.book_rows.specs.Writes.{Said, is_at, entry_row, flag, delete_entries, insert_listed, insert_list, write_both}
 use Rattle.book_rows.proofs.Shapes.{key_is}
 use Rattle.book_rows.proofs.WrittenBoth.{both_are_read, other_lists_stay}
 use Rattle.book_tables.specs.Adopting.{Compared, lists_said}

@@ -31,7 +31,7 @@ use Rattle.book_office.specs.Sound.{IsSoundBook}
 use Rattle.book_rows.specs.Rows.{Rows, has}
 use Rattle.book_rows.specs.Nodes.{RemovesCard, FitCardRemoval, removing_card}
 use Rattle.book_rows.specs.Writes as writes
-use Rattle.book_rows.specs.Writes.{is_at, is_gone, is_entry, by_place, with_number, delete_entries, AreFree}
+use Rattle.book_rows.specs.Writes.{is_at, is_entry, by_place, with_number, delete_entries, AreFree}
 use Rattle.book_rows.proofs.Once.{PassesOnce}
 use Rattle.book_rows.proofs.Shapes.{key, key_is}
 use Rattle.book_tables.specs.Rows.{row_at, list_in, entry_of}

@@ -15,7 +15,6 @@ use Rattle.sqlite_trees.specs.declared.store.Shape.TheVariants.{Table as TableSh
 use Rattle.sqlite_rules.specs.Lists.{Has}
 use Rattle.sqlite_rules.proofs.ListLemmas.{all_has}
 use Rattle.sqlite_value.proofs.OrderLemmas.{value_cmp_total}
-use Rattle.book_values.specs.declared.offices.Office.{Office}
 use Rattle.book_values.specs.declared.paths.Path.{Path}
 use Rattle.book_values.specs.declared.paths.Path.TheVariants as path
 use Rattle.book_values.specs.Paths.{path_text, parent_of}
@@ -25,7 +24,7 @@ use Rattle.book_rows.specs.Rows.{Rows}
 use Rattle.book_rows.specs.Writes.{is_at}
 use Rattle.book_rows.proofs.Shapes.{int_of}
 use Rattle.book_tables.specs.Rows.{row_at}
-use Rattle.book_tables.specs.Stands.{IsParent, IsNode, IsEntry, IsRemoved, Gives}
+use Rattle.book_tables.specs.Stands.{IsParent, IsNode, IsEntry, IsRemoved}
 use Rattle.book_tables.proofs.Looking.{found_has, has_text}
 
 pub apart : (a b : List ℕ) → a ≢ b → same a b ≡ false

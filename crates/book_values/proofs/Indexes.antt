@@ -31,7 +31,7 @@ one_itself a = (eq_by_cmp_equiv nat_cmp_total).refl a
 pub not_one : (a b : ℕ) → (a ≡ b → ⊥) → one a b ≡ false
 not_one a b h = elim (one a b) as (λ t. one a b ≡ t → t ≡ false) [ true ↦ λ e. absurd (h (is_one a b e)) | false ↦ λ _. refl ] refl
 
-unswap : (es : List (List ℕ × ℕ)) (n : ℕ) (q : List ℕ) → Mem {A = Change} (n, q) (map (λ (e : List ℕ × ℕ). (e.1, e.0)) es) → Mem {A = List ℕ × ℕ} (q, n) es
+pub unswap : (es : List (List ℕ × ℕ)) (n : ℕ) (q : List ℕ) → Mem {A = Change} (n, q) (map (λ (e : List ℕ × ℕ). (e.1, e.0)) es) → Mem {A = List ℕ × ℕ} (q, n) es
 unswap [] n q m = absurd m
 unswap (e ∷ es) n q m = elim m [
   | inl is ↦ inl (let a : n ≡ e.1 = ap (λ p. p.0) is in let b : q ≡ e.0 = ap (λ p. p.1) is in λ i. (b i, a i))

@@ -100,3 +100,14 @@ pub copied_map : {V : Type 0} (D : V → V → Type 0) → ((x y : V) → D x y 
     → (m n : NamesTo V) → AllZip (λ p q. (q.0 ≡ p.0) × D p.1 q.1) (entries m) (entries n) → n ≡ m
 copied_map D same_value m n h = same_map nat_list_cmp_total names_apart n m (λ q.
     get-entries n q ∙ ap (find name_cmp q) (copied_entries D same_value (entries m) (entries n) h) ∙ sym (get-entries m q))
+
+-- a second choice by one test makes no difference
+pub chosen_once : {A : Type 0} (x y z : A) (b : Bool) → cond b x (cond b y z) ≡ cond b x z
+chosen_once x y z true = refl
+chosen_once x y z false = refl
+
+-- a name whose value was taken away and is set again has that value
+pub put_back : {V : Type 0} (m : NamesTo V) (k : List ℕ) (v : V) → insert (remove m k) k v ≡ insert m k v
+put_back m k v = same_map nat_list_cmp_total names_apart _ _ (λ q.
+    put_at (remove m k) k v q ∙ ap (cond (same q k) (Some v)) (removed_at m k q)
+    ∙ chosen_once _ _ _ (same q k) ∙ sym (put_at m k v q))

@@ -1,13 +1,18 @@
 -- What a map of names answers after a change at one name.
 use Rattle.std.proofs.Common.{◌≡◌, ◌≢◌, ℕ, ◌+◌, List, true, cond, Option, Some, None, is_some, option_map, refl, sym, ap, ◌∙◌, subst}
 use Rattle.std.specs.Cmp.Lexicographic.{nat_list_cmp_total}
-use Rattle.std.specs.FinMap.{get, insert, remove, len, len-insert}
+use Rattle.std.specs.FinMap.{empty, get, insert, remove, len, get-empty, len-insert}
+use Rattle.book_lists.specs.Names.{name_cmp}
 use Rattle.book_values.specs.Names.{changed_if, changed_at}
 use Rattle.book_values.specs.Names.{NamesTo}
 use Rattle.book_values.proofs.NameMapLaws.{by_names, put_at, removed_at}
 
 pub some_apart : {A P : Type 0} {x : A} → Some x ≡ None → P
 some_apart e = absurd cc
+
+-- an empty map has no name
+pub nothing_in : {V P : Type 0} (q : List ℕ) (v : V) → get (empty {X = V} {R = name_cmp}) q ≡ Some v → P
+nothing_in q v e = some_apart (sym e ∙ get-empty name_cmp q)
 
 pub same_some : {A : Type 0} (x y : A) → Some x ≡ Some y → x ≡ y
 same_some x y e = cc

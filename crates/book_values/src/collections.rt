@@ -4,9 +4,11 @@ mod changes;
 mod items;
 mod name_maps;
 mod number_maps;
+mod text_maps;
 mod texts;
 
 pub use changes::{Changes, Numbers};
 pub use items::Items;
 pub use name_maps::NameMap;
+pub use text_maps::TextMap;
 pub use texts::Text;

@@ -1,4 +1,4 @@
-use Rattle.std.proofs.Common.{◌≡◌, ◌||◌, None, Some, Bool, true, false, cond, refl, unwrap_or, ap, ◌∙◌}
+use Rattle.std.proofs.Common.{◌≡◌, ◌||◌, None, Some, cond, unwrap_or, ap, ◌∙◌}
 use Rattle.std.specs.BTreeMap.{is_at}
 use Rattle.std.specs.FinSet as set
 use Rattle.std.specs.Map.{lookup}
@@ -8,10 +8,7 @@ use Rattle.book_lists.specs.Principals.{path_cmp}
 use Rattle.book_links.proofs.Linking.{targets_more}
 use Rattle.book_links.proofs.links.add_targets.Goals as goal
 use Rattle.book_links.proofs.links.add_targets.Goals.{in-Some, in-None}
-
-turned : {A : Type 0} (x y z : A) (b : Bool) → cond b x (cond b y z) ≡ cond b x z
-turned x y z true = refl
-turned x y z false = refl
+use Rattle.book_values.proofs.NameMapLaws.{chosen_once}
 
 pub returns-clause-ok : goal.returns-clause-ok
 returns-clause-ok c =
@@ -27,4 +24,4 @@ returns-clause-ok c =
     (λ q. c.in_ok-insert.ensures.updates.0 q
     ∙ ap (λ k. cond (is_at (path_cmp k) q) (Some all) (lookup (is_at (path_cmp q)) c.remove.new.self.entries)) key
     ∙ ap (cond (is_at (path_cmp start) q) (Some all)) (c.remove.ensures.updates.0 q)
-    ∙ turned (Some all) None (lookup (is_at (path_cmp q)) old) (is_at (path_cmp start) q))
+    ∙ chosen_once (Some all) None (lookup (is_at (path_cmp q)) old) (is_at (path_cmp start) q))

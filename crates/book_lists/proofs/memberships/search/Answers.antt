@@ -5,13 +5,13 @@ use Rattle.book_lists.specs.Circles.{has_path}
 use Rattle.book_lists.specs.GroupEntries.{pairs_in, groups_at}
 use Rattle.book_lists.specs.Memberships.{IsDirect}
 use Rattle.book_lists.proofs.GroupLists.{contains-pairs_in}
-use Rattle.book_lists.proofs.Searches.{Searches, ahead, search_begins, seen_again, seen_first, search_ends, ahead_spent}
+use Rattle.book_lists.proofs.Searches.{Searches, ahead, search_begins, seen_again, seen_first, search_ends_alone, ahead_spent}
 use Rattle.book_lists.proofs.memberships.search.Goals as goal
 
 pub loop-member-init : goal.loop-member-init
 loop-member-init c =
     let items : map (λ w. w.now) c.push.new.self.items ≡ c.args.principal.now ∷ [] = ap (map (λ w. w.now)) (c.in_ok-push.ensures.items ∙ ap (λ ws. ws ++ c.args.principal ∷ []) c.new-work.ensures.items) in
-    rw (c.new-found.ensures, items) (search_begins (pairs_in c.args.groups.now.entries) c.args.principal.now)
+    rw (c.new-found.ensures, items) (search_begins (pairs_in c.args.groups.now.entries) (c.args.principal.now ∷ []))
 
 pub loop-member-preserved-then-has : goal.loop-member-preserved-then-has
 loop-member-preserved-then-has c =
@@ -19,8 +19,8 @@ loop-member-preserved-then-has c =
     let member = c.in-Some.member.now in
     let rest = map (λ w. w.now) c.pop.new.self.items in
     let work : map (λ w. w.now) c.loop-member.work.items ≡ rest ++ member ∷ [] = ap (map (λ w. w.now)) c.in-Some.ensures.items ∙ map-append (λ w. w.now) c.pop.new.self.items (c.in-Some.member ∷ []) in
-    let P : List (List ℕ) → Type 0 = Searches pairs c.args.principal.now c.loop-member.found in
-    seen_again pairs c.args.principal.now c.loop-member.found rest member (sym c.has.ensures ∙ c.if-has.true) (subst P work c.loop-member.invariant)
+    let P : List (List ℕ) → Type 0 = Searches pairs (c.args.principal.now ∷ []) c.loop-member.found in
+    seen_again pairs (c.args.principal.now ∷ []) c.loop-member.found rest member (sym c.has.ensures ∙ c.if-has.true) (subst P work c.loop-member.invariant)
 
 pub loop-member-smaller : goal.loop-member-smaller
 loop-member-smaller c =
@@ -41,7 +41,7 @@ pub loop-member-preserved : goal.loop-member-preserved
 loop-member-preserved c =
     let entries = c.args.groups.now.entries in
     let pairs = pairs_in entries in
-    let start = c.args.principal.now in
+    let start = c.args.principal.now ∷ [] in
     let member = c.in-Some.member.now in
     let rest = map (λ w. w.now) c.pop.new.self.items in
     let same : c.in_ok-clone.field-0 ≡ member = c.in_ok-clone.ensures.cases in
@@ -58,7 +58,7 @@ loop-member-preserved c =
 pub returns : goal.returns
 returns c =
     let pairs = pairs_in c.args.groups.now.entries in
-    let P : List (List ℕ) → Type 0 = Searches pairs c.args.principal.now c.loop-member.found in
+    let P : List (List ℕ) → Type 0 = Searches pairs (c.args.principal.now ∷ []) c.loop-member.found in
     let rest : c.pop.new.self.items ≡ [] = search rules in
     let empty : map (λ w. w.now) c.loop-member.work.items ≡ [] = ap (map (λ w. w.now)) (c.in_default.ensures.items ∙ append-nil _ ∙ rest) in
-    search_ends pairs c.args.principal.now c.loop-member.found (subst P empty c.loop-member.invariant)
+    search_ends_alone pairs c.args.principal.now c.loop-member.found (subst P empty c.loop-member.invariant)

@@ -1,10 +1,10 @@
-use Rattle.std.proofs.Common.{◌+◌, map, length}
+use Rattle.std.proofs.Common.{◌+◌, ◌∷◌, [], map, length}
 use Rattle.book_lists.specs.GroupEntries.{pairs_in}
 use Rattle.book_lists.proofs.Searches.{Searches, ahead}
 use Rattle.book_lists.proofs.memberships.search.Given as goal
 
 abbrev pub invariant-loop-member : goal.invariant-loop-member
-invariant-loop-member l = Searches (pairs_in l.groups.entries) l.principal l.found (map (λ w. w.now) l.work.items)
+invariant-loop-member l = Searches (pairs_in l.groups.entries) (l.principal ∷ []) l.found (map (λ w. w.now) l.work.items)
 
 -- the groups still to be added to the work, and the work
 abbrev pub decreases-loop-member : goal.decreases-loop-member

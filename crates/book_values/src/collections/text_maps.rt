@@ -1,19 +1,19 @@
-//! Maps from texts, which contracts see as finite maps.
+//! Maps from texts, in byte order, which contracts see as finite maps.
 
 ghost use Rattle.std.specs.Prelude.{◌≡◌, None, OnOk, OnErr, IfOk};
 ghost use Rattle.std.specs.Option.{option_copied};
 ghost use Rattle.std.specs.FinMap as map;
 
-use book_values::Text;
+use crate::collections::texts::Text;
 use std::alloc::{AllocError, Global};
 use std::collections::BTreeMap;
 use std::marker::Model;
 
-/// A map from texts, seen as the finite map of its entries.
+/// A map from texts, seen as the finite map of its entries in byte order of the texts.
 ///
 /// Look-ups and edits take a number of comparisons that grows with the logarithm of the size.
 #[derive(Debug, Drop)]
-pub(crate) struct TextMap<V> {
+pub struct TextMap<V> {
     tree: BTreeMap<Text, V>,
 }
 
@@ -33,9 +33,21 @@ impl<V> Model for TextMap<V> {
     ghost invariant = { λ a. IsOrdered name_cmp a.tree };
 }
 
+/// Text by text. Where each copy of a value is the value, the copy is the map. An error is want of memory.
+impl<V: Clone> Clone for TextMap<V> {
+    ghost use Rattle.std.specs.List.{AllZip};
+
+    ghost is_clone = { λ m n. AllZip (λ p q. (q.0 ≡ p.0) × V.is_clone p.1 q.1) (map.entries m) (map.entries n) };
+
+    fn clone(&self) -> Result<TextMap<V>, AllocError> {
+        let tree = self.tree.clone()?;
+        Ok(TextMap { tree })
+    }
+}
+
 impl<V> TextMap<V> {
     /// No texts. Takes no memory until a text is inserted.
-    pub(crate) fn new(alloc: Global) -> TextMap<V>
+    pub fn new(alloc: Global) -> TextMap<V>
         ensures { result ≡ map.empty }
     {
         TextMap {
@@ -44,7 +56,7 @@ impl<V> TextMap<V> {
     }
 
     /// The value of a text, if the text is there. Takes no memory.
-    pub(crate) fn get(&self, text: &Text) -> Option<&V>
+    pub fn get(&self, text: &Text) -> Option<&V>
         ensures { option_copied result ≡ map.get self.now text.now }
     {
         self.tree.get(text)
@@ -52,7 +64,7 @@ impl<V> TextMap<V> {
 
     /// Sets the value of a text, and answers the one before. An error is want of memory, which only a new text may
     /// want; the map then stays as it was.
-    pub(crate) fn insert(&mut self, text: Text, value: V) -> Result<Option<V>, AllocError>
+    pub fn insert(&mut self, text: Text, value: V) -> Result<Option<V>, AllocError>
     where
         V: Drop,
         ensures before { IfOk result (λ before. before ≡ map.get self.old text) }
@@ -64,7 +76,7 @@ impl<V> TextMap<V> {
     }
 
     /// Takes away a text, and answers its value, if the text was there. Takes no memory.
-    pub(crate) fn remove(&mut self, text: &Text) -> Option<V>
+    pub fn remove(&mut self, text: &Text) -> Option<V>
         ensures before { result ≡ map.get self.old text.now }
         ensures removed { self.new ≡ map.remove self.old text.now }
     {

@@ -2,7 +2,7 @@ use Rattle.std.proofs.Common.{sym, ap, ◌∙◌}
 use Rattle.std.specs.Cmp.Lexicographic.{nat_list_cmp_total}
 use Rattle.std.specs.FinMap as map
 use Rattle.book_values.proofs.TreeMaps.{get_tree}
-use Rattle.book_policies.proofs.text_maps.TextMap.get.Goals as goal
+use Rattle.book_values.proofs.collections.text_maps.TextMap.get.Goals as goal
 
 pub returns : goal.returns
 returns g c =

@@ -3,7 +3,7 @@ use Rattle.std.specs.Cmp.Lexicographic.{nat_list_cmp_total}
 use Rattle.std.specs.FinMap as map
 use Rattle.book_values.proofs.NameMapLaws.{names_apart}
 use Rattle.book_values.proofs.TreeMaps.{get_tree, drop_tree}
-use Rattle.book_policies.proofs.text_maps.TextMap.remove.Goals as goal
+use Rattle.book_values.proofs.collections.text_maps.TextMap.remove.Goals as goal
 
 pub returns-clause-before : goal.returns-clause-before
 returns-clause-before g c =

@@ -5,7 +5,7 @@ use Rattle.std.specs.List.Sorted.{IsStrictlySortedBy}
 use Rattle.book_lists.specs.Names.{name_cmp}
 use Rattle.book_values.proofs.NameMapLaws.{names_apart}
 use Rattle.book_values.proofs.TreeMaps.{entries_tree, same_keys}
-use Rattle.book_policies.proofs.text_maps.TextMapClone.clone.Goals as goal
+use Rattle.book_values.proofs.collections.text_maps.TextMapClone.clone.Goals as goal
 
 pub returns : goal.returns
 returns g c =

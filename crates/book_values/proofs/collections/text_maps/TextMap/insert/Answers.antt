@@ -3,7 +3,7 @@ use Rattle.std.specs.Cmp.Lexicographic.{nat_list_cmp_total}
 use Rattle.std.specs.FinMap as map
 use Rattle.book_values.proofs.NameMapLaws.{names_apart}
 use Rattle.book_values.proofs.TreeMaps.{get_tree, put_tree}
-use Rattle.book_links.proofs.text_maps.TextMap.insert.Goals as goal
+use Rattle.book_values.proofs.collections.text_maps.TextMap.insert.Goals as goal
 
 -- what holds whatever the result is
 whatever : {X E P : Type 0} (r : Result X E) → P → OnErr r P
