@@ -29,7 +29,7 @@ use Rattle.book_values.specs.declared.paths.Path.TheVariants as path
 use Rattle.book_values.specs.Paths.{kind_of, levels}
 use Rattle.book_machine.proofs.AlikeOffices.{alike_of}
 use Rattle.book_machine.proofs.AlikeReports.{AreReportedAlike, members_alike, reports_alike, rulings_told_alike}
-use Rattle.book_machine.proofs.FittingPlans.{IsShaped, ready_is_target, ready_shaped}
+use Rattle.book_machine.proofs.FittingPlans.{IsShaped, bind_ok, ready_is_target, ready_shaped}
 use Rattle.book_machine.proofs.Outlines.{there_mapped, outline_of_node, book_there, count_same, nodes_alike, node_same, level_same, effective_same, here_same}
 use Rattle.book_listings.proofs.AlikeListings.{unread_unseen}
 use Rattle.book_listings.specs.Laws.{AreAlike}
@@ -488,10 +488,6 @@ module _ (a b : Ready) (alike : outline_of_ready a ≡ outline_of_ready b) where
         (is.0, answers, done_same shaped shown (body_then_limits p b is.0) result (subst (λ c. IsDone o circle a c result) checks is.2))
 
 -- ---- the caller of a request that has passed is the one that it names
-answered_first : {A B : Type 0} (m : Result A Refusal) (f : A → Result B Refusal) (y : B) → (m >>= f) ≡ Ok y → (x : A) × (m ≡ Ok x) × (f x ≡ Ok y)
-answered_first (Ok x) f y e = (x, refl, e)
-answered_first (Err r) f y e = absurd cc
-
 caller_named : (o : Office) (name : Option (List ℕ)) (caller : Caller) → caller_of o name ≡ Ok caller → caller ≡ named name
 caller_named o None caller e = cc
 caller_named o (Some name) caller e =
@@ -515,11 +511,11 @@ then_asked o request caller = asked_of request.method request >>= then_target o 
 
 pub ready_named : (o : Office) (name : Option (List ℕ)) (request : Request) (ready : Ready) → ready_of o name request ≡ Ok ready → ready.caller ≡ named name
 ready_named o name request ready is =
-    let a = answered_first (caller_of o name) (then_asked o request) ready is in
-    let b = answered_first (asked_of request.method request) (then_target o request a.0) ready a.2 in
-    let c = answered_first (target_of o request.method request.path) (then_suited o a.0 b.0) ready b.2 in
-    let d = answered_first (suits_target b.0 c.0) (λ _. then_destination o a.0 b.0 c.0) ready c.2 in
-    let f = answered_first (destination_of o (destination_in b.0)) _ ready d.2 in
+    let a = bind_ok (caller_of o name) (then_asked o request) ready is in
+    let b = bind_ok (asked_of request.method request) (then_target o request a.0) ready a.2 in
+    let c = bind_ok (target_of o request.method request.path) (then_suited o a.0 b.0) ready b.2 in
+    let d = bind_ok (suits_target b.0 c.0) (λ _. then_destination o a.0 b.0 c.0) ready c.2 in
+    let f = bind_ok (destination_of o (destination_in b.0)) _ ready d.2 in
     let made : record { caller = a.0; asked = b.0; target = record c.0 { destination = f.0 } } ≡ ready = cc (f.2) in
     sym (ap (λ (r : Ready). r.caller) made) ∙ caller_named o name a.0 a.1
 

@@ -283,7 +283,7 @@ listing_makes_none o circle find p (Some node) plan edit is has = let h = edit_t
 mkcol_at_book : (k : Kind) → k ≡ kind.Book → goes_on Mkcol k ≡ true → ⊥
 mkcol_at_book k is goes = let h : goes_on Mkcol kind.Book ≡ true = subst (λ x. goes_on Mkcol x ≡ true) is goes in absurd (cc (h))
 
-book_kind : (found : Option Book) (n : Node) → option_map node_of (option_map book_resource found) ≡ Some n → n.kind ≡ kind.Book
+pub book_kind : (found : Option Book) (n : Node) → option_map node_of (option_map book_resource found) ≡ Some n → n.kind ≡ kind.Book
 book_kind None n e = absurd (cc (e))
 book_kind (Some book) n e = sym (ap (λ (x : Node). x.kind) (same_Some _ n e))
 

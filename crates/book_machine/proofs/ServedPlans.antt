@@ -20,7 +20,7 @@ use Rattle.book_office.specs.declared.edits.Edit.{Edit}
 use Rattle.book_office.specs.declared.nodes.Node.{Node}
 use Rattle.book_rights.specs.declared.methods.Method.{Method}
 use Rattle.book_sync.specs.declared.messages.Report.{Report}
-use Rattle.book_machine.proofs.FittingPlans.{Passed, answered, bind_ok, ready_at, same_Ok, same_Some, destined_node}
+use Rattle.book_machine.proofs.FittingPlans.{Passed, answered, bind_ok, book_kind, ready_at, same_Ok, same_Some, destined_node}
 use Rattle.book_machine.proofs.ReportPlans.{reported_told}
 use Rattle.book_machine.specs.AllowedMethods.{goes_on}
 use Rattle.book_machine.specs.Asked.{method_of}
@@ -47,10 +47,6 @@ of_properties : (k : Kind) (found : Option Properties) (n : Node) → option_map
 of_properties k None n e = absurd (cc (e))
 of_properties k (Some x) n e = sym (ap (λ (m : Node). m.kind) (same_Some _ n e))
 
-of_book : (found : Option Book) (n : Node) → option_map node_of (option_map book_resource found) ≡ Some n → n.kind ≡ kind.Book
-of_book None n e = absurd (cc (e))
-of_book (Some x) n e = sym (ap (λ (m : Node). m.kind) (same_Some _ n e))
-
 of_card : (number : ℕ) (found : Option StoredCard) (n : Node) → option_map node_of (option_map (card_resource number) found) ≡ Some n
     → (n.kind ≡ kind.Card) × ((text : List ℕ) × (n.text ≡ Some text))
 of_card number None n e = absurd (cc (e))
@@ -70,7 +66,7 @@ kind_at o path.Groups n e = sym (ap (λ (m : Node). m.kind) (same_Some _ n e))
 kind_at o path.Books n e = sym (ap (λ (m : Node). m.kind) (same_Some _ n e))
 kind_at o (path.Person x) n e = of_properties kind.Person (get o.persons x) n e
 kind_at o (path.Group x) n e = of_properties kind.Group (get o.groups x) n e
-kind_at o (path.Book b) n e = of_book (get o.books b) n e
+kind_at o (path.Book b) n e = book_kind (get o.books b) n e
 kind_at o (path.Card b c) n e = (in_book c (get o.books b) n e).0
 
 -- ---- what the path stage lets through
