@@ -25,16 +25,21 @@ one_more_asked old mid new x Told More T first second both = record {
   counted = subst (λ n. n ≡ old.failures) (sym second.counted) first.counted;
 }
 
--- one read of the keeper, and what is made of its answer
-pub asks_read : {A B : Type 0} (old new : Standing) (x : A) (y : B) (T : Office → A → Type 0) (U : Office → Result B Refusal → Type 0)
-    → Reads old new (Ok x) T → ((o : Office) → T o x → U o (Ok y)) → Asks old new (Ok y) U
-asks_read old new x y T U read both = record {
+-- one read of the keeper, and what is made of its answer at the Offices for which it stands
+pub asks_standing_read : {A B : Type 0} (old new : Standing) (x : A) (y : B) (T : Office → A → Type 0) (U : Office → Result B Refusal → Type 0)
+    → Reads old new (Ok x) T → ((o : Office) → old.stands o → T o x → U o (Ok y)) → Asks old new (Ok y) U
+asks_standing_read old new x y T U read both = record {
   was_honest = read.was_honest;
-  tells = λ h o stands. both o (read.value h o stands);
+  tells = λ h o stands. both o stands (read.value h o stands);
   kept = read.kept;
   left = read.left;
   counted = read.counted;
 }
+
+-- the same at every Office
+pub asks_read : {A B : Type 0} (old new : Standing) (x : A) (y : B) (T : Office → A → Type 0) (U : Office → Result B Refusal → Type 0)
+    → Reads old new (Ok x) T → ((o : Office) → T o x → U o (Ok y)) → Asks old new (Ok y) U
+asks_read old new x y T U read both = asks_standing_read old new x y T U read (λ o stands. both o)
 
 -- the answers so far, and then one answer of the whole
 pub asked_then : {B : Type 0} (old new : Standing) (r : Result B Refusal) (Told : Office → Type 0) (U : Office → Result B Refusal → Type 0)

@@ -28,3 +28,4 @@ pub mod SyncPlans
 pub mod ToldResources
 pub mod UnreadExample
 pub mod UnseenRuns
+pub mod YoungBooks

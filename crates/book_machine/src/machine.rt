@@ -26,8 +26,8 @@ use crate::plans::{Plan, Ready, Target};
 use crate::refusals::{Refusal, refused};
 use crate::stages::{
     acl_plan, allow_plan, can_change, card_plan, check_card, check_kind, check_suits, copy_of,
-    copy_plan, delete_plan, list_refusal, mkcol_plan, move_plan, patch_plan, path_of, place_path,
-    principal_of, put_plan, replied, shape_at,
+    copy_plan, delete_plan, is_young, list_refusal, mkcol_plan, move_plan, patch_plan, path_of,
+    place_path, principal_of, put_plan, replied, shape_at,
 };
 use book_limits::{LAST_NUMBER, MAX_BOOKS, MAX_CARDS, MAX_ENTRIES};
 use book_listings::{Find, listing};
@@ -320,6 +320,19 @@ impl<K: Keeper> Machine<K> {
         Ok(self.keeper.count(alloc, path)? < most)
     }
 
+    /// Whether a book has fewer cards than the most. Each card took a number of its own, so that they are counted only where
+    /// the book has had as many changes as it may have cards.
+    fn has_card_room(&mut self, alloc: Global, book: &Name) -> Result<bool, Refusal>
+        ensures { StageAsks K.standing self.old self.new result
+            (λ o r. Meets r (Ok (nat_lt (count_at o (path.Book book.now)) MAX_CARDS))) }
+    {
+        let path = Path::Book(book.clone()?);
+        if is_young(&self.keeper.find(alloc, &path)?) {
+            return Ok(true);
+        }
+        self.has_room(alloc, &path, MAX_CARDS)
+    }
+
     /// Whether the epoch can rise.
     fn epoch_can_rise(&mut self) -> Result<bool, Refusal>
         ensures { StageAsks K.standing self.old self.new result (λ o r. Meets r (Ok (nat_lt o.epoch LAST_NUMBER))) }
@@ -375,7 +388,7 @@ impl<K: Keeper> Machine<K> {
                 if mapped {
                     return Ok(true);
                 }
-                self.has_room(alloc, &Path::Book(book.clone()?), MAX_CARDS)
+                self.has_card_room(alloc, book)
             }
             Path::Root
             | Path::People

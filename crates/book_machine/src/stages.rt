@@ -1,6 +1,6 @@
 //! The stages of a request that ask no keeper.
 
-ghost use Rattle.std.specs.Prelude.{◌≡◌, ◌⊎◌, IfOk, option_and_then, option_map};
+ghost use Rattle.std.specs.Prelude.{◌≡◌, ◌↔◌, ◌<◌, ◌⊎◌, IfOk, IsSomeAnd, IsTrue, option_and_then, option_map};
 ghost use Rattle.book_cards.specs.CardText.{card_fault};
 ghost use Rattle.book_cards.specs.declared.fault.CardFaultKind.TheVariants.{Memory};
 ghost use Rattle.book_values.specs.Paths.{parent_of};
@@ -12,6 +12,7 @@ ghost use Rattle.book_machine.specs.Stages.{bad_card, can_change, can_change_twi
 ghost use Rattle.book_machine.specs.Stages.{acl_plan, allow_plan, card_plan, copy_plan, delete_plan, mkcol_plan, move_plan, patch_plan, put_plan};
 ghost use Rattle.book_machine.specs.declared.refusals.Refusal.TheVariants.{BadCard, NotAllowed, Unavailable};
 ghost use Rattle.book_listings.specs.Verdicts.{principal_of};
+ghost use Rattle.book_office.specs.declared.nodes.Node.{Node as NodeOf};
 ghost use Rattle.book_machine.specs.Verdicts.{asks_effective, asks_for, or_itself, place_path, shape_at};
 
 use crate::allowed_methods::{AllowedMethods, goes_on};
@@ -20,7 +21,7 @@ use crate::messages::{Content, Patch, Reply, ReportKind};
 use crate::plans::{Plan, Ready, Target};
 use crate::refusals::Refusal;
 use book_cards::{CardFault, CardFaultKind, read_card};
-use book_limits::LAST_NUMBER;
+use book_limits::{LAST_NUMBER, MAX_CARDS};
 use book_listings::{Property, is_asked};
 use book_lists::{Caller, EditFault, Entry, Principal, Submitted};
 use book_office::{Edit, Items, Kind, Node, Path, Text};
@@ -294,6 +295,16 @@ pub(crate) fn can_change_twice(book: &Option<Node>) -> bool
 {
     match book {
         Some(book) => book.number < LAST_NUMBER - 1,
+        None => false,
+    }
+}
+
+/// Whether a book has had fewer changes than it may have cards.
+pub(crate) fn is_young(book: &Option<Node>) -> bool
+    ensures { IsTrue result ↔ IsSomeAnd book.now (λ (node : NodeOf). node.number < MAX_CARDS) }
+{
+    match book {
+        Some(book) => book.number < MAX_CARDS as u64,
         None => false,
     }
 }
