@@ -49,12 +49,16 @@ impl Buffer {
         &self.bytes[self.start..self.end]
     }
 
-    /// Drops so many bytes at the front.
+    /// Drops so many bytes at the front. Where none is left, the next ones come to the front of the memory, which is warm.
     pub(crate) fn consume(&mut self, count: usize)
         requires { count ≤ length self.old }
         ensures { self.new ≡ drop count self.old }
     {
         self.start += count;
+        if self.start == self.end {
+            self.start = 0;
+            self.end = 0;
+        }
     }
 
     /// Reads once, and says how many bytes came. None come only at the end of the input.

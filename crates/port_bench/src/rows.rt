@@ -82,7 +82,7 @@ fn find_all<S: Alter>(alloc: Global, connection: &mut Connection<S>) -> Result<(
 /// Prints what one of so many took since a start.
 fn print_mean(rt: &impl Bench, name: &str, start: &Instant, count: u32) -> Result<()> {
     let micros = start.elapsed(rt)?.as_secs_f64() * 1e6 / f64::from(count);
-    eprintln!(rt; "  {name}: {micros:.0} us")?;
+    eprintln!(rt; "  {name}: {micros:.1} us")?;
     Ok(())
 }
 
