@@ -9,3 +9,4 @@ pub mod GroupLists
 pub mod Searches
 pub mod PathEnds
 pub mod OneOutcome
+pub mod Fronts

@@ -1,8 +1,9 @@
 -- Names of members of collections.
-use Rattle.std.specs.Prelude.{◌≢◌, ℕ, Bool, List, ◌<◌, ◌≤◌, ◌||◌, ◌&&◌, length, slice_index, nat_le, nat_eq, All, IsTrue}
+use Rattle.std.specs.Prelude.{◌≡◌, ◌≢◌, ℕ, Bool, List, ◌<◌, ◌≤◌, ◌||◌, ◌&&◌, length, slice_index, nat_le, nat_eq, All, IsTrue}
 use Rattle.std.specs.declared.cmp.Ordering.{Ordering}
 use Rattle.std.specs.Ordering.{nat_cmp}
 use Rattle.std.specs.Cmp.Lexicographic.{slice_cmp}
+use Rattle.std.specs.Int.{from_be_bytes, w64}
 
 -- names in byte order
 abbrev pub name_cmp : List ℕ → List ℕ → Ordering
@@ -18,3 +19,12 @@ pub record IsName (name : List ℕ) : Type 0 where
   pub short : length name ≤ 64
   pub visible : slice_index name 0 ≢ 46
   pub each : All (λ b. IsTrue (is_name_byte b)) name
+
+-- the number that the first eight bytes spell, the first the highest; missing ones are 0
+abbrev pub front : List ℕ → ℕ
+front name = from_be_bytes w64 name
+
+-- a name, kept with its front
+pub record IsFronted (name : List ℕ) (number : ℕ) : Type 0 where
+  pub is_name : IsName name
+  pub fronted : number ≡ front name

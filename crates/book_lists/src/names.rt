@@ -1,7 +1,8 @@
 //! Names of members of collections.
 
 ghost use Rattle.std.specs.Prelude.{◌≡◌, ◌↔◌, IsTrue, IfOk, IfSome, IfNone};
-ghost use Rattle.book_lists.specs.Names.{is_name_byte, IsName};
+ghost use Rattle.std.specs.List.{slice_index};
+ghost use Rattle.book_lists.specs.Names.{is_name_byte, front, IsName};
 
 use std::alloc::{AllocError, Global};
 use std::cmp::Ordering;
@@ -11,19 +12,21 @@ use std::marker::Model;
 /// `.` (own profile). A contract sees its bytes.
 #[derive(Debug, Drop)]
 pub struct Name {
+    /// The number that its first eight bytes spell, which most comparisons end at.
+    front: u64,
     text: String,
 }
 
 impl Model for Name {
     ghost use Rattle.std.specs.Prelude.{List, ℕ};
     ghost use Rattle.std.specs.String.{string_bytes};
-    ghost use Rattle.book_lists.specs.Names.{IsName};
+    ghost use Rattle.book_lists.specs.Names.{IsFronted};
 
     ghost Value = { List ℕ };
 
     ghost view = { λ n. string_bytes n.text };
 
-    ghost invariant = { λ n. IsName (string_bytes n.text) };
+    ghost invariant = { λ n. IsFronted (string_bytes n.text) n.front };
 }
 
 /// A copy equals its source. An error is want of memory.
@@ -32,6 +35,7 @@ impl Clone for Name {
 
     fn clone(&self) -> Result<Name, AllocError> {
         Ok(Name {
+            front: self.front,
             text: self.text.clone()?,
         })
     }
@@ -89,6 +93,9 @@ impl Ord for Name {
     ghost matches_eq = { Prim.search (comparing, rules) };
 
     fn cmp(&self, other: &Name) -> Ordering {
+        if self.front != other.front {
+            return self.front.cmp(&other.front);
+        }
         self.text.cmp(&other.text)
     }
 }
@@ -111,6 +118,30 @@ pub(crate) fn is_name(name: &str) -> bool
         && bytes.iter().all(|byte| is_name_byte(*byte))
 }
 
+/// The byte at an index; 0 past the end.
+fn byte_at(bytes: &[u8], index: usize) -> u8
+    ensures { result ≡ slice_index bytes.now index }
+{
+    if index < bytes.len() { bytes[index] } else { 0 }
+}
+
+/// The number that the first eight bytes spell.
+fn front_of(name: &str) -> u64
+    ensures { result ≡ front name.now }
+{
+    let bytes = name.as_bytes();
+    u64::from_be_bytes([
+        byte_at(bytes, 0),
+        byte_at(bytes, 1),
+        byte_at(bytes, 2),
+        byte_at(bytes, 3),
+        byte_at(bytes, 4),
+        byte_at(bytes, 5),
+        byte_at(bytes, 6),
+        byte_at(bytes, 7),
+    ])
+}
+
 impl Name {
     /// The name that the text is; none where the text is no name. An error is want of memory.
     pub fn parse(alloc: Global, text: &str) -> Result<Option<Name>, AllocError>
@@ -121,6 +152,7 @@ impl Name {
             return Ok(None);
         }
         Ok(Some(Name {
+            front: front_of(text),
             text: String::from_str(alloc, text)?,
         }))
     }
