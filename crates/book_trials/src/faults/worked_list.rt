@@ -1,7 +1,7 @@
 //! The worked list: policies that are adopted, and requests of each method, one after the other on an empty Office, with the
 //! answers that the rules give (RFC 3744, RFC 4918, RFC 6578 and own profile), worked out by hand.
 
-use crate::requests::Says;
+use crate::faults::requests::Says;
 use book_rights::Method;
 
 /// What is asked in a turn.

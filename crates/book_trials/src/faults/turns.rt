@@ -1,9 +1,9 @@
 //! What is asked of a machine, and what it answers.
 
-use crate::failures::Failure;
-use crate::policies::policy;
-use crate::requests::request;
-use crate::worked_list::Step;
+use crate::faults::failures::Failure;
+use crate::faults::policies::policy;
+use crate::faults::requests::request;
+use crate::faults::worked_list::Step;
 use book_machine::{AdoptFault, Adopted, Content, Machine, Reply, Request};
 use book_office::{Keeper, Policy};
 use std::alloc::{AllocError, Global};

@@ -11,7 +11,6 @@
 //! It prints a line for each, with the points that were tried; the status is 1 where something is wrong.
 //!
 //! Read `worked_list` first, then `turns` and `runs`, and then `fuses` and `refusals`.
-#![tactic(auto)]
 
 mod counts;
 mod describing;
@@ -32,9 +31,7 @@ use fuses::try_fuses;
 use refusals::try_refusals;
 use runs::{Turn, take_list};
 use std::alloc::Global;
-use std::process::ExitCode;
-use std::rt::Env;
-use std::{env, io};
+use std::io;
 
 /// The list over a new Office in memory, with nothing failing.
 fn take_list_in_memory(alloc: Global) -> Result<Items<Turn>, Failure> {
@@ -90,36 +87,36 @@ fn try_word(rt: &(impl AllocGlobal + Print), turns: &[Turn], word: &str) -> Resu
     }
 }
 
-/// The words after the program's name; `store` where there are none.
-fn words_of(rt: &(impl AllocGlobal + Env)) -> Result<Items<String>, Failure> {
-    let mut words = Items::new(rt.alloc());
-    for word in env::args(rt)?.skip(1) {
-        words.push(word)?;
+/// Tries what the words name, after the list was taken; `store` where there are none.
+fn try_each(
+    rt: &(impl AllocGlobal + Print),
+    turns: &[Turn],
+    words: &[&str],
+) -> Result<(), Failure> {
+    print_list(rt, turns)?;
+    if words.is_empty() {
+        return try_word(rt, turns, "store");
     }
-    if words.len() == 0 {
-        words.push(String::from_str(rt.alloc(), "store")?)?;
-    }
-    Ok(words)
-}
-
-/// The list, and then what the words name.
-fn try_words(rt: &(impl AllocGlobal + Env + Print)) -> Result<(), Failure> {
-    let words = words_of(rt)?;
-    let turns = take_list_in_memory(rt.alloc())?;
-    print_list(rt, turns.as_slice())?;
-    for word in words.as_slice() {
-        try_word(rt, turns.as_slice(), word.as_str())?;
+    for word in words {
+        try_word(rt, turns, word)?;
     }
     Ok(())
 }
 
-fn main(rt: HostRuntime) -> ExitCode {
-    match try_words(&rt) {
-        Ok(()) => ExitCode::SUCCESS,
+/// The list, and then what the words name.
+fn try_words(rt: &(impl AllocGlobal + Print), words: &[&str]) -> Result<(), Failure> {
+    let turns = take_list_in_memory(rt.alloc())?;
+    try_each(rt, turns.as_slice(), words)
+}
+
+/// Tries the failures that the words name, and prints what was tried, or why it ended: whether nothing is wrong.
+pub(crate) fn try_faults(rt: &(impl AllocGlobal + Print), words: &[&str]) -> bool {
+    match try_words(rt, words) {
+        Ok(()) => true,
         Err(failure) => {
             let text = failure.text();
             let _ = println!(rt; "{text}");
-            ExitCode::from(1)
+            false
         }
     }
 }

@@ -1,6 +1,6 @@
 //! The policies of the worked list.
 
-use crate::failures::Failure;
+use crate::faults::failures::Failure;
 use book_lists::{Entry, Principal, Who};
 use book_office::{BookPart, EntryPart, GroupPart, Items, PersonPart, Policy, Text};
 use book_rights::{LeafSet, Privilege};

@@ -4,10 +4,10 @@
 //! Memory is refused by what lies under the program (`tools/refused_memory.c`), which takes two sizes that nobody grants as
 //! signs, and else hands out memory as ever. Without it nothing is tried.
 
-use crate::counts::Count;
-use crate::failures::{Failure, check};
-use crate::runs::Turn;
-use crate::turns::Answer;
+use crate::faults::counts::Count;
+use crate::faults::failures::{Failure, check};
+use crate::faults::runs::Turn;
+use crate::faults::turns::Answer;
 use book_machine::Machine;
 use book_office::{Keeper, MemoryKeeper};
 use std::alloc::Global;

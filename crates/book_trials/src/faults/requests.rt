@@ -1,7 +1,7 @@
 //! What the requests of the worked list say.
 
-use crate::failures::Failure;
-use crate::policies::{principal, set, who};
+use crate::faults::failures::Failure;
+use crate::faults::policies::{principal, set, who};
 use book_lists::{Caller, Name, Principal, Submitted};
 use book_machine::{Body, Depth, Flag, Patch, Property, ReportKind, Request, SyncFrom, Token};
 use book_office::{Items, Path, Text};

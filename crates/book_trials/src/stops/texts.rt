@@ -1,7 +1,7 @@
 //! What an Office is as a text: all that a keeper tells of it.
 
-use crate::cases::START;
-use crate::plans::Plan;
+use crate::stops::cases::START;
+use crate::stops::plans::Plan;
 use anyhow::{Context, Result};
 use book_office::{Edit, Keeper, Listed, MemoryKeeper, Path};
 use std::alloc::Global;

@@ -1,6 +1,6 @@
 //! What is asked of an Office at the end.
 
-use crate::requests::{ANN, Row, stream_of};
+use crate::pairs::requests::{ANN, Row, stream_of};
 use anyhow::Result;
 use std::alloc::Global;
 

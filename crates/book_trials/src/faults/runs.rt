@@ -1,9 +1,9 @@
 //! A run of the worked list in which nothing fails, to which the other runs are compared.
 
-use crate::describing::described;
-use crate::failures::{Failure, check};
-use crate::turns::{Answer, Question, Told};
-use crate::worked_list::{Line, PARTS};
+use crate::faults::describing::described;
+use crate::faults::failures::{Failure, check};
+use crate::faults::turns::{Answer, Question, Told};
+use crate::faults::worked_list::{Line, PARTS};
 use book_machine::Machine;
 use book_office::{Items, Keeper};
 use std::alloc::Global;

@@ -1,11 +1,11 @@
 //! The stops of an edit, each tried once.
 
-use crate::counts::{Count, Left};
-use crate::disks::{
+use crate::stops::counts::{Count, Left};
+use crate::stops::disks::{
     Disk, Side, Store, close, connect, crash, empty_files, fused_files, is_spent, kept_files,
 };
-use crate::plans::Plan;
-use crate::texts::{Texts, make_start, office_text, wanted_texts};
+use crate::stops::plans::Plan;
+use crate::stops::texts::{Texts, make_start, office_text, wanted_texts};
 use anyhow::{Result, bail, ensure};
 use book_office::{Edit, Keeper};
 use book_opening::open;

@@ -6,7 +6,6 @@
 //! That each keeper tells what the Office has is proved but where memory is refused or the store fails, which no contract
 //! rules out: here neither comes. Read `requests`, `steps` and `keepers` first, which say what is done; then `worked`,
 //! `chosen` and `questions`, which have what is asked; and `comparing`.
-#![tactic(auto)]
 
 mod chosen;
 mod comparing;
@@ -78,11 +77,12 @@ fn compare_worked(rt: &impl Print, alloc: Global, name: &str, parts: &[Part<'_>]
     compare_keepers(rt, alloc, name, steps.as_slice())
 }
 
-fn main(rt: HostRuntime) -> Result<()> {
+/// Takes the worked steps and those that are chosen by numbers over each keeper, and prints how what they tell compares.
+pub(crate) fn compare_all(rt: &(impl AllocGlobal + Print)) -> Result<()> {
     let alloc = rt.alloc();
-    compare_worked(&rt, alloc, "cards, lists and reports", CARDS)?;
-    compare_worked(&rt, alloc, "a book that comes and goes", BOOKS)?;
-    compare_worked(&rt, alloc, "lists and members", MEMBERS)?;
+    compare_worked(rt, alloc, "cards, lists and reports", CARDS)?;
+    compare_worked(rt, alloc, "a book that comes and goes", BOOKS)?;
+    compare_worked(rt, alloc, "lists and members", MEMBERS)?;
     let steps = chosen_steps(alloc)?;
-    compare_keepers(&rt, alloc, "chosen by numbers", steps.as_slice())
+    compare_keepers(rt, alloc, "chosen by numbers", steps.as_slice())
 }

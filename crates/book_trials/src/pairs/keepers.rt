@@ -1,7 +1,7 @@
 //! The keepers: in memory, in tables in memory, and in tables on two disks.
 
-use crate::questions::questions;
-use crate::steps::{Step, replies_to, run};
+use crate::pairs::questions::questions;
+use crate::pairs::steps::{Step, replies_to, run};
 use anyhow::{Result, bail};
 use book_audit::audit_text;
 use book_machine::Machine;

@@ -1,6 +1,6 @@
 //! The kinds of edits, each of the Office that `START` makes.
 
-use crate::plans::Plan;
+use crate::stops::plans::Plan;
 
 /// The policy in force at the start.
 const POLICY: &str = "version = 1

@@ -1,9 +1,9 @@
 //! The list over a store that fails from one call on: behind each fuse, from one that passes no call on to the first that
 //! passes all.
 
-use crate::counts::Count;
-use crate::failures::{Failure, check};
-use crate::runs::Turn;
+use crate::faults::counts::Count;
+use crate::faults::failures::{Failure, check};
+use crate::faults::runs::Turn;
 use book_faults::Fused;
 use book_machine::Machine;
 use book_office::{Keeper, MemoryKeeper};

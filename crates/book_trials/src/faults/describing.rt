@@ -1,7 +1,7 @@
 //! Everything that a keeper tells of its Office, as one text.
 
-use crate::failures::Failure;
-use crate::requests::path;
+use crate::faults::failures::Failure;
+use crate::faults::requests::path;
 use book_lists::Name;
 use book_office::Keeper;
 use std::alloc::Global;

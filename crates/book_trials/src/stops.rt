@@ -8,31 +8,28 @@
 //! last `N stops, W wrong`; the status is 1 where one is wrong. Words name the kinds; without any all are tried. Which
 //! Offices are wanted is told by a keeper in memory.
 //!
-//! Read `cases` for what is edited, `disks` for the files, `texts` for what is compared, and then `stops`.
-#![tactic(auto)]
+//! Read `cases` for what is edited, `disks` for the files, `texts` for what is compared, and then `trials`.
 
 mod cases;
 mod counts;
 mod disks;
 mod plans;
-mod stops;
 mod texts;
+mod trials;
 
 use anyhow::{Context, Result};
 use cases::{CASES, Case};
 use counts::Count;
 use disks::Disk;
 use sqlite_disk::Files;
-use std::env;
-use std::process::ExitCode;
-use std::rt::Env;
-use stops::{start_files, stops_of};
+use std::alloc::Global;
+use trials::{start_files, stops_of};
 
 /// The kinds that the words name.
-fn asked_cases(rt: &(impl AllocGlobal + Env)) -> Result<Vec<Case>> {
-    let mut asked = Vec::new(rt.alloc());
-    for word in env::args(rt)?.skip(1) {
-        asked.push(Case::named(word.as_str()).context("no such kind of edit")?)?;
+fn asked_cases(alloc: Global, words: &[&str]) -> Result<Vec<Case>> {
+    let mut asked = Vec::new(alloc);
+    for word in words {
+        asked.push(Case::named(word).context("no such kind of edit")?)?;
     }
     Ok(asked)
 }
@@ -73,13 +70,12 @@ fn print_asked(rt: &(impl AllocGlobal + Print), asked: &[Case]) -> Result<Count>
     print_each(rt, &start, asked)
 }
 
-fn main(rt: HostRuntime) -> Result<ExitCode> {
-    let asked = asked_cases(&rt)?;
-    let all = print_asked(&rt, asked.as_slice())?;
+/// Tries the stops of the kinds that the words name, or of all where there is no word, and prints what they left: whether
+/// nothing is wrong.
+pub(crate) fn try_stops(rt: &(impl AllocGlobal + Print), words: &[&str]) -> Result<bool> {
+    let asked = asked_cases(rt.alloc(), words)?;
+    let all = print_asked(rt, asked.as_slice())?;
     let (stops, wrong) = (all.stops, all.wrong);
-    println!(&rt; "{stops} stops, {wrong} wrong")?;
-    if wrong > 0 {
-        return Ok(ExitCode::FAILURE);
-    }
-    Ok(ExitCode::SUCCESS)
+    println!(rt; "{stops} stops, {wrong} wrong")?;
+    Ok(wrong == 0)
 }
