@@ -1,19 +1,27 @@
 //! Benchmarks of cards, of policies, of the audit, and of the machine over a keeper in memory: `book_bench all`, or one of
 //! `cards`, `policies`, `adoptions`, `audits`, `requests`, `reports`, `listings`, `members`, `rulings`.
 //!
+//! What the store and the system take by themselves, for `tools/figures` and `tools/trips` to stand beside what requests
+//! take, is no part of `all`. `book_bench store FILE` times rows of a new store in that file, and `book_bench store` of one
+//! in memory (`store_rows`); `book_bench echo REQUEST REPLY` serves one connection over loopback, and answers every so many
+//! bytes with as many others (`echo`).
+//!
 //! It prints figures, which no test compares, and nothing without a word. The time is the processor's, of one turn, as
 //! the mean of the turns that take a tenth of a second together; beside it stands the time at a smaller size, and the
 //! ratio of both. Read `texts` for what is in force, and `requests` for what is asked.
 #![tactic(auto)]
 
+mod echo;
 mod measures;
 mod readings;
 mod requests;
 mod serving;
+mod store_rows;
 mod texts;
 
 use anyhow::Result;
 use book_limits::{MAX_CARDS, MAX_ENTRIES, MAX_MEMBERS, MAX_NAMED};
+use echo::echo;
 use measures::{Bench, print_figure, time_of};
 use readings::{Adopting, CardReading, PolicyReading};
 use requests::{Question, Shelf};
@@ -22,10 +30,12 @@ use std::env;
 use std::io::Write;
 use std::process::ExitCode;
 use std::time::Duration;
+use store_rows::{print_times_in_file, print_times_in_memory};
 use texts::Extent;
 
 const WORDS: &str =
-    "book_bench: the words are cards, policies, adoptions, audits, requests, reports, listings, members, rulings and all\n";
+    "book_bench: the words are cards, policies, adoptions, audits, requests, reports, listings, members, \
+    rulings and all; or store with a file, or echo with two numbers\n";
 
 const ALL: [&str; 9] = [
     "cards",
@@ -217,16 +227,50 @@ fn all_figures(rt: &impl Bench) -> Result<bool> {
     Ok(true)
 }
 
-fn main(rt: HostRuntime) -> Result<ExitCode> {
-    for word in env::args(&rt)?.skip(1) {
+/// Prints the figures that the words name, one after the other; false at the first that names none.
+fn figures_of_each(rt: &impl Bench, words: &[String]) -> Result<bool> {
+    for word in words {
         let known = match word.as_str() {
-            "all" => all_figures(&rt)?,
-            word => figures_of(&rt, word)?,
+            "all" => all_figures(rt)?,
+            word => figures_of(rt, word)?,
         };
         if !known {
-            rt.stderr().write_all(WORDS.as_bytes())?;
-            return Ok(ExitCode::from(USAGE));
+            return Ok(false);
         }
+    }
+    Ok(true)
+}
+
+fn store_figures(rt: &HostRuntime, file: Option<&String>) -> Result<()> {
+    match file {
+        Some(file) => print_times_in_file(rt, file.as_str()),
+        None => print_times_in_memory(rt),
+    }
+}
+
+/// The number that a word spells, or 1.
+fn number(word: Option<&String>) -> usize {
+    match word {
+        Some(word) => word.parse::<usize>().unwrap_or(1),
+        None => 1,
+    }
+}
+
+/// What the store or the system takes by itself, where the first word names that; else the figures that the words name.
+fn asked_figures(rt: &HostRuntime, words: &[String]) -> Result<bool> {
+    match words.first().map_or("", |word| word.as_str()) {
+        "store" => store_figures(rt, words.get(1))?,
+        "echo" => echo(rt, number(words.get(1)), number(words.get(2)))?,
+        _ => return figures_of_each(rt, words),
+    }
+    Ok(true)
+}
+
+fn main(rt: HostRuntime) -> Result<ExitCode> {
+    let words = env::args(&rt)?.skip(1).collect::<Vec<String>>(rt.alloc())?;
+    if !asked_figures(&rt, words.as_slice())? {
+        rt.stderr().write_all(WORDS.as_bytes())?;
+        return Ok(ExitCode::from(USAGE));
     }
     Ok(ExitCode::SUCCESS)
 }

@@ -3,12 +3,14 @@
 use anyhow::{Result, ensure};
 use std::alloc::Global;
 use std::fmt;
+use std::io::Eprint;
+use std::rt::Clock;
 use std::time::{CpuClock, Duration};
 
 /// What a benchmark takes of the system.
-pub trait Bench: CpuClock + AllocGlobal + Print {}
+pub trait Bench: CpuClock + Clock + AllocGlobal + Print + Eprint {}
 
-impl<R: CpuClock + AllocGlobal + Print> Bench for R {}
+impl<R: CpuClock + Clock + AllocGlobal + Print + Eprint> Bench for R {}
 
 /// Work that is measured.
 pub trait Work {

@@ -1,16 +1,10 @@
 //! Rows of 1,000 bytes in one plain table: each is added in a transaction of its own, and then looked up by its path.
 
+use crate::measures::Bench;
 use anyhow::{Result, ensure};
 use sqlite::{Alter, Connection, params};
 use std::alloc::Global;
-use std::io::Eprint;
-use std::rt::Clock;
 use std::time::Instant;
-
-/// What the benchmark takes of the system.
-pub trait Bench: Clock + AllocGlobal + Print + Eprint {}
-
-impl<R: Clock + AllocGlobal + Print + Eprint> Bench for R {}
 
 /// How many rows there are.
 const ROWS: u32 = 500;
@@ -88,7 +82,7 @@ fn print_mean(rt: &impl Bench, name: &str, start: &Instant, count: u32) -> Resul
 
 /// Makes the table, and prints both times to standard error, which no test compares; to standard output how many rows there
 /// were.
-pub fn print_times<S: Alter>(rt: &impl Bench, connection: &mut Connection<S>) -> Result<()> {
+fn print_times<S: Alter>(rt: &impl Bench, connection: &mut Connection<S>) -> Result<()> {
     connection.execute(TABLE, &[])?;
     let start = Instant::now(rt)?;
     insert_all(rt.alloc(), connection)?;
@@ -98,4 +92,14 @@ pub fn print_times<S: Alter>(rt: &impl Bench, connection: &mut Connection<S>) ->
     print_mean(rt, "a look-up by path", &start, ROWS * TURNS)?;
     println!(rt; "{ROWS} rows")?;
     Ok(())
+}
+
+/// The times of a new store in memory.
+pub fn print_times_in_memory(rt: &impl Bench) -> Result<()> {
+    print_times(rt, &mut Connection::open_in_memory(rt.alloc())?)
+}
+
+/// The times of a new store in this file.
+pub fn print_times_in_file(rt: &HostRuntime, file: &str) -> Result<()> {
+    print_times(rt, &mut Connection::open(rt, file)?)
 }
