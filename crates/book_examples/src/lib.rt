@@ -1,9 +1,9 @@
-//! Worked examples of keepers, policies and requests, and nothing else: a crate with tests is proved twice, so they
-//! stand here, and the crates below have none.
+//! Worked examples of keepers, policies, requests, members of group cards and audits, and nothing else: a crate with
+//! tests is proved twice, so they stand here, and the crates below have none.
 //!
 //! An example is a table of lines, as `scripts` reads them, with the wanted answers: those of the rules (RFC 3744,
-//! RFC 4918 and own profile), worked out by hand. `offices` has the Office on which most of them stand, and
-//! `policies` the policies.
+//! RFC 4918, RFC 6350 and own profile), worked out by hand. `offices` has the Office on which most of them stand, and
+//! `policies` the policies; `members` and `audits` stand on that of `edited_offices`.
 #![tactic(auto)]
 
 #[cfg(test)]
@@ -11,9 +11,13 @@ mod adoptions;
 #[cfg(test)]
 mod asking;
 #[cfg(test)]
+mod audits;
+#[cfg(test)]
 mod bodies;
 #[cfg(test)]
 mod denials;
+#[cfg(test)]
+mod edited_offices;
 #[cfg(test)]
 mod edits;
 #[cfg(test)]
@@ -24,6 +28,8 @@ mod keepers;
 mod limits;
 #[cfg(test)]
 mod listings;
+#[cfg(test)]
+mod members;
 #[cfg(test)]
 mod moves;
 #[cfg(test)]

@@ -115,7 +115,7 @@ pub(crate) fn form(word: &str) -> Option<Who> {
     }
 }
 
-fn who(rt: &impl Abort, alloc: Global, word: &str) -> Who {
+pub(crate) fn who(rt: &impl Abort, alloc: Global, word: &str) -> Who {
     match form(word) {
         Some(form) => form,
         None => Who::Href(principal(rt, alloc, word)),
@@ -123,7 +123,7 @@ fn who(rt: &impl Abort, alloc: Global, word: &str) -> Who {
 }
 
 /// The leaves of the privileges that stand after so many words.
-fn leaves(rt: &impl Abort, line: &str, words: usize) -> LeafSet {
+pub(crate) fn leaves(rt: &impl Abort, line: &str, words: usize) -> LeafSet {
     let mut set = LeafSet::empty();
     for word in line.split(' ').skip(words) {
         let privilege = Privilege::from_name(word).expect(rt, "a privilege");

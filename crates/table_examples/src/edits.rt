@@ -1,6 +1,6 @@
 //! The edits, each as one transaction.
 
-use crate::stores::{found, name, own_list, path, principal, tables, text};
+use crate::new_tables::{found, name, own_list, path, principal, tables, text};
 use book_lists::{Entry, Who};
 use book_office::StoreFault;
 use book_rights::{Leaf, LeafSet};

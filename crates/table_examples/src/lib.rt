@@ -1,13 +1,29 @@
-//! Worked examples of tables as an Office: each edit through `Tables` over a store in memory, and what is found after
-//! it; and stores that are there, opened as they were left and with rows that are changed by hand. They stand in a crate
-//! of their own, since a crate with tests is proved twice.
+//! Worked examples of the tables of a store, over a store in memory. As rows: founding a store, finding one that is there,
+//! each edit, and each read, once on its happy path. As an Office: each edit through `Tables`, and what is found after it;
+//! and stores that are there, opened as they were left and with rows that are changed by hand. They stand in a crate of
+//! their own, since a crate with tests is proved twice.
 //!
-//! The wanted answers are those of the rules (RFC 3744, RFC 4918 and own profile), worked out by hand.
+//! The wanted rows and answers are those of the rules (RFC 3744, RFC 4918 and own profile), worked out by hand. `row_texts`
+//! tells rows as texts, and `new_tables` what tables have at a path.
 #![tactic(auto)]
 
 #[cfg(test)]
+mod cards;
+#[cfg(test)]
 mod edits;
+#[cfg(test)]
+mod found;
+#[cfg(test)]
+mod founded;
+#[cfg(test)]
+mod kept;
+#[cfg(test)]
+mod lists;
+#[cfg(test)]
+mod new_tables;
 #[cfg(test)]
 mod opened;
 #[cfg(test)]
-mod stores;
+mod policies;
+#[cfg(test)]
+mod row_texts;

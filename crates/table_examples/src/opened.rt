@@ -1,6 +1,6 @@
 //! Opening a store that is there: as it was left, and with rows that are changed by hand.
 
-use crate::stores::{found, name, tables, text};
+use crate::new_tables::{found, name, tables, text};
 use book_opening::open;
 use book_tables::{OpenFault, Tables};
 use sqlite::{Connection, MemStore};

@@ -1,36 +1,21 @@
 //! An Office over the tables of a new store, and the connection given back.
 
-use crate::stores::{children, epoch, node};
-use book_lists::Name;
+use crate::new_tables::{name, path, tables};
+use crate::row_texts::{children, epoch, node};
 use book_tables::{OpenFault, Tables};
-use book_values::{Kind, Path, Text};
-use sqlite::{Connection, MemStore};
+use book_values::{Kind, Text};
+use sqlite::Connection;
 use std::alloc::Global;
 use std::process::Abort;
-
-fn name(rt: &impl Abort, alloc: Global, text: &str) -> Name {
-    let name = Name::parse(alloc, text).expect(rt, "memory");
-    name.expect(rt, text)
-}
-
-fn path(rt: &impl Abort, alloc: Global, text: &str) -> Path {
-    Path::parse(alloc, text).expect(rt, text)
-}
 
 fn text(rt: &impl Abort, alloc: Global, text: &str) -> Text {
     Text::from_string(String::from_str(alloc, text).expect(rt, "memory"))
 }
 
-/// The tables of a new store in memory.
-fn new_tables(rt: &impl Abort, alloc: Global) -> Tables<MemStore> {
-    let connection = Connection::open_in_memory(alloc).expect(rt, "memory");
-    Tables::create(connection).ok().expect(rt, "a new store")
-}
-
 #[test]
 fn new_tables_keep_a_card(rt: HostRuntime) {
     let alloc = rt.alloc();
-    let mut tables = new_tables(&rt, alloc);
+    let mut tables = tables(&rt, alloc);
     let law = name(&rt, alloc, "law");
     let card = name(&rt, alloc, "a.vcf");
     let body = text(&rt, alloc, "one");
@@ -52,7 +37,7 @@ fn new_tables_keep_a_card(rt: HostRuntime) {
 #[test]
 fn a_released_connection_shows_the_rows(rt: HostRuntime) {
     let alloc = rt.alloc();
-    let mut tables = new_tables(&rt, alloc);
+    let mut tables = tables(&rt, alloc);
     let law = name(&rt, alloc, "law");
     tables.add_book(alloc, &law, &None).expect(&rt, "MKCOL");
     let mut connection = tables.release();

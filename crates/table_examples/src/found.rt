@@ -1,6 +1,6 @@
 //! What is found of a store that is there: its schema, its version, and its rows.
 
-use crate::stores::{node, store, whole_rows};
+use crate::row_texts::{node, store, whole_rows};
 use book_store::{create, is_book_schema, reopen, says_other_version};
 use sqlite::{Connection, MemStore};
 use std::process::Abort;

@@ -1,6 +1,6 @@
 //! A new store: the root and the three homes, epoch 0.
 
-use crate::stores::{children, epoch, node};
+use crate::row_texts::{children, epoch, node};
 use book_rows::count_children;
 use book_store::create;
 use sqlite::{Connection, Error, ErrorCode};

@@ -1,6 +1,7 @@
 //! The members of group cards (RFC 6350, section 6.6.5).
 
-use crate::offices::{circle, keeper, name, put, set_list, word};
+use crate::edited_offices::{circle, keeper, put, set_list};
+use crate::words::{name, word};
 use book_lists::Name;
 use book_members::{Members, equal_views_have_equal_members, group_members};
 use book_office::{Items, MemoryKeeper};

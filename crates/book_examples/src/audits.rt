@@ -1,6 +1,6 @@
 //! The audit text, byte for byte (own profile).
 
-use crate::offices::{add_book, keeper, put, set_list};
+use crate::edited_offices::{add_book, keeper, put, set_list};
 use book_audit::audit_text;
 use book_office::MemoryKeeper;
 use std::alloc::Global;

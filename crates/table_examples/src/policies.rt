@@ -1,6 +1,6 @@
 //! Adopting a policy (own profile): nodes, lists and members in one transaction.
 
-use crate::stores::{children, entries_at, epoch, list, members, store};
+use crate::row_texts::{children, entries_at, epoch, list, members, store};
 use book_rows::{EntryRow, GroupRow, ListsRow, PlaceRow, adopt};
 use sqlite::Error;
 use std::alloc::Global;

@@ -1,6 +1,6 @@
 //! Books and cards: MKCOL, PUT, DELETE, PROPPATCH, COPY and MOVE (RFC 4918, section 9; RFC 6578, section 3).
 
-use crate::stores::{changed, children, epoch, gone, node, store};
+use crate::row_texts::{changed, children, epoch, gone, node, store};
 use book_rows::{
     add_book, copy_card, label_card, label_node, move_card, put_card, remove_book, remove_card,
 };

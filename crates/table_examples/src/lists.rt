@@ -1,6 +1,6 @@
 //! Own lists and members of groups (RFC 3744, sections 8.1 and 4.3).
 
-use crate::stores::{entries_at, entries_of_children, epoch, list, members, store};
+use crate::row_texts::{entries_at, entries_of_children, epoch, list, members, store};
 use book_rows::{EntryRow, add_book, set_list, set_members};
 use sqlite::{Connection, Error, MemStore};
 use std::alloc::Global;

@@ -1,9 +1,9 @@
-//! The Office of the examples: it is what a policy makes of the empty one, and then edits in order.
+//! The Office of the examples of members and audits: it is what a policy makes of the empty one, and then edits in order.
 
-use book_lists::{Caller, Circle, Entry, Name, Principal, Who};
-use book_office::{Edit, Items, Keeper, MemoryKeeper, Path, Text};
+use crate::words::{leaves, name, path, principal, text, who, word};
+use book_lists::{Caller, Circle, Entry};
+use book_office::{Edit, Items, Keeper, MemoryKeeper};
 use book_policy::read_policy;
-use book_rights::{LeafSet, Privilege};
 use std::alloc::Global;
 use std::process::Abort;
 
@@ -19,29 +19,6 @@ const OFFICE_POLICY: &str = "version = 1\n\
     [[entry]]\nat = \"/books/law\"\nwho = \"/people/bob\"\ngrant = [\"read\", \"unbind\"]\n\
     [[entry]]\nat = \"/groups\"\nwho = \"/people/ann\"\ngrant = [\"read\", \"write-properties\"]\nprotected = true\n";
 
-pub(crate) fn name(rt: &impl Abort, alloc: Global, text: &str) -> Name {
-    let name = Name::parse(alloc, text).expect(rt, "memory");
-    name.expect(rt, "a name")
-}
-
-pub(crate) fn path(rt: &impl Abort, alloc: Global, text: &str) -> Path {
-    Path::parse(alloc, text).expect(rt, "a path")
-}
-
-pub(crate) fn text(rt: &impl Abort, alloc: Global, text: &str) -> Text {
-    Text::copy_of(alloc, text).expect(rt, "memory")
-}
-
-fn principal(rt: &impl Abort, alloc: Global, text: &str) -> Principal {
-    let principal = Principal::parse(alloc, text).expect(rt, "memory");
-    principal.expect(rt, "a principal")
-}
-
-/// The word at an index; empty where the line has fewer.
-pub(crate) fn word(line: &str, index: usize) -> &str {
-    line.split(' ').nth(index).unwrap_or("")
-}
-
 /// The keeper of the empty Office that adopted the policy.
 pub(crate) fn keeper(rt: &impl Abort, alloc: Global) -> MemoryKeeper {
     let mut keeper = MemoryKeeper::new(alloc);
@@ -49,27 +26,6 @@ pub(crate) fn keeper(rt: &impl Abort, alloc: Global) -> MemoryKeeper {
     let edit = Edit::Adopt { policy };
     keeper.act(alloc, &edit).expect(rt, "memory");
     keeper
-}
-
-fn who(rt: &impl Abort, alloc: Global, word: &str) -> Who {
-    match word {
-        "all" => Who::Everyone,
-        "authenticated" => Who::Authenticated,
-        "unauthenticated" => Who::Unauthenticated,
-        "owner" => Who::Owner,
-        "self" => Who::Own,
-        _ => Who::Href(principal(rt, alloc, word)),
-    }
-}
-
-/// The leaves of the names from an index on.
-fn leaves(rt: &impl Abort, line: &str, index: usize) -> LeafSet {
-    let mut set = LeafSet::empty();
-    for name in line.split(' ').skip(index) {
-        let privilege = Privilege::from_name(name).expect(rt, "a privilege");
-        set = set.union(privilege.leaves());
-    }
-    set
 }
 
 /// `grant WHO NAME ..` or `deny WHO NAME ..`; `not` before the form inverts it.
