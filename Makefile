@@ -7,7 +7,7 @@
 #   make wrong   tries the wrong bodies that are too dear for each run of the gate: each must be refused
 #   make turned  turns meanings of the code, and sees that the example that guards each fails: no proof is tried
 #   make faults  makes stores, memory and disks fail at each point at which they can, and compares what is answered and kept
-#   make bench   proves and runs the benchmarks, which print figures
+#   make bench   builds the program, and prints the processor time that it takes for many workloads (it needs python3)
 #   make figures builds the program, and prints what its requests over a store in a file take
 #   make clean   removes what the others made
 #
@@ -36,10 +36,8 @@ turned:
 faults:
 	@tools/faults
 
-bench:
-	@rt=$$(tools/find-rt) && \
-	echo "Proving and running the benchmarks: a few minutes the first time, then seconds." && \
-	cd crates/book_bench && "$$rt" run -- all
+bench: build
+	@tools/bench build/book_desk
 
 figures: build
 	@tools/figures build/book_desk

@@ -1,10 +1,16 @@
 //! Rows of 1,000 bytes in one plain table: each is added in a transaction of its own, and then looked up by its path.
 
-use crate::measures::Bench;
 use anyhow::{Result, ensure};
 use sqlite::{Alter, Connection, params};
 use std::alloc::Global;
+use std::io::Eprint;
+use std::rt::Clock;
 use std::time::Instant;
+
+/// What a benchmark takes of the system.
+pub trait Bench: Clock + AllocGlobal + Print + Eprint {}
+
+impl<R: Clock + AllocGlobal + Print + Eprint> Bench for R {}
 
 /// How many rows there are.
 const ROWS: u32 = 500;

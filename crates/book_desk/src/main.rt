@@ -10,15 +10,16 @@ ghost use Rattle.book_words.specs.WordsFaults.{words_status};
 
 mod files;
 
+use book_cache::Cached;
 use book_machine::Machine;
 use book_office::{Keeper, MemoryKeeper, Policy};
 use book_runs::{open_store, run};
-use book_texts::TextCommand;
+use book_texts::{InputFault, TextCommand};
 use book_words::{Command, WordsFault, command_of, words_not_text};
 use book_work::{Failure, Work, adopt_given, given_policy, serve, tell};
 use files::{FileConnection, Opened, close, open_files};
 use std::env;
-use std::io::{self, Write};
+use std::io::{self, BufReader, Write};
 use std::net::{Net, TcpListener};
 use std::process::ExitCode;
 use std::rt::Env;
@@ -43,14 +44,17 @@ fn refuse<E: Write>(errors: &mut E, fault: &WordsFault) -> u8
     fault.status()
 }
 
-/// The commands that read one text, and help.
+/// The commands that read one text, in blocks, and help.
 fn print<W: Write, E: Write>(
     rt: &HostRuntime,
     command: &TextCommand,
     writer: &mut W,
     errors: &mut E,
 ) -> u8 {
-    book_texts::run(rt.alloc(), command, rt.reader(), writer, errors)
+    match BufReader::new(rt.alloc(), rt.reader()) {
+        Ok(reader) => book_texts::run(rt.alloc(), command, reader, writer, errors),
+        Err(_) => tell(errors, &Failure::Input(InputFault::Read)),
+    }
 }
 
 /// The commands `import`, `audit` and `pipe`: the policy's file is read, the store's file is opened, and the work done.
@@ -117,7 +121,7 @@ fn serve_in_memory<N: Net + AllocGlobal, W: Write, E: Write>(
     serve_on(rt, &mut machine, policy, service, writer, errors)
 }
 
-/// Serves the Office of a store's file.
+/// Serves the Office of a store's file. What most requests ask is remembered.
 fn serve_in_file<N: Net + AllocGlobal, W: Write, E: Write>(
     rt: &N,
     store: FileConnection,
@@ -130,9 +134,9 @@ fn serve_in_file<N: Net + AllocGlobal, W: Write, E: Write>(
         Ok(tables) => tables,
         Err(failure) => return tell(errors, &Failure::Store(failure)),
     };
-    let mut machine = Machine::new(tables);
+    let mut machine = Machine::new(Cached::new(rt.alloc(), tables));
     let status = serve_on(rt, &mut machine, policy, service, writer, errors);
-    close(Some(machine.release().release()));
+    close(Some(machine.release().into_inner().release()));
     status
 }
 

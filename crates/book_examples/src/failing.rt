@@ -9,8 +9,8 @@ use crate::scripts::{Step, answer, follow};
 use book_lists::{Caller, Circle, Name, Pairs};
 use book_machine::Machine;
 use book_office::{
-    Adoption, Changed, Edit, Items, Keeper, Kind, Listed, Lists, MemoryKeeper, Node, Path, Policy,
-    StoreFault,
+    Adoption, Changed, Edit, Items, Keeper, Kind, Level, Listed, Lists, MemoryKeeper, Node, Path,
+    Policy, StoreFault,
 };
 use std::alloc::Global;
 use std::process::Abort;
@@ -95,6 +95,11 @@ impl Keeper for Failing {
     fn lists(&mut self, alloc: Global, path: &Path) -> Result<Lists, StoreFault> {
         self.pass()?;
         answered(self.keeper.lists(alloc, path))
+    }
+
+    fn level(&mut self, alloc: Global, path: &Path) -> Result<Level, StoreFault> {
+        self.pass()?;
+        answered(self.keeper.level(alloc, path))
     }
 
     fn changes_after(

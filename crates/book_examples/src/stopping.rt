@@ -13,7 +13,7 @@ use crate::scripts::{Step, follow};
 use book_lists::{Caller, Circle, Name, Pairs};
 use book_machine::Machine;
 use book_office::{
-    Adoption, Changed, Edit, Items, Keeper, Listed, Lists, MemoryKeeper, Node, Path, Policy,
+    Adoption, Changed, Edit, Items, Keeper, Level, Listed, Lists, MemoryKeeper, Node, Path, Policy,
     StoreFault,
 };
 use std::alloc::Global;
@@ -99,6 +99,10 @@ impl Keeper for Stopping {
 
     fn lists(&mut self, alloc: Global, path: &Path) -> Result<Lists, StoreFault> {
         self.keeper.lists(alloc, path)
+    }
+
+    fn level(&mut self, alloc: Global, path: &Path) -> Result<Level, StoreFault> {
+        self.keeper.level(alloc, path)
     }
 
     fn changes_after(

@@ -5,13 +5,13 @@ ghost use Rattle.book_faults.specs.Fuses.{EditsBehind, IsFused, ReadsBehind, beh
 ghost use Rattle.book_lists.specs.Callers.{IsCircle};
 ghost use Rattle.book_adopting.specs.Adopting.{adoption_of};
 ghost use Rattle.book_office.specs.Keeping.{one_more};
-ghost use Rattle.book_office.specs.Levels.{lists_at};
+ghost use Rattle.book_office.specs.Levels.{level_at, lists_at};
 ghost use Rattle.book_office.specs.Resources.{changed_after, children_at, count_at, node_at};
 ghost use Rattle.book_office.specs.declared.keepers.StoreFault.TheVariants.{Store};
 
 use book_lists::{Caller, Circle, Name, Pairs};
 use book_office::{
-    Adoption, Changed, Edit, Items, Keeper, Listed, Lists, Node, Path, Policy, StoreFault,
+    Adoption, Changed, Edit, Items, Keeper, Level, Listed, Lists, Node, Path, Policy, StoreFault,
 };
 use std::alloc::Global;
 
@@ -122,6 +122,17 @@ impl<K: Keeper> Keeper for Fused<K> {
     {
         if self.passes() {
             self.keeper.lists(alloc, path)
+        } else {
+            self.fail()
+        }
+    }
+
+    fn level(&mut self, alloc: Global, path: &Path) -> Result<Level, StoreFault>
+        ensures keeper { ReadsBehind K.standing self.old self.new result (λ o level. level ≡ level_at o path.now) }
+        ensures fuse { IsFused self.old self.new result }
+    {
+        if self.passes() {
+            self.keeper.level(alloc, path)
         } else {
             self.fail()
         }

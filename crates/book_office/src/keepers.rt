@@ -6,10 +6,10 @@ ghost use Rattle.book_office.specs.declared.keepers.StoreFault.TheVariants.{Memo
 ghost use Rattle.book_adopting.specs.Adopting.{adoption_of};
 ghost use Rattle.book_office.specs.Keeping.{Standing, Reads, Edits};
 ghost use Rattle.book_office.specs.Resources.{node_at, children_at, count_at, changed_after};
-ghost use Rattle.book_office.specs.Levels.{lists_at};
+ghost use Rattle.book_office.specs.Levels.{level_at, lists_at};
 
 use crate::edits::Edit;
-use crate::nodes::{Changed, Listed, Lists, Node};
+use crate::nodes::{Changed, Level, Listed, Lists, Node};
 use book_adopting::Adoption;
 use book_lists::{Caller, Circle, Name, Pairs};
 use book_policies::Policy;
@@ -56,6 +56,10 @@ pub trait Keeper {
     /// The lists of the resource at a path and of each ancestor; the lists of a path that is not mapped are empty.
     fn lists(&mut self, alloc: Global, path: &Path) -> Result<Lists, StoreFault>
         ensures { Reads (standing self.old) (standing self.new) result (λ o lists. lists ≡ lists_at o path.now) };
+
+    /// The lists that stand at a path itself; those of a path that is not mapped are empty.
+    fn level(&mut self, alloc: Global, path: &Path) -> Result<Level, StoreFault>
+        ensures { Reads (standing self.old) (standing self.new) result (λ o level. level ≡ level_at o path.now) };
 
     /// The last changes of a book above a number, in order of number, each with the card that has the name; none where there
     /// is no such book.

@@ -8,8 +8,8 @@ ghost use Rattle.book_office.specs.Sound.{IsSound};
 use crate::changing::act;
 use crate::edits::Edit;
 use crate::keepers::{Keeper, StoreFault};
-use crate::nodes::{Changed, Listed, Lists, Node};
-use crate::reads::{changed, children, count, find, lists};
+use crate::nodes::{Changed, Level, Listed, Lists, Node};
+use crate::reads::{changed, children, count, find, level, lists};
 use book_adopting::{Adoption, adoption_of};
 use book_lists::{Caller, Circle, Name, Pairs, expand};
 use book_policies::Policy;
@@ -84,6 +84,10 @@ impl Keeper for MemoryKeeper {
 
     fn lists(&mut self, alloc: Global, path: &Path) -> Result<Lists, StoreFault> {
         Ok(lists(alloc, &self.office, path)?)
+    }
+
+    fn level(&mut self, alloc: Global, path: &Path) -> Result<Level, StoreFault> {
+        Ok(level(alloc, &self.office, path)?)
     }
 
     fn changes_after(

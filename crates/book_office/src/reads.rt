@@ -379,6 +379,13 @@ fn level_of(alloc: Global, office: &Office, path: Path) -> Result<Level, AllocEr
     })
 }
 
+/// The lists that stand at a path.
+pub(crate) fn level(alloc: Global, office: &Office, path: &Path) -> Result<Level, AllocError>
+    ensures { IfOk result (λ level. level ≡ level_at office.now path.now) }
+{
+    level_of(alloc, office, path.clone()?)
+}
+
 /// The lists of the resource at a path, and of each ancestor.
 pub(crate) fn lists(alloc: Global, office: &Office, path: &Path) -> Result<Lists, AllocError>
     ensures { IfOk result (λ lists. lists ≡ lists_at office.now path.now) }

@@ -1,13 +1,14 @@
 -- The entries of the children of a node, in order of the node, of the list and of the place: no two of them tie.
-use Rattle.std.proofs.Common.{◌≡◌, ℕ, ℤ, Bool, true, false, not, ◌&&◌, List, [], ◌∷◌, map, filter, None, refl, sym, ap, subst, ◌∙◌, true≢false, Ordering, Less, Equal, Greater, is_eq, IsPermutation, inl, inr}
-use Rattle.std.specs.List.{AllByRecursion}
+use Rattle.std.proofs.Common.{◌≡◌, ℕ, ℤ, Bool, true, false, not, ◌&&◌, List, [], ◌∷◌, map, filter, None, refl, sym, ap, subst, ◌∙◌, true≢false, Ordering, Less, Equal, Greater, is_eq, IsPermutation, IsTrue, inl, inr}
+use Rattle.std.specs.List.{AllByRecursion, list_any}
 use Rattle.std.specs.Ordering.{ordering_then}
 use Rattle.std.proofs.lemmas.Bool.{and_parts}
+use Rattle.std.proofs.lemmas.List.Sorted.{IsPermutation-trans, IsPermutation-sym, IsPermutation-map}
 use Rattle.sqlite.specs.declared.types.Value.{Value}
 use Rattle.sqlite.specs.declared.types.Value.TheVariants.{Null, Int}
 use Rattle.sqlite.specs.Collation.TheVariants.{Binary}
 use Rattle.sqlite.specs.Effect.{IsDatabase}
-use Rattle.sqlite.specs.Ops.{is_null, is_true}
+use Rattle.sqlite.specs.Ops.{binary, is_null}
 use Rattle.sqlite.specs.Order.{Row, column, value_cmp}
 use Rattle.sqlite.specs.Program.{overlay}
 use Rattle.sqlite.specs.Query.{IsAnswer, Output, output, page}
@@ -18,21 +19,25 @@ use Rattle.sqlite_sql.specs.Query.{output_cmp}
 use Rattle.sqlite_sql.proofs.QueryLemmas.{output_cmp_total}
 use Rattle.sqlite_value.specs.Keys.{plain}
 use Rattle.sqlite_value.proofs.KeyLemmas.{first_key-plain}
-use Rattle.sqlite_trees.specs.Tree.{IsAscending}
+use Rattle.sqlite_rules.proofs.KeyLemmas.{agree_back, agree_chain}
+use Rattle.sqlite_trees.specs.Tree.{rowid, IsAscending, IsTable}
+use Rattle.sqlite_trees.specs.View.{is_int}
 use Rattle.sqlite_schema.specs.declared.schema.Constraint.TheVariants.{NotNull}
 use Rattle.sqlite_schema.specs.Rules.{equal, agree, are_present}
 use Rattle.sqlite_catalog.proofs.AlterLemmas.{keys_are_unique}
 use Rattle.sqlite_keyed.specs.Lists.{sort_by}
 use Rattle.sqlite_keyed.proofs.SortLemmas.{sorted_is-sort_by, sort_by-map}
 use Rattle.sqlite_keyed.proofs.ListLemmas.{ascending-map, ascending-filter, ascending_weaker}
-use Rattle.book_rows.specs.Schema.{book_schema, ace_table, ace_columns}
+use Rattle.book_rows.specs.Schema.{book_schema, node_table, ace_table, ace_columns}
 use Rattle.book_rows.specs.Texts as text
-use Rattle.book_rows.specs.Writes.{is_below}
+use Rattle.book_rows.specs.Writes.{is_under, is_below}
 use Rattle.book_rows.specs.Lists.{ShowsChildEntries, by_list, listed_columns}
 use Rattle.book_rows.proofs.Keeping.{shown_open}
 use Rattle.book_rows.proofs.Meanings.{child_entries_query, list_child_entries_is, list_child_entries_plain, list_child_entries_unlisted}
-use Rattle.book_rows.proofs.Statements.{map-map, matched}
-use Rattle.book_rows.proofs.Deleting.{counted_for, env, tests}
+use Rattle.book_rows.proofs.Becoming.{and_true}
+use Rattle.book_rows.proofs.JoinedRows.{AreApart, joined, joined_are, drawn_are}
+use Rattle.book_rows.proofs.Keys.{not_null_if_int}
+use Rattle.book_rows.proofs.Statements.{map-map}
 use Rattle.book_rows.proofs.Entries.{all_distinct, equal_tied, tied}
 use Rattle.book_rows.proofs.Ordering.{then_equal}
 
@@ -87,25 +92,71 @@ pub all_keys : (rows : List Row) → AllByRecursion (λ row. are_present None 0 
 all_keys [] h = tt
 all_keys (r ∷ rows) h = (has_key r h.0, all_keys rows h.1)
 
+-- ---- an entry goes with one child at most
+
+abbrev goes : Value → Row → Row → Bool
+goes id n e = is_under id n && (equal Binary (column n 0) (column e 1) && true)
+
+not_equal : (a b : Value) → is_null a ≡ false → is_null b ≡ false → value_cmp a b ≡ Less → equal Binary a b ≡ false
+unfolding binary
+not_equal a b p q less = rw (p, q, less) refl
+
+one_at_most : (id : Value) (a b : Row) → IsTrue (is_int (rowid a)) → IsTrue (is_int (rowid b)) → value_cmp (rowid a) (rowid b) ≡ Less → (e : Row) → goes id a e ≡ true → goes id b e ≡ false
+one_at_most id a b int_a int_b less e with_a = go (goes id b e) refl
+  where
+    number_is : (n : Row) → goes id n e ≡ true → agree plain (0 ∷ []) n (1 ∷ []) e ≡ true
+    number_is n is =
+        let number : equal Binary (column n 0) (column e 1) ≡ true = (and_parts (equal Binary (column n 0) (column e 1)) true (and_parts (is_under id n) (equal Binary (column n 0) (column e 1) && true) is).1).0 in
+        rw (first_key-plain, number) refl
+
+    apart : agree plain (0 ∷ []) a (0 ∷ []) b ≡ false
+    apart =
+        let other : equal Binary (column a 0) (column b 0) ≡ false = not_equal (rowid a) (rowid b) (not_null_if_int _ int_a) (not_null_if_int _ int_b) less in
+        rw (first_key-plain, other) refl
+
+    go : (t : Bool) → goes id b e ≡ t → t ≡ false
+    go false with_b = refl
+    go true with_b =
+        let same = agree_chain plain (0 ∷ []) (1 ∷ []) (0 ∷ []) a e b (number_is a with_a) (agree_back plain (0 ∷ []) (1 ∷ []) b e (number_is b with_b)) in
+        absurd (true≢false (sym same ∙ apart))
+
+none_after : (id : Value) (a : Row) → IsTrue (is_int (rowid a)) → (rows : List Row) → AllByRecursion (λ r. IsTrue (is_int (rowid r))) rows → AllByRecursion (λ r. value_cmp (rowid a) (rowid r) ≡ Less) rows
+    → AllByRecursion (AreApart (goes id) a) rows
+none_after id a int_a [] ints above = tt
+none_after id a int_a (r ∷ rows) ints above = (one_at_most id a r int_a ints.0 above.0, none_after id a int_a rows ints.1 above.1)
+
+pub nodes_apart : (id : Value) (rows : List Row) → IsTable rows → AllByRecursion (λ r. IsTrue (is_int (rowid r))) rows → IsAscending (AreApart (goes id)) rows
+nodes_apart id [] table ints = tt
+nodes_apart id (r ∷ rows) table ints = (none_after id r ints.0 rows ints.1 table.0, nodes_apart id rows table.1 ints.1)
+
 -- ---- so they are shown as they sort
 
 module _ (db : Trees) (id : Value) where
+  abbrev env : Row → Row → List Row
+  env n e = (id ∷ []) ∷ n ∷ e ∷ []
+
   abbrev out : Row → Output
-  out e = output child_entries_query (env db id e)
+  out e = output child_entries_query (env [] e)
 
   same_order : (a b : Row) → output_cmp child_entries_query (out a) (out b) ≡ by_list a b
   same_order a b =
       ap (λ o. ordering_then (value_cmp (column a 1) (column b 1)) (ordering_then (value_cmp (column a 2) (column b 2)) o)) (then_equal (value_cmp (column a 3) (column b 3)))
 
-  in_order : (rows : List Row) → IsAnswer child_entries_query db (id ∷ []) rows → IsAscending (λ a b. is_eq (by_list a b) ≡ false) (filter (is_below id (db 0)) (db 2))
-      → rows ≡ map listed_columns (sort_by by_list (filter (is_below id (db 0)) (db 2)))
-  in_order rows a apart =
-      let passing = filter (λ e. is_true (counted_for db id e) && true) (db 2) in
-      let picked = filter (is_below id (db 0)) (db 2) in
-      let same_picked : passing ≡ picked = (λ i. filter (λ e. tests db id e i) (db 2)) in
-      let staged : a.staged ≡ map (env db id) picked = a.grouped ∙ matched (λ e. is_true (counted_for db id e) && true) (env db id) (db 2) ∙ ap (map (env db id)) same_picked in
-      let kept : a.kept ≡ map out picked = a.distinct ∙ ap (map (output child_entries_query)) staged ∙ map-map (output child_entries_query) (env db id) picked in
-      let same = subst (λ k. IsPermutation k a.ordered) kept a.same in
+  abbrev picked : List Row
+  picked = filter (is_below id (db 0)) (db 2)
+
+  joined_picked : IsAscending (AreApart (goes id)) (db 0) → IsPermutation (joined (goes id) (db 2) (db 0)) picked
+  joined_picked apart =
+      subst (IsPermutation (joined (goes id) (db 2) (db 0))) (λ i. filter (λ e. list_any (λ n. is_under id n && and_true (equal Binary (column n 0) (column e 1)) i) (db 0)) (db 2))
+      (joined_are (goes id) (db 2) (db 0) apart)
+
+  in_order : (rows : List Row) → IsAnswer child_entries_query db (id ∷ []) rows → IsAscending (AreApart (goes id)) (db 0) → IsAscending (λ a b. is_eq (by_list a b) ≡ false) picked
+      → rows ≡ map listed_columns (sort_by by_list picked)
+  in_order rows a nodes apart =
+      let kept : a.kept ≡ map out (joined (goes id) (db 2) (db 0)) =
+      a.distinct ∙ ap (map (output child_entries_query)) a.grouped ∙ drawn_are (goes id) (db 2) env (output child_entries_query) out (λ n e. refl) (db 0) in
+      let same : IsPermutation (map out picked) a.ordered =
+      IsPermutation-trans _ _ _ (IsPermutation-sym _ _ (IsPermutation-map out _ _ (joined_picked nodes))) (subst (λ k. IsPermutation k a.ordered) kept a.same) in
       let apart_out = ascending-map (λ x y. is_eq (output_cmp child_entries_query x y) ≡ false) out picked
       (ascending_weaker (λ a b. is_eq (by_list a b) ≡ false) (λ a b. is_eq (output_cmp child_entries_query (out a) (out b)) ≡ false) (λ a b e. ap is_eq (same_order a b) ∙ e) picked apart) in
       let ordered : a.ordered ≡ map out (sort_by by_list picked) =
@@ -121,8 +172,10 @@ shows_child_entries old new id rows h = (
       let db = old.now.trees in
       let rules = subst (λ k. IsDatabase (record { schema = k; trees = db })) book.schema book.rules in
       let shaped = book.rising ace_table (inr (inl refl)) in
+      let nodes = book.rising node_table (inl refl) in
       let read = (reads_as text.list_child_entries (Int id ∷ []) old new book_schema book.schema _ list_child_entries_is list_child_entries_plain list_child_entries_unlisted rows h).answer Null in
       let distinct_rows = all_distinct (1 ∷ 2 ∷ 3 ∷ []) (db 2) (λ row there. keys_are_unique book_schema db _ 0 (1 ∷ 2 ∷ 3 ∷ []) row rules (inr (inl refl)) refl there) (db 2) (λ r t. t) shaped.0 shaped.1 in
       let keys = all_keys (db 2) (rules.obeys.rules NotNull).1.0 in
-      in_order (overlay db []) (Int id) rows read (ascending-filter (λ a b. is_eq (by_list a b) ≡ false) (is_below (Int id) (db 0)) (db 2) (lists_apart (db 2) keys distinct_rows)),
+      in_order (overlay db []) (Int id) rows read (nodes_apart (Int id) (db 0) nodes.0 nodes.1)
+      (ascending-filter (λ a b. is_eq (by_list a b) ≡ false) (is_below (Int id) (db 0)) (db 2) (lists_apart (db 2) keys distinct_rows)),
 )

@@ -6,6 +6,7 @@ pub mod Keys
 pub mod Typing
 pub mod Becoming
 pub mod Finding
+mod JoinedRows
 pub mod Keeping
 pub mod CardPuts
 pub mod Ordering

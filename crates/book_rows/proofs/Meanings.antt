@@ -310,12 +310,18 @@ pub list_children_unlisted : reads_listing book_schema text.list_children ≡ fa
 unfolding understood everything
 list_children_unlisted = refl
 
-abbrev pub listed_terms : List Term
-listed_terms = col 1 1 ∷ col 1 2 ∷ col 1 4 ∷ col 1 5 ∷ col 1 6 ∷ col 1 7 ∷ col 1 8 ∷ []
+-- node, list, form, principal, invert, deny and mask of the entries that nodes are joined with, in order of the node, of the list and of the place
+abbrev pub joined_query : List Term → Query
+joined_query terms = record plain_query {
+  from = inner 0 (inner 2 end);
+  filter = terms;
+  project = col 2 1 ∷ col 2 2 ∷ col 2 4 ∷ col 2 5 ∷ col 2 6 ∷ col 2 7 ∷ col 2 8 ∷ [];
+  order = (col 2 1, ascending Binary) ∷ (col 2 2, ascending Binary) ∷ (col 2 3, ascending Binary) ∷ [];
+}
 
--- the entries of which some child of a node is the node, in order
+-- the entries of which some child of a node is the node
 abbrev pub child_entries_query : Query
-child_entries_query = record below_query { project = listed_terms; order = (col 1 1, ascending Binary) ∷ (col 1 2, ascending Binary) ∷ (col 1 3, ascending Binary) ∷ [] }
+child_entries_query = joined_query (equals 3 0 ∷ op2 (Compare Eq Binary) (col 1 0) (col 2 1) ∷ [])
 
 pub list_child_entries_is : command_of (understood book_schema text.list_child_entries)
     ≡ Select (record { lets = []; body = child_entries_query }) (codes "node" ∷ codes "protected" ∷ codes "form" ∷ codes "principal" ∷ codes "invert" ∷ codes "deny" ∷ codes "mask" ∷ [])
@@ -330,14 +336,9 @@ pub list_child_entries_unlisted : reads_listing book_schema text.list_child_entr
 unfolding understood everything
 list_child_entries_unlisted = refl
 
--- the entries of which the node at a path is the node, in order
+-- the entries of which the node at a path is the node
 abbrev pub entries_at_query : Query
-entries_at_query = record plain_query {
-  from = inner 0 (inner 2 end);
-  filter = equals 2 0 ∷ op2 (Compare Eq Binary) (col 2 1) (col 1 0) ∷ [];
-  project = col 2 1 ∷ col 2 2 ∷ col 2 4 ∷ col 2 5 ∷ col 2 6 ∷ col 2 7 ∷ col 2 8 ∷ [];
-  order = (col 2 1, ascending Binary) ∷ (col 2 2, ascending Binary) ∷ (col 2 3, ascending Binary) ∷ [];
-}
+entries_at_query = joined_query (equals 2 0 ∷ op2 (Compare Eq Binary) (col 2 1) (col 1 0) ∷ [])
 
 pub list_entries_at_is : command_of (understood book_schema text.list_entries_at)
     ≡ Select (record { lets = []; body = entries_at_query }) (codes "node" ∷ codes "protected" ∷ codes "form" ∷ codes "principal" ∷ codes "invert" ∷ codes "deny" ∷ codes "mask" ∷ [])

@@ -122,7 +122,7 @@ count_children = codes "SELECT (SELECT count(*) FROM node AS child WHERE child.p
 
 -- the entries of all children of a node
 abbrev pub list_child_entries : List ℕ
-list_child_entries = codes "SELECT node, protected, form, principal, invert, deny, mask FROM ace WHERE EXISTS (SELECT 1 FROM node WHERE parent = ?1 AND id = ace.node) ORDER BY node, protected, place"
+list_child_entries = codes "SELECT ace.node, protected, form, principal, invert, deny, mask FROM node, ace WHERE parent = ?1 AND node.id = ace.node ORDER BY ace.node, protected, place"
 
 abbrev pub list_children : List ℕ
 list_children = codes "SELECT id, path, kind, owner, label, number FROM node WHERE parent = ?1 ORDER BY path"

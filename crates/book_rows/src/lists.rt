@@ -86,7 +86,7 @@ pub fn child_entry_rows<S: Alter>(
         → IfOk result (λ rows. ShowsChildEntries (state S.Store transaction.old.conn.now) node rows.items) }
 {
     transaction.query_all(
-        "SELECT node, protected, form, principal, invert, deny, mask FROM ace WHERE EXISTS (SELECT 1 FROM node WHERE parent = ?1 AND id = ace.node) ORDER BY node, protected, place",
+        "SELECT ace.node, protected, form, principal, invert, deny, mask FROM node, ace WHERE parent = ?1 AND node.id = ace.node ORDER BY ace.node, protected, place",
         params![node],
     )
 }

@@ -19,7 +19,7 @@ use Rattle.book_office.specs.declared.nodes.Lists.{Lists}
 use Rattle.book_rows.specs.Lists.{by_list, listed_columns}
 use Rattle.book_rows.specs.Rows.{Rows, rows_of, has, IsBook}
 use Rattle.book_rows.specs.Writes.{is_at}
-use Rattle.book_tables.specs.Levels.{list_told, level_told, ShowsLists}
+use Rattle.book_tables.specs.Levels.{list_told, level_told, ShowsLevel, ShowsLists}
 use Rattle.book_tables.specs.Shares.{list_among}
 use Rattle.book_tables.specs.Rows.{list_in, row_at, resource_of}
 use Rattle.book_tables.specs.Stands.{Gives, StandsFor}
@@ -77,6 +77,11 @@ pub lists_are : (s : State) (p : Path) → IsPath p → (found : Lists) → Show
 lists_are s p is_path found shows o stands =
     let st = stands.0 shows.0 in
     shows.1 st.book ∙ (λ i. record { levels = levels_are s.now st.book o st.gives (levels p) (above_are p is_path) i })
+
+pub level_is_at : (s : State) (p : Path) → IsPath p → (found : Level) → ShowsLevel s p found → (o : Office) → StandsFor s o → found ≡ level_at o p
+level_is_at s p is_path found shows o stands =
+    let st = stands.0 shows.0 in
+    shows.1 st.book ∙ level_is s.now st.book o st.gives p is_path
 
 -- one more level is told
 pub one_more_level : (f : Path → Level) (told : List Level) (level : Level) (q : Path) (rest : List Path) (all : List Level)

@@ -25,7 +25,8 @@ use book_values::{Items, StoredCard, Text};
 use sqlite::{Alter, Connection, Error, ErrorCode, Row, Transaction};
 use std::alloc::Global;
 
-/// Up to this many cards the lists are looked up one by one: a look-up of all at once looks at every entry of the store.
+/// Up to this many cards the lists are looked up one by one: a look-up of all at once looks at the entries of every card
+/// of the book.
 const FEW_CARDS: usize = 64;
 
 /// The name that a text is; an error where it is none.

@@ -3,7 +3,7 @@
 use crate::tables::Tables;
 use book_adopting::Adoption;
 use book_lists::{Caller, Circle, Name, Pairs};
-use book_office::{Changed, Edit, Keeper, Listed, Lists, Node, StoreFault};
+use book_office::{Changed, Edit, Keeper, Level, Listed, Lists, Node, StoreFault};
 use book_policies::Policy;
 use book_values::{Items, Path};
 use sqlite::Alter;
@@ -29,6 +29,10 @@ impl<S: Alter> Keeper for Tables<S> {
 
     fn lists(&mut self, alloc: Global, path: &Path) -> Result<Lists, StoreFault> {
         Tables::lists(self, alloc, path)
+    }
+
+    fn level(&mut self, alloc: Global, path: &Path) -> Result<Level, StoreFault> {
+        Tables::level(self, alloc, path)
     }
 
     fn changes_after(

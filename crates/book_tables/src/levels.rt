@@ -4,7 +4,7 @@ ghost use Rattle.std.specs.Prelude.{◌≡◌, IfOk};
 ghost use Rattle.sqlite.specs.Held.{state};
 ghost use Rattle.sqlite.specs.State.{HasCleanDisk, Survives};
 ghost use Rattle.book_office.specs.Keeping.{Reads};
-ghost use Rattle.book_office.specs.Levels.{lists_at};
+ghost use Rattle.book_office.specs.Levels.{level_at, lists_at};
 ghost use Rattle.book_rows.specs.Steps.{Keeps, Spares, Stays};
 ghost use Rattle.book_tables.specs.Keeps.{standing_of};
 ghost use Rattle.book_tables.specs.Levels.{ShowsLevel, ShowsLists};
@@ -16,7 +16,7 @@ use book_office::{Level, Lists, StoreFault};
 use book_rows::entry_rows_at;
 use book_values::{Items, Path};
 use sqlite::{Alter, Connection, Error, ErrorCode, Transaction};
-use std::alloc::Global;
+use std::alloc::{AllocError, Global};
 
 /// Both lists at a path, empty where no row has it.
 fn level_of<S: Alter>(
@@ -67,7 +67,34 @@ fn levels_of<S: Alter>(
     })
 }
 
-/// The same, in a transaction of its own.
+/// A copy of a path.
+fn copy_of(path: &Path) -> Result<Path, AllocError>
+    ensures { IfOk result (λ copy. copy ≡ path.now) }
+{
+    path.clone()
+}
+
+/// Both lists at a path, in a transaction of its own.
+fn shown_level<S: Alter>(
+    alloc: Global,
+    connection: &mut Connection<S>,
+    path: &Path,
+) -> Result<Level, Error>
+    ensures stays { HasCleanDisk (state S.Store connection.new)
+        → Stays (state S.Store connection.old) (state S.Store connection.new) }
+    ensures survives { Survives (state S.Store connection.old) (state S.Store connection.new) (λ _. ⊥) }
+    ensures found { HasCleanDisk (state S.Store connection.new)
+        → IfOk result (λ level. ShowsLevel (state S.Store connection.old) path.now level) }
+{
+    if !connection.is_autocommit() {
+        return Err(Error::SqliteFailure(ErrorCode::TransactionState));
+    }
+    let path = copy_of(path)?;
+    let mut transaction = connection.transaction();
+    level_of(alloc, &mut transaction, path)
+}
+
+/// The lists at a path and at each path above it, in a transaction of their own.
 fn shown_lists<S: Alter>(
     alloc: Global,
     connection: &mut Connection<S>,
@@ -87,6 +114,20 @@ fn shown_lists<S: Alter>(
 }
 
 impl<S: Alter> Tables<S> {
+    /// The lists that stand at a path itself; those of a path that is not mapped are empty. One statement. `Memory` is want
+    /// of memory, `Store` any other failure of the store.
+    pub fn level(&mut self, alloc: Global, path: &Path) -> Result<Level, StoreFault>
+        ensures { Reads (standing_of (state S.Store self.old.connection) self.old.failures)
+            (standing_of (state S.Store self.new.connection) self.new.failures) result
+            (λ o level. level ≡ level_at o path.now) }
+    {
+        path.known();
+        match shown_level(alloc, &mut self.connection, path) {
+            Ok(level) => Ok(level),
+            Err(error) => Err(fault_of(error, &mut self.failures)),
+        }
+    }
+
     /// The lists of the resource at a path and of each ancestor; the lists of a path that is not mapped are empty. One
     /// statement for each. `Memory` is want of memory, `Store` any other failure of the store.
     pub fn lists(&mut self, alloc: Global, path: &Path) -> Result<Lists, StoreFault>

@@ -13,10 +13,8 @@
 //! Read `worked_list` first, then `turns` and `runs`, and then `fuses` and `refusals`.
 
 mod counts;
-mod describing;
 mod failures;
 mod fuses;
-mod policies;
 mod refusals;
 mod requests;
 mod runs;

@@ -4,11 +4,14 @@
 //!
 //! Without a word it does what the gate runs: `WITHOUT_WORDS`. Each prints what it tried; the status is 1 where something is
 //! wrong. They are one program, since each program is proved once more for what it drops. Read `pairs`, `faults` and `stops`,
-//! which stand by themselves.
+//! which share `policies`, what is told of an Office (`offices`), and the files of a store in memory (`disks`).
 #![tactic(auto)]
 
+mod disks;
 mod faults;
+mod offices;
 mod pairs;
+mod policies;
 mod stops;
 
 use anyhow::Result;

@@ -1,7 +1,7 @@
 //! One Office, three keepers: the same requests over a keeper in memory, over tables in memory, and over tables on two
-//! disks that are closed and opened again; and whether the replies are the same, byte for byte, and none of them says that
-//! the store failed. It prints how many replies there are, how many differ, and how many are `unavailable`; the same of
-//! the questions about the Office that is left; and how many replies there are of each status.
+//! disks behind a cache, which are closed and opened again; and whether the replies are the same, byte for byte, and none
+//! of them says that the store failed. It prints how many replies there are, how many differ, and how many are
+//! `unavailable`; the same of the questions about the Office that is left; and how many replies there are of each status.
 //!
 //! That each keeper tells what the Office has is proved but where memory is refused or the store fails, which no contract
 //! rules out: here neither comes. Read `requests`, `steps` and `keepers` first, which say what is done; then `worked`,
@@ -10,7 +10,6 @@
 mod chosen;
 mod comparing;
 mod keepers;
-mod policies;
 mod questions;
 mod requests;
 mod steps;
@@ -69,7 +68,7 @@ fn compare_keepers(rt: &impl Print, alloc: Global, name: &str, steps: &[Step]) -
     let tables = told_by_tables(alloc, steps)?;
     print_comparison(rt, "tables in memory", &memory, &tables)?;
     let disks = told_by_disks(alloc, steps)?;
-    print_comparison(rt, "tables on disks", &memory, &disks)
+    print_comparison(rt, "tables on disks behind a cache", &memory, &disks)
 }
 
 fn compare_worked(rt: &impl Print, alloc: Global, name: &str, parts: &[Part<'_>]) -> Result<()> {

@@ -8,19 +8,18 @@
 //! last `N stops, W wrong`; the status is 1 where one is wrong. Words name the kinds; without any all are tried. Which
 //! Offices are wanted is told by a keeper in memory.
 //!
-//! Read `cases` for what is edited, `disks` for the files, `texts` for what is compared, and then `trials`.
+//! Read `cases` for what is edited, `crate::disks` for the files, `texts` for what is compared, and then `trials`.
 
 mod cases;
 mod counts;
-mod disks;
 mod plans;
 mod texts;
 mod trials;
 
+use crate::disks::Disk;
 use anyhow::{Context, Result};
 use cases::{CASES, Case};
 use counts::Count;
-use disks::Disk;
 use sqlite_disk::Files;
 use std::alloc::Global;
 use trials::{start_files, stops_of};

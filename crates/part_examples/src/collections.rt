@@ -49,6 +49,18 @@ fn set(rt: &impl Abort, alloc: Global, map: &mut NameMap<u64>, name: &str, value
         .expect(rt, "memory");
 }
 
+fn check_value(rt: &impl Abort, alloc: Global, map: &NameMap<u64>, name: &str, value: Option<u64>) {
+    assert_eq!(rt; map.get(&named(rt, alloc, name)).copied(), value);
+}
+
+fn check_names(rt: &impl Abort, alloc: Global, map: &NameMap<u64>, wanted: &[&str]) {
+    let names = names_of(alloc, map).expect(rt, "memory");
+    assert_eq!(rt; names.len(), wanted.len());
+    for (name, text) in names.as_slice().iter().zip(wanted) {
+        assert_eq!(rt; name.text(), *text);
+    }
+}
+
 #[test]
 fn maps_are_ordered_by_name(rt: HostRuntime) {
     let alloc = rt.alloc();
@@ -56,14 +68,10 @@ fn maps_are_ordered_by_name(rt: HostRuntime) {
     for (name, value) in [("b", 2), ("a", 1), ("B", 3), ("b-1", 4), ("b", 5)] {
         set(&rt, alloc, &mut map, name, value);
     }
-    assert_eq!(rt; map.len(), 4);
-    assert_eq!(rt; map.get(&named(&rt, alloc, "b")).copied(), Some(5));
-    let names = names_of(alloc, &map).expect(&rt, "memory");
-    for (name, text) in names.as_slice().iter().zip(["B", "a", "b", "b-1"]) {
-        assert_eq!(rt; name.text(), text);
-    }
+    check_names(&rt, alloc, &map, ["B", "a", "b", "b-1"].as_slice());
+    check_value(&rt, alloc, &map, "b", Some(5));
     assert_eq!(rt; map.remove(&named(&rt, alloc, "a")), Some(1));
-    assert_eq!(rt; map.get(&named(&rt, alloc, "a")).copied(), None);
+    check_value(&rt, alloc, &map, "a", None);
 }
 
 /// The changes after a number: each number, and its name.
@@ -75,6 +83,21 @@ fn told_after(rt: &impl Abort, alloc: Global, changes: &Changes, number: u64) ->
         write!(answer, "{number} {name} ").expect(rt, "memory");
     }
     answer
+}
+
+fn check_told(rt: &impl Abort, alloc: Global, changes: &Changes, number: u64, wanted: &str) {
+    let told = told_after(rt, alloc, changes, number);
+    assert_eq!(rt; told.as_str(), wanted);
+}
+
+fn check_number(
+    rt: &impl Abort,
+    alloc: Global,
+    changes: &Changes,
+    name: &str,
+    number: Option<u64>,
+) {
+    assert_eq!(rt; changes.get(&named(rt, alloc, name)), number);
 }
 
 /// Touches each of the names once.
@@ -93,12 +116,20 @@ fn changes_are_numbered_from_1(rt: HostRuntime) {
     assert_eq!(rt; changes.number(), 0);
     touch(&rt, alloc, &mut changes, ["b", "a", "c", "b"].as_slice());
     assert_eq!(rt; changes.number(), 4);
-    assert_eq!(rt; changes.get(&named(&rt, alloc, "a")), Some(2));
-    assert_eq!(rt; changes.get(&named(&rt, alloc, "d")), None);
+    check_number(&rt, alloc, &changes, "a", Some(2));
+    check_number(&rt, alloc, &changes, "d", None);
     for (number, wanted) in [(0, "2 a 3 c 4 b "), (2, "3 c 4 b "), (4, "")] {
-        let told = told_after(&rt, alloc, &changes, number);
-        assert_eq!(rt; told.as_str(), wanted);
+        check_told(&rt, alloc, &changes, number, wanted);
     }
+}
+
+/// Touches b and a in one book, and then b in that and a in another.
+fn touch_together(rt: &impl Abort, alloc: Global, changes: &mut Changes, others: &mut Changes) {
+    let b = named(rt, alloc, "b");
+    let a = named(rt, alloc, "a");
+    assert!(rt; changes.number() < 100 && others.number() < 100);
+    changes.touch_both(&b, &a).expect(rt, "memory");
+    changes.touch_with(&b, others, &a).expect(rt, "memory");
 }
 
 /// Two changes take two numbers, in their order; in two books one each.
@@ -107,14 +138,7 @@ fn changes_are_made_together(rt: HostRuntime) {
     let alloc = rt.alloc();
     let mut changes = Changes::new(alloc);
     let mut others = Changes::new(alloc);
-    let (b, a) = (named(&rt, alloc, "b"), named(&rt, alloc, "a"));
-    assert_eq!(rt; changes.number(), 0);
-    changes.touch_both(&b, &a).expect(&rt, "memory");
-    changes
-        .touch_with(&b, &mut others, &a)
-        .expect(&rt, "memory");
-    let told = told_after(&rt, alloc, &changes, 0);
-    assert_eq!(rt; told.as_str(), "2 a 3 b ");
-    let told = told_after(&rt, alloc, &others, 0);
-    assert_eq!(rt; told.as_str(), "1 a ");
+    touch_together(&rt, alloc, &mut changes, &mut others);
+    check_told(&rt, alloc, &changes, 0, "2 a 3 b ");
+    check_told(&rt, alloc, &others, 0, "1 a ");
 }

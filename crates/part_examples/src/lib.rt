@@ -1,6 +1,6 @@
 //! Worked examples of leaves, masks, needs, lists of entries, scans, edits of lists, `explain`, cards, collections, paths,
-//! policies in TOML, sync tokens and reports, commands over one text and the words that name commands, and nothing else:
-//! a crate with tests is proved twice, so they stand here, and the crates below have none.
+//! policies in TOML, sync tokens and reports, and nothing else: a crate with tests is proved twice, so they stand here, and
+//! the crates below have none.
 //!
 //! The wanted answers are those of the rules (RFC 3744, RFC 6350, RFC 6578 and own profile), worked out by hand.
 #![tactic(auto)]
@@ -29,7 +29,5 @@ mod policies_in_toml;
 mod scans;
 #[cfg(test)]
 mod syncs;
-#[cfg(test)]
-mod texts;
 #[cfg(test)]
 mod tokens;

@@ -15,6 +15,12 @@ pub(crate) const LONGEST: &str = "abcdefghijklmnopqrstuvwxyzABCDEFGHIJKLMNOPQRST
 pub(crate) const TOO_LONG: &str =
     "abcdefghijklmnopqrstuvwxyzABCDEFGHIJKLMNOPQRSTUVWXYZ0123456789._-";
 
+fn check_name(rt: &impl Abort, alloc: Global, text: &str, is_name: bool) {
+    let name = Name::parse(alloc, text).expect(rt, "memory");
+    let expected = if is_name { Some(text) } else { None };
+    assert_eq!(rt; name.as_ref().map(|n| n.text()), expected, "{text:?}");
+}
+
 #[test]
 fn names_are_read(rt: HostRuntime) {
     assert_eq!(rt; (LONGEST.len(), TOO_LONG.len()), (64, 65));
@@ -32,10 +38,13 @@ fn names_are_read(rt: HostRuntime) {
         ("änn", false),
     ];
     for (text, is_name) in cases {
-        let name = Name::parse(rt.alloc(), text).expect(&rt, "memory");
-        let expected = if is_name { Some(text) } else { None };
-        assert_eq!(rt; name.as_ref().map(|n| n.text()), expected, "{text:?}");
+        check_name(&rt, rt.alloc(), text, is_name);
     }
+}
+
+fn check_principal(rt: &impl Abort, alloc: Global, text: &str, path: Option<&str>) {
+    let principal = Principal::parse(alloc, text).expect(rt, "memory");
+    assert_eq!(rt; principal.as_ref().map(|p| p.text()), path, "{text:?}");
 }
 
 #[test]
@@ -54,13 +63,12 @@ fn paths_of_principals_are_read(rt: HostRuntime) {
         ("", None),
     ];
     for (text, path) in cases {
-        let principal = Principal::parse(rt.alloc(), text).expect(&rt, "memory");
-        assert_eq!(rt; principal.as_ref().map(|p| p.text()), path, "{text:?}");
+        check_principal(&rt, rt.alloc(), text, path);
     }
     for (name, is_one) in [(LONGEST, true), (TOO_LONG, false)] {
         let path = format!(in rt.alloc(); "/people/{name}").expect(&rt, "memory");
-        let principal = Principal::parse(rt.alloc(), path.as_str()).expect(&rt, "memory");
-        assert_eq!(rt; principal.is_some(), is_one, "{name}");
+        let read = if is_one { Some(path.as_str()) } else { None };
+        check_principal(&rt, rt.alloc(), path.as_str(), read);
     }
 }
 
@@ -203,6 +211,24 @@ fn entry(who: Who, deny: bool, set: LeafSet) -> Entry {
     }
 }
 
+/// What ann, who owns the resource, may by a list of three entries, and by the first two.
+fn check_decided(rt: &impl Abort, entries: &[Entry; 3], ann: &Circle, here: &Here) {
+    let read = LeafSet::empty().with(Leaf::Read);
+    assert!(rt; !applies(&entries[0], ann, here) && applies(&entries[1], ann, here));
+    assert_eq!(rt; granted(entries, ann, here), read.with(Leaf::Unbind));
+    assert_eq!(rt; decide(entries, ann, here, read), Outcome::Allowed);
+    let refused = Outcome::Denied {
+        leaf: Leaf::Bind,
+        entry: Some(2),
+    };
+    assert_eq!(rt; decide(entries, ann, here, read.with(Leaf::Bind)), refused);
+    let undecided = Outcome::Denied {
+        leaf: Leaf::WriteContent,
+        entry: None,
+    };
+    assert_eq!(rt; decide(&entries[..2], ann, here, LeafSet::all()), undecided);
+}
+
 #[test]
 fn the_first_applicable_entry_decides(rt: HostRuntime) {
     let alloc = rt.alloc();
@@ -217,23 +243,5 @@ fn the_first_applicable_entry_decides(rt: HostRuntime) {
         entry(Who::Owner, false, read.with(Leaf::Unbind)),
         entry(Who::Everyone, true, LeafSet::all().minus(read)),
     ];
-    assert!(rt; !applies(&entries[0], &ann, &here) && applies(&entries[1], &ann, &here));
-    assert_eq!(rt; granted(&entries, &ann, &here), read.with(Leaf::Unbind));
-    assert_eq!(rt; decide(&entries, &ann, &here, read), Outcome::Allowed);
-    let refused = Outcome::Denied {
-        leaf: Leaf::Bind,
-        entry: Some(2),
-    };
-    assert_eq!(rt;
-        decide(&entries, &ann, &here, read.with(Leaf::Bind)),
-        refused
-    );
-    let undecided = Outcome::Denied {
-        leaf: Leaf::WriteContent,
-        entry: None,
-    };
-    assert_eq!(rt;
-        decide(&entries[..2], &ann, &here, LeafSet::all()),
-        undecided
-    );
+    check_decided(&rt, &entries, &ann, &here);
 }

@@ -9,9 +9,32 @@ fn at(rt: &impl Abort, alloc: Global, text: &str) -> Path {
     Path::parse(alloc, text).ok().expect(rt, "a path")
 }
 
+/// The text of the path above; empty above the root.
+fn text_above(rt: &impl Abort, alloc: Global, path: &Path) -> String {
+    match path.parent().expect(rt, "memory") {
+        Some(above) => above.text(alloc).expect(rt, "memory"),
+        None => String::new(alloc),
+    }
+}
+
+fn check_spelled(
+    rt: &impl Abort,
+    alloc: Global,
+    spelled: &str,
+    text: &str,
+    above: &str,
+    kind: Kind,
+) {
+    let path = at(rt, alloc, spelled);
+    assert_eq!(rt; path.kind(), kind, "{spelled}");
+    let own = path.text(alloc).expect(rt, "memory");
+    assert_eq!(rt; own.as_str(), text, "{spelled}");
+    assert_eq!(rt; text_above(rt, alloc, &path).as_str(), above, "{spelled}");
+    path.known();
+}
+
 #[test]
 fn paths_are_spelled(rt: HostRuntime) {
-    let alloc = rt.alloc();
     let cases = [
         ("/", "/", "", Kind::Root),
         ("/people", "/people", "/", Kind::Home),
@@ -34,17 +57,8 @@ fn paths_are_spelled(rt: HostRuntime) {
         ),
         ("/books/law/law", "/books/law/law", "/books/law", Kind::Card),
     ];
-    for (spelled, text, parent, kind) in cases {
-        let path = at(&rt, alloc, spelled);
-        let own = path.text(alloc).expect(&rt, "memory");
-        assert!(rt; own.as_str() == text, "{spelled}");
-        assert_eq!(rt; path.kind(), kind, "{spelled}");
-        let above = match path.parent().expect(&rt, "memory") {
-            Some(above) => above.text(alloc).expect(&rt, "memory"),
-            None => String::new(alloc),
-        };
-        assert!(rt; above.as_str() == parent, "{spelled}");
-        path.known();
+    for (spelled, text, above, kind) in cases {
+        check_spelled(&rt, rt.alloc(), spelled, text, above, kind);
     }
 }
 
@@ -74,15 +88,24 @@ fn other_texts_spell_no_path(rt: HostRuntime) {
     }
 }
 
+fn check_compared(rt: &impl Abort, alloc: Global, text: &str, other: &str, are_one: bool) {
+    let path = at(rt, alloc, text);
+    let copy = path.clone().expect(rt, "memory");
+    assert!(rt; copy == path, "{text}");
+    assert_eq!(rt; copy == at(rt, alloc, other), are_one, "{text} {other}");
+}
+
 #[test]
 fn paths_are_compared(rt: HostRuntime) {
-    let alloc = rt.alloc();
-    let card = at(&rt, alloc, "/books/law/a.vcf");
-    assert!(rt;
-        card == card.clone().expect(&rt, "memory") && card != at(&rt, alloc, "/books/law/b.vcf")
-    );
-    assert!(rt; at(&rt, alloc, "/people/ann") != at(&rt, alloc, "/groups/ann"));
-    assert!(rt; at(&rt, alloc, "/books/law") == at(&rt, alloc, "/books/law/"));
+    let cases = [
+        ("/books/law/a.vcf", "/books/law/a.vcf", true),
+        ("/books/law/a.vcf", "/books/law/b.vcf", false),
+        ("/people/ann", "/groups/ann", false),
+        ("/books/law", "/books/law/", true),
+    ];
+    for (text, other, are_one) in cases {
+        check_compared(&rt, rt.alloc(), text, other, are_one);
+    }
     texts_spell_one_path();
     levels_go_up();
 }

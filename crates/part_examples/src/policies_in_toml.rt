@@ -1,12 +1,13 @@
 //! Policies in TOML, and texts that are none (own profile).
 
 use book_limits::MAX_POLICY_BYTES;
-use book_lists::Who;
-use book_policies::{Policy, PolicyEntry};
+use book_lists::{Pairs, Who};
+use book_policies::{Policy, PolicyBook, PolicyEntry};
 use book_policy::{
     PolicyFault, faults_are_one, policies_are_one, policies_exclude_faults, read_policy,
 };
 use book_rights::Leaf;
+use book_values::{NameMap, Text};
 use std::alloc::Global;
 use std::process::Abort;
 
@@ -102,28 +103,38 @@ fn tell_entry(rt: &impl Abort, answer: &mut String, entry: &PolicyEntry) {
     answer.push('\n').expect(rt, "memory");
 }
 
-/// What a policy says, line by line.
-fn told(rt: &impl Abort, alloc: Global, policy: &Policy) -> String {
-    let mut answer = String::new(alloc);
-    let tables = policy.tables();
-    for (name, label) in tables.persons.iter() {
+/// The names and labels of persons or groups.
+fn tell_labels(rt: &impl Abort, answer: &mut String, kind: &str, labels: &NameMap<Text>) {
+    for (name, label) in labels.iter() {
         let (name, label) = (name.text(), label.as_str());
-        writeln!(answer, "person {name} [{label}]").expect(rt, "memory");
+        writeln!(answer, "{kind} {name} [{label}]").expect(rt, "memory");
     }
-    for (name, label) in tables.groups.iter() {
-        let (name, label) = (name.text(), label.as_str());
-        writeln!(answer, "group {name} [{label}]").expect(rt, "memory");
-    }
-    for (name, book) in tables.books.iter() {
+}
+
+fn tell_books(rt: &impl Abort, answer: &mut String, books: &NameMap<PolicyBook>) {
+    for (name, book) in books.iter() {
         let (name, label) = (name.text(), book.label.as_str());
         let of = if book.owner.is_some() { " of " } else { "" };
         let owner = book.owner.as_ref().map_or("", |owner| owner.text());
         writeln!(answer, "book {name} [{label}]{of}{owner}").expect(rt, "memory");
     }
-    for pair in tables.members.list().expect(rt, "memory") {
+}
+
+fn tell_members(rt: &impl Abort, answer: &mut String, members: &Pairs) {
+    for pair in members.list().expect(rt, "memory") {
         let (group, member) = (pair.group.text(), pair.member.text());
         writeln!(answer, "member {group} {member}").expect(rt, "memory");
     }
+}
+
+/// What a policy says, line by line.
+fn told(rt: &impl Abort, alloc: Global, policy: &Policy) -> String {
+    let mut answer = String::new(alloc);
+    let tables = policy.tables();
+    tell_labels(rt, &mut answer, "person", &tables.persons);
+    tell_labels(rt, &mut answer, "group", &tables.groups);
+    tell_books(rt, &mut answer, &tables.books);
+    tell_members(rt, &mut answer, &tables.members);
     for entry in tables.entries.as_slice() {
         tell_entry(rt, &mut answer, entry);
     }

@@ -157,10 +157,10 @@ fn tell(rt: &impl Abort, answer: &mut String, item: &Item) {
 }
 
 /// The report of a line `sync CALLER BOOK TOKEN`, where `-` is nobody and no token; the replica takes it over.
-fn sync(
+fn sync<K: Keeper>(
     rt: &impl Abort,
     alloc: Global,
-    keeper: &mut MemoryKeeper,
+    keeper: &mut K,
     replica: &mut Replica,
     line: &str,
 ) -> String {
@@ -200,10 +200,10 @@ fn has(rt: &impl Abort, alloc: Global, replica: &Replica, line: &str) -> String 
     }
 }
 
-fn answer(
+fn answer<K: Keeper>(
     rt: &impl Abort,
     alloc: Global,
-    keeper: &mut MemoryKeeper,
+    keeper: &mut K,
     replica: &mut Replica,
     line: &str,
 ) -> String {
@@ -222,12 +222,23 @@ fn answer(
     }
 }
 
+fn take<K: Keeper>(
+    rt: &impl Abort,
+    alloc: Global,
+    keeper: &mut K,
+    replica: &mut Replica,
+    line: &str,
+    wanted: &str,
+) {
+    let told = answer(rt, alloc, keeper, replica, line);
+    assert_eq!(rt; told.as_str(), wanted, "{line}");
+}
+
 fn follow(rt: &impl Abort, alloc: Global, steps: &[(&str, &str)]) {
     let mut keeper = MemoryKeeper::from_office(office(rt, alloc));
     let mut replica = Replica::new(alloc);
     for (line, wanted) in steps {
-        let told = answer(rt, alloc, &mut keeper, &mut replica, line);
-        assert_eq!(rt; told.as_str(), *wanted, "{line}");
+        take(rt, alloc, &mut keeper, &mut replica, line, wanted);
     }
 }
 

@@ -9,10 +9,17 @@ fn read(rt: &impl Abort, alloc: Global, text: &str) -> Option<Token> {
     Token::parse(alloc, text).expect(rt, "memory")
 }
 
+fn check_spelled(rt: &impl Abort, alloc: Global, text: &str, book: &str, epoch: u64, number: u64) {
+    let token = read(rt, alloc, text).expect(rt, "a token");
+    assert_eq!(rt; token.book.text(), book, "{text}");
+    assert_eq!(rt; (token.epoch, token.number), (epoch, number), "{text}");
+    let again = token.text(alloc).expect(rt, "memory");
+    assert_eq!(rt; again.as_str(), text);
+}
+
 /// The text of a token tells its parts, and the parts give the text again.
 #[test]
 fn tokens_are_spelled(rt: HostRuntime) {
-    let alloc = rt.alloc();
     let cases = [
         ("data:,sales/2/3", "sales", 2, 3),
         ("data:,law/0/0", "law", 0, 0),
@@ -26,11 +33,7 @@ fn tokens_are_spelled(rt: HostRuntime) {
         ),
     ];
     for (text, book, epoch, number) in cases {
-        let token = read(&rt, alloc, text).expect(&rt, "a token");
-        assert_eq!(rt; token.book.text(), book, "{text}");
-        assert_eq!(rt; (token.epoch, token.number), (epoch, number), "{text}");
-        let again = token.text(alloc).expect(&rt, "memory");
-        assert_eq!(rt; again.as_str(), text);
+        check_spelled(&rt, rt.alloc(), text, book, epoch, number);
     }
     texts_tell_tokens();
 }

@@ -1,6 +1,5 @@
 //! Why a run ended early.
 
-use book_office::StoreFault;
 use book_values::PathFault;
 use std::alloc::AllocError;
 use std::io;
@@ -23,15 +22,6 @@ impl From<AllocError> for Failure {
 impl From<io::Error> for Failure {
     fn from(_error: io::Error) -> Self {
         Failure::Wrong("nothing can be written")
-    }
-}
-
-impl From<StoreFault> for Failure {
-    fn from(fault: StoreFault) -> Self {
-        match fault {
-            StoreFault::Memory => Failure::Memory,
-            StoreFault::Store => Failure::Wrong("a keeper in memory failed"),
-        }
     }
 }
 

@@ -1,11 +1,10 @@
 //! What the requests of the worked list say.
 
 use crate::faults::failures::Failure;
-use crate::faults::policies::{principal, set, who};
-use book_lists::{Caller, Name, Principal, Submitted};
+use book_lists::{Caller, Name, Principal, Submitted, Who};
 use book_machine::{Body, Depth, Flag, Patch, Property, ReportKind, Request, SyncFrom, Token};
 use book_office::{Items, Path, Text};
-use book_rights::Method;
+use book_rights::{LeafSet, Method, Privilege};
 use std::alloc::{AllocError, Global};
 
 /// An entry that is submitted: whether it denies, its principal form, and the names of its privileges.
@@ -41,6 +40,29 @@ pub(crate) enum Says {
     Cards,
     /// The entries that decide for bob.
     Deciding,
+}
+
+/// The principal form that the text names.
+fn who(alloc: Global, text: &str) -> Result<Who, Failure> {
+    match text {
+        "all" => Ok(Who::Everyone),
+        "owner" => Ok(Who::Owner),
+        path => Ok(Who::Href(principal(alloc, path)?)),
+    }
+}
+
+/// The person or group of the path.
+fn principal(alloc: Global, path: &str) -> Result<Principal, Failure> {
+    Principal::parse(alloc, path)?.ok_or(Failure::Wrong("a principal is none"))
+}
+
+/// The leaves of the privileges; none where a name is no privilege.
+fn set(names: &[&str]) -> Option<LeafSet> {
+    let mut set = LeafSet::empty();
+    for name in names {
+        set = set.union(Privilege::from_name(name)?.leaves());
+    }
+    Some(set)
 }
 
 fn list(alloc: Global, sent: &[Sent]) -> Result<Items<Submitted>, Failure> {
@@ -130,7 +152,7 @@ fn body(alloc: Global, says: Says) -> Result<Body, Failure> {
 }
 
 /// The path that the text spells.
-pub(crate) fn path(alloc: Global, text: &str) -> Result<Path, Failure> {
+fn path(alloc: Global, text: &str) -> Result<Path, Failure> {
     Ok(Path::parse(alloc, text)?)
 }
 

@@ -1,12 +1,19 @@
 //! A run of the worked list in which nothing fails, to which the other runs are compared.
 
-use crate::faults::describing::described;
 use crate::faults::failures::{Failure, check};
 use crate::faults::turns::{Answer, Question, Told};
 use crate::faults::worked_list::{Line, PARTS};
+use crate::offices::office_text;
 use book_machine::Machine;
 use book_office::{Items, Keeper};
 use std::alloc::Global;
+
+/// All that a keeper tells of its Office.
+fn described<K: Keeper>(alloc: Global, keeper: &mut K) -> Result<String, Failure> {
+    office_text(alloc, keeper)
+        .ok()
+        .ok_or(Failure::Wrong("an Office is not told"))
+}
 
 /// A turn of the run.
 #[derive(Drop)]

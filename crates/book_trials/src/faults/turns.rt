@@ -1,11 +1,12 @@
 //! What is asked of a machine, and what it answers.
 
 use crate::faults::failures::Failure;
-use crate::faults::policies::policy;
 use crate::faults::requests::request;
 use crate::faults::worked_list::Step;
+use crate::policies::{NEW_BOOKS, TWO_BOOKS};
 use book_machine::{AdoptFault, Adopted, Content, Machine, Reply, Request};
 use book_office::{Keeper, Policy};
+use book_policy::{PolicyFault, read_policy};
 use std::alloc::{AllocError, Global};
 
 /// What is asked of a machine.
@@ -22,6 +23,17 @@ fn name_of(caller: &str) -> Option<&str> {
     match caller {
         "-" => None,
         name => Some(name),
+    }
+}
+
+/// The policy of the two books, and whether ann makes and removes books.
+fn policy(alloc: Global, wider: bool) -> Result<Policy, Failure> {
+    let end = if wider { NEW_BOOKS } else { "" };
+    let text = format!(in alloc; "{TWO_BOOKS}{end}")?;
+    match read_policy(alloc, text.as_str()) {
+        Ok(policy) => Ok(policy),
+        Err(PolicyFault::Memory) => Err(Failure::Memory),
+        Err(_) => Err(Failure::Wrong("a policy is none")),
     }
 }
 

@@ -2,9 +2,9 @@
 
 ghost use Rattle.std.specs.Prelude.{◌<◌};
 
-use crate::pairs::policies::{ALL_BOOKS, TWO_BOOKS};
 use crate::pairs::requests::{ANN, BOB, GUS, NOBODY, push_request};
 use crate::pairs::steps::Step;
+use crate::policies::{ALL_BOOKS, TWO_BOOKS};
 use anyhow::Result;
 use std::alloc::Global;
 

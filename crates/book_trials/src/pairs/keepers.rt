@@ -1,16 +1,19 @@
-//! The keepers: in memory, in tables in memory, and in tables on two disks.
+//! The keepers: in memory, in tables in memory, and in tables on two disks behind a cache, as the program serves.
 
+use crate::disks::{Store, files_of, new_tables, tables_of};
 use crate::pairs::questions::questions;
 use crate::pairs::steps::{Step, replies_to, run};
 use anyhow::{Result, bail};
 use book_audit::audit_text;
+use book_cache::Cached;
 use book_machine::Machine;
 use book_office::{Keeper, MemoryKeeper};
-use book_opening::open;
 use book_tables::Tables;
-use sqlite::{Connection, FileStore, Files, Options};
-use sqlite_disk::Memory;
+use sqlite::Connection;
 use std::alloc::Global;
+
+/// The seeds of the opens of a store on disks, in turn.
+const SEEDS: [u64; 2] = [1, 2];
 
 /// What a keeper told.
 #[derive(Drop)]
@@ -52,69 +55,17 @@ pub(crate) fn told_by_tables(alloc: Global, steps: &[Step]) -> Result<Told> {
     }
 }
 
-/// The tables of two disks.
-type DiskTables = Tables<FileStore<Memory>>;
-
-/// The tables of a new store.
-fn created(connection: Connection<FileStore<Memory>>) -> Result<DiskTables> {
-    match Tables::create(connection) {
-        Ok(tables) => Ok(tables),
-        Err(_) => bail!("a store is not founded"),
-    }
-}
-
-/// The tables of a new store on two disks in memory.
-fn founded(alloc: Global) -> Result<DiskTables> {
-    let files = Files {
-        log: Memory::new(alloc),
-        db: Memory::new(alloc),
-    };
-    match Connection::open_files(alloc, files, Options::new(1)) {
-        Ok(connection) => created(connection),
-        Err(_) => bail!("disks are not opened"),
-    }
-}
-
-/// The tables of a store that is there.
-fn opened(alloc: Global, connection: Connection<FileStore<Memory>>) -> Result<DiskTables> {
-    match open(alloc, connection) {
-        Ok(tables) => Ok(tables),
-        Err(_) => bail!("a store is not opened"),
-    }
-}
-
-/// The tables of a store on two disks that were closed.
-fn opened_again(alloc: Global, files: Files<Memory>) -> Result<DiskTables> {
-    if !files.may_be_used() {
-        bail!("disks are not as they were left");
-    }
-    match Connection::open_files(alloc, files, Options::new(2)) {
-        Ok(connection) => opened(alloc, connection),
-        Err(_) => bail!("disks are not opened again"),
-    }
-}
-
-/// Closes a store: its disks, and whether that failed.
-fn closed(connection: Connection<FileStore<Memory>>) -> (Files<Memory>, bool) {
-    match connection.close_files() {
-        Ok(files) => (files, false),
-        Err((_, store)) => (store.close(), true),
-    }
-}
-
 /// The tables after the disks were closed, and opened again.
-fn reopened(alloc: Global, tables: DiskTables) -> Result<DiskTables> {
-    match closed(tables.release()) {
-        (files, false) => opened_again(alloc, files),
-        (_, true) => bail!("disks are not closed"),
-    }
+fn reopened(alloc: Global, tables: Tables<Store>) -> Result<Tables<Store>> {
+    tables_of(alloc, files_of(tables)?, SEEDS[1])
 }
 
-/// What tables on two disks tell; of the Office that they left, after the disks were closed and opened again.
+/// What tables on two disks behind a cache tell; of the Office that they left, after the disks were closed and opened
+/// again.
 pub(crate) fn told_by_disks(alloc: Global, steps: &[Step]) -> Result<Told> {
-    let mut machine = Machine::new(founded(alloc)?);
+    let mut machine = Machine::new(Cached::new(alloc, new_tables(alloc, SEEDS[0])?));
     let steps = run(alloc, &mut machine, steps)?;
-    let tables = reopened(alloc, machine.release())?;
-    let left = left_in(alloc, tables)?;
+    let tables = reopened(alloc, machine.release().into_inner())?;
+    let left = left_in(alloc, Cached::new(alloc, tables))?;
     Ok(Told { steps, left })
 }

@@ -1,8 +1,8 @@
 //! What is done to a machine, whatever keeps its Office.
 
-use crate::pairs::policies::TWO_BOOKS;
 use crate::pairs::requests::stream_of;
 use crate::pairs::worked::Part;
+use crate::policies::TWO_BOOKS;
 use anyhow::{Context, Result, bail, ensure};
 use book_machine::Machine;
 use book_office::Keeper;

@@ -1,8 +1,8 @@
 //! The worked examples: each method, accepted and refused, in turn. The wanted replies stand in `examples/streams` and in
 //! the examples of the machine.
 
-use crate::pairs::policies::NEW_BOOKS;
 use crate::pairs::requests::{ANN, BOB, GUS, NOBODY, Row};
+use crate::policies::NEW_BOOKS;
 
 /// A card of 44 bytes.
 const CARD: &str = "BEGIN:VCARD\r\nVERSION:4.0\r\nFN:Bo\r\nEND:VCARD\r\n";

@@ -1,14 +1,15 @@
 //! The stops of an edit, each tried once.
 
-use crate::stops::counts::{Count, Left};
-use crate::stops::disks::{
-    Disk, Side, Store, close, connect, crash, empty_files, fused_files, is_spent, kept_files,
+use crate::disks::{
+    Disk, Side, Store, close, connect, crash, files_of, fused_files, is_spent, kept_files,
+    new_tables, tables_of,
 };
+use crate::offices::office_text;
+use crate::stops::counts::{Count, Left};
 use crate::stops::plans::Plan;
-use crate::stops::texts::{Texts, make_start, office_text, wanted_texts};
+use crate::stops::texts::{Texts, make_start, wanted_texts};
 use anyhow::{Result, bail, ensure};
 use book_office::{Edit, Keeper};
-use book_opening::open;
 use book_tables::Tables;
 use sqlite::Connection;
 use sqlite_disk::Files;
@@ -28,34 +29,15 @@ struct Trial {
     is_done: bool,
 }
 
-/// The files of tables that are closed.
-fn closed(tables: Tables<Store>) -> Result<Files<Disk>> {
-    match close(tables.release()) {
-        (files, false) => Ok(files),
-        (_, true) => bail!("a new store does not close"),
-    }
-}
-
 /// Makes the Office at the start over new tables.
 fn filled(alloc: Global, mut tables: Tables<Store>) -> Result<Files<Disk>> {
     make_start(alloc, &mut tables)?;
-    closed(tables)
-}
-
-/// Makes the Office at the start over the connection to a new store.
-fn founded(alloc: Global, connection: Connection<Store>) -> Result<Files<Disk>> {
-    match Tables::create(connection) {
-        Ok(tables) => filled(alloc, tables),
-        Err(_) => bail!("no new store"),
-    }
+    files_of(tables)
 }
 
 /// The files of a store with the Office at the start.
 pub(crate) fn start_files(alloc: Global) -> Result<Files<Disk>> {
-    match connect(alloc, empty_files(alloc), SEEDS[0]) {
-        Ok(connection) => founded(alloc, connection),
-        Err(_) => bail!("no new files"),
-    }
+    filled(alloc, new_tables(alloc, SEEDS[0])?)
 }
 
 /// Whether the keeper makes the edit.
@@ -86,28 +68,15 @@ fn tried(alloc: Global, files: Files<Disk>, edit: &Edit) -> Trial {
 type Told = Option<(String, Files<Disk>)>;
 
 /// The Office of the tables, and their files after they were closed.
-fn told_by_tables(alloc: Global, mut tables: Tables<Store>) -> Told {
+fn told_by(alloc: Global, mut tables: Tables<Store>) -> Told {
     let text = office_text(alloc, &mut tables).ok()?;
-    match close(tables.release()) {
-        (files, false) => Some((text, files)),
-        (_, true) => None,
-    }
-}
-
-/// The same of the tables of a store; none where it has no tables.
-fn told_by_store(alloc: Global, connection: Connection<Store>) -> Told {
-    match open(alloc, connection) {
-        Ok(tables) => told_by_tables(alloc, tables),
-        Err(_) => None,
-    }
+    let files = files_of(tables).ok()?;
+    Some((text, files))
 }
 
 /// The same of the tables that the files give; none where they give no tables.
 fn told(alloc: Global, files: Files<Disk>, seed: u64) -> Told {
-    match connect(alloc, files, seed) {
-        Ok(connection) => told_by_store(alloc, connection),
-        Err(_) => None,
-    }
+    told_by(alloc, tables_of(alloc, files, seed).ok()?)
 }
 
 /// The Office that the files tell after a stop, and again after a restart; none where they tell none, or another again.

@@ -1,6 +1,8 @@
-//! The two files of a store in memory, each of which fails after so many calls.
+//! The two files of a store in memory, each of which fails after so many calls, and the tables of such a store.
 
-use anyhow::{Context, Result};
+use anyhow::{Context, Result, bail};
+use book_opening::open;
+use book_tables::Tables;
 use sqlite::{Connection, FileStore, Options};
 use sqlite_disk::{Crash, Disk as _, Files, Fuse, Memory};
 use std::alloc::Global;
@@ -29,7 +31,7 @@ fn empty(alloc: Global) -> Disk {
 }
 
 /// The files of a store that is to be made.
-pub(crate) fn empty_files(alloc: Global) -> Files<Disk> {
+fn empty_files(alloc: Global) -> Files<Disk> {
     Files {
         log: empty(alloc),
         db: empty(alloc),
@@ -104,5 +106,45 @@ pub(crate) fn close(connection: Connection<Store>) -> (Files<Disk>, bool) {
     match connection.close_files() {
         Ok(files) => (files, false),
         Err((_, store)) => (store.close(), true),
+    }
+}
+
+/// Makes the tables of a store that is to be made.
+fn created(connection: Connection<Store>) -> Result<Tables<Store>> {
+    match Tables::create(connection) {
+        Ok(tables) => Ok(tables),
+        Err(_) => bail!("a store is not made"),
+    }
+}
+
+/// The tables of a new store.
+pub(crate) fn new_tables(alloc: Global, seed: u64) -> Result<Tables<Store>> {
+    match connect(alloc, empty_files(alloc), seed) {
+        Ok(connection) => created(connection),
+        Err(_) => bail!("new files are not opened"),
+    }
+}
+
+/// The tables of a store that was made.
+fn opened(alloc: Global, connection: Connection<Store>) -> Result<Tables<Store>> {
+    match open(alloc, connection) {
+        Ok(tables) => Ok(tables),
+        Err(_) => bail!("a store has no tables"),
+    }
+}
+
+/// The tables of the store that the files have.
+pub(crate) fn tables_of(alloc: Global, files: Files<Disk>, seed: u64) -> Result<Tables<Store>> {
+    match connect(alloc, files, seed) {
+        Ok(connection) => opened(alloc, connection),
+        Err(_) => bail!("files are not opened"),
+    }
+}
+
+/// The files of tables that are closed.
+pub(crate) fn files_of(tables: Tables<Store>) -> Result<Files<Disk>> {
+    match close(tables.release()) {
+        (files, false) => Ok(files),
+        (_, true) => bail!("a store does not close"),
     }
 }

@@ -1,0 +1,3 @@
+pub mod CardEdits
+pub mod Kept
+pub mod Readings
