@@ -39,6 +39,13 @@ fn read_policy_file(
     }
 }
 
+fn open_failure(error: Error) -> Failure {
+    match error {
+        Error::SqliteFailure(ErrorCode::OutOfMemory) => Failure::Store(StoreFailure::Memory),
+        _ => Failure::Store(StoreFailure::Store),
+    }
+}
+
 /// Opens the store's file, if one is named. It is made where it is missing.
 fn open_store_file(
     rt: &HostRuntime,
@@ -47,13 +54,8 @@ fn open_store_file(
     let Some(name) = name else {
         return Ok(None);
     };
-    match Connection::open(rt, name.as_str()) {
-        Ok(connection) => Ok(Some(connection)),
-        Err(Error::SqliteFailure(ErrorCode::OutOfMemory)) => {
-            Err(Failure::Store(StoreFailure::Memory))
-        }
-        Err(_) => Err(Failure::Store(StoreFailure::Store)),
-    }
+    let opened = Connection::open(rt, name.as_str()).map_err(open_failure);
+    Ok(Some(opened?))
 }
 
 /// Reads the policy's file, and then opens the store's file, where they are named.

@@ -17,7 +17,8 @@ use book_runs::{open_store, run};
 use book_texts::{InputFault, TextCommand};
 use book_words::{Command, WordsFault, command_of, words_not_text};
 use book_work::{Failure, Work, adopt_given, given_policy, serve, tell};
-use files::{FileConnection, Opened, close, open_files};
+use files::{Opened, close, open_files};
+use sqlite::{Alter, Connection};
 use std::env;
 use std::io::{self, BufReader, Write};
 use std::net::{Net, TcpListener};
@@ -118,44 +119,65 @@ fn serve_in_memory<N: Net + AllocGlobal, W: Write, E: Write>(
     errors: &mut E,
 ) -> u8 {
     let mut machine = Machine::new(MemoryKeeper::new(rt.alloc()));
-    serve_on(rt, &mut machine, policy, service, writer, errors)
+    let status = serve_on(rt, &mut machine, policy, service, writer, errors);
+    drop(machine);
+    status
 }
 
-/// Serves the Office of a store's file. What most requests ask is remembered.
-fn serve_in_file<N: Net + AllocGlobal, W: Write, E: Write>(
+/// Serves the Office of a store, and gives the store back, but where its tables could not be had. What most requests ask
+/// is remembered.
+fn serve_in_store<S: Alter + Drop, N: Net + AllocGlobal, W: Write, E: Write>(
     rt: &N,
-    store: FileConnection,
+    store: Connection<S>,
     policy: &Option<Policy>,
     service: Service,
     writer: &mut W,
     errors: &mut E,
-) -> u8 {
-    let tables = match open_store(rt.alloc(), store) {
-        Ok(tables) => tables,
-        Err(failure) => return tell(errors, &Failure::Store(failure)),
-    };
-    let mut machine = Machine::new(Cached::new(rt.alloc(), tables));
-    let status = serve_on(rt, &mut machine, policy, service, writer, errors);
-    close(Some(machine.release().into_inner().release()));
-    status
+) -> (u8, Option<Connection<S>>) {
+    match open_store(rt.alloc(), store) {
+        Ok(tables) => {
+            let mut machine = Machine::new(Cached::new(rt.alloc(), tables));
+            let status = serve_on(rt, &mut machine, policy, service, writer, errors);
+            (status, Some(machine.release().into_inner().release()))
+        }
+        Err(failure) => (tell(errors, &Failure::Store(failure)), None),
+    }
 }
 
-/// Reads the policy's text, before the store is touched, and serves.
-fn serve_over<N: Net + AllocGlobal, W: Write, E: Write>(
+/// Serves the Office of a store, or where there is none an empty one in memory.
+fn serve_given<S: Alter + Drop, N: Net + AllocGlobal, W: Write, E: Write>(
     rt: &N,
-    opened: Opened,
+    store: Option<Connection<S>>,
+    policy: &Option<Policy>,
     service: Service,
     writer: &mut W,
     errors: &mut E,
-) -> u8 {
-    let Opened { store, policy } = opened;
-    let policy = match given_policy(rt.alloc(), policy) {
-        Ok(policy) => policy,
-        Err(failure) => return tell(errors, &failure),
-    };
+) -> (u8, Option<Connection<S>>) {
     match store {
-        Some(store) => serve_in_file(rt, store, &policy, service, writer, errors),
-        None => serve_in_memory(rt, &policy, service, writer, errors),
+        Some(store) => serve_in_store(rt, store, policy, service, writer, errors),
+        None => {
+            let status = serve_in_memory(rt, policy, service, writer, errors);
+            (status, None)
+        }
+    }
+}
+
+/// Reads the policy's text, before the store is touched, and serves.
+fn serve_over<S: Alter + Drop, N: Net + AllocGlobal, W: Write, E: Write>(
+    rt: &N,
+    store: Option<Connection<S>>,
+    policy: Option<Vec<u8>>,
+    service: Service,
+    writer: &mut W,
+    errors: &mut E,
+) -> (u8, Option<Connection<S>>) {
+    match given_policy(rt.alloc(), policy) {
+        Ok(policy) => {
+            let served = serve_given(rt, store, &policy, service, writer, errors);
+            drop(policy);
+            served
+        }
+        Err(failure) => (tell(errors, &failure), store),
     }
 }
 
@@ -168,10 +190,13 @@ fn serve_with<W: Write, E: Write>(
     writer: &mut W,
     errors: &mut E,
 ) -> u8 {
-    match open_files(rt, store, policy) {
-        Ok(opened) => serve_over(rt, opened, service, writer, errors),
-        Err(failure) => tell(errors, &failure),
-    }
+    let Opened { store, policy } = match open_files(rt, store, policy) {
+        Ok(opened) => opened,
+        Err(failure) => return tell(errors, &failure),
+    };
+    let (status, store) = serve_over(rt, store, policy, service, writer, errors);
+    close(store);
+    status
 }
 
 /// Does what the words ask for, and gives the status.

@@ -83,10 +83,12 @@ fn ask_node<K: Keeper>(
     at: &str,
 ) {
     let at = path(rt, alloc, at);
-    match keeper.find(alloc, &at).expect(rt, "memory") {
-        Some(node) => tell_node(rt, answer, &node),
+    let found = keeper.find(alloc, &at).expect(rt, "memory");
+    match &found {
+        Some(node) => tell_node(rt, answer, node),
         None => answer.push_str("nothing").expect(rt, "memory"),
     }
+    drop(found);
 }
 
 /// A line for a child, and then its lists.

@@ -88,4 +88,5 @@ fn an_audit_tells_every_list_in_byte_order_of_paths(rt: HostRuntime) {
         &["grant all write-content bind"],
     );
     compare(&rt, alloc, &mut keeper, IN_BYTE_ORDER);
+    drop(keeper);
 }

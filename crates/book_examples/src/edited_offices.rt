@@ -25,6 +25,7 @@ pub(crate) fn keeper(rt: &impl Abort, alloc: Global) -> MemoryKeeper {
     let policy = read_policy(alloc, OFFICE_POLICY).expect(rt, "a policy");
     let edit = Edit::Adopt { policy };
     keeper.act(alloc, &edit).expect(rt, "memory");
+    drop(edit);
     keeper
 }
 
@@ -56,6 +57,7 @@ pub(crate) fn put(
         text: text(rt, alloc, content),
     };
     keeper.act(alloc, &edit).expect(rt, "memory");
+    drop(edit);
 }
 
 /// Gives a resource an own list.
@@ -75,6 +77,7 @@ pub(crate) fn set_list(
         entries,
     };
     keeper.act(alloc, &edit).expect(rt, "memory");
+    drop(edit);
 }
 
 /// Makes a book without owner.
@@ -84,6 +87,7 @@ pub(crate) fn add_book(rt: &impl Abort, alloc: Global, keeper: &mut MemoryKeeper
         owner: None,
     };
     keeper.act(alloc, &edit).expect(rt, "memory");
+    drop(edit);
 }
 
 /// The circle of a person; that of nobody at a dash.

@@ -109,5 +109,6 @@ pub(crate) fn make<K: Keeper>(
 ) -> String {
     let edit = edit(rt, alloc, line);
     keeper.act(alloc, &edit).expect(rt, "memory");
+    drop(edit);
     String::new(alloc)
 }

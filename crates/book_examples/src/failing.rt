@@ -218,6 +218,7 @@ fn check_after(rt: &impl Abort, alloc: Global, calls: u64) {
     check_all(rt, alloc, &mut machine);
     let mut machine = memory_of(machine);
     follow(rt, alloc, &mut machine, LEFT);
+    drop(machine);
 }
 
 #[test]
@@ -241,6 +242,7 @@ const UNAVAILABLE: &[Step] = &[
 fn a_failed_store_is_unavailable(rt: HostRuntime) {
     let mut machine = Machine::new(failing_keeper(&rt, rt.alloc(), OPEN, 0, None));
     follow(&rt, rt.alloc(), &mut machine, UNAVAILABLE);
+    drop(machine);
 }
 
 /// Nothing of a book whose number is the last one changes; all else does.
@@ -284,5 +286,6 @@ fn the_last_number_does_not_rise(rt: HostRuntime) {
         let keeper = failing_keeper(&rt, rt.alloc(), OPEN, u64::MAX, Some(number));
         let mut machine = Machine::new(keeper);
         follow(&rt, rt.alloc(), &mut machine, steps);
+        drop(machine);
     }
 }

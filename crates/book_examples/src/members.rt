@@ -165,5 +165,6 @@ fn steps_go_from_group_to_group(rt: HostRuntime) {
         &["deny /people/bob read"],
     );
     compare(&rt, alloc, &mut keeper, ASKED_WITHOUT_TWO);
+    drop(keeper);
     equal_views_have_equal_members();
 }

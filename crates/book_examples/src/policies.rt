@@ -353,7 +353,10 @@ const FINE: &[&[&str]] = &[
 ];
 
 fn is_policy(rt: &impl Abort, alloc: Global, more: &[&str]) -> bool {
-    policy_of(rt, alloc, OFFICE_POLICY, more).is_some()
+    let policy = policy_of(rt, alloc, OFFICE_POLICY, more);
+    let is_one = policy.is_some();
+    drop(policy);
+    is_one
 }
 
 #[test]
@@ -383,6 +386,7 @@ fn a_group_may_have_1000_members(rt: HostRuntime) {
     for (lines, is_one) in MEMBERS {
         let policy = policy_of(&rt, rt.alloc(), lines, &[]);
         assert_eq!(rt; policy.is_some(), *is_one, "{lines:?}");
+        drop(policy);
     }
 }
 
@@ -418,4 +422,5 @@ fn policies_say_what_their_parts_say(rt: HostRuntime) {
     assert_eq!(rt; policy.own_at(&sales).map(|list| list.len()), Some(2));
     assert_eq!(rt; policy.protected_at(&root).map(|list| list.len()), Some(1));
     assert!(rt; policy.own_at(&root).is_none());
+    drop(policy);
 }

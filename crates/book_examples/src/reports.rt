@@ -76,6 +76,7 @@ fn reports_tell_what_changed(rt: HostRuntime) {
     let mut machine = Machine::new(MemoryKeeper::new(rt.alloc()));
     check_all(&rt, rt.alloc(), &mut machine, CHANGES);
     follow(&rt, rt.alloc(), &mut machine, CHANGED);
+    drop(machine);
 }
 
 /// A token is valid on its book, in the epoch that it names, up to the number of the book; a change of members ends it,
@@ -226,6 +227,8 @@ fn sync(rt: &impl Abort, alloc: Global, machine: &mut Machine<MemoryKeeper>, kep
     let request = request(rt, alloc, line.as_str());
     let reply = machine.serve(alloc, Some("bob"), &request);
     take_over(rt, alloc, kept, &reply);
+    drop(reply);
+    drop(request);
 }
 
 /// A GET answers by what the replica has, or is refused where it has nothing.
@@ -319,4 +322,6 @@ fn a_copy_is_what_may_be_read(rt: HostRuntime) {
         take(&rt, alloc, &mut machine, &mut kept, line, wanted);
     }
     assert_eq!(&rt; kept.replica.len(), 2);
+    drop(kept);
+    drop(machine);
 }

@@ -334,6 +334,7 @@ fn calls_are_served_in_order(rt: HostRuntime) {
         &mut machine,
         &[("changes sales 0", "2 b.vcf [] 47 bytes\n")],
     );
+    drop(machine);
 }
 
 #[test]

@@ -26,6 +26,19 @@ use std::process::Abort;
 /// A line, and its answer.
 pub(crate) type Step = (&'static str, &'static str);
 
+/// Adopts the policy of this name, and tells what came of it.
+fn adopt<K: Keeper>(
+    rt: &impl Abort,
+    alloc: Global,
+    machine: &mut Machine<K>,
+    name: &str,
+) -> String {
+    let policy = policy(rt, alloc, name);
+    let told = adopted(rt, alloc, machine, &policy);
+    drop(policy);
+    told
+}
+
 pub(crate) fn answer<K: Keeper>(
     rt: &impl Abort,
     alloc: Global,
@@ -33,7 +46,7 @@ pub(crate) fn answer<K: Keeper>(
     line: &str,
 ) -> String {
     match word(line, 0) {
-        "adopt" => adopted(rt, alloc, machine, &policy(rt, alloc, word(line, 1))),
+        "adopt" => adopt(rt, alloc, machine, word(line, 1)),
         "node"
         | "children"
         | "lists"

@@ -103,5 +103,8 @@ pub(crate) fn served<K: Keeper>(
 ) -> String {
     let request = request(rt, alloc, line);
     let reply = machine.serve(alloc, caller(line), &request);
-    tell(rt, alloc, &reply)
+    let told = tell(rt, alloc, &reply);
+    drop(reply);
+    drop(request);
+    told
 }

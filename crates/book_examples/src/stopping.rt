@@ -184,6 +184,7 @@ fn check(
 fn check_one(rt: &impl Abort, alloc: Global, keeper: MemoryKeeper, steps: &[Step]) {
     let mut machine = Machine::new(keeper);
     follow(rt, alloc, &mut machine, steps);
+    drop(machine);
 }
 
 /// A request is acknowledged, and one is answered as unavailable; its edit never reached the disk, and one after it is

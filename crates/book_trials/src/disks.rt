@@ -1,9 +1,12 @@
 //! The two files of a store in memory, each of which fails after so many calls, and the tables of such a store.
+//!
+//! What can be done over any store is, here and in `stops` and `pairs`, from a connection to a connection: a proof over
+//! this one takes many times as long, in each function again.
 
 use anyhow::{Context, Result, bail};
 use book_opening::open;
 use book_tables::Tables;
-use sqlite::{Connection, FileStore, Options};
+use sqlite::{Alter, Connection, FileStore, Options};
 use sqlite_disk::{Crash, Disk as _, Files, Fuse, Memory};
 use std::alloc::Global;
 
@@ -97,7 +100,7 @@ pub(crate) fn connect(
     }
     match Connection::open_files(alloc, files, options(seed)) {
         Ok(connection) => Ok(connection),
-        Err((_, left)) => Err(left.into_files()),
+        Err((_error, left)) => Err(left.into_files()),
     }
 }
 
@@ -105,46 +108,40 @@ pub(crate) fn connect(
 pub(crate) fn close(connection: Connection<Store>) -> (Files<Disk>, bool) {
     match connection.close_files() {
         Ok(files) => (files, false),
-        Err((_, store)) => (store.close(), true),
+        Err((_error, store)) => (store.close(), true),
     }
+}
+
+/// A store that is to be made.
+pub(crate) fn new_store(alloc: Global, seed: u64) -> Result<Connection<Store>> {
+    let store = connect(alloc, empty_files(alloc), seed).ok();
+    store.context("new files are not opened")
+}
+
+/// The store that the files have.
+pub(crate) fn store_of(alloc: Global, files: Files<Disk>, seed: u64) -> Result<Connection<Store>> {
+    let store = connect(alloc, files, seed).ok();
+    store.context("files are not opened")
 }
 
 /// Makes the tables of a store that is to be made.
-fn created(connection: Connection<Store>) -> Result<Tables<Store>> {
-    match Tables::create(connection) {
-        Ok(tables) => Ok(tables),
-        Err(_) => bail!("a store is not made"),
-    }
-}
-
-/// The tables of a new store.
-pub(crate) fn new_tables(alloc: Global, seed: u64) -> Result<Tables<Store>> {
-    match connect(alloc, empty_files(alloc), seed) {
-        Ok(connection) => created(connection),
-        Err(_) => bail!("new files are not opened"),
-    }
+pub(crate) fn created<S: Alter + Drop>(store: Connection<S>) -> Result<Tables<S>> {
+    let tables = Tables::create(store).ok();
+    tables.context("a store is not made")
 }
 
 /// The tables of a store that was made.
-fn opened(alloc: Global, connection: Connection<Store>) -> Result<Tables<Store>> {
-    match open(alloc, connection) {
-        Ok(tables) => Ok(tables),
-        Err(_) => bail!("a store has no tables"),
-    }
+pub(crate) fn opened<S: Alter + Drop>(alloc: Global, store: Connection<S>) -> Result<Tables<S>> {
+    let tables = open(alloc, store).ok();
+    tables.context("a store has no tables")
 }
 
-/// The tables of the store that the files have.
-pub(crate) fn tables_of(alloc: Global, files: Files<Disk>, seed: u64) -> Result<Tables<Store>> {
-    match connect(alloc, files, seed) {
-        Ok(connection) => opened(alloc, connection),
-        Err(_) => bail!("files are not opened"),
+/// The files of a store that is closed.
+pub(crate) fn files_of(connection: Connection<Store>) -> Result<Files<Disk>> {
+    let (files, failed) = close(connection);
+    if failed {
+        drop(files);
+        bail!("a store does not close");
     }
-}
-
-/// The files of tables that are closed.
-pub(crate) fn files_of(tables: Tables<Store>) -> Result<Files<Disk>> {
-    match close(tables.release()) {
-        (files, false) => Ok(files),
-        (_, true) => bail!("a store does not close"),
-    }
+    Ok(files)
 }

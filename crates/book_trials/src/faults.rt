@@ -34,7 +34,9 @@ use std::io;
 /// The list over a new Office in memory, with nothing failing.
 fn take_list_in_memory(alloc: Global) -> Result<Items<Turn>, Failure> {
     let mut machine = Machine::new(MemoryKeeper::new(alloc));
-    take_list(alloc, &mut machine)
+    let turns = take_list(alloc, &mut machine);
+    drop(machine);
+    turns
 }
 
 /// Prints the answers that are not those of the examples; how many there are.

@@ -62,11 +62,11 @@ fn print_each(
 
 /// Tries the stops of the kinds that are asked for, or of all where none is.
 fn print_asked(rt: &(impl AllocGlobal + Print), asked: &[Case]) -> Result<Count> {
+    let cases = if asked.is_empty() { CASES } else { asked };
     let start = start_files(rt.alloc())?;
-    if asked.is_empty() {
-        return print_each(rt, &start, &CASES);
-    }
-    print_each(rt, &start, asked)
+    let count = print_each(rt, &start, cases);
+    drop(start);
+    count
 }
 
 /// Tries the stops of the kinds that the words name, or of all where there is no word, and prints what they left: whether

@@ -1,5 +1,6 @@
 //! Texts that are cards, and texts that are none (RFC 6350).
 
+use crate::checks::{check_fact, check_text};
 use book_cards::{
     Card, Line, faultless_texts_are_the_cards, fields_are_of_the_grammar, lines_make_up_the_text,
     read_card, unescape, unfold, unfolded_is_what_unfolds,
@@ -36,11 +37,11 @@ const UNESCAPED: &[(&str, &str)] = &[
 fn texts_are_unfolded_and_unescaped(rt: HostRuntime) {
     for (text, wanted) in UNFOLDED {
         let unfolded = unfold(rt.alloc(), text).expect(&rt, "memory");
-        assert_eq!(rt; unfolded.as_str(), *wanted, "{text:?}");
+        check_text(&rt, unfolded.as_str(), wanted, text);
     }
     for (text, wanted) in UNESCAPED {
         let unescaped = unescape(rt.alloc(), text).expect(&rt, "memory");
-        assert_eq!(rt; unescaped.as_str(), *wanted, "{text:?}");
+        check_text(&rt, unescaped.as_str(), wanted, text);
     }
 }
 
@@ -226,7 +227,7 @@ fn fault_of(rt: &impl Abort, alloc: Global, text: &str) -> String {
 
 fn check(rt: &impl Abort, alloc: Global, text: &str, wanted: &str) {
     let fault = fault_of(rt, alloc, text);
-    assert_eq!(rt; fault.as_str(), wanted, "{text:?}");
+    check_text(rt, fault.as_str(), wanted, text);
 }
 
 #[test]
@@ -287,8 +288,9 @@ fn fronts_of_a_card_are_told(rt: HostRuntime) {
         check(&rt, rt.alloc(), front(BO, *len), fault);
     }
     for len in 0..GROUP.len() {
-        let fault = fault_of(&rt, rt.alloc(), front(GROUP, len));
-        assert!(rt; fault.as_str() != "line 0: memory", "{len}");
+        let front = front(GROUP, len);
+        let fault = fault_of(&rt, rt.alloc(), front);
+        check_fact(&rt, fault.as_str() != "line 0: memory", front);
     }
 }
 
@@ -309,9 +311,9 @@ fn long_card(rt: &impl Abort, alloc: Global, count: usize) -> String {
 fn a_card_may_have_65536_bytes(rt: HostRuntime) {
     for (count, len, fault) in [(65_499, 65_536, ""), (65_500, 65_537, "line 0: too-long")] {
         let text = long_card(&rt, rt.alloc(), count);
-        assert_eq!(rt; text.len(), len);
+        check_fact(&rt, text.len() == len, fault);
         let told = fault_of(&rt, rt.alloc(), text.as_str());
-        assert_eq!(rt; told.as_str(), fault);
+        check_text(&rt, told.as_str(), fault, "a long card");
     }
 }
 
@@ -332,8 +334,8 @@ fn check_card(rt: &impl Abort, alloc: Global, text: &str, wanted: &str) {
     let card = read_card(alloc, text).ok().expect(rt, "a card");
     let mut answer = String::new(alloc);
     tell_card(rt, &mut answer, &card);
-    assert_eq!(rt; answer.as_str(), wanted);
-    assert_eq!(rt; card.line_count(), card.lines().count());
+    check_text(rt, answer.as_str(), wanted, text);
+    check_fact(rt, card.line_count() == card.lines().count(), text);
 }
 
 #[test]
@@ -365,10 +367,15 @@ fn cards_say_what_their_lines_say(rt: HostRuntime) {
 fn lines_have_fields(rt: HostRuntime) {
     let line = Line::read("item1.TEL;TYPE=\"cell:a\",home;PREF=1:+1 555");
     let line = line.expect(&rt, "a content line");
-    assert_eq!(rt; line.group, Some("item1"));
-    assert_eq!(rt; line.name, "TEL");
-    assert_eq!(rt; line.params, ";TYPE=\"cell:a\",home;PREF=1");
-    assert_eq!(rt; line.value, "+1 555");
+    check_fact(&rt, line.group == Some("item1"), "a group");
+    check_text(&rt, line.name, "TEL", "a name");
+    check_text(
+        &rt,
+        line.params,
+        ";TYPE=\"cell:a\",home;PREF=1",
+        "parameters",
+    );
+    check_text(&rt, line.value, "+1 555", "a value");
     for text in [
         "TEL;TYPE=a\"b:c",
         ".TEL:c",
@@ -382,7 +389,7 @@ fn lines_have_fields(rt: HostRuntime) {
         ":c",
         "",
     ] {
-        assert!(rt; Line::read(text).is_none(), "{text}");
+        check_fact(&rt, Line::read(text).is_none(), text);
     }
     for text in [
         "TEL:",
@@ -391,7 +398,7 @@ fn lines_have_fields(rt: HostRuntime) {
         "TEL;A= b c:",
         "9-a.T-1:",
     ] {
-        assert!(rt; Line::read(text).is_some(), "{text}");
+        check_fact(&rt, Line::read(text).is_some(), text);
     }
 }
 

@@ -2,6 +2,7 @@
 
 ghost use Rattle.std.specs.Prelude.{◌≡◌, IfOk};
 
+use crate::checks::{check_fact, check_text};
 use book_lists::Name;
 use book_values::{Changes, Items, NameMap, Text};
 use std::alloc::{AllocError, Global};
@@ -29,9 +30,9 @@ fn lists_keep_their_items(rt: HostRuntime) {
         texts.push(text).expect(&rt, "memory");
     }
     let copy = copied_texts(&texts).expect(&rt, "memory");
-    assert!(rt; copy == texts && copy.len() == 3);
+    check_fact(&rt, copy == texts && copy.len() == 3, "a copy");
     for (text, len) in copy.as_slice().iter().zip([7, 0, 7]) {
-        assert_eq!(rt; text.len(), len);
+        check_fact(&rt, text.len() == len, "a length");
     }
 }
 
@@ -50,14 +51,15 @@ fn set(rt: &impl Abort, alloc: Global, map: &mut NameMap<u64>, name: &str, value
 }
 
 fn check_value(rt: &impl Abort, alloc: Global, map: &NameMap<u64>, name: &str, value: Option<u64>) {
-    assert_eq!(rt; map.get(&named(rt, alloc, name)).copied(), value);
+    let found = map.get(&named(rt, alloc, name)).copied();
+    check_fact(rt, found == value, name);
 }
 
 fn check_names(rt: &impl Abort, alloc: Global, map: &NameMap<u64>, wanted: &[&str]) {
     let names = names_of(alloc, map).expect(rt, "memory");
-    assert_eq!(rt; names.len(), wanted.len());
+    check_fact(rt, names.len() == wanted.len(), "names");
     for (name, text) in names.as_slice().iter().zip(wanted) {
-        assert_eq!(rt; name.text(), *text);
+        check_text(rt, name.text(), text, "a name");
     }
 }
 
@@ -70,7 +72,8 @@ fn maps_are_ordered_by_name(rt: HostRuntime) {
     }
     check_names(&rt, alloc, &map, ["B", "a", "b", "b-1"].as_slice());
     check_value(&rt, alloc, &map, "b", Some(5));
-    assert_eq!(rt; map.remove(&named(&rt, alloc, "a")), Some(1));
+    let removed = map.remove(&named(&rt, alloc, "a"));
+    check_fact(&rt, removed == Some(1), "a removed name");
     check_value(&rt, alloc, &map, "a", None);
 }
 
@@ -87,7 +90,7 @@ fn told_after(rt: &impl Abort, alloc: Global, changes: &Changes, number: u64) ->
 
 fn check_told(rt: &impl Abort, alloc: Global, changes: &Changes, number: u64, wanted: &str) {
     let told = told_after(rt, alloc, changes, number);
-    assert_eq!(rt; told.as_str(), wanted);
+    check_text(rt, told.as_str(), wanted, "changes");
 }
 
 fn check_number(
@@ -97,7 +100,8 @@ fn check_number(
     name: &str,
     number: Option<u64>,
 ) {
-    assert_eq!(rt; changes.get(&named(rt, alloc, name)), number);
+    let found = changes.get(&named(rt, alloc, name));
+    check_fact(rt, found == number, name);
 }
 
 /// Touches each of the names once.
@@ -113,9 +117,9 @@ fn touch(rt: &impl Abort, alloc: Global, changes: &mut Changes, names: &[&str]) 
 fn changes_are_numbered_from_1(rt: HostRuntime) {
     let alloc = rt.alloc();
     let mut changes = Changes::new(alloc);
-    assert_eq!(rt; changes.number(), 0);
+    check_fact(&rt, changes.number() == 0, "no change");
     touch(&rt, alloc, &mut changes, ["b", "a", "c", "b"].as_slice());
-    assert_eq!(rt; changes.number(), 4);
+    check_fact(&rt, changes.number() == 4, "four changes");
     check_number(&rt, alloc, &changes, "a", Some(2));
     check_number(&rt, alloc, &changes, "d", None);
     for (number, wanted) in [(0, "2 a 3 c 4 b "), (2, "3 c 4 b "), (4, "")] {

@@ -1,5 +1,6 @@
 //! The texts that `explain` answers.
 
+use crate::checks::check_text;
 use book_explain::{
     ExplainFault, ExplainFaultKind, answers_are_one, answers_exclude_faults, explain,
     faults_are_one, short_privileges,
@@ -146,7 +147,7 @@ fn explained(rt: &impl Abort, alloc: Global, text: &str) -> String {
 
 fn check(rt: &impl Abort, alloc: Global, text: &str, wanted: &str) {
     let told = explained(rt, alloc, text);
-    assert_eq!(rt; told.as_str(), wanted, "{text:?}");
+    check_text(rt, told.as_str(), wanted, text);
 }
 
 #[test]
@@ -166,7 +167,7 @@ fn the_first_fault_is_named(rt: HostRuntime) {
         line: 0,
     };
     let told = format!(in rt.alloc(); "{memory}").expect(&rt, "memory");
-    assert_eq!(rt; told.as_str(), "line 0: memory");
+    check_text(&rt, told.as_str(), "line 0: memory", "memory");
 }
 
 /// A question with one line so many times, and then the rest.

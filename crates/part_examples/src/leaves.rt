@@ -1,5 +1,6 @@
 //! Privileges, their leaves, and what each method needs.
 
+use crate::checks::{check_fact, check_text};
 use book_rights::{Leaf, LeafSet, Method, Need, Privilege, Shape, needs};
 use std::alloc::Global;
 use std::process::Abort;
@@ -36,10 +37,10 @@ const PRIVILEGES: &[(&str, &str)] = &[
 
 fn check_privilege(rt: &impl Abort, alloc: Global, name: &str, leaves: &str) {
     let privilege = Privilege::from_name(name).expect(rt, name);
-    assert_eq!(rt; privilege.name(), name);
+    check_text(rt, privilege.name(), name, name);
     let mut answer = String::new(alloc);
     tell_leaves(rt, &mut answer, privilege.leaves());
-    assert_eq!(rt; answer.as_str(), leaves, "{name}");
+    check_text(rt, answer.as_str(), leaves, name);
 }
 
 #[test]
@@ -48,19 +49,20 @@ fn privileges_hold_their_leaves(rt: HostRuntime) {
         check_privilege(&rt, rt.alloc(), name, leaves);
     }
     for name in ["unlock", "Read", ""] {
-        assert_eq!(rt; Privilege::from_name(name), None, "{name}");
+        check_fact(&rt, Privilege::from_name(name).is_none(), name);
     }
 }
 
 #[test]
 fn sets_of_leaves_are_sets(rt: HostRuntime) {
     let write = Privilege::Write.leaves();
-    assert_eq!(rt; write.least(), Some(Leaf::WriteContent));
-    assert_eq!(rt; LeafSet::empty().least(), None);
+    check_fact(&rt, write.least() == Some(Leaf::WriteContent), "write");
+    check_fact(&rt, LeafSet::empty().least().is_none(), "no leaf");
     let others = LeafSet::all().minus(write);
-    assert!(rt; !others.meets(write) && others.meets(LeafSet::all()));
-    assert_eq!(rt; others.union(write), LeafSet::all());
-    assert_ne!(rt; others.with(Leaf::Bind), LeafSet::all());
+    let meets = others.meets(write) || !others.meets(LeafSet::all());
+    check_fact(&rt, !meets, "other leaves");
+    check_fact(&rt, others.union(write) == LeafSet::all(), "a union");
+    check_fact(&rt, others.with(Leaf::Bind) != LeafSet::all(), "one more");
 }
 
 /// What is asked, what the needs depend on, and the needs: a line for each, with its place and its leaves.
@@ -152,6 +154,6 @@ fn told_needs(rt: &impl Abort, alloc: Global, method: Method, shape: Shape) -> S
 fn methods_need_their_rows(rt: HostRuntime) {
     for (method, flags, wanted) in NEEDS {
         let told = told_needs(&rt, rt.alloc(), *method, shape(flags));
-        assert_eq!(rt; told.as_str(), *wanted, "{method:?} {flags}");
+        check_text(&rt, told.as_str(), wanted, flags);
     }
 }

@@ -8,6 +8,8 @@
 #[cfg(test)]
 mod cards;
 #[cfg(test)]
+mod checks;
+#[cfg(test)]
 mod collections;
 #[cfg(test)]
 mod entry_lines;

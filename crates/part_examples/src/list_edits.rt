@@ -1,5 +1,6 @@
 //! Edits of an access list, accepted and refused (RFC 3744, sections 8.1 and 8.1.1).
 
+use crate::checks::check_fact;
 use crate::entry_lines::{entries, submitted};
 use book_lists::{EditFault, Entry, Submitted, Who, check_edit};
 use book_rights::{Leaf, LeafSet};
@@ -118,7 +119,7 @@ fn check(
 ) {
     let list = list(rt, alloc, text);
     let answer = check_edit(list.as_slice(), protected);
-    assert_eq!(rt; answer.err(), wanted, "{text}");
+    check_fact(rt, answer.err() == wanted, text);
 }
 
 #[test]
@@ -194,22 +195,18 @@ fn submitted_entries_become_entries(rt: HostRuntime) {
         deny: true,
         set: LeafSet::empty().with(Leaf::Read).with(Leaf::Bind),
     };
-    assert_eq!(rt; submitted(&rt, rt.alloc(), line).into_entry(), Some(wanted));
+    let entry = submitted(&rt, rt.alloc(), line).into_entry();
+    check_fact(&rt, entry == Some(wanted), line);
     let wanted = Entry {
         who: Who::Everyone,
         invert: false,
         deny: false,
         set: LeafSet::all(),
     };
-    assert_eq!(rt;
-        submitted(&rt, rt.alloc(), "grant all all").into_entry(),
-        Some(wanted)
-    );
+    let entry = submitted(&rt, rt.alloc(), "grant all all").into_entry();
+    check_fact(&rt, entry == Some(wanted), "grant all all");
     for line in ["grant nobody read", "grant all fly", "grant nobody fly"] {
-        assert_eq!(rt;
-            submitted(&rt, rt.alloc(), line).into_entry(),
-            None,
-            "{line}"
-        );
+        let entry = submitted(&rt, rt.alloc(), line).into_entry();
+        check_fact(&rt, entry.is_none(), line);
     }
 }

@@ -1,5 +1,6 @@
 //! Names, principals, memberships, entries and decisions.
 
+use crate::checks::{check_fact, check_text};
 use book_lists::{
     Caller, Circle, Entry, Here, Name, Outcome, Pairs, Principal, Who, applies, decide, expand,
     granted,
@@ -18,12 +19,13 @@ pub(crate) const TOO_LONG: &str =
 fn check_name(rt: &impl Abort, alloc: Global, text: &str, is_name: bool) {
     let name = Name::parse(alloc, text).expect(rt, "memory");
     let expected = if is_name { Some(text) } else { None };
-    assert_eq!(rt; name.as_ref().map(|n| n.text()), expected, "{text:?}");
+    let told = name.as_ref().map(|n| n.text());
+    check_fact(rt, told == expected, text);
 }
 
 #[test]
 fn names_are_read(rt: HostRuntime) {
-    assert_eq!(rt; (LONGEST.len(), TOO_LONG.len()), (64, 65));
+    check_fact(&rt, LONGEST.len() == 64 && TOO_LONG.len() == 65, "lengths");
     let cases = [
         ("ann", true),
         ("a.b_c-1.", true),
@@ -44,7 +46,8 @@ fn names_are_read(rt: HostRuntime) {
 
 fn check_principal(rt: &impl Abort, alloc: Global, text: &str, path: Option<&str>) {
     let principal = Principal::parse(alloc, text).expect(rt, "memory");
-    assert_eq!(rt; principal.as_ref().map(|p| p.text()), path, "{text:?}");
+    let told = principal.as_ref().map(|p| p.text());
+    check_fact(rt, told == path, text);
 }
 
 #[test]
@@ -91,10 +94,11 @@ fn names_make_principals(rt: HostRuntime) {
     let ann = ann.expect(&rt, "a name");
     let person = Principal::person(alloc, &ann).expect(&rt, "memory");
     let group = Principal::group(alloc, &ann).expect(&rt, "memory");
-    assert_eq!(rt; person.text(), "/people/ann");
-    assert_eq!(rt; group.text(), "/groups/ann");
-    assert!(rt; group.is_group() && !person.is_group() && person != group);
-    assert!(rt; copied(&rt, &group) == group);
+    check_text(&rt, person.text(), "/people/ann", "a person");
+    check_text(&rt, group.text(), "/groups/ann", "a group");
+    let are_told_apart = group.is_group() && !person.is_group() && person != group;
+    check_fact(&rt, are_told_apart, "a person and a group");
+    check_fact(&rt, copied(&rt, &group) == group, "a copy");
 }
 
 fn add(rt: &impl Abort, alloc: Global, pairs: &mut Pairs, group: &str, member: &str) {
@@ -142,11 +146,11 @@ const LISTED: &[(&str, &str)] = &[
 
 fn check_listed(rt: &impl Abort, pairs: &Pairs) {
     let list = pairs.list().expect(rt, "memory");
-    assert_eq!(rt; list.len(), LISTED.len());
+    check_fact(rt, list.len() == LISTED.len(), "pairs");
     for (group, member) in LISTED {
         let found = list.iter().any(|pair| pair.group.text() == *group
             && pair.member.text() == *member);
-        assert!(rt; found, "{group} {member}");
+        check_fact(rt, found, member);
     }
 }
 
@@ -154,11 +158,13 @@ fn check_listed(rt: &impl Abort, pairs: &Pairs) {
 fn pairs_are_a_set(rt: HostRuntime) {
     let alloc = rt.alloc();
     let pairs = pairs(&rt, alloc);
-    assert!(rt; pairs.len() == 6 && !pairs.is_empty() && Pairs::new(alloc).is_empty());
+    let are_six = pairs.len() == 6 && !pairs.is_empty() && Pairs::new(alloc).is_empty();
+    check_fact(&rt, are_six, "six pairs");
     let staff = named(&rt, alloc, "/groups/staff");
     let ann = named(&rt, alloc, "/people/ann");
-    assert!(rt; pairs.has(&staff, &ann) && !pairs.has(&ann, &staff));
-    assert_eq!(rt; copied(&rt, &pairs).len(), 6);
+    let has_one = pairs.has(&staff, &ann) && !pairs.has(&ann, &staff);
+    check_fact(&rt, has_one, "a pair");
+    check_fact(&rt, copied(&rt, &pairs).len() == 6, "a copy");
     check_listed(&rt, &pairs);
 }
 
@@ -170,7 +176,7 @@ fn check_circle(
     within: &[&str],
 ) {
     let circle = circle(rt, alloc, pairs, person);
-    assert_eq!(rt; circle.is_known(), person.is_some());
+    check_fact(rt, circle.is_known() == person.is_some(), "a known caller");
     for path in [
         "/people/ann",
         "/people/bob",
@@ -181,7 +187,7 @@ fn check_circle(
         "/groups/staff",
     ] {
         let belongs = circle.has(&named(rt, alloc, path));
-        assert_eq!(rt; belongs, within.contains(&path));
+        check_fact(rt, belongs == within.contains(&path), path);
     }
 }
 
@@ -214,19 +220,24 @@ fn entry(who: Who, deny: bool, set: LeafSet) -> Entry {
 /// What ann, who owns the resource, may by a list of three entries, and by the first two.
 fn check_decided(rt: &impl Abort, entries: &[Entry; 3], ann: &Circle, here: &Here) {
     let read = LeafSet::empty().with(Leaf::Read);
-    assert!(rt; !applies(&entries[0], ann, here) && applies(&entries[1], ann, here));
-    assert_eq!(rt; granted(entries, ann, here), read.with(Leaf::Unbind));
-    assert_eq!(rt; decide(entries, ann, here, read), Outcome::Allowed);
+    let second = !applies(&entries[0], ann, here) && applies(&entries[1], ann, here);
+    check_fact(rt, second, "the second entry applies");
+    let granted = granted(entries, ann, here);
+    check_fact(rt, granted == read.with(Leaf::Unbind), "granted");
+    let decided = decide(entries, ann, here, read);
+    check_fact(rt, decided == Outcome::Allowed, "read");
     let refused = Outcome::Denied {
         leaf: Leaf::Bind,
         entry: Some(2),
     };
-    assert_eq!(rt; decide(entries, ann, here, read.with(Leaf::Bind)), refused);
+    let decided = decide(entries, ann, here, read.with(Leaf::Bind));
+    check_fact(rt, decided == refused, "bind");
     let undecided = Outcome::Denied {
         leaf: Leaf::WriteContent,
         entry: None,
     };
-    assert_eq!(rt; decide(&entries[..2], ann, here, LeafSet::all()), undecided);
+    let decided = decide(&entries[..2], ann, here, LeafSet::all());
+    check_fact(rt, decided == undecided, "all");
 }
 
 #[test]

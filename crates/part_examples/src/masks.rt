@@ -1,5 +1,6 @@
 //! Sets of leaves as masks (own profile): bit 0 is `read`, and each leaf has the bit of its place.
 
+use crate::checks::check_fact;
 use crate::entry_lines::leaves;
 use book_rights::LeafSet;
 
@@ -24,10 +25,10 @@ const MASKS: &[(&str, u16)] = &[
 fn sets_have_masks(rt: HostRuntime) {
     for (names, mask) in MASKS {
         let set = leaves(names).expect(&rt, names);
-        assert_eq!(rt; set.mask(), *mask, "{names}");
-        assert_eq!(rt; LeafSet::from_mask(*mask), Some(set), "{names}");
+        check_fact(&rt, set.mask() == *mask, names);
+        check_fact(&rt, LeafSet::from_mask(*mask) == Some(set), names);
     }
     for mask in [256, 257, 511, 65_535] {
-        assert_eq!(rt; LeafSet::from_mask(mask), None, "{mask}");
+        check_fact(&rt, LeafSet::from_mask(mask).is_none(), "no mask");
     }
 }

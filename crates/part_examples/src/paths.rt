@@ -1,5 +1,6 @@
 //! Paths of resources.
 
+use crate::checks::{check_fact, check_text};
 use crate::lists::{LONGEST, TOO_LONG};
 use book_values::{Kind, Path, PathFault, levels_go_up, texts_spell_one_path};
 use std::alloc::Global;
@@ -26,10 +27,11 @@ fn check_spelled(
     kind: Kind,
 ) {
     let path = at(rt, alloc, spelled);
-    assert_eq!(rt; path.kind(), kind, "{spelled}");
+    check_fact(rt, path.kind() == kind, spelled);
     let own = path.text(alloc).expect(rt, "memory");
-    assert_eq!(rt; own.as_str(), text, "{spelled}");
-    assert_eq!(rt; text_above(rt, alloc, &path).as_str(), above, "{spelled}");
+    check_text(rt, own.as_str(), text, spelled);
+    let told = text_above(rt, alloc, &path);
+    check_text(rt, told.as_str(), above, spelled);
     path.known();
 }
 
@@ -84,15 +86,16 @@ fn other_texts_spell_no_path(rt: HostRuntime) {
     ];
     for text in cases {
         let answer = Path::parse(rt.alloc(), text);
-        assert!(rt; matches!(answer, Err(PathFault::BadPath)), "{text:?}");
+        check_fact(&rt, matches!(answer, Err(PathFault::BadPath)), text);
     }
 }
 
 fn check_compared(rt: &impl Abort, alloc: Global, text: &str, other: &str, are_one: bool) {
     let path = at(rt, alloc, text);
     let copy = path.clone().expect(rt, "memory");
-    assert!(rt; copy == path, "{text}");
-    assert_eq!(rt; copy == at(rt, alloc, other), are_one, "{text} {other}");
+    check_fact(rt, copy == path, text);
+    let other = at(rt, alloc, other);
+    check_fact(rt, (copy == other) == are_one, text);
 }
 
 #[test]
@@ -117,7 +120,7 @@ fn a_name_may_have_64_bytes(rt: HostRuntime) {
         for front in ["/people/", "/groups/", "/books/", "/books/law/"] {
             let text = format!(in rt.alloc(); "{front}{name}").expect(&rt, "memory");
             let path = Path::parse(rt.alloc(), text.as_str());
-            assert_eq!(rt; path.is_ok(), is_path, "{text}");
+            check_fact(&rt, path.is_ok() == is_path, text.as_str());
         }
     }
 }
@@ -128,9 +131,10 @@ fn levels_lead_to_the_root(rt: HostRuntime) {
     let alloc = rt.alloc();
     let levels = at(&rt, alloc, "/books/law/a.vcf").levels(alloc);
     let levels = levels.expect(&rt, "memory");
-    assert_eq!(rt; levels.len(), 4);
+    check_fact(&rt, levels.len() == 4, "levels");
     let wanted = ["/books/law/a.vcf", "/books/law", "/books", "/"];
     for (path, text) in levels.as_slice().iter().zip(wanted) {
-        assert_eq!(rt; path.text(alloc).expect(&rt, "memory").as_str(), text);
+        let told = path.text(alloc).expect(&rt, "memory");
+        check_text(&rt, told.as_str(), text, "a level");
     }
 }

@@ -1,5 +1,6 @@
 //! Policies in TOML, and texts that are none (own profile).
 
+use crate::checks::{check_fact, check_text};
 use book_limits::MAX_POLICY_BYTES;
 use book_lists::{Pairs, Who};
 use book_policies::{Policy, PolicyBook, PolicyEntry};
@@ -149,7 +150,7 @@ fn policies_are_read(rt: HostRuntime) {
             Ok(policy) => told(&rt, alloc, &policy),
             Err(fault) => format!(in alloc; "{fault}").expect(&rt, "memory"),
         };
-        assert_eq!(rt; answer.as_str(), *wanted, "{text}");
+        check_text(&rt, answer.as_str(), wanted, text);
     }
     policies_are_one();
     faults_are_one();
@@ -337,10 +338,10 @@ fn fault_of(rt: &impl Abort, alloc: Global, text: &str) -> String {
 fn the_least_fault_is_told(rt: HostRuntime) {
     for (text, wanted) in FAULTS {
         let fault = fault_of(&rt, rt.alloc(), text);
-        assert_eq!(rt; fault.as_str(), *wanted, "{text}");
+        check_text(&rt, fault.as_str(), wanted, text);
     }
     let memory = format!(in rt.alloc(); "{}", PolicyFault::Memory).expect(&rt, "memory");
-    assert_eq!(rt; memory.as_str(), "memory");
+    check_text(&rt, memory.as_str(), "memory", "memory");
 }
 
 /// Texts in three pieces, the middle one so many times, each with its number behind it where it ends in `#`; and the
@@ -449,11 +450,11 @@ fn repeated(
 
 #[test]
 fn parts_and_bytes_are_counted(rt: HostRuntime) {
-    assert_eq!(rt; MAX_POLICY_BYTES, 1_048_576);
+    check_fact(&rt, MAX_POLICY_BYTES == 1_048_576, "bytes");
     for (front, piece, times, rest, wanted) in COUNTED {
         let text = repeated(&rt, rt.alloc(), front, piece, *times, rest);
         let fault = fault_of(&rt, rt.alloc(), text.as_str());
-        assert_eq!(rt; fault.as_str(), *wanted, "{front}{piece}{times}{rest}");
+        check_text(&rt, fault.as_str(), wanted, piece);
     }
 }
 
@@ -463,7 +464,7 @@ fn every_front_is_answered(rt: HostRuntime) {
     for end in 0..=OFFICE.len() {
         if let Some(front) = OFFICE.get(..end) {
             let fault = fault_of(&rt, rt.alloc(), front);
-            assert!(rt; fault.as_str() != "memory", "{front}");
+            check_fact(&rt, fault.as_str() != "memory", front);
         }
     }
 }

@@ -1,5 +1,6 @@
 //! Scans over several lists in turn: one decision, and all that is granted (RFC 3744, sections 5.4 and 6).
 
+use crate::checks::{check_fact, check_text};
 use crate::entry_lines::{entries, leaves, principal, word};
 use book_lists::{Caller, Circle, GrantScan, Here, Outcome, Pairs, Scan, expand};
 use std::alloc::Global;
@@ -173,7 +174,7 @@ fn decided(rt: &impl Abort, alloc: Global, need: &str, lists: &[(&str, &str)]) -
 fn lists_in_turn_make_one_decision(rt: HostRuntime) {
     for (need, lists, wanted) in DECISIONS {
         let told = decided(&rt, rt.alloc(), need, lists);
-        assert_eq!(rt; told.as_str(), *wanted, "{need}");
+        check_text(&rt, told.as_str(), wanted, need);
     }
 }
 
@@ -221,7 +222,7 @@ fn check_grants(rt: &impl Abort, alloc: Global, lists: &[(&str, &str)], wanted: 
         let here = here(rt, alloc, reader);
         scan.over(list.as_slice(), &circle, &here);
     }
-    assert_eq!(rt; Some(scan.granted()), leaves(wanted), "{wanted}");
+    check_fact(rt, Some(scan.granted()) == leaves(wanted), wanted);
 }
 
 #[test]

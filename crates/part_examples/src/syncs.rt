@@ -4,6 +4,7 @@
 //! bob: `a.vcf` with the label A and the text one, and `b.vcf` with the label B and the text two. Everyone may read the
 //! books, but ann not `b.vcf`: its own list denies it, before the list of `/books` grants it.
 
+use crate::checks::{check_fact, check_text};
 use book_lists::{Caller, Entry, Name, Pairs, Principal, Who};
 use book_office::{
     Book, Changes, Edit, Items, Keeper, MemoryKeeper, NameMap, Office, Properties, StoredCard, Text,
@@ -181,7 +182,7 @@ fn sync<K: Keeper>(
     for item in report.items.as_slice() {
         tell(rt, &mut answer, item);
     }
-    assert!(rt; !report.truncated, "{line}");
+    check_fact(rt, !report.truncated, line);
     let token = report.token.text(alloc).expect(rt, "memory");
     answer.push_str(token.as_str()).expect(rt, "memory");
     answer
@@ -231,7 +232,7 @@ fn take<K: Keeper>(
     wanted: &str,
 ) {
     let told = answer(rt, alloc, keeper, replica, line);
-    assert_eq!(rt; told.as_str(), wanted, "{line}");
+    check_text(rt, told.as_str(), wanted, line);
 }
 
 fn follow(rt: &impl Abort, alloc: Global, steps: &[(&str, &str)]) {

@@ -1,5 +1,6 @@
 //! Sync tokens as texts.
 
+use crate::checks::{check_fact, check_text};
 use crate::lists::{LONGEST, TOO_LONG};
 use book_sync::{Token, texts_tell_tokens};
 use std::alloc::Global;
@@ -11,10 +12,10 @@ fn read(rt: &impl Abort, alloc: Global, text: &str) -> Option<Token> {
 
 fn check_spelled(rt: &impl Abort, alloc: Global, text: &str, book: &str, epoch: u64, number: u64) {
     let token = read(rt, alloc, text).expect(rt, "a token");
-    assert_eq!(rt; token.book.text(), book, "{text}");
-    assert_eq!(rt; (token.epoch, token.number), (epoch, number), "{text}");
+    check_text(rt, token.book.text(), book, text);
+    check_fact(rt, token.epoch == epoch && token.number == number, text);
     let again = token.text(alloc).expect(rt, "memory");
-    assert_eq!(rt; again.as_str(), text);
+    check_text(rt, again.as_str(), text, text);
 }
 
 /// The text of a token tells its parts, and the parts give the text again.
@@ -77,7 +78,7 @@ fn other_texts_spell_no_token(rt: HostRuntime) {
         "data:,/books/sales/2/3",
     ];
     for text in cases {
-        assert!(rt; read(&rt, rt.alloc(), text).is_none(), "{text:?}");
+        check_fact(&rt, read(&rt, rt.alloc(), text).is_none(), text);
     }
 }
 
@@ -87,6 +88,6 @@ fn a_token_names_a_book(rt: HostRuntime) {
     for (name, is_token) in [(LONGEST, true), (TOO_LONG, false)] {
         let text = format!(in rt.alloc(); "data:,{name}/2/3").expect(&rt, "memory");
         let token = read(&rt, rt.alloc(), text.as_str());
-        assert_eq!(rt; token.is_some(), is_token, "{text}");
+        check_fact(&rt, token.is_some() == is_token, text.as_str());
     }
 }

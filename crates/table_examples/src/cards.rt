@@ -1,5 +1,6 @@
 //! Books and cards: MKCOL, PUT, DELETE, PROPPATCH, COPY and MOVE (RFC 4918, section 9; RFC 6578, section 3).
 
+use crate::checks::{check, check_number};
 use crate::row_texts::{changed, children, epoch, gone, node, store};
 use book_rows::{
     add_book, copy_card, label_card, label_node, move_card, put_card, remove_book, remove_card,
@@ -35,17 +36,33 @@ fn put(rt: &impl Abort, connection: &mut Connection<MemStore>, text: &str) {
 fn cards_are_put(rt: HostRuntime) {
     let alloc = rt.alloc();
     let mut connection = books(&rt, alloc);
-    let book = node(&rt, alloc, &mut connection, "/books/law");
-    assert_eq!(rt; book.as_str(), "4 /people/ann \"\" - 1");
-    let card = node(&rt, alloc, &mut connection, "/books/law/a.vcf");
-    assert_eq!(rt; card.as_str(), "5 /people/bob \"\" one 1");
+    check(
+        &rt,
+        node(&rt, alloc, &mut connection, "/books/law"),
+        "4 /people/ann \"\" - 1",
+    );
+    check(
+        &rt,
+        node(&rt, alloc, &mut connection, "/books/law/a.vcf"),
+        "5 /people/bob \"\" one 1",
+    );
     put(&rt, &mut connection, "two");
-    let card = node(&rt, alloc, &mut connection, "/books/law/a.vcf");
-    assert_eq!(rt; card.as_str(), "5 /people/bob \"\" two 2");
-    let late = changed(&rt, alloc, &mut connection, "/books/law", 1);
-    assert_eq!(rt; late.as_str(), "10 /books/law/a.vcf /people/bob . two 2");
-    let none = changed(&rt, alloc, &mut connection, "/books/law", 2);
-    assert_eq!(rt; none.as_str(), "");
+    check(
+        &rt,
+        node(&rt, alloc, &mut connection, "/books/law/a.vcf"),
+        "5 /people/bob \"\" two 2",
+    );
+    check(
+        &rt,
+        changed(&rt, alloc, &mut connection, "/books/law", 1),
+        "10 /books/law/a.vcf /people/bob . two 2",
+    );
+    check(
+        &rt,
+        changed(&rt, alloc, &mut connection, "/books/law", 2),
+        "",
+    );
+    drop(connection);
 }
 
 #[test]
@@ -53,15 +70,24 @@ fn cards_are_removed_and_made_again(rt: HostRuntime) {
     let alloc = rt.alloc();
     let mut connection = books(&rt, alloc);
     remove_card(&mut connection, "/books/law", "/books/law/a.vcf", "a.vcf").expect(&rt, "DELETE");
-    let card = node(&rt, alloc, &mut connection, "/books/law/a.vcf");
-    assert_eq!(rt; card.as_str(), "none");
-    let names = gone(&rt, alloc, &mut connection, "/books/law", 0);
-    assert_eq!(rt; names.as_str(), "a.vcf 2");
+    check(
+        &rt,
+        node(&rt, alloc, &mut connection, "/books/law/a.vcf"),
+        "none",
+    );
+    check(
+        &rt,
+        gone(&rt, alloc, &mut connection, "/books/law", 0),
+        "a.vcf 2",
+    );
     put(&rt, &mut connection, "again");
-    let names = gone(&rt, alloc, &mut connection, "/books/law", 0);
-    assert_eq!(rt; names.as_str(), "");
-    let card = node(&rt, alloc, &mut connection, "/books/law/a.vcf");
-    assert_eq!(rt; card.as_str(), "5 /people/bob \"\" again 3");
+    check(&rt, gone(&rt, alloc, &mut connection, "/books/law", 0), "");
+    check(
+        &rt,
+        node(&rt, alloc, &mut connection, "/books/law/a.vcf"),
+        "5 /people/bob \"\" again 3",
+    );
+    drop(connection);
 }
 
 #[test]
@@ -70,13 +96,17 @@ fn labels_are_set(rt: HostRuntime) {
     let mut connection = books(&rt, alloc);
     label_card(&mut connection, "/books/law", "/books/law/a.vcf", "A").expect(&rt, "PROPPATCH");
     label_node(&mut connection, "/books/law", "Law").expect(&rt, "PROPPATCH");
-    let card = node(&rt, alloc, &mut connection, "/books/law/a.vcf");
-    assert_eq!(rt; card.as_str(), "5 /people/bob \"A\" one 2");
-    let homes = children(&rt, alloc, &mut connection, "/books");
-    assert_eq!(rt;
-        homes.as_str(),
-        "8 /books/law 4 /people/ann Law 2; 9 /books/sales 4 /people/ann . 0"
+    check(
+        &rt,
+        node(&rt, alloc, &mut connection, "/books/law/a.vcf"),
+        "5 /people/bob \"A\" one 2",
     );
+    check(
+        &rt,
+        children(&rt, alloc, &mut connection, "/books"),
+        "8 /books/law 4 /people/ann Law 2; 9 /books/sales 4 /people/ann . 0",
+    );
+    drop(connection);
 }
 
 #[test]
@@ -91,15 +121,20 @@ fn cards_are_copied_and_moved(rt: HostRuntime) {
     );
     let owner = Some("/people/ann");
     copy_card(&mut connection, source, sales, copy, "b.vcf", owner).expect(&rt, "COPY");
-    let card = node(&rt, alloc, &mut connection, copy);
-    assert_eq!(rt; card.as_str(), "5 /people/ann \"\" one 1");
+    check(
+        &rt,
+        node(&rt, alloc, &mut connection, copy),
+        "5 /people/ann \"\" one 1",
+    );
     move_card(&mut connection, law, source, "a.vcf", sales, moved, "c.vcf").expect(&rt, "MOVE");
-    let card = node(&rt, alloc, &mut connection, moved);
-    assert_eq!(rt; card.as_str(), "5 /people/bob \"\" one 2");
-    let names = gone(&rt, alloc, &mut connection, law, 0);
-    assert_eq!(rt; names.as_str(), "a.vcf 2");
-    let card = node(&rt, alloc, &mut connection, source);
-    assert_eq!(rt; card.as_str(), "none");
+    check(
+        &rt,
+        node(&rt, alloc, &mut connection, moved),
+        "5 /people/bob \"\" one 2",
+    );
+    check(&rt, gone(&rt, alloc, &mut connection, law, 0), "a.vcf 2");
+    check(&rt, node(&rt, alloc, &mut connection, source), "none");
+    drop(connection);
 }
 
 #[test]
@@ -107,9 +142,16 @@ fn books_are_removed(rt: HostRuntime) {
     let alloc = rt.alloc();
     let mut connection = books(&rt, alloc);
     remove_book(&mut connection, "/books/law").expect(&rt, "DELETE");
-    let card = node(&rt, alloc, &mut connection, "/books/law/a.vcf");
-    assert_eq!(rt; card.as_str(), "none");
-    let homes = children(&rt, alloc, &mut connection, "/books");
-    assert_eq!(rt; homes.as_str(), "9 /books/sales 4 /people/ann . 0");
-    assert_eq!(rt; epoch(&rt, &mut connection), 1);
+    check(
+        &rt,
+        node(&rt, alloc, &mut connection, "/books/law/a.vcf"),
+        "none",
+    );
+    check(
+        &rt,
+        children(&rt, alloc, &mut connection, "/books"),
+        "9 /books/sales 4 /people/ann . 0",
+    );
+    check_number(&rt, epoch(&rt, &mut connection), 1);
+    drop(connection);
 }

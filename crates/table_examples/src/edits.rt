@@ -1,6 +1,7 @@
 //! The edits, each as one transaction.
 
-use crate::new_tables::{found, name, own_list, path, principal, tables, text};
+use crate::checks::{check, check_number};
+use crate::new_tables::{check_epoch, found, name, own_list, path, principal, tables, text};
 use book_lists::{Entry, Who};
 use book_office::StoreFault;
 use book_rights::{Leaf, LeafSet};
@@ -14,8 +15,11 @@ fn cards_and_books_are_edited(rt: HostRuntime) {
     let (law, a) = (name(&rt, alloc, "law"), name(&rt, alloc, "a.vcf"));
     let (b, c) = (name(&rt, alloc, "b.vcf"), name(&rt, alloc, "c.vcf"));
     tables.add_book(alloc, &law, &None).expect(&rt, "a book");
-    let book = found(&rt, alloc, &mut tables, "/books/law");
-    assert_eq!(rt; book.as_str(), "\"\" - 0");
+    check(
+        &rt,
+        found(&rt, alloc, &mut tables, "/books/law"),
+        "\"\" - 0",
+    );
     for put in ["one", "two"] {
         let put = text(&rt, alloc, put);
         tables
@@ -27,8 +31,12 @@ fn cards_and_books_are_edited(rt: HostRuntime) {
     tables
         .set_label(alloc, &path_of_a, &label)
         .expect(&rt, "a label");
-    let card = found(&rt, alloc, &mut tables, "/books/law/a.vcf");
-    assert_eq!(rt; card.as_str(), "\"Ann\" two 3");
+    drop(path_of_a);
+    check(
+        &rt,
+        found(&rt, alloc, &mut tables, "/books/law/a.vcf"),
+        "\"Ann\" two 3",
+    );
     tables
         .copy_card(alloc, &law, &a, &law, &b, &None)
         .expect(&rt, "a copy");
@@ -42,15 +50,18 @@ fn cards_and_books_are_edited(rt: HostRuntime) {
         ("/books/law/c.vcf", "\"Ann\" two 6"),
         ("/books/law", "\"\" - 7"),
     ] {
-        let there = found(&rt, alloc, &mut tables, at);
-        assert_eq!(rt; there.as_str(), wanted);
+        check(&rt, found(&rt, alloc, &mut tables, at), wanted);
     }
-    assert_eq!(rt; tables.epoch(), Ok(0));
+    check_epoch(&rt, &mut tables, 0);
     tables.remove_book(alloc, &law).expect(&rt, "removed");
-    let card = found(&rt, alloc, &mut tables, "/books/law/c.vcf");
-    assert_eq!(rt; card.as_str(), "none");
-    assert_eq!(rt; tables.epoch(), Ok(1));
-    assert_eq!(rt; tables.failures(), 0);
+    check(
+        &rt,
+        found(&rt, alloc, &mut tables, "/books/law/c.vcf"),
+        "none",
+    );
+    check_epoch(&rt, &mut tables, 1);
+    check_number(&rt, tables.failures(), 0);
+    drop(tables);
 }
 
 #[test]
@@ -76,7 +87,7 @@ fn own_lists_are_written_in_order(rt: HostRuntime) {
         list.push(entry).expect(&rt, "memory");
     }
     tables.set_list(alloc, &books, &list).expect(&rt, "a list");
-    assert_eq!(rt; tables.epoch(), Ok(1));
+    check_epoch(&rt, &mut tables, 1);
     let eve = Entry {
         who: Who::Href(principal(&rt, alloc, "/people/eve")),
         invert: false,
@@ -88,14 +99,15 @@ fn own_lists_are_written_in_order(rt: HostRuntime) {
         tables.set_list(alloc, &books, &list),
         Err(StoreFault::Store)
     );
-    assert_eq!(rt; tables.failures(), 1);
-    assert_eq!(rt; tables.epoch(), Ok(1));
+    check_number(&rt, tables.failures(), 1);
+    check_epoch(&rt, &mut tables, 1);
     let mut connection = tables.release();
-    let rows = own_list(&rt, alloc, &mut connection, "/books");
-    assert_eq!(rt;
-        rows.as_str(),
-        "5 - 1 1 65;1 - 0 0 65;2 - 0 1 65;3 - 1 0 65;4 - 0 0 65;"
+    check(
+        &rt,
+        own_list(&rt, alloc, &mut connection, "/books"),
+        "5 - 1 1 65;1 - 0 0 65;2 - 0 1 65;3 - 1 0 65;4 - 0 0 65;",
     );
+    drop(connection);
 }
 
 #[test]
@@ -111,6 +123,7 @@ fn members_must_be_there(rt: HostRuntime) {
         .expect(&rt, "memory");
     let unknown = tables.set_members(alloc, &staff, &members);
     assert_eq!(rt; unknown, Err(StoreFault::Store));
-    assert_eq!(rt; tables.failures(), 1);
-    assert_eq!(rt; tables.epoch(), Ok(1));
+    check_number(&rt, tables.failures(), 1);
+    check_epoch(&rt, &mut tables, 1);
+    drop(tables);
 }

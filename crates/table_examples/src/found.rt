@@ -1,5 +1,6 @@
 //! What is found of a store that is there: its schema, its version, and its rows.
 
+use crate::checks::check;
 use crate::row_texts::{node, store, whole_rows};
 use book_store::{create, is_book_schema, reopen, says_other_version};
 use sqlite::{Connection, MemStore};
@@ -37,6 +38,7 @@ fn schemas_are_told_apart(rt: HostRuntime) {
         "CREATE VIEW all_nodes AS SELECT path FROM node",
     );
     assert!(rt; !is_book_schema(connection.schema()));
+    drop(connection);
 }
 
 #[test]
@@ -66,6 +68,8 @@ fn versions_are_told_apart(rt: HostRuntime) {
         "INSERT INTO meta (version) VALUES ('new')",
     );
     assert!(rt; is_other(&rt, &mut foreign));
+    drop(connection);
+    drop(foreign);
 }
 
 #[test]
@@ -74,8 +78,15 @@ fn a_store_that_is_opened_again_has_its_rows(rt: HostRuntime) {
     let connection = store(&rt, alloc);
     let mut connection = reopen(alloc, connection).expect(&rt, "an open");
     assert!(rt; is_book_schema(connection.schema()));
-    let staff = node(&rt, alloc, &mut connection, "/groups/staff");
-    assert_eq!(rt; staff.as_str(), "3 - \"\" - 0");
-    let rows = whole_rows(&rt, alloc, &mut connection);
-    assert_eq!(rt; rows.as_str(), "7 nodes, 0 entries, 0 removed, meta 1 0");
+    check(
+        &rt,
+        node(&rt, alloc, &mut connection, "/groups/staff"),
+        "3 - \"\" - 0",
+    );
+    check(
+        &rt,
+        whole_rows(&rt, alloc, &mut connection),
+        "7 nodes, 0 entries, 0 removed, meta 1 0",
+    );
+    drop(connection);
 }

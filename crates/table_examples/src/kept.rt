@@ -1,6 +1,7 @@
 //! An Office over the tables of a new store, and the connection given back.
 
-use crate::new_tables::{name, path, tables};
+use crate::checks::{check, check_number};
+use crate::new_tables::{check_epoch, name, path, tables};
 use crate::row_texts::{children, epoch, node};
 use book_tables::{OpenFault, Tables};
 use book_values::{Kind, Text};
@@ -28,10 +29,13 @@ fn new_tables_keep_a_card(rt: HostRuntime) {
     let found = tables.find(alloc, &at).expect(&rt, "a look-up");
     let found = found.expect(&rt, "the card");
     assert_eq!(rt; found.kind, Kind::Card);
-    assert_eq!(rt; found.text.expect(&rt, "a text").as_str(), "one");
-    assert_eq!(rt; found.number, 1);
-    assert_eq!(rt; tables.epoch().expect(&rt, "the epoch"), 0);
-    assert_eq!(rt; tables.failures(), 0);
+    assert!(rt; found.text.as_ref() == Some(&body));
+    check_number(&rt, found.number, 1);
+    drop(found);
+    drop(at);
+    check_epoch(&rt, &mut tables, 0);
+    check_number(&rt, tables.failures(), 0);
+    drop(tables);
 }
 
 #[test]
@@ -41,11 +45,14 @@ fn a_released_connection_shows_the_rows(rt: HostRuntime) {
     let law = name(&rt, alloc, "law");
     tables.add_book(alloc, &law, &None).expect(&rt, "MKCOL");
     let mut connection = tables.release();
-    let root = node(&rt, alloc, &mut connection, "/");
-    assert_eq!(rt; root.as_str(), "0 - \"\" - 0");
-    let books = children(&rt, alloc, &mut connection, "/books");
-    assert_eq!(rt; books.as_str(), "5 /books/law 4 - . 0");
-    assert_eq!(rt; epoch(&rt, &mut connection), 0);
+    check(&rt, node(&rt, alloc, &mut connection, "/"), "0 - \"\" - 0");
+    check(
+        &rt,
+        children(&rt, alloc, &mut connection, "/books"),
+        "5 /books/law 4 - . 0",
+    );
+    check_number(&rt, epoch(&rt, &mut connection), 0);
+    drop(connection);
 }
 
 #[test]
@@ -55,11 +62,9 @@ fn a_store_with_a_table_is_given_back(rt: HostRuntime) {
     other
         .execute("CREATE TABLE other (name TEXT) STRICT", &[])
         .expect(&rt, "a table");
-    match Tables::create(other) {
-        Ok(_) => assert!(rt; false, "a store that is not empty"),
-        Err((fault, connection)) => {
-            assert_eq!(rt; fault, OpenFault::Store);
-            assert_eq!(rt; connection.schema().tables.len(), 1);
-        }
-    }
+    let refused = Tables::create(other).err();
+    let (fault, connection) = refused.expect(&rt, "a store that is not empty");
+    assert_eq!(rt; fault, OpenFault::Store);
+    assert_eq!(rt; connection.schema().tables.len(), 1);
+    drop(connection);
 }

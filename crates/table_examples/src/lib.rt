@@ -10,6 +10,8 @@
 #[cfg(test)]
 mod cards;
 #[cfg(test)]
+mod checks;
+#[cfg(test)]
 mod edits;
 #[cfg(test)]
 mod found;

@@ -1,5 +1,6 @@
 //! Own lists and members of groups (RFC 3744, sections 8.1 and 4.3).
 
+use crate::checks::{check, check_number};
 use crate::row_texts::{entries_at, entries_of_children, epoch, list, members, store};
 use book_rows::{EntryRow, add_book, set_list, set_members};
 use sqlite::{Connection, Error, MemStore};
@@ -41,26 +42,32 @@ fn own_lists_are_written_in_order(rt: HostRuntime) {
         entry(&rt, alloc, 0, Some("/groups/staff"), false, 30),
     ];
     set(&rt, &mut connection, "/books", &list_of_three);
-    let own = list(&rt, alloc, &mut connection, "/books", false);
-    assert_eq!(rt;
-        own.as_str(),
-        "0 /people/bob 0 1 255; 1 - 0 0 1; 0 /groups/staff 0 0 30"
+    check(
+        &rt,
+        list(&rt, alloc, &mut connection, "/books", false),
+        "0 /people/bob 0 1 255; 1 - 0 0 1; 0 /groups/staff 0 0 30",
     );
-    let protected = list(&rt, alloc, &mut connection, "/books", true);
-    assert_eq!(rt; protected.as_str(), "");
-    assert_eq!(rt; epoch(&rt, &mut connection), 1);
-    let found = entries_at(&rt, alloc, &mut connection, "/books");
-    assert_eq!(rt;
-        found.as_str(),
-        "4 0 0 /people/bob 0 1 255; 4 0 1 - 0 0 1; 4 0 0 /groups/staff 0 0 30"
+    check(&rt, list(&rt, alloc, &mut connection, "/books", true), "");
+    check_number(&rt, epoch(&rt, &mut connection), 1);
+    check(
+        &rt,
+        entries_at(&rt, alloc, &mut connection, "/books"),
+        "4 0 0 /people/bob 0 1 255; 4 0 1 - 0 0 1; 4 0 0 /groups/staff 0 0 30",
     );
-    let none = entries_at(&rt, alloc, &mut connection, "/books/law");
-    assert_eq!(rt; none.as_str(), "");
+    check(
+        &rt,
+        entries_at(&rt, alloc, &mut connection, "/books/law"),
+        "",
+    );
     let list_of_one = [entry(&rt, alloc, 4, None, false, 255)];
     set(&rt, &mut connection, "/books", &list_of_one);
-    let own = list(&rt, alloc, &mut connection, "/books", false);
-    assert_eq!(rt; own.as_str(), "4 - 0 0 255");
-    assert_eq!(rt; epoch(&rt, &mut connection), 2);
+    check(
+        &rt,
+        list(&rt, alloc, &mut connection, "/books", false),
+        "4 - 0 0 255",
+    );
+    check_number(&rt, epoch(&rt, &mut connection), 2);
+    drop(connection);
 }
 
 #[test]
@@ -75,11 +82,15 @@ fn a_list_with_an_unknown_principal_changes_nothing(rt: HostRuntime) {
     );
     let unknown = [entry(&rt, alloc, 0, Some("/people/eve"), false, 1)];
     assert!(rt; set_list(&mut connection, "/books", &unknown).is_err());
-    let own = list(&rt, alloc, &mut connection, "/books", false);
-    assert_eq!(rt; own.as_str(), "1 - 0 0 1");
-    assert_eq!(rt; epoch(&rt, &mut connection), 1);
+    check(
+        &rt,
+        list(&rt, alloc, &mut connection, "/books", false),
+        "1 - 0 0 1",
+    );
+    check_number(&rt, epoch(&rt, &mut connection), 1);
     let none = Err(Error::QueryReturnedNoRows);
     assert_eq!(rt; set_list(&mut connection, "/books/law", &[]), none);
+    drop(connection);
 }
 
 #[test]
@@ -106,11 +117,12 @@ fn entries_of_children_come_by_child_and_place(rt: HostRuntime) {
         "/people",
         &[entry(&rt, alloc, 5, None, false, 2)],
     );
-    let entries = entries_of_children(&rt, alloc, &mut connection, "/books");
-    assert_eq!(rt;
-        entries.as_str(),
-        "8 0 3 - 0 1 128; 9 0 2 - 0 0 1; 9 0 0 /people/ann 0 1 64"
+    check(
+        &rt,
+        entries_of_children(&rt, alloc, &mut connection, "/books"),
+        "8 0 3 - 0 1 128; 9 0 2 - 0 0 1; 9 0 0 /people/ann 0 1 64",
     );
+    drop(connection);
 }
 
 fn texts(rt: &impl Abort, alloc: Global, paths: &[&str]) -> Vec<String> {
@@ -129,17 +141,21 @@ fn groups_get_members(rt: HostRuntime) {
     let mut connection = store(&rt, alloc);
     let both = texts(&rt, alloc, &["/people/ann", "/people/bob"]);
     set_members(&mut connection, "/groups/staff", &both).expect(&rt, "members");
-    let pairs = members(&rt, alloc, &mut connection);
-    assert_eq!(rt;
-        pairs.as_str(),
-        "/groups/staff /people/ann; /groups/staff /people/bob"
+    check(
+        &rt,
+        members(&rt, alloc, &mut connection),
+        "/groups/staff /people/ann; /groups/staff /people/bob",
     );
     let one = texts(&rt, alloc, &["/people/ann"]);
     set_members(&mut connection, "/groups/staff", &one).expect(&rt, "members");
-    let pairs = members(&rt, alloc, &mut connection);
-    assert_eq!(rt; pairs.as_str(), "/groups/staff /people/ann");
-    assert_eq!(rt; epoch(&rt, &mut connection), 2);
+    check(
+        &rt,
+        members(&rt, alloc, &mut connection),
+        "/groups/staff /people/ann",
+    );
+    check_number(&rt, epoch(&rt, &mut connection), 2);
     let twice = texts(&rt, alloc, &["/people/ann", "/people/ann"]);
     assert!(rt; set_members(&mut connection, "/groups/staff", &twice).is_err());
-    assert_eq!(rt; epoch(&rt, &mut connection), 2);
+    check_number(&rt, epoch(&rt, &mut connection), 2);
+    drop(connection);
 }

@@ -31,6 +31,11 @@ pub(crate) fn text(rt: &impl Abort, alloc: Global, text: &str) -> Text {
     Text::copy_of(alloc, text).expect(rt, "memory")
 }
 
+/// The access epoch.
+pub(crate) fn check_epoch(rt: &impl Abort, tables: &mut Tables<MemStore>, wanted: u64) {
+    assert_eq!(rt; tables.epoch(), Ok(wanted));
+}
+
 /// Label, text and change number of what is at a path; `none` where nothing is.
 pub(crate) fn found(
     rt: &impl Abort,

@@ -1,5 +1,6 @@
 //! Opening a store that is there: as it was left, and with rows that are changed by hand.
 
+use crate::checks::check;
 use crate::new_tables::{found, name, tables, text};
 use book_opening::open;
 use book_tables::{OpenFault, Tables};
@@ -33,17 +34,33 @@ fn opened(rt: &impl Abort, alloc: Global, connection: Connection<MemStore>) -> T
     tables.ok().expect(rt, "an Office")
 }
 
+fn name_of(fault: OpenFault) -> &'static str {
+    match fault {
+        OpenFault::OtherVersion => "other-version",
+        OpenFault::NoStore => "no-store",
+        OpenFault::Memory => "memory",
+        OpenFault::Store => "store",
+    }
+}
+
+/// What is told of a store that is opened.
+fn told_of(alloc: Global, connection: Connection<MemStore>) -> &'static str {
+    match open(alloc, connection).err() {
+        None => "opened",
+        Some((fault, connection)) => {
+            drop(connection);
+            name_of(fault)
+        }
+    }
+}
+
 /// What is told of a store in which statements were run.
 fn told(alloc: Global, mut connection: Connection<MemStore>, sql: &str) -> &'static str {
-    if connection.execute_batch(sql).is_err() {
-        return "refused";
-    }
-    match open(alloc, connection) {
-        Ok(_) => "opened",
-        Err((OpenFault::OtherVersion, _)) => "other-version",
-        Err((OpenFault::NoStore, _)) => "no-store",
-        Err((OpenFault::Memory, _)) => "memory",
-        Err((OpenFault::Store, _)) => "store",
+    if connection.execute_batch(sql).is_ok() {
+        told_of(alloc, connection)
+    } else {
+        drop(connection);
+        "refused"
     }
 }
 
@@ -201,8 +218,11 @@ fn rows_of_no_office_are_no_store(rt: HostRuntime) {
 fn a_store_is_opened_as_it_was_left(rt: HostRuntime) {
     let alloc = rt.alloc();
     let mut tables = opened(&rt, alloc, law(&rt, alloc));
-    let book = found(&rt, alloc, &mut tables, "/books/law");
-    assert_eq!(rt; book.as_str(), "\"\" - 3");
+    check(
+        &rt,
+        found(&rt, alloc, &mut tables, "/books/law"),
+        "\"\" - 3",
+    );
     let (law, card) = (name(&rt, alloc, "law"), name(&rt, alloc, "a.vcf"));
     let content = text(&rt, alloc, "two");
     let put = tables.put_card(alloc, &law, &card, &None, &content);
@@ -211,7 +231,7 @@ fn a_store_is_opened_as_it_was_left(rt: HostRuntime) {
         ("/books/law/a.vcf", "\"\" two 4"),
         ("/books/law/b.vcf", "\"\" one 2"),
     ] {
-        let there = found(&rt, alloc, &mut tables, at);
-        assert_eq!(rt; there.as_str(), wanted);
+        check(&rt, found(&rt, alloc, &mut tables, at), wanted);
     }
+    drop(tables);
 }

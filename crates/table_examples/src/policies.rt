@@ -1,5 +1,6 @@
 //! Adopting a policy (own profile): nodes, lists and members in one transaction.
 
+use crate::checks::{check, check_number};
 use crate::row_texts::{children, entries_at, epoch, list, members, store};
 use book_rows::{EntryRow, GroupRow, ListsRow, PlaceRow, adopt};
 use sqlite::Error;
@@ -67,25 +68,39 @@ fn a_policy_is_adopted(rt: HostRuntime) {
         members: both.expect(&rt, "memory"),
     }];
     adopt(&mut connection, &places, &lists, &groups).expect(&rt, "a policy");
-    let persons = children(&rt, alloc, &mut connection, "/people");
-    assert_eq!(rt;
-        persons.as_str(),
-        "5 /people/ann 2 - Ann 0; 6 /people/bob 2 - . 0; 8 /people/eve 2 - Eve 0"
+    check(
+        &rt,
+        children(&rt, alloc, &mut connection, "/people"),
+        "5 /people/ann 2 - Ann 0; 6 /people/bob 2 - . 0; 8 /people/eve 2 - Eve 0",
     );
-    let books = children(&rt, alloc, &mut connection, "/books");
-    assert_eq!(rt; books.as_str(), "9 /books/law 4 /people/eve Law 0");
-    let protected = list(&rt, alloc, &mut connection, "/books/law", true);
-    assert_eq!(rt; protected.as_str(), "4 - 0 0 255");
-    let own = list(&rt, alloc, &mut connection, "/books/law", false);
-    assert_eq!(rt; own.as_str(), "3 - 0 1 1");
-    let found = entries_at(&rt, alloc, &mut connection, "/books/law");
-    assert_eq!(rt; found.as_str(), "9 0 3 - 0 1 1; 9 1 4 - 0 0 255");
-    let pairs = members(&rt, alloc, &mut connection);
-    assert_eq!(rt;
-        pairs.as_str(),
-        "/groups/staff /people/ann; /groups/staff /people/eve"
+    check(
+        &rt,
+        children(&rt, alloc, &mut connection, "/books"),
+        "9 /books/law 4 /people/eve Law 0",
     );
-    assert_eq!(rt; epoch(&rt, &mut connection), 1);
+    check(
+        &rt,
+        list(&rt, alloc, &mut connection, "/books/law", true),
+        "4 - 0 0 255",
+    );
+    check(
+        &rt,
+        list(&rt, alloc, &mut connection, "/books/law", false),
+        "3 - 0 1 1",
+    );
+    check(
+        &rt,
+        entries_at(&rt, alloc, &mut connection, "/books/law"),
+        "9 0 3 - 0 1 1; 9 1 4 - 0 0 255",
+    );
+    check(
+        &rt,
+        members(&rt, alloc, &mut connection),
+        "/groups/staff /people/ann; /groups/staff /people/eve",
+    );
+    check_number(&rt, epoch(&rt, &mut connection), 1);
+    drop((places, lists, groups));
+    drop(connection);
 }
 
 #[test]
@@ -111,10 +126,12 @@ fn a_policy_that_names_nobody_changes_nothing(rt: HostRuntime) {
     }];
     let none = Err(Error::QueryReturnedNoRows);
     assert_eq!(rt; adopt(&mut connection, &places[..1], &lists, &[]), none);
-    let persons = children(&rt, alloc, &mut connection, "/people");
-    assert_eq!(rt;
-        persons.as_str(),
-        "5 /people/ann 2 - . 0; 6 /people/bob 2 - . 0"
+    check(
+        &rt,
+        children(&rt, alloc, &mut connection, "/people"),
+        "5 /people/ann 2 - . 0; 6 /people/bob 2 - . 0",
     );
-    assert_eq!(rt; epoch(&rt, &mut connection), 0);
+    check_number(&rt, epoch(&rt, &mut connection), 0);
+    drop((places, lists));
+    drop(connection);
 }

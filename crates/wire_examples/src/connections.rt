@@ -161,6 +161,7 @@ fn check_served(rt: &(impl Abort + AllocGlobal), doors: &Doors<'_>, row: &Row<'_
     let mut machine = machine(rt, alloc, POLICY);
     let mut errors = Vec::new(alloc);
     let served = serve_connections(alloc, &mut machine, doors, count, &mut errors);
+    drop(machine);
     assert_eq!(rt; served.ok(), sound);
     assert_eq!(rt; errors.as_slice(), told.as_bytes());
 }

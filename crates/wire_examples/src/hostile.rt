@@ -1,7 +1,7 @@
 //! Hostile requests, each on a connection and to a machine of its own: nothing is changed.
 
 use crate::offices::{POLICY, WHOLE, answered};
-use crate::streams::has_changes;
+use crate::streams::check_answer;
 use crate::texts::{Pieces, written};
 use book_wire::{Ended, Served};
 use std::alloc::Global;
@@ -116,9 +116,7 @@ const STAYING: &[(Pieces<'static>, &str)] = &[
 fn check(rt: &impl Abort, alloc: Global, pieces: Pieces<'_>, wanted: &str, served: Served) {
     let input = written(rt, alloc, pieces);
     let answer = answered(rt, alloc, POLICY, input.as_str().as_bytes(), WHOLE);
-    assert_eq!(rt; answer.text.as_str(), wanted);
-    assert_eq!(rt; answer.served, Ok(served), "{wanted:?}");
-    assert!(rt; has_changes(rt, alloc, &answer, 0), "{wanted:?}");
+    check_answer(rt, alloc, &answer, wanted, served, 0);
 }
 
 /// What is no request is not counted.

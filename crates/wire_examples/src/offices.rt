@@ -44,6 +44,7 @@ pub(crate) fn machine(rt: &impl Abort, alloc: Global, policy: &str) -> Machine<M
         .adopt(alloc, &policy)
         .ok()
         .expect(rt, "room for the policy");
+    drop(policy);
     machine
 }
 
@@ -163,6 +164,7 @@ pub(crate) fn answered(
     let mut machine = machine(rt, alloc, policy);
     let (text, ended) = served(rt, alloc, &mut machine, input, cutting);
     let (token, _) = served(rt, alloc, &mut machine, TOKEN.as_bytes(), WHOLE);
+    drop(machine);
     Outcome {
         text,
         served: ended,

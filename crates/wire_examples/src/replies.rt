@@ -38,7 +38,9 @@ fn nothing_is_listed_and_changes_remain(rt: HostRuntime) {
     let alloc = rt.alloc();
     let text = listing_body(alloc, &[]).expect(&rt, "memory");
     assert_eq!(rt; text.as_str(), "{\"responses\":[]}");
-    let text = report_body(alloc, &cut_report(&rt, alloc)).expect(&rt, "memory");
+    let report = cut_report(&rt, alloc);
+    let text = report_body(alloc, &report).expect(&rt, "memory");
+    drop(report);
     assert_eq!(rt;
         text.as_str(),
         "{\"responses\":[{\"href\":\"/books/sales/f.vcf\",\"status\":404},{\"href\":\"/books/sales\",\"status\":507}],\"sync-token\":\"data:,sales/2/2\"}"

@@ -75,7 +75,7 @@ const ROWS: &[Row<'static>] = &[
 ];
 
 /// Whether the reply to the question for the token of the book of sales tells so many changes.
-pub(crate) fn has_changes(rt: &impl Abort, alloc: Global, answer: &Outcome, number: u64) -> bool {
+fn has_changes(rt: &impl Abort, alloc: Global, answer: &Outcome, number: u64) -> bool {
     let end = format!(in alloc; "\"data:,sales/1/{number}\"}},\"status\":200}}]}}");
     answer
         .token
@@ -83,12 +83,37 @@ pub(crate) fn has_changes(rt: &impl Abort, alloc: Global, answer: &Outcome, numb
         .ends_with(end.expect(rt, "memory").as_str())
 }
 
+/// How the stream ends, and how many changes the book of sales has afterwards.
+fn check_end(
+    rt: &impl Abort,
+    alloc: Global,
+    answer: &Outcome,
+    served: Result<Served, StreamFault>,
+    changes: u64,
+) {
+    let text = answer.text.as_str();
+    assert_eq!(rt; answer.served, served, "{text:?}");
+    assert!(rt; has_changes(rt, alloc, answer, changes), "{text:?}");
+}
+
+/// The same, and what is written.
+pub(crate) fn check_answer(
+    rt: &impl Abort,
+    alloc: Global,
+    answer: &Outcome,
+    text: &str,
+    served: Served,
+    changes: u64,
+) {
+    assert_eq!(rt; answer.text.as_str(), text);
+    check_end(rt, alloc, answer, Ok(served), changes);
+}
+
 fn check(rt: &impl Abort, alloc: Global, row: &Row<'_>, cutting: Cutting) {
     let (input, output, requests, ended, changes) = *row;
     let answer = answered(rt, alloc, POLICY, input.as_bytes(), cutting);
-    assert_eq!(rt; answer.text.as_str(), output, "{input:?}");
-    assert_eq!(rt; answer.served, Ok(Served { requests, ended }), "{input:?}");
-    assert!(rt; has_changes(rt, alloc, &answer, changes), "{input:?}");
+    let served = Served { requests, ended };
+    check_answer(rt, alloc, &answer, output, served, changes);
 }
 
 #[test]
@@ -114,12 +139,18 @@ const OTHER_BYTES: &[u8] =
 fn other_bytes_and_fronts_change_nothing(rt: HostRuntime) {
     let alloc = rt.alloc();
     let answer = answered(&rt, alloc, POLICY, OTHER_BYTES, WHOLE);
-    assert_eq!(rt;
-        answer.text.as_str(),
-        "HTTP/1.1 400 Bad Request\r\nContent-Type: application/json\r\nContent-Length: 26\r\n\r\n{\"error\":\"unknown-caller\"}HTTP/1.1 400 Bad Request\r\nContent-Type: application/json\r\nContent-Length: 23\r\n\r\n{\"error\":\"bad-request\"}"
+    let served = Served {
+        requests: 2,
+        ended: Ended::Clean,
+    };
+    check_answer(
+        &rt,
+        alloc,
+        &answer,
+        "HTTP/1.1 400 Bad Request\r\nContent-Type: application/json\r\nContent-Length: 26\r\n\r\n{\"error\":\"unknown-caller\"}HTTP/1.1 400 Bad Request\r\nContent-Type: application/json\r\nContent-Length: 23\r\n\r\n{\"error\":\"bad-request\"}",
+        served,
+        0,
     );
-    let ended = Ended::Clean;
-    assert_eq!(rt; answer.served, Ok(Served { requests: 2, ended }));
     for (length, _) in CUT.as_bytes().iter().enumerate() {
         let front = &CUT.as_bytes()[..length];
         let answer = answered(&rt, alloc, POLICY, front, WHOLE);
@@ -135,6 +166,20 @@ const THREE_CARDS: &str =
 /// Their replies, of 43 bytes.
 const THREE_CREATED: &str =
     "HTTP/1.1 201 Created\r\nContent-Length: 0\r\n\r\nHTTP/1.1 201 Created\r\nContent-Length: 0\r\n\r\nHTTP/1.1 201 Created\r\nContent-Length: 0\r\n\r\n";
+
+/// So many bytes of their replies are written, the stream ends so, and the book of sales has so many changes.
+fn check_front(
+    rt: &impl Abort,
+    alloc: Global,
+    answer: &Outcome,
+    length: usize,
+    served: Result<Served, StreamFault>,
+    changes: u64,
+) {
+    assert!(rt; THREE_CREATED.starts_with(answer.text.as_str()));
+    assert_eq!(rt; answer.text.len(), length);
+    check_end(rt, alloc, answer, served, changes);
+}
 
 const ALL_THREE: Result<Served, StreamFault> = Ok(Served {
     requests: 3,
@@ -152,10 +197,7 @@ fn fronts_act_by_their_whole_requests(rt: HostRuntime) {
             requests: whole as u64,
             ended: if more == 0 { Ended::Clean } else { Ended::Cut },
         };
-        assert_eq!(rt; answer.served, Ok(served), "{length}");
-        assert!(rt; THREE_CREATED.starts_with(answer.text.as_str()));
-        assert_eq!(rt; answer.text.len(), 43 * whole, "{length}");
-        assert!(rt; has_changes(&rt, alloc, &answer, whole as u64), "{length}");
+        check_front(&rt, alloc, &answer, 43 * whole, Ok(served), whole as u64);
     }
 }
 
@@ -193,13 +235,9 @@ fn reads_and_writes_fail(rt: HostRuntime) {
             writes: *writes,
         };
         let answer = answered(&rt, alloc, POLICY, THREE_CARDS.as_bytes(), cutting);
-        assert!(rt; THREE_CREATED.starts_with(answer.text.as_str()));
-        assert_eq!(rt; answer.text.len(), *written);
-        assert_eq!(rt; answer.served, *served);
-        assert!(rt; has_changes(&rt, alloc, &answer, *acted));
+        check_front(&rt, alloc, &answer, *written, *served, *acted);
     }
     let full = Cutting { write: 0, ..WHOLE };
     let answer = answered(&rt, alloc, POLICY, THREE_CARDS.as_bytes(), full);
-    assert_eq!(rt; answer.served, Err(StreamFault::Write));
-    assert!(rt; has_changes(&rt, alloc, &answer, 1));
+    check_end(&rt, alloc, &answer, Err(StreamFault::Write), 1);
 }

@@ -61,6 +61,7 @@ fn asked(rt: &impl Abort, alloc: Global, text: &str, is_target: bool) -> String 
     } else {
         path_in(alloc, &router, text)
     };
+    drop(router);
     match path.expect(rt, "memory") {
         Some(path) => path.text(alloc).expect(rt, "memory"),
         None => String::from_str(alloc, "-").expect(rt, "memory"),

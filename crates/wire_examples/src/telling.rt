@@ -139,5 +139,6 @@ pub(crate) fn told(rt: &impl Abort, alloc: Global, method: &str, bytes: &[u8]) -
     let body = body_of(alloc, method, bytes).expect(rt, "memory");
     let mut answer = String::new(alloc);
     tell(rt, &mut answer, &body);
+    drop(body);
     answer
 }

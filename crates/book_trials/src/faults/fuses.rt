@@ -16,11 +16,13 @@ fn is_answered<K: Keeper>(
     turn: &Turn,
 ) -> Result<bool, Failure> {
     let answer = turn.question.ask(alloc, machine);
-    if answer.is_unavailable() {
-        return Ok(false);
-    }
-    turn.check_answer(alloc, &answer)?;
-    Ok(true)
+    let checked = if answer.is_unavailable() {
+        Ok(false)
+    } else {
+        turn.check_answer(alloc, &answer).map(|()| true)
+    };
+    drop(answer);
+    checked
 }
 
 /// How many turns are answered before the first that is unavailable. Each answer is that of the run.
@@ -94,18 +96,29 @@ fn failed_turns<K: Keeper>(
 }
 
 /// Checks what the keeper behind a fuse has.
-fn check_behind(alloc: Global, keeper: MemoryKeeper, left: &[Turn]) -> Result<(), Failure> {
+fn check_behind<K: Keeper + Drop>(alloc: Global, keeper: K, left: &[Turn]) -> Result<(), Failure> {
     let mut machine = Machine::new(keeper);
     check_kept(alloc, &mut machine, left)
 }
 
+/// How many turns of the list are unavailable over a keeper, and the keeper.
+fn failed_over<K: Keeper + Drop>(
+    alloc: Global,
+    keeper: K,
+    turns: &[Turn],
+) -> Result<(usize, K), Failure> {
+    let mut machine = Machine::new(keeper);
+    let failed = failed_turns(alloc, &mut machine, turns)?;
+    Ok((failed, machine.release()))
+}
+
 /// The list behind a fuse that passes so many calls on. How many turns were unavailable.
 fn unavailable_behind(alloc: Global, turns: &[Turn], calls: u64) -> Result<usize, Failure> {
-    let mut machine = Machine::new(Fused::new(MemoryKeeper::new(alloc), calls));
-    let failed = failed_turns(alloc, &mut machine, turns)?;
+    let keeper = Fused::new(MemoryKeeper::new(alloc), calls);
+    let (failed, keeper) = failed_over(alloc, keeper, turns)?;
     let answered = turns.len().saturating_sub(failed);
     let left = turns.get(answered..).unwrap_or(&[]);
-    check_behind(alloc, machine.release().into_inner(), left)?;
+    check_behind(alloc, keeper.into_inner(), left)?;
     Ok(failed)
 }
 

@@ -72,7 +72,9 @@ fn outcome_of<K: Keeper>(
     refuse(alloc, number)?;
     let answer = turn.question.ask(alloc, machine);
     let refused = was_refused(alloc);
-    judged(alloc, machine, turn, &answer, refused)
+    let outcome = judged(alloc, machine, turn, &answer, refused);
+    drop(answer);
+    outcome
 }
 
 /// A turn after others, in which that request for memory is refused. What was unavailable is answered as in the run when it
@@ -101,7 +103,9 @@ fn refused_in_last(alloc: Global, turns: &[Turn], number: usize) -> Result<Outco
         return Ok(Outcome::NotRefused);
     };
     let mut machine = Machine::new(MemoryKeeper::new(alloc));
-    refused_after(alloc, &mut machine, others, turn, number)
+    let outcome = refused_after(alloc, &mut machine, others, turn, number);
+    drop(machine);
+    outcome
 }
 
 /// More requests for memory than a turn makes.

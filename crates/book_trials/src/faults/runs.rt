@@ -63,7 +63,10 @@ impl Turn {
         alloc: Global,
         machine: &mut Machine<K>,
     ) -> Result<(), Failure> {
-        self.check_answer(alloc, &self.question.ask(alloc, machine))
+        let answer = self.question.ask(alloc, machine);
+        let checked = self.check_answer(alloc, &answer);
+        drop(answer);
+        checked
     }
 }
 
@@ -83,15 +86,22 @@ fn told_of<K: Keeper>(
 fn taken<K: Keeper>(alloc: Global, machine: &mut Machine<K>, line: Line) -> Result<Turn, Failure> {
     let (step, number, word) = line;
     let question = Question::of(alloc, step)?;
-    let (before, answer, after) = told_of(alloc, machine, &question)?;
-    let is_right = answer.number == number && answer.word == word;
-    Ok(Turn {
-        question,
-        before,
-        answer,
-        after,
-        is_right,
-    })
+    match told_of(alloc, machine, &question) {
+        Ok((before, answer, after)) => {
+            let is_right = answer.number == number && answer.word == word;
+            Ok(Turn {
+                question,
+                before,
+                answer,
+                after,
+                is_right,
+            })
+        }
+        Err(failure) => {
+            drop(question);
+            Err(failure)
+        }
+    }
 }
 
 fn take_part<K: Keeper>(

@@ -54,10 +54,12 @@ impl Question {
         machine: &mut Machine<K>,
     ) -> Result<Told, AllocError> {
         let answer = self.ask(alloc, machine);
+        let (text, number, word) = (answer.text(alloc), answer.number(), answer.word());
+        drop(answer);
         Ok(Told {
-            text: answer.text(alloc)?,
-            number: answer.number(),
-            word: answer.word(),
+            text: text?,
+            number,
+            word,
         })
     }
 
@@ -67,7 +69,10 @@ impl Question {
         alloc: Global,
         machine: &mut Machine<K>,
     ) -> bool {
-        self.ask(alloc, machine).is_unavailable()
+        let answer = self.ask(alloc, machine);
+        let is_unavailable = answer.is_unavailable();
+        drop(answer);
+        is_unavailable
     }
 
     /// Asks the machine.

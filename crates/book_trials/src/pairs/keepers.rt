@@ -1,6 +1,6 @@
 //! The keepers: in memory, in tables in memory, and in tables on two disks behind a cache, as the program serves.
 
-use crate::disks::{Store, files_of, new_tables, tables_of};
+use crate::disks::{Store, created, files_of, new_store, opened, store_of};
 use crate::pairs::questions::questions;
 use crate::pairs::steps::{Step, replies_to, run};
 use anyhow::{Result, bail};
@@ -8,8 +8,7 @@ use book_audit::audit_text;
 use book_cache::Cached;
 use book_machine::Machine;
 use book_office::{Keeper, MemoryKeeper};
-use book_tables::Tables;
-use sqlite::Connection;
+use sqlite::{Alter, Connection};
 use std::alloc::Global;
 
 /// The seeds of the opens of a store on disks, in turn.
@@ -36,11 +35,17 @@ fn left_in<K: Keeper + Drop>(alloc: Global, mut keeper: K) -> Result<String> {
     Ok(text)
 }
 
+/// What the steps tell over a keeper of an empty Office, and the keeper.
+fn run_over<K: Keeper + Drop>(alloc: Global, keeper: K, steps: &[Step]) -> Result<(String, K)> {
+    let mut machine = Machine::new(keeper);
+    let told = run(alloc, &mut machine, steps)?;
+    Ok((told, machine.release()))
+}
+
 /// What a keeper of an empty Office tells.
 fn told_by<K: Keeper + Drop>(alloc: Global, keeper: K, steps: &[Step]) -> Result<Told> {
-    let mut machine = Machine::new(keeper);
-    let steps = run(alloc, &mut machine, steps)?;
-    let left = left_in(alloc, machine.release())?;
+    let (steps, keeper) = run_over(alloc, keeper, steps)?;
+    let left = left_in(alloc, keeper)?;
     Ok(Told { steps, left })
 }
 
@@ -48,24 +53,40 @@ pub(crate) fn told_by_memory(alloc: Global, steps: &[Step]) -> Result<Told> {
     told_by(alloc, MemoryKeeper::new(alloc), steps)
 }
 
-pub(crate) fn told_by_tables(alloc: Global, steps: &[Step]) -> Result<Told> {
-    match Tables::create(Connection::open_in_memory(alloc)?) {
-        Ok(tables) => told_by(alloc, tables, steps),
-        Err(_) => bail!("a store is not founded"),
-    }
+/// What the tables of a new store tell.
+fn told_over<S: Alter + Drop>(alloc: Global, store: Connection<S>, steps: &[Step]) -> Result<Told> {
+    told_by(alloc, created(store)?, steps)
 }
 
-/// The tables after the disks were closed, and opened again.
-fn reopened(alloc: Global, tables: Tables<Store>) -> Result<Tables<Store>> {
-    tables_of(alloc, files_of(tables)?, SEEDS[1])
+pub(crate) fn told_by_tables(alloc: Global, steps: &[Step]) -> Result<Told> {
+    told_over(alloc, Connection::open_in_memory(alloc)?, steps)
+}
+
+/// What the steps tell over the tables of a new store behind a cache, and the store.
+fn run_behind_cache<S: Alter + Drop>(
+    alloc: Global,
+    store: Connection<S>,
+    steps: &[Step],
+) -> Result<(String, Connection<S>)> {
+    let cached = Cached::new(alloc, created(store)?);
+    let (told, cached) = run_over(alloc, cached, steps)?;
+    Ok((told, cached.into_inner().release()))
+}
+
+/// What is told of the Office of a store behind a cache.
+fn left_behind_cache<S: Alter + Drop>(alloc: Global, store: Connection<S>) -> Result<String> {
+    left_in(alloc, Cached::new(alloc, opened(alloc, store)?))
+}
+
+/// The store after its disks were closed, and opened again.
+fn reopened(alloc: Global, store: Connection<Store>) -> Result<Connection<Store>> {
+    store_of(alloc, files_of(store)?, SEEDS[1])
 }
 
 /// What tables on two disks behind a cache tell; of the Office that they left, after the disks were closed and opened
 /// again.
 pub(crate) fn told_by_disks(alloc: Global, steps: &[Step]) -> Result<Told> {
-    let mut machine = Machine::new(Cached::new(alloc, new_tables(alloc, SEEDS[0])?));
-    let steps = run(alloc, &mut machine, steps)?;
-    let tables = reopened(alloc, machine.release().into_inner())?;
-    let left = left_in(alloc, Cached::new(alloc, tables))?;
+    let (steps, store) = run_behind_cache(alloc, new_store(alloc, SEEDS[0])?, steps)?;
+    let left = left_behind_cache(alloc, reopened(alloc, store)?)?;
     Ok(Told { steps, left })
 }

@@ -55,7 +55,9 @@ fn adopted<K: Keeper>(alloc: Global, machine: &mut Machine<K>, policy: &str) -> 
     let Ok(policy) = read_policy(alloc, policy) else {
         bail!("a policy is faulty");
     };
-    let Ok(adopted) = machine.adopt(alloc, &policy) else {
+    let adopted = machine.adopt(alloc, &policy);
+    drop(policy);
+    let Ok(adopted) = adopted else {
         bail!("a policy is not adopted");
     };
     let text = format!(in alloc; "changed {}, epoch {}\n", adopted.changed, adopted.epoch)?;

@@ -76,7 +76,7 @@ pub(crate) struct Case {
 }
 
 /// Every kind.
-pub(crate) const CASES: [Case; 16] = [
+pub(crate) const CASES: &[Case] = &[
     Case {
         name: "put-new",
         plan: Plan::Put(("law", "e.vcf"), "five"),
@@ -150,6 +150,11 @@ pub(crate) const CASES: [Case; 16] = [
 impl Case {
     /// The kind with this name; none where there is none.
     pub(crate) fn named(word: &str) -> Option<Case> {
-        CASES.into_iter().find(|case| case.name == word)
+        for case in CASES {
+            if case.name == word {
+                return Some(*case);
+            }
+        }
+        None
     }
 }

@@ -17,7 +17,9 @@ pub(crate) struct Texts {
 /// Makes an edit.
 fn act<K: Keeper>(alloc: Global, keeper: &mut K, plan: Plan) -> Result<()> {
     let edit = plan.edit(alloc)?;
-    keeper.act(alloc, &edit).ok().context("an edit")
+    let made = keeper.act(alloc, &edit).ok();
+    drop(edit);
+    made.context("an edit")
 }
 
 /// Makes the Office at the start of an empty one.
@@ -40,5 +42,7 @@ fn texts_by<K: Keeper>(alloc: Global, keeper: &mut K, edit: &Edit) -> Result<Tex
 /// The Office at the start and the one after an edit, as a keeper in memory tells them.
 pub(crate) fn wanted_texts(alloc: Global, edit: &Edit) -> Result<Texts> {
     let mut keeper = MemoryKeeper::new(alloc);
-    texts_by(alloc, &mut keeper, edit)
+    let texts = texts_by(alloc, &mut keeper, edit);
+    drop(keeper);
+    texts
 }

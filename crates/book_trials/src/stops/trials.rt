@@ -1,8 +1,8 @@
 //! The stops of an edit, each tried once.
 
 use crate::disks::{
-    Disk, Side, Store, close, connect, crash, files_of, fused_files, is_spent, kept_files,
-    new_tables, tables_of,
+    Disk, Side, Store, close, connect, crash, created, files_of, fused_files, is_spent, kept_files,
+    new_store, opened, store_of,
 };
 use crate::offices::office_text;
 use crate::stops::counts::{Count, Left};
@@ -11,7 +11,7 @@ use crate::stops::texts::{Texts, make_start, wanted_texts};
 use anyhow::{Result, bail, ensure};
 use book_office::{Edit, Keeper};
 use book_tables::Tables;
-use sqlite::Connection;
+use sqlite::{Alter, Connection};
 use sqlite_disk::Files;
 use std::alloc::Global;
 
@@ -29,15 +29,16 @@ struct Trial {
     is_done: bool,
 }
 
-/// Makes the Office at the start over new tables.
-fn filled(alloc: Global, mut tables: Tables<Store>) -> Result<Files<Disk>> {
+/// Makes the Office at the start over a new store.
+fn filled<S: Alter + Drop>(alloc: Global, store: Connection<S>) -> Result<Connection<S>> {
+    let mut tables = created(store)?;
     make_start(alloc, &mut tables)?;
-    files_of(tables)
+    Ok(tables.release())
 }
 
 /// The files of a store with the Office at the start.
 pub(crate) fn start_files(alloc: Global) -> Result<Files<Disk>> {
-    filled(alloc, new_tables(alloc, SEEDS[0])?)
+    files_of(filled(alloc, new_store(alloc, SEEDS[0])?)?)
 }
 
 /// Whether the keeper makes the edit.
@@ -45,11 +46,21 @@ fn is_made<K: Keeper>(alloc: Global, keeper: &mut K, edit: &Edit) -> bool {
     keeper.act(alloc, edit).is_ok()
 }
 
-/// Makes the edit over a store that was opened, and closes it.
-fn edited(alloc: Global, connection: Connection<Store>, edit: &Edit) -> Trial {
+/// Makes the edit over a store: the store, and whether the edit is made.
+fn made_over<S: Alter + Drop>(
+    alloc: Global,
+    connection: Connection<S>,
+    edit: &Edit,
+) -> (Connection<S>, bool) {
     let mut tables = Tables::over(connection);
     let is_done = is_made(alloc, &mut tables, edit);
-    let (files, _) = close(tables.release());
+    (tables.release(), is_done)
+}
+
+/// Makes the edit over a store that was opened, and closes it.
+fn edited(alloc: Global, connection: Connection<Store>, edit: &Edit) -> Trial {
+    let (connection, is_done) = made_over(alloc, connection, edit);
+    let (files, _) = close(connection);
     Trial { files, is_done }
 }
 
@@ -67,22 +78,28 @@ fn tried(alloc: Global, files: Files<Disk>, edit: &Edit) -> Trial {
 /// An Office as a text, and the files of its store.
 type Told = Option<(String, Files<Disk>)>;
 
-/// The Office of the tables, and their files after they were closed.
-fn told_by(alloc: Global, mut tables: Tables<Store>) -> Told {
+/// The Office of the store, and the store.
+fn told_over<S: Alter + Drop>(
+    alloc: Global,
+    store: Connection<S>,
+) -> Option<(String, Connection<S>)> {
+    let mut tables = opened(alloc, store).ok()?;
     let text = office_text(alloc, &mut tables).ok()?;
-    let files = files_of(tables).ok()?;
-    Some((text, files))
+    Some((text, tables.release()))
 }
 
-/// The same of the tables that the files give; none where they give no tables.
+/// The Office of the store that the files have, and its files; none where they have none, or it does not close.
 fn told(alloc: Global, files: Files<Disk>, seed: u64) -> Told {
-    told_by(alloc, tables_of(alloc, files, seed).ok()?)
+    let (text, store) = told_over(alloc, store_of(alloc, files, seed).ok()?)?;
+    let files = files_of(store).ok()?;
+    Some((text, files))
 }
 
 /// The Office that the files tell after a stop, and again after a restart; none where they tell none, or another again.
 fn told_twice(alloc: Global, files: Files<Disk>) -> Option<String> {
     let (text, files) = told(alloc, files, SEEDS[2])?;
-    let (again, _) = told(alloc, files, SEEDS[3])?;
+    let (again, files) = told(alloc, files, SEEDS[3])?;
+    drop(files);
     if again == text { Some(text) } else { None }
 }
 
@@ -104,11 +121,12 @@ fn judged(texts: &Texts, is_done: bool, told: Option<String>) -> Left {
 /// What a trial left: as the program stopped, and as the machine did.
 fn left_by(alloc: Global, texts: &Texts, trial: Trial) -> Result<Count> {
     let Trial { mut files, is_done } = trial;
-    let mut count = Count::none();
-    let kept = kept_files(alloc, &files)?;
-    count.add(judged(texts, is_done, told_twice(alloc, kept)));
+    let kept = kept_files(alloc, &files);
     crash(&mut files);
-    count.add(judged(texts, is_done, told_twice(alloc, files)));
+    let lost = judged(texts, is_done, told_twice(alloc, files));
+    let mut count = Count::none();
+    count.add(judged(texts, is_done, told_twice(alloc, kept?)));
+    count.add(lost);
     Ok(count)
 }
 
@@ -151,5 +169,7 @@ fn stops_judged(alloc: Global, start: &Files<Disk>, edit: &Edit) -> Result<Count
 /// The stops of an edit of the Office at the start.
 pub(crate) fn stops_of(alloc: Global, start: &Files<Disk>, plan: Plan) -> Result<Count> {
     let edit = plan.edit(alloc)?;
-    stops_judged(alloc, start, &edit)
+    let count = stops_judged(alloc, start, &edit);
+    drop(edit);
+    count
 }
