@@ -120,6 +120,7 @@ fn ask_children<K: Keeper>(
     for child in children.as_slice() {
         tell_child(rt, alloc, answer, child);
     }
+    drop(children);
 }
 
 fn tell_level(rt: &impl Abort, alloc: Global, answer: &mut String, level: &Level) {
@@ -147,6 +148,7 @@ fn ask_lists<K: Keeper>(
     for level in lists.levels.as_slice() {
         tell_level(rt, alloc, answer, level);
     }
+    drop(lists);
 }
 
 fn ask_effective<K: Keeper>(
@@ -193,6 +195,7 @@ fn ask_changes<K: Keeper>(
     for change in changes.as_slice() {
         tell_change(rt, answer, change);
     }
+    drop(changes);
 }
 
 fn belongs<K: Keeper>(

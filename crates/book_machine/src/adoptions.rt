@@ -89,7 +89,9 @@ impl<K: Keeper> Machine<K> {
         let edit = Edit::Adopt {
             policy: policy.clone()?,
         };
-        self.keeper.act(alloc, &edit)?;
+        let made = self.keeper.act(alloc, &edit);
+        drop(edit);
+        made?;
         Ok(adopted)
     }
 }

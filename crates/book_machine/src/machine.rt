@@ -23,7 +23,7 @@ use crate::asked::{Asked, asked_of, copy_of_entry};
 use crate::entries_in_force::{judge, protected_in};
 use crate::messages::{Content, Patch, Reply, Request};
 use crate::plans::{Plan, Ready, Target};
-use crate::refusals::{Refusal, refused};
+use crate::refusals::{Refusal, refuse, refused};
 use crate::stages::{
     acl_plan, allow_plan, can_change, card_plan, check_card, check_kind, check_suits, copy_of,
     copy_plan, delete_plan, is_young, list_refusal, mkcol_plan, move_plan, patch_plan, path_of,
@@ -620,8 +620,12 @@ impl<K: Keeper> Machine<K> {
         ensures { StageAsks K.standing self.old self.new result
             (λ o r. IsTarget o ready.target → MeetsAny (IsGrantedPlan o circle.now ready) r) }
     {
-        self.check_body(alloc, &ready.asked, &ready.target.path)?;
-        self.check_limits(alloc, &ready.asked, &ready.target)?;
+        if let Err(refusal) = self.check_body(alloc, &ready.asked, &ready.target.path) {
+            return refuse(ready, refusal);
+        }
+        if let Err(refusal) = self.check_limits(alloc, &ready.asked, &ready.target) {
+            return refuse(ready, refusal);
+        }
         self.success(alloc, circle, ready)
     }
 
@@ -636,8 +640,12 @@ impl<K: Keeper> Machine<K> {
             (λ o r. MeetsPlan o (option_copied name.entry) request.now r) }
     {
         let ready = self.ready(alloc, name, request)?;
-        let circle = self.keeper.circle(alloc, &ready.caller)?;
-        self.check_needs(alloc, &circle, &ready)?;
+        let Ok(circle) = self.keeper.circle(alloc, &ready.caller) else {
+            return refuse(ready, Refusal::Unavailable);
+        };
+        if let Err(refusal) = self.check_needs(alloc, &circle, &ready) {
+            return refuse(ready, refusal);
+        }
         self.granted(alloc, &circle, ready)
     }
 
@@ -657,10 +665,17 @@ impl<K: Keeper> Machine<K> {
             Err(refusal) => refused(refusal),
             Ok(Plan { reply, edit }) => match edit {
                 None => reply,
-                Some(edit) => match self.keeper.act(alloc, &edit) {
-                    Ok(()) => reply,
-                    Err(_) => refused(Refusal::Unavailable),
-                },
+                Some(edit) => {
+                    let made = self.keeper.act(alloc, &edit);
+                    drop(edit);
+                    match made {
+                        Ok(()) => reply,
+                        Err(_) => {
+                            drop(reply);
+                            refused(Refusal::Unavailable)
+                        }
+                    }
+                }
             },
         }
     }

@@ -1,6 +1,6 @@
 //! Why a request is refused.
 
-ghost use Rattle.std.specs.Prelude.{◌≡◌};
+ghost use Rattle.std.specs.Prelude.{◌≡◌, IsErrAnd};
 ghost use Rattle.book_machine.specs.Refusals.{refused, refusal_name, status_of};
 ghost use Rattle.book_machine.specs.declared.refusals.Refusal.TheVariants.{Unavailable};
 
@@ -114,6 +114,13 @@ impl Refusal {
             Refusal::Unavailable => "unavailable",
         }
     }
+}
+
+/// A refusal. What was got ready is let go here, and not at each place that refuses.
+pub(crate) fn refuse<T: Drop, A>(_unneeded: T, refusal: Refusal) -> Result<A, Refusal>
+    ensures { IsErrAnd result (λ e. e ≡ refusal) }
+{
+    Err(refusal)
 }
 
 /// The reply to a refused request.

@@ -156,15 +156,15 @@ move_node path destination parent number rows = record rows { nodes = update_whe
 
 -- ---- the writes of an edit
 
--- the card's row gets the text, or a row is added
-abbrev pub write_card : Value → Bool → List ℕ → Option (List ℕ) → List ℕ → ℕ → Rows → Rows
-write_card id false at owner text number rows = insert_node at id 5 owner [] (Some text) number rows
-write_card id true at owner text number rows = set_text at text number rows
+-- the card's row gets the text, or a row is added and its name is no removed one
+abbrev pub write_card : Value → Bool → List ℕ → List ℕ → Option (List ℕ) → List ℕ → ℕ → Rows → Rows
+write_card id false at name owner text number rows = delete_gone_name id name (insert_node at id 5 owner [] (Some text) number rows)
+write_card id true at name owner text number rows = set_text at text number rows
 
--- PUT of a card under the book whose row has a number: the card is written, its name is no removed one, and the book has the change number
+-- PUT of a card under the book whose row has a number: the card is written, and the book has the change number
 abbrev pub put_card : Value → Bool → List ℕ → List ℕ → List ℕ → Option (List ℕ) → List ℕ → ℕ → Rows → Rows
 put_card id is_mapped book_path card_path name owner text number rows =
-    set_number book_path number (delete_gone_name id name (write_card id is_mapped card_path owner text number rows))
+    set_number book_path number (write_card id is_mapped card_path name owner text number rows)
 
 -- the cards of a book, and what refers to them
 abbrev pub remove_cards : Value → Rows → Rows
@@ -187,15 +187,15 @@ add_book home path owner rows = insert_node path home 4 owner [] None 0 rows
 abbrev pub label_card : List ℕ → List ℕ → List ℕ → ℕ → Rows → Rows
 label_card book_path card_path label number rows = set_number book_path number (set_label card_path label number rows)
 
--- the card's row gets label and text, or a row is added
-abbrev pub write_copy : Value → Bool → List ℕ → Option (List ℕ) → List ℕ → List ℕ → ℕ → Rows → Rows
-write_copy id false at owner label text number rows = insert_node at id 5 owner label (Some text) number rows
-write_copy id true at owner label text number rows = set_copy at label text number rows
+-- the card's row gets label and text, or a row is added and its name is no removed one
+abbrev pub write_copy : Value → Bool → List ℕ → List ℕ → Option (List ℕ) → List ℕ → List ℕ → ℕ → Rows → Rows
+write_copy id false at name owner label text number rows = delete_gone_name id name (insert_node at id 5 owner label (Some text) number rows)
+write_copy id true at name owner label text number rows = set_copy at label text number rows
 
--- COPY into the book whose row has a number: the card is written, its name is no removed one, and the book has the change number
+-- COPY into the book whose row has a number: the card is written, and the book has the change number
 abbrev pub put_copy : Value → Bool → List ℕ → List ℕ → List ℕ → Option (List ℕ) → List ℕ → List ℕ → ℕ → Rows → Rows
 put_copy id is_mapped book_path card_path name owner label text number rows =
-    set_number book_path number (delete_gone_name id name (write_copy id is_mapped card_path owner label text number rows))
+    set_number book_path number (write_copy id is_mapped card_path name owner label text number rows)
 
 -- a card that is there is taken out with its entries
 abbrev pub clear_at : Option Row → Rows → Rows

@@ -13,12 +13,14 @@ use crate::cards::{delete_gone_name, set_copy, set_number};
 use crate::nodes::{CARD, LAST_NUMBER, insert_node, look_up};
 use sqlite::{Alter, Connection, Error, ErrorCode, Transaction};
 
-/// The card's row gets the label and the text, or a row is added under the book with a number.
+/// The card's row gets the label and the text, or a row is added under the book with a number and its name is taken out of
+/// the removed ones.
 fn write_copy<'x, S: Alter>(
     transaction: &mut Transaction<'_, S>,
     book: i64,
     is_mapped: bool,
     path: &'x str,
+    name: &str,
     owner: Option<&'x str>,
     label: &'x str,
     text: &'x str,
@@ -30,7 +32,8 @@ fn write_copy<'x, S: Alter>(
         (λ _. ⊥) }
     ensures kept { Keeps (state S.Store transaction.old.conn.now) (state S.Store transaction.new.conn.now) }
     ensures done { Writes (state S.Store transaction.old.conn.now) (state S.Store transaction.new.conn.now) result
-        (writes.write_copy (Int book) is_mapped path.now (option_copied owner.entry) label.now text.now number) }
+        (writes.write_copy (Int book) is_mapped path.now name.now (option_copied owner.entry) label.now text.now
+        number) }
 {
     if is_mapped {
         return set_copy(transaction, path, label, text, number);
@@ -44,10 +47,11 @@ fn write_copy<'x, S: Alter>(
         label,
         Some(text),
         number,
-    )
+    )?;
+    delete_gone_name(transaction, book, name)
 }
 
-/// Writes a copy, takes its name out of the removed ones, and gives its book the change number.
+/// Writes a copy, and gives its book the change number.
 fn write_put_copy<'x, S: Alter>(
     transaction: &mut Transaction<'_, S>,
     book: i64,
@@ -74,12 +78,12 @@ fn write_put_copy<'x, S: Alter>(
         book,
         is_mapped,
         card_path,
+        name,
         owner,
         label,
         text,
         number,
     )?;
-    delete_gone_name(transaction, book, name)?;
     set_number(transaction, book_path, number)
 }
 

@@ -13,12 +13,14 @@ use crate::cards::{delete_gone_name, set_number, set_text};
 use crate::nodes::{CARD, LAST_NUMBER, insert_node, look_up};
 use sqlite::{Alter, Connection, Error, ErrorCode, Transaction};
 
-/// The card's row gets the text, or a row is added under the book with a number.
+/// The card's row gets the text, or a row is added under the book with a number and its name is taken out of the removed
+/// ones.
 fn write_card<'x, S: Alter>(
     transaction: &mut Transaction<'_, S>,
     book: i64,
     is_mapped: bool,
     path: &'x str,
+    name: &str,
     owner: Option<&'x str>,
     text: &'x str,
     number: u64,
@@ -29,15 +31,16 @@ fn write_card<'x, S: Alter>(
         (λ _. ⊥) }
     ensures kept { Keeps (state S.Store transaction.old.conn.now) (state S.Store transaction.new.conn.now) }
     ensures done { Writes (state S.Store transaction.old.conn.now) (state S.Store transaction.new.conn.now) result
-        (writes.write_card (Int book) is_mapped path.now (option_copied owner.entry) text.now number) }
+        (writes.write_card (Int book) is_mapped path.now name.now (option_copied owner.entry) text.now number) }
 {
     if is_mapped {
         return set_text(transaction, path, text, number);
     }
-    insert_node(transaction, path, book, CARD, owner, "", Some(text), number)
+    insert_node(transaction, path, book, CARD, owner, "", Some(text), number)?;
+    delete_gone_name(transaction, book, name)
 }
 
-/// Writes a card, takes its name out of the removed ones, and gives its book the change number.
+/// Writes a card, and gives its book the change number.
 fn write_put<'x, S: Alter>(
     transaction: &mut Transaction<'_, S>,
     book: i64,
@@ -58,8 +61,16 @@ fn write_put<'x, S: Alter>(
         (writes.put_card (Int book) is_mapped book_path.now card_path.now name.now (option_copied owner.entry)
         text.now number) }
 {
-    write_card(transaction, book, is_mapped, card_path, owner, text, number)?;
-    delete_gone_name(transaction, book, name)?;
+    write_card(
+        transaction,
+        book,
+        is_mapped,
+        card_path,
+        name,
+        owner,
+        text,
+        number,
+    )?;
     set_number(transaction, book_path, number)
 }
 

@@ -1,19 +1,63 @@
 //! A run of the program over a store, or over memory.
 
-ghost use Rattle.std.specs.Prelude.{◌≡◌};
+ghost use Rattle.std.specs.Prelude.{◌≡◌, ◌≢◌};
 ghost use Rattle.std.specs.Io.KnownBytes.{Keeps};
 ghost use Rattle.sqlite.specs.Held.{state};
 ghost use Rattle.book_runs.specs.Runs.{Runs, RunsIn, RunsOver, standing_in};
 ghost use Rattle.book_tables.specs.declared.tables.Tables.{Tables};
-ghost use Rattle.book_work.specs.Tasks.{Performs};
+ghost use Rattle.book_work.specs.Tasks.{EndsPipe, Performs, PipesAfter};
 
 use crate::stores::open_store;
+use book_cache::Cached;
 use book_machine::Machine;
+use book_policies::Policy;
 use book_tables::Tables;
-use book_work::{Failure, Task, Work, perform, perform_in_memory, task_of, tell};
+use book_work::{
+    Failure, Task, Work, adopt_given, perform, perform_in_memory, pipe, task_of, tell,
+};
 use sqlite::{Alter, Connection};
 use std::alloc::Global;
 use std::io::{Read, Write};
+
+/// Serves the requests that the reader gives over the tables, as `pipe`, and gives them back. What most requests ask of them
+/// is remembered meanwhile.
+fn pipe_over<S: Alter + Drop, R: Read, W: Write, E: Write>(
+    alloc: Global,
+    tables: Tables<S>,
+    reader: &mut R,
+    writer: &mut W,
+    errors: &mut E,
+) -> (u8, Tables<S>)
+    ensures ends { EndsPipe (standing_in (state S.Store) (λ t. t.connection) (λ t. t.failures) tables)
+        (R.remaining reader.old) (R.remaining reader.new) (W.contents writer.old) (W.contents writer.new) result.0
+        (standing_in (state S.Store) (λ t. t.connection) (λ t. t.failures) result.1) }
+    ensures silent { result.0 ≢ 3 → Keeps (E.contents errors.old) (E.contents errors.new) }
+{
+    let mut machine = Machine::new(Cached::new(alloc, tables));
+    let status = pipe(alloc, &mut machine, reader, writer, errors);
+    (status, machine.release().into_inner())
+}
+
+/// Adopts the policy over the tables, if one is given, then serves the requests that the reader gives, and gives the tables
+/// back. Nothing is read or written where the policy was not adopted.
+fn pipe_after<S: Alter + Drop, R: Read, W: Write, E: Write>(
+    alloc: Global,
+    policy: &Option<Policy>,
+    tables: Tables<S>,
+    reader: &mut R,
+    writer: &mut W,
+    errors: &mut E,
+) -> (u8, Tables<S>)
+    ensures ends { PipesAfter (standing_in (state S.Store) (λ t. t.connection) (λ t. t.failures)) policy.now tables
+        (R.remaining reader.old) (R.remaining reader.new) (W.contents writer.old) (W.contents writer.new) result.0 result.1 }
+    ensures silent { result.0 ≡ 0 → Keeps (E.contents errors.old) (E.contents errors.new) }
+{
+    let mut machine = Machine::new(tables);
+    match adopt_given(alloc, &mut machine, policy) {
+        Ok(()) => pipe_over(alloc, machine.release(), reader, writer, errors),
+        Err(failure) => (tell(errors, &failure), machine.release()),
+    }
+}
 
 /// Does the task over the tables, as `perform`, and gives them back.
 fn perform_over<S: Alter + Drop, R: Read, W: Write, E: Write>(
@@ -28,9 +72,14 @@ fn perform_over<S: Alter + Drop, R: Read, W: Write, E: Write>(
         (R.remaining reader.old) (R.remaining reader.new) (W.contents writer.old) (W.contents writer.new) result.0 result.1 }
     ensures silent { result.0 ≡ 0 → Keeps (E.contents errors.old) (E.contents errors.new) }
 {
-    let mut machine = Machine::new(tables);
-    let status = perform(alloc, task, &mut machine, reader, writer, errors);
-    (status, machine.release())
+    match task {
+        Task::Pipe(policy) => pipe_after(alloc, policy, tables, reader, writer, errors),
+        Task::Import(_) | Task::Audit => {
+            let mut machine = Machine::new(tables);
+            let status = perform(alloc, task, &mut machine, reader, writer, errors);
+            (status, machine.release())
+        }
+    }
 }
 
 /// Does the task over the tables of a store. The connection comes back where they were had.

@@ -5,6 +5,8 @@ use Rattle.sqlite.specs.declared.types.Value.TheVariants.{Int}
 use Rattle.sqlite.specs.Edit.{id_in}
 use Rattle.sqlite.specs.Order.{Row, column}
 use Rattle.sqlite.specs.Tree.{rowid}
+use Rattle.sqlite_trees.specs.View.{IsShaped}
+use Rattle.sqlite_trees.specs.declared.store.Shape.TheVariants.{Table as TableShape}
 use Rattle.book_lists.specs.Names.{IsName}
 use Rattle.book_values.specs.declared.offices.Book.{Book}
 use Rattle.book_values.specs.declared.offices.StoredCard.{StoredCard}
@@ -58,6 +60,14 @@ not_gone rows o gives b c named book_row found book there card its =
     (sym (ap (removed_from rows.gone c) found) ∙ gives.gone b c named
     ∙ ap (option_and_then (λ (k : Book). unless_mapped (get k.cards c) (get k.changes.last c))) there ∙ ap (λ r. unless_mapped r (get book.changes.last c)) its)
 
+-- so no removed name is deleted where the card's is
+pub none_gone : (rows : Rows) (o : Office) → Gives rows o → IsShaped TableShape rows.nodes → (b c : List ℕ) → IsName b → IsName c → (book_row : Row) → row_at rows (book_path b) ≡ Some book_row
+    → (book : Book) → get o.books b ≡ Some book → (card : StoredCard) → get book.cards c ≡ Some card → delete_where (writes.is_gone (Int (id_in (rowid book_row))) c) rows.gone ≡ rows.gone
+none_gone rows o gives shaped b c named named_c book_row found book there card its =
+    none_deleted (writes.is_gone (Int (id_in (rowid book_row))) c) rows.gone
+    (ap (λ v. find (writes.is_gone v c) rows.gone) (sym (written.book_id_is rows o gives shaped b c book there named named_c book_row found))
+    ∙ not_gone rows o gives b c named book_row found book there card its)
+
 -- ---- PUT
 
 module _ (b c : List ℕ) (owner : Option (List ℕ)) (text : List ℕ) where
@@ -84,13 +94,15 @@ module _ (b c : List ℕ) (owner : Option (List ℕ)) (text : List ℕ) where
       by_option (get book.cards c)
       (λ no_card. some_apart (sym (ap (option_map (resource_of rows.entries)) found) ∙ told ∙ ap (option_map (card_resource (number_of book c))) no_card))
       (λ card its.
-      let rows_are = made.rows_are ∙ (λ i. writes.put_card (Int (id_in (rowid made.book))) (is_some (found i)) (book_path b) (card_path b c) c owner text (at.number i) rows) in
       let n = book.changes.number + 1 in
       let alike : written.AreAlike n (writes.with_text text n) (with_text text) = record {
         columns = record { id = λ r. refl; path = λ r. refl; parent = λ r. refl; kind = λ r. refl; number = λ r. refl };
         resource = λ entries r k (card : StoredCard) is. ap (λ (r : Resource). record r { text = Some text; number = n }) is;
       } in
       let gives = written.gives_old rows o given.gives given.nodes.shaped b c book there at.named named_c made.book made.there old found card its (writes.with_text text n) (with_text text) alike in
+      let stays = none_gone rows o given.gives given.nodes.shaped b c at.named named_c made.book made.there book there card its in
+      let rows_are = made.rows_are
+      ∙ (λ i. writes.put_card (Int (id_in (rowid made.book))) (is_some (found i)) (book_path b) (card_path b c) c owner text (at.number i) (record rows { gone = sym stays i })) in
       subst (λ r. Gives r (apply o (PutCard b c owner text))) (sym rows_are) (subst (Gives _) (placed_put o book there (Some card) its) gives))))
 
   pub puts_card : GivesEdited (PutCard b c owner text) (putting_card (book_path b) (card_path b c) c owner text)
@@ -150,13 +162,15 @@ module _ (from_book from_card b c : List ℕ) (owner : Option (List ℕ)) where
       by_option (get book.cards c)
       (λ no_card. some_apart (sym (ap (option_map (resource_of rows.entries)) found) ∙ told ∙ ap (option_map (card_resource (number_of book c))) no_card))
       (λ card its.
-      let rows_are = made.rows_are ∙ (λ i. writes.put_copy (Int (id_in (rowid made.book))) (is_some (found i)) (book_path b) (card_path b c) c owner (label i) (text i) (at.number i) rows) in
       let n = book.changes.number + 1 in
       let alike : written.AreAlike n (writes.with_copy source.label source.text n) (relabelled source.label source.text) = record {
         columns = record { id = λ r. refl; path = λ r. refl; parent = λ r. refl; kind = λ r. refl; number = λ r. refl };
         resource = λ entries r k (card : StoredCard) is. ap (λ (r : Resource). record r { label = source.label; text = Some source.text; number = n }) is;
       } in
       let gives = written.gives_old rows o given.gives given.nodes.shaped b c book there at.named named_c made.book made.there old found card its (writes.with_copy source.label source.text n) (relabelled source.label source.text) alike in
+      let stays = none_gone rows o given.gives given.nodes.shaped b c at.named named_c made.book made.there book there card its in
+      let rows_are = made.rows_are
+      ∙ (λ i. writes.put_copy (Int (id_in (rowid made.book))) (is_some (found i)) (book_path b) (card_path b c) c owner (label i) (text i) (at.number i) (record rows { gone = sym stays i })) in
       subst (λ r. Gives r o') (sym rows_are) (subst (Gives _) (placed_copy o book there source source_is (Some card) its) gives)))))
 
   pub copies_card : GivesEdited (CopyCard from_book from_card b c owner) (copying_card source_path (book_path b) (card_path b c) c owner)
@@ -195,11 +209,8 @@ module _ (b c label : List ℕ) where
         resource = λ entries r k (card : StoredCard) is. ap (λ (r : Resource). record r { label = label; number = n }) is;
       } in
       let gives = written.gives_old rows o given.gives given.nodes.shaped b c book there at.named named_c made.book made.there old found card its (writes.with_label label n) (card_labelled label) alike in
-      let id_is = written.book_id_is rows o given.gives given.nodes.shaped b c book there at.named named_c made.book made.there in
-      let none_gone : delete_where (writes.is_gone (Int (id_in (rowid made.book))) c) rows.gone ≡ rows.gone =
-      none_deleted (writes.is_gone (Int (id_in (rowid made.book))) c) rows.gone
-      (ap (λ v. find (writes.is_gone v c) rows.gone) (sym id_is) ∙ not_gone rows o given.gives b c at.named made.book made.there book there card its) in
-      let rows_are = made.rows_are ∙ (λ i. writes.label_card (book_path b) (card_path b c) label (at.number i) (record rows { gone = sym none_gone i })) in
+      let stays = none_gone rows o given.gives given.nodes.shaped b c at.named named_c made.book made.there book there card its in
+      let rows_are = made.rows_are ∙ (λ i. writes.label_card (book_path b) (card_path b c) label (at.number i) (record rows { gone = sym stays i })) in
       subst (λ r. Gives r o') (sym rows_are) (subst (Gives _) placed gives))))
 
   pub labels_card : GivesEdited (SetLabel (path.Card b c) label) (labelling_card (book_path b) (card_path b c) label)

@@ -10,9 +10,9 @@ returns-in_default g c = answers_full _ _ _ c.in_ok-adopted.field-0 c.in_default
 pub returns-in_err-clone : goal.returns-in_err-clone
 returns-in_err-clone g c = unavailable_on _ _ _ c.from_residual-in_err-clone.result c.from_residual-in_err-clone.ensures.1 (answers_asked _ _ _ _ c.in_ok-adopted.ensures)
 
-pub returns-in_err-act : goal.returns-in_err-act
-returns-in_err-act g c = unavailable_on _ _ _ c.from_residual-in_err-act.result c.from_residual-in_err-act.ensures.1
-    (answers_fault _ _ _ _ c.known.ensures c.in_ok-adopted.field-0 c.in-Some.adopted c.in-Some.is c.in_ok-adopted.ensures _ c.in_ok-clone.ensures.cases c.in_err-act.field-0.0 c.in_err-act.ensures)
+pub returns-in_err-made : goal.returns-in_err-made
+returns-in_err-made g c = unavailable_on _ _ _ c.from_residual-in_err-made.result c.from_residual-in_err-made.ensures.1
+    (answers_fault _ _ _ _ c.known.ensures c.in_ok-adopted.field-0 c.in-Some.adopted c.in-Some.is c.in_ok-adopted.ensures _ c.in_ok-clone.ensures.cases c.in_err-made.field-0.0 c.in_err-made.ensures)
 
 pub returns : goal.returns
-returns g c = answers_made _ _ _ _ c.known.ensures c.in_ok-adopted.field-0 c.in-Some.adopted c.in-Some.is c.in_ok-adopted.ensures _ c.in_ok-clone.ensures.cases c.in_ok-act.field-0 c.in_ok-act.ensures
+returns g c = answers_made _ _ _ _ c.known.ensures c.in_ok-adopted.field-0 c.in-Some.adopted c.in-Some.is c.in_ok-adopted.ensures _ c.in_ok-clone.ensures.cases c.in_ok-made.field-0 c.in_ok-made.ensures

@@ -7,18 +7,18 @@ use Rattle.book_machine.specs.Stages.{limits_of, IsBodyAnswer, IsGrantedPlan, Is
 use Rattle.book_machine.specs.Verdicts.{IsTarget}
 use Rattle.book_machine.proofs.machine.Machine.granted.Goals as goal
 
-pub returns-in_err-check_body : goal.returns-in_err-check_body
-returns-in_err-check_body g c = asks_refused _ _ c.in_err-check_body.field-0.0 c.from_residual.result _ _ c.in_err-check_body.ensures c.from_residual.ensures.1
-    (λ o stands told there. refused_by_body o c.args.circle.now c.args.ready c.in_err-check_body.field-0.0 told)
+pub returns-in-Err : goal.returns-in-Err
+returns-in-Err g c = asks_refused _ _ c.in-Err.refusal c.refuse.result _ _ c.in-Err.ensures c.refuse.ensures
+    (λ o stands told there. refused_by_body o c.args.circle.now c.args.ready c.in-Err.refusal told)
 
-pub returns-in_err-check_limits : goal.returns-in_err-check_limits
-returns-in_err-check_limits g c =
+pub returns-in-Err-check_limits : goal.returns-in-Err-check_limits
+returns-in-Err-check_limits g c =
     let ready = c.args.ready in
-    let e = c.in_err-check_limits.field-0.0 in
-    asked_refused _ _ _ e c.from_residual-in_err-check_limits.result _ (λ o r. Meets r (limits_of o ready.asked ready.target))
+    let e = c.in-Err-check_limits.refusal in
+    asked_refused _ _ _ e c.refuse-in-Err-check_limits.result _ (λ o r. Meets r (limits_of o ready.asked ready.target))
     (λ o r. IsTarget o ready.target → MeetsAny (IsGrantedPlan o c.args.circle.now ready) r)
-    (asked_first _ _ c.in_ok-check_body.field-0 (λ o r. MeetsAny (IsBodyAnswer o ready.asked ready.target.path) r) c.in_ok-check_body.ensures)
-    c.in_err-check_limits.ensures c.from_residual-in_err-check_limits.ensures.1
+    (asked_first _ _ c.in_default.field-0 (λ o r. MeetsAny (IsBodyAnswer o ready.asked ready.target.path) r) c.in_default.ensures)
+    c.in-Err-check_limits.ensures c.refuse-in-Err-check_limits.ensures
     (λ o accepted told there. refused_by_limits o c.args.circle.now ready e accepted told)
 
 pub returns : goal.returns
@@ -28,8 +28,8 @@ returns g c =
     let r = c.success.result in
     asks_then _ _ _ tt r (λ o x. IsBodyAnswer o ready.asked ready.target.path (Ok tt) × (limits_of o ready.asked ready.target ≡ Ok tt))
     (λ o x. IsTarget o ready.target → MeetsAny (IsSuccess o circle ready) x) (λ o x. IsTarget o ready.target → MeetsAny (IsGrantedPlan o circle ready) x)
-    (one_more_asked _ _ _ c.in_ok-check_limits.field-0 _ (λ o. IsBodyAnswer o ready.asked ready.target.path (Ok tt) × (limits_of o ready.asked ready.target ≡ Ok tt)) (λ o x. Meets x (limits_of o ready.asked ready.target))
-    (asked_first _ _ c.in_ok-check_body.field-0 (λ o x. MeetsAny (IsBodyAnswer o ready.asked ready.target.path) x) c.in_ok-check_body.ensures)
-    c.in_ok-check_limits.ensures (λ o accepted room. (accepted, room)))
+    (one_more_asked _ _ _ c.in_default-check_limits.field-0 _ (λ o. IsBodyAnswer o ready.asked ready.target.path (Ok tt) × (limits_of o ready.asked ready.target ≡ Ok tt)) (λ o x. Meets x (limits_of o ready.asked ready.target))
+    (asked_first _ _ c.in_default.field-0 (λ o x. MeetsAny (IsBodyAnswer o ready.asked ready.target.path) x) c.in_default.ensures)
+    c.in_default-check_limits.ensures (λ o accepted room. (accepted, room)))
     c.success.ensures
     (λ o stands told meets there. granted_after_limits o circle ready r told.0 told.1 (meets there))

@@ -8,73 +8,73 @@ use Rattle.book_machine.specs.declared.refusals.Refusal.TheVariants.{Unavailable
 use Rattle.book_office.specs.Keeping.{one_more}
 use Rattle.book_machine.proofs.machine.Machine.plan.Goals as goal
 
-pub returns-in_err-circle : goal.returns-in_err-circle
-returns-in_err-circle g c =
-    let is = c.from_residual-in_err-circle.ensures.1 in
-    let r = c.from_residual-in_err-circle.result in
+pub returns-in_default : goal.returns-in_default
+returns-in_default g c =
+    let is = c.refuse.ensures in
+    let r = c.refuse.result in
     record {
-      was_honest = λ h. c.in_ok-ready.ensures.was_honest (c.in_err-circle.ensures.was_honest h);
+      was_honest = λ h. c.in_ok-ready.ensures.was_honest (c.in_default.ensures.was_honest h);
       tells = λ h o stands. refused_on r Unavailable (λ x. MeetsPlan o (option_copied c.args.name) c.args.request.now x) is (inl refl);
-      kept = λ h o stands. c.in_err-circle.ensures.kept h o (c.in_ok-ready.ensures.kept (c.in_err-circle.ensures.was_honest h) o stands);
-      left = λ h x left. c.in_ok-ready.ensures.left (c.in_err-circle.ensures.was_honest h) x (c.in_err-circle.ensures.left h x left);
+      kept = λ h o stands. c.in_default.ensures.kept h o (c.in_ok-ready.ensures.kept (c.in_default.ensures.was_honest h) o stands);
+      left = λ h x left. c.in_ok-ready.ensures.left (c.in_default.ensures.was_honest h) x (c.in_default.ensures.left h x left);
       counted = refused_on r Unavailable (λ x. Counted {A = Plan} x (g.K.Keeper.standing c.args.self.now.keeper).failures (g.K.Keeper.standing c.circle.new.self).failures) is
-          (elim (failed_once c.in_err-circle.field-0.0 _ _ c.in_err-circle.ensures.counted) [
+          (elim (failed_once c.in_default.field-0 _ _ c.in_default.ensures.counted) [
             | inl same ↦ inl (same ∙ c.in_ok-ready.ensures.counted)
             | inr failed ↦ inr (refl, failed ∙ ap one_more c.in_ok-ready.ensures.counted)
           ]);
     }
 
-pub returns-in_err-check_needs : goal.returns-in_err-check_needs
-returns-in_err-check_needs g c =
-    let e = c.in_err-check_needs.field-0.0 in
-    let is = c.from_residual-in_err-check_needs.ensures.1 in
-    let r = c.from_residual-in_err-check_needs.result in
+pub returns-in-Err : goal.returns-in-Err
+returns-in-Err g c =
+    let e = c.in-Err.refusal in
+    let is = c.refuse-in-Err.ensures in
+    let r = c.refuse-in-Err.result in
     record {
-      was_honest = λ h. c.in_ok-ready.ensures.was_honest (c.in_ok-circle.ensures.was_honest (c.in_err-check_needs.ensures.was_honest h));
+      was_honest = λ h. c.in_ok-ready.ensures.was_honest (c.in-Ok.ensures.was_honest (c.in-Err.ensures.was_honest h));
       tells = λ h o stands.
-          let h2 = c.in_err-check_needs.ensures.was_honest h in
-          let h1 = c.in_ok-circle.ensures.was_honest h2 in
+          let h2 = c.in-Err.ensures.was_honest h in
+          let h1 = c.in-Ok.ensures.was_honest h2 in
           let s1 = c.in_ok-ready.ensures.kept h1 o stands in
-          let s2 = c.in_ok-circle.ensures.kept h2 o s1 in
+          let s2 = c.in-Ok.ensures.kept h2 o s1 in
           let ready_is = c.in_ok-ready.ensures.tells h1 o stands in
           refused_on r e (λ x. MeetsPlan o (option_copied c.args.name) c.args.request.now x) is
-          (refused_by_needs o (option_copied c.args.name) c.args.request.now c.in_ok-ready.ready ready_is _ (c.in_ok-circle.ensures.value h2 o s1) e
-          (c.in_err-check_needs.ensures.tells h o s2 (target_of_ready o (option_copied c.args.name) c.args.request.now c.in_ok-ready.ready ready_is)));
+          (refused_by_needs o (option_copied c.args.name) c.args.request.now c.in_ok-ready.ready ready_is _ (c.in-Ok.ensures.value h2 o s1) e
+          (c.in-Err.ensures.tells h o s2 (target_of_ready o (option_copied c.args.name) c.args.request.now c.in_ok-ready.ready ready_is)));
       kept = λ h o stands.
-          let h2 = c.in_err-check_needs.ensures.was_honest h in
-          let h1 = c.in_ok-circle.ensures.was_honest h2 in
-          c.in_err-check_needs.ensures.kept h o (c.in_ok-circle.ensures.kept h2 o (c.in_ok-ready.ensures.kept h1 o stands));
+          let h2 = c.in-Err.ensures.was_honest h in
+          let h1 = c.in-Ok.ensures.was_honest h2 in
+          c.in-Err.ensures.kept h o (c.in-Ok.ensures.kept h2 o (c.in_ok-ready.ensures.kept h1 o stands));
       left = λ h x left.
-          let h2 = c.in_err-check_needs.ensures.was_honest h in
-          let h1 = c.in_ok-circle.ensures.was_honest h2 in
-          c.in_ok-ready.ensures.left h1 x (c.in_ok-circle.ensures.left h2 x (c.in_err-check_needs.ensures.left h x left));
+          let h2 = c.in-Err.ensures.was_honest h in
+          let h1 = c.in-Ok.ensures.was_honest h2 in
+          c.in_ok-ready.ensures.left h1 x (c.in-Ok.ensures.left h2 x (c.in-Err.ensures.left h x left));
       counted = refused_on r e (λ x. Counted {A = Plan} x (g.K.Keeper.standing c.args.self.now.keeper).failures (g.K.Keeper.standing c.check_needs.new.self.keeper).failures) is
-          (counted_after {A = Plan} (Err e) _ _ _ c.in_err-check_needs.ensures.counted (c.in_ok-circle.ensures.counted ∙ c.in_ok-ready.ensures.counted));
+          (counted_after {A = Plan} (Err e) _ _ _ c.in-Err.ensures.counted (c.in-Ok.ensures.counted ∙ c.in_ok-ready.ensures.counted));
     }
 
 pub returns : goal.returns
 returns g c = record {
-  was_honest = λ h. c.in_ok-ready.ensures.was_honest (c.in_ok-circle.ensures.was_honest (c.in_ok-check_needs.ensures.was_honest (c.granted.ensures.was_honest h)));
+  was_honest = λ h. c.in_ok-ready.ensures.was_honest (c.in-Ok.ensures.was_honest (c.in_default-check_needs.ensures.was_honest (c.granted.ensures.was_honest h)));
   tells = λ h o stands.
       let h3 = c.granted.ensures.was_honest h in
-      let h2 = c.in_ok-check_needs.ensures.was_honest h3 in
-      let h1 = c.in_ok-circle.ensures.was_honest h2 in
+      let h2 = c.in_default-check_needs.ensures.was_honest h3 in
+      let h1 = c.in-Ok.ensures.was_honest h2 in
       let s1 = c.in_ok-ready.ensures.kept h1 o stands in
-      let s2 = c.in_ok-circle.ensures.kept h2 o s1 in
-      let s3 = c.in_ok-check_needs.ensures.kept h3 o s2 in
+      let s2 = c.in-Ok.ensures.kept h2 o s1 in
+      let s3 = c.in_default-check_needs.ensures.kept h3 o s2 in
       let ready_is = c.in_ok-ready.ensures.tells h1 o stands in
-      planned o (option_copied c.args.name) c.args.request.now c.in_ok-ready.ready ready_is _ (c.in_ok-circle.ensures.value h2 o s1) c.in_ok-check_needs.field-0 c.granted.result
-      (c.in_ok-check_needs.ensures.tells h3 o s2 (target_of_ready o (option_copied c.args.name) c.args.request.now c.in_ok-ready.ready ready_is))
+      planned o (option_copied c.args.name) c.args.request.now c.in_ok-ready.ready ready_is _ (c.in-Ok.ensures.value h2 o s1) c.in_default-check_needs.field-0 c.granted.result
+      (c.in_default-check_needs.ensures.tells h3 o s2 (target_of_ready o (option_copied c.args.name) c.args.request.now c.in_ok-ready.ready ready_is))
       (c.granted.ensures.tells h o s3 (target_of_ready o (option_copied c.args.name) c.args.request.now c.in_ok-ready.ready ready_is));
   kept = λ h o stands.
       let h3 = c.granted.ensures.was_honest h in
-      let h2 = c.in_ok-check_needs.ensures.was_honest h3 in
-      let h1 = c.in_ok-circle.ensures.was_honest h2 in
-      c.granted.ensures.kept h o (c.in_ok-check_needs.ensures.kept h3 o (c.in_ok-circle.ensures.kept h2 o (c.in_ok-ready.ensures.kept h1 o stands)));
+      let h2 = c.in_default-check_needs.ensures.was_honest h3 in
+      let h1 = c.in-Ok.ensures.was_honest h2 in
+      c.granted.ensures.kept h o (c.in_default-check_needs.ensures.kept h3 o (c.in-Ok.ensures.kept h2 o (c.in_ok-ready.ensures.kept h1 o stands)));
   left = λ h x left.
       let h3 = c.granted.ensures.was_honest h in
-      let h2 = c.in_ok-check_needs.ensures.was_honest h3 in
-      let h1 = c.in_ok-circle.ensures.was_honest h2 in
-      c.in_ok-ready.ensures.left h1 x (c.in_ok-circle.ensures.left h2 x (c.in_ok-check_needs.ensures.left h3 x (c.granted.ensures.left h x left)));
-  counted = counted_after _ _ _ _ c.granted.ensures.counted (c.in_ok-check_needs.ensures.counted ∙ c.in_ok-circle.ensures.counted ∙ c.in_ok-ready.ensures.counted);
+      let h2 = c.in_default-check_needs.ensures.was_honest h3 in
+      let h1 = c.in-Ok.ensures.was_honest h2 in
+      c.in_ok-ready.ensures.left h1 x (c.in-Ok.ensures.left h2 x (c.in_default-check_needs.ensures.left h3 x (c.granted.ensures.left h x left)));
+  counted = counted_after _ _ _ _ c.granted.ensures.counted (c.in_default-check_needs.ensures.counted ∙ c.in-Ok.ensures.counted ∙ c.in_ok-ready.ensures.counted);
 }

@@ -12,12 +12,12 @@ returns-in-None g c =
     let served = answers_read _ _ _ _ c.in-Ok.field-0 c.in-Ok.ensures c.in-None.is in
     record { served = served; unseen = hides_unread _ _ _ _ _ served; paths = c.has_paths.ensures }
 
-pub returns-in-Ok-act : goal.returns-in-Ok-act
-returns-in-Ok-act g c =
-    let served = answers_edit _ _ _ _ _ c.in-Ok.field-0 c.in-Some.edit c.has_paths.ensures c.in-Ok.ensures c.in-Some.is c.in-Ok-act.field-0 c.in-Ok-act.ensures in
+pub returns-in-Ok-made : goal.returns-in-Ok-made
+returns-in-Ok-made g c =
+    let served = answers_edit _ _ _ _ _ c.in-Ok.field-0 c.in-Some.edit c.has_paths.ensures c.in-Ok.ensures c.in-Some.is c.in-Ok-made.field-0 c.in-Ok-made.ensures in
     record { served = served; unseen = hides_unread _ _ _ _ _ served; paths = c.has_paths.ensures }
 
-pub returns-in-Err-act : goal.returns-in-Err-act
-returns-in-Err-act g c =
-    let served = answers_fault _ _ _ _ _ c.in-Ok.field-0 c.in-Some.edit c.has_paths.ensures c.in-Ok.ensures c.in-Some.is c.in-Err-act.field-0 c.in-Err-act.ensures in
-    rw c.refused-in-Err-act.ensures (record { served = served; unseen = hides_unread _ _ _ _ _ served; paths = c.has_paths.ensures })
+pub returns-in-Err-made : goal.returns-in-Err-made
+returns-in-Err-made g c =
+    let served = answers_fault _ _ _ _ _ c.in-Ok.field-0 c.in-Some.edit c.has_paths.ensures c.in-Ok.ensures c.in-Some.is c.in-Err-made.field-0 c.in-Err-made.ensures in
+    rw c.refused-in-Err-made.ensures (record { served = served; unseen = hides_unread _ _ _ _ _ served; paths = c.has_paths.ensures })
