@@ -1,20 +1,24 @@
 -- An edit of cards leaves what is remembered true.
-use Rattle.std.proofs.lemmas.Bool.{false≢true}
-use Rattle.std.proofs.Common.{◌≡◌, ℕ, true, List, [], Option, Some, None, IfSome, option_map, unwrap_or, refl, sym, ◌∙◌}
-use Rattle.std.specs.FinMap.{get}
-use Rattle.book_cache.specs.Remembering.{Remembers, changes_cards_alone}
+use Rattle.std.proofs.Common.{◌≡◌, ◌≢◌, ◌⊎◌, ℕ, ◌+◌, List, [], inl, inr, Option, Some, None, IfSome, option_map, option_and_then, unwrap_or, refl, sym, ap, subst, ◌∙◌}
+use Rattle.std.specs.FinMap.{empty, get, remove}
+use Rattle.book_cache.proofs.Kept.{none_in}
+use Rattle.book_cache.specs.Remembering.{AreBare, Remembers, bare_level, raised}
 use Rattle.book_cache.specs.declared.remembered.Remembered.{Remembered}
-use Rattle.book_office.specs.Edits.{apply, with_book, put_card, remove_card, copy_from, move_to}
-use Rattle.book_office.specs.declared.edits.Edit.{Edit}
-use Rattle.book_office.specs.declared.edits.Edit.TheVariants.{PutCard, RemoveCard, CopyCard, MoveCard, AddBook, RemoveBook, SetLabel, SetList, SetMembers, Adopt}
+use Rattle.book_lists.specs.declared.entries.Entry.{Entry}
+use Rattle.book_office.specs.Edits.{apply, with_book, put_card, card_put, remove_card, copy_from, card_copied, move_to}
+use Rattle.book_office.specs.declared.edits.Edit.TheVariants.{PutCard, RemoveCard, CopyCard, MoveCard}
 use Rattle.book_office.specs.Levels.{level_at}
-use Rattle.book_office.specs.Resources.{Resource, book_resource, card_at}
+use Rattle.book_office.specs.Resources.{Resource, book_resource, card_at, card_in, card_resource, node_at, node_of, number_of}
 use Rattle.book_office.specs.declared.nodes.Level.{Level}
+use Rattle.book_office.specs.declared.nodes.Node.{Node}
 use Rattle.book_values.specs.declared.offices.Book.{Book}
 use Rattle.book_values.specs.declared.offices.Office.{Office}
 use Rattle.book_values.specs.declared.offices.StoredCard.{StoredCard}
 use Rattle.book_values.specs.declared.paths.Path.TheVariants as path
-use Rattle.book_values.proofs.OneName.{by_changed}
+use Rattle.book_values.specs.Names.{NamesTo, changed_at}
+use Rattle.book_values.specs.declared.paths.Kind.TheVariants as kind
+use Rattle.book_values.proofs.NameMapLaws.{by_names}
+use Rattle.book_values.proofs.OneName.{by_changed, by_put, by_removed, changed_here, changed_elsewhere, removed_here, removed_elsewhere, same_some, some_apart}
 
 -- the lists of a book, or of none
 abbrev level_of : List ℕ → Option Book → Level
@@ -39,15 +43,139 @@ if_some : {A : Type 0} (r : Option A) (P Q : A → Type 0) → ((x : A) → P x 
 if_some None P Q f h = h
 if_some (Some x) P Q f h = f x h
 
-still_remembers : (f : Book → Book) → KeepsProperties f → (r : Remembered) (o : Office) (b : List ℕ) → Remembers r o → Remembers r (with_book f o b)
-still_remembers f keeps r o b remembers = record {
+-- the lists of a card of a book, or of none
+abbrev card_level : List ℕ → List ℕ → Option Book → Level
+card_level n c book = record {
+  path = path.Card n c;
+  protected = unwrap_or (option_map (λ (r : Resource). r.protected) (option_and_then (λ (book : Book). card_in book c) book)) [];
+  own = unwrap_or (option_map (λ (r : Resource). r.own) (option_and_then (λ (book : Book). card_in book c) book)) [];
+}
+
+-- the entries of a card, or of none
+abbrev own_of : Option StoredCard → List Entry
+own_of None = []
+own_of (Some card) = card.own
+
+abbrev own_under : List ℕ → Option Book → List Entry
+own_under c None = []
+own_under c (Some book) = own_of (get book.cards c)
+
+bare_if : (n c : List ℕ) (book : Option Book) → own_under c book ≡ [] → bare_level (path.Card n c) ≡ card_level n c book
+bare_if n c None is = refl
+bare_if n c (Some book) is = go (get book.cards c) is
+  where
+    go : (card : Option StoredCard) → own_of card ≡ [] → bare_level (path.Card n c)
+        ≡ record { path = path.Card n c; protected = unwrap_or (option_map (λ (r : Resource). r.protected) (option_map (card_resource (number_of book c)) card)) []; own = unwrap_or (option_map (λ (r : Resource). r.own) (option_map (card_resource (number_of book c)) card)) [] }
+    go None is = refl
+    go (Some card) is = λ i. record { path = path.Card n c; protected = []; own = sym is i }
+
+none_if : (n c : List ℕ) (book : Option Book) → bare_level (path.Card n c) ≡ card_level n c book → own_under c book ≡ []
+none_if n c None is = refl
+none_if n c (Some book) is = go (get book.cards c) (ap (λ (l : Level). l.own) is)
+  where
+    go : (card : Option StoredCard) → [] ≡ unwrap_or (option_map (λ (r : Resource). r.own) (option_map (card_resource (number_of book c)) card)) [] → own_of card ≡ []
+    go None is = refl
+    go (Some card) is = sym is
+
+-- a change of a book that gives no card entries
+abbrev GivesNone : (Book → Book) → Type 0
+GivesNone f = (book : Book) (c : List ℕ) → own_of (get book.cards c) ≡ [] → own_of (get (f book).cards c) ≡ []
+
+none_after : (f : Book → Book) → GivesNone f → (c : List ℕ) (book : Option Book) → own_under c book ≡ [] → own_under c (option_map f book) ≡ []
+none_after f gives c None is = refl
+none_after f gives c (Some book) is = gives book c is
+
+bare_kept : (f : Book → Book) → GivesNone f → (o : Office) (b n c : List ℕ) → bare_level (path.Card n c) ≡ level_at o (path.Card n c) → bare_level (path.Card n c) ≡ level_at (with_book f o b) (path.Card n c)
+bare_kept f gives o b n c is =
+    by_changed o.books b f n (λ book. bare_level (path.Card n c) ≡ card_level n c book)
+    (λ _. bare_if n c (option_map f (get o.books n)) (none_after f gives c (get o.books n) (none_if n c (get o.books n) is)))
+    (λ _. is)
+
+-- the names of cards without entries stay such
+abbrev StayBare : Remembered → Office → Type 0
+StayBare r o = (n : List ℕ) → IfSome (get r.bare n) (AreBare o n)
+
+bare_after : (f : Book → Book) → GivesNone f → (r : Remembered) (o : Office) (b : List ℕ) → Remembers r o → StayBare r (with_book f o b)
+bare_after f gives r o b remembers n = if_some (get r.bare n) (AreBare o n) (AreBare (with_book f o b) n) (λ cards are c there. bare_kept f gives o b n c (are c there)) (remembers.bare n)
+
+-- the books that are remembered are those that the Office has
+abbrev AreNodes : NamesTo Node → Office → Type 0
+AreNodes nodes o = (n : List ℕ) → IfSome (get nodes n) (λ node. node_at o (path.Book n) ≡ Some node)
+
+abbrev node_in : Option Book → Option Node
+node_in book = option_map node_of (option_map book_resource book)
+
+-- a change of a book with its number
+abbrev Raises : (Book → Book) → Type 0
+Raises f = (book : Book) → (f book).changes.number ≡ book.changes.number + 1
+
+raised_node : (f : Book → Book) → KeepsProperties f → Raises f → (found : Option Node) (book : Option Book) → IfSome found (λ node. node_in book ≡ Some node)
+    → IfSome (option_map raised found) (λ node. node_in (option_map f book) ≡ Some node)
+raised_node f keeps raises None book is = tt
+raised_node f keeps raises (Some node) None is = some_apart (sym is)
+raised_node f keeps raises (Some node) (Some book) is = ap Some (now ∙ ap raised (same_some (node_of (book_resource book)) node is))
+  where
+    now : node_of (book_resource (f book)) ≡ raised (node_of (book_resource book))
+    now = λ i. record { kind = kind.Book; owner = (keeps book i).owner; label = (keeps book i).label; text = None; number = raises book i }
+
+module _ (f : Book → Book) (nodes : NamesTo Node) (o : Office) (b : List ℕ) (are : AreNodes nodes o) where
+  -- another book is as it was
+  elsewhere : (after : NamesTo Node) (n : List ℕ) → n ≢ b → get after n ≡ get nodes n → IfSome (get after n) (λ node. node_at (with_book f o b) (path.Book n) ≡ Some node)
+  elsewhere after n apart is =
+      subst (λ found. IfSome found (λ node. node_at (with_book f o b) (path.Book n) ≡ Some node)) (sym is)
+      (subst (λ it. IfSome (get nodes n) (λ node. it ≡ Some node)) (sym (ap node_in (changed_elsewhere o.books b f n apart))) (are n))
+
+  pub nodes_forgotten : AreNodes (remove nodes b) (with_book f o b)
+  nodes_forgotten n = by_names n b (λ _. IfSome (get (remove nodes b) n) (λ node. node_at (with_book f o b) (path.Book n) ≡ Some node))
+      (λ same. subst (λ found. IfSome found (λ node. node_at (with_book f o b) (path.Book n) ≡ Some node)) (sym (ap (get (remove nodes b)) same ∙ removed_here nodes b)) tt)
+      (λ apart. elsewhere (remove nodes b) n apart (removed_elsewhere nodes b n apart))
+
+  pub nodes_raised : KeepsProperties f → Raises f → AreNodes (changed_at raised nodes b) (with_book f o b)
+  nodes_raised keeps raises n = by_names n b (λ _. IfSome (get (changed_at raised nodes b) n) (λ node. node_at (with_book f o b) (path.Book n) ≡ Some node))
+      (λ same. subst (λ n. IfSome (get (changed_at raised nodes b) n) (λ node. node_at (with_book f o b) (path.Book n) ≡ Some node)) (sym same)
+      (subst (λ found. IfSome found (λ node. node_at (with_book f o b) (path.Book b) ≡ Some node)) (sym (changed_here nodes b raised))
+      (subst (λ it. IfSome (option_map raised (get nodes b)) (λ node. it ≡ Some node)) (sym (ap node_in (changed_here o.books b f)))
+      (raised_node f keeps raises (get nodes b) (get o.books b) (are b)))))
+      (λ apart. elsewhere (changed_at raised nodes b) n apart (changed_elsewhere nodes b raised n apart))
+
+  pub nodes_counted : KeepsProperties f → Raises f → (after : NamesTo Node) → (after ≡ changed_at raised nodes b) ⊎ (after ≡ remove nodes b) → AreNodes after (with_book f o b)
+  nodes_counted keeps raises after (inl is) = subst (λ m. AreNodes m (with_book f o b)) (sym is) (nodes_raised keeps raises)
+  nodes_counted keeps raises after (inr is) = subst (λ m. AreNodes m (with_book f o b)) (sym is) nodes_forgotten
+
+still_remembers : (f : Book → Book) → KeepsProperties f → (r : Remembered) (o : Office) (b : List ℕ) (nodes : NamesTo Node) → Remembers r o → AreNodes nodes (with_book f o b) → StayBare r (with_book f o b)
+    → Remembers (record r { book_nodes = nodes }) (with_book f o b)
+still_remembers f keeps r o b nodes remembers are bare = record {
   pairs = remembers.pairs;
   persons = remembers.persons;
   root = remembers.root;
   home = remembers.home;
   books = λ n. if_some (get r.books n) (λ level. level ≡ level_at o (path.Book n)) (λ level. level ≡ level_at (with_book f o b) (path.Book n))
       (λ level is. is ∙ sym (level_kept f keeps o b n)) (remembers.books n);
+  book_nodes = are;
+  bare = bare;
 }
+
+put_gives : (c : List ℕ) (owner : Option (List ℕ)) (text : List ℕ) → GivesNone (put_card c owner text)
+put_gives c owner text book q is =
+    by_put book.cards c (card_put (get book.cards c) owner text) q (λ card. own_of card ≡ [])
+    (λ same. go (get book.cards c) (ap (λ n. own_of (get book.cards n)) (sym same) ∙ is)) (λ _. is)
+  where
+    go : (card : Option StoredCard) → own_of card ≡ [] → (card_put card owner text).own ≡ []
+    go None is = refl
+    go (Some card) is = is
+
+remove_gives : (c : List ℕ) → GivesNone (remove_card c)
+remove_gives c book q is = by_removed book.cards c q (λ card. own_of card ≡ []) (λ _. refl) (λ _. is)
+
+copy_gives : (source : Option StoredCard) (c : List ℕ) (owner : Option (List ℕ)) → GivesNone (copy_from source c owner)
+copy_gives None c owner book q is = is
+copy_gives (Some source) c owner book q is =
+    by_put book.cards c (card_copied (get book.cards c) owner source.label source.text) q (λ card. own_of card ≡ [])
+    (λ same. go (get book.cards c) (ap (λ n. own_of (get book.cards n)) (sym same) ∙ is)) (λ _. is)
+  where
+    go : (card : Option StoredCard) → own_of card ≡ [] → (card_copied card owner source.label source.text).own ≡ []
+    go None is = refl
+    go (Some card) is = is
 
 copy_keeps : (source : Option StoredCard) (c : List ℕ) (owner : Option (List ℕ)) → KeepsProperties (copy_from source c owner)
 copy_keeps None c owner book = refl
@@ -57,18 +185,36 @@ move_keeps : (source : Option StoredCard) (c : List ℕ) → KeepsProperties (mo
 move_keeps None c book = refl
 move_keeps (Some source) c book = refl
 
--- an edit of cards leaves what is remembered true
-pub edit_remembers : (edit : Edit) → changes_cards_alone edit ≡ true → (r : Remembered) (o : Office) → Remembers r o → Remembers r (apply o edit)
-edit_remembers (PutCard b c owner text) is r o remembers = still_remembers (put_card c owner text) (λ _. refl) r o b remembers
-edit_remembers (RemoveCard b c) is r o remembers = still_remembers (remove_card c) (λ _. refl) r o b remembers
-edit_remembers (CopyCard from_book from_card to_book to_card owner) is r o remembers =
-    still_remembers (copy_from (card_at o from_book from_card) to_card owner) (copy_keeps (card_at o from_book from_card) to_card owner) r o to_book remembers
-edit_remembers (MoveCard from_book from_card to_book to_card) is r o remembers =
-    still_remembers (move_to (card_at o from_book from_card) to_card) (move_keeps (card_at o from_book from_card) to_card) r (with_book (remove_card from_card) o from_book) to_book
-    (still_remembers (remove_card from_card) (λ _. refl) r o from_book remembers)
-edit_remembers (AddBook b owner) is r o remembers = absurd (false≢true is)
-edit_remembers (RemoveBook b) is r o remembers = absurd (false≢true is)
-edit_remembers (SetLabel p label) is r o remembers = absurd (false≢true is)
-edit_remembers (SetList p list) is r o remembers = absurd (false≢true is)
-edit_remembers (SetMembers group members) is r o remembers = absurd (false≢true is)
-edit_remembers (Adopt t) is r o remembers = absurd (false≢true is)
+-- what is remembered after each edit of cards
+module _ (r : Remembered) (o : Office) (remembers : Remembers r o) where
+  pub put_remembers : (b c : List ℕ) (owner : Option (List ℕ)) (text : List ℕ) (nodes : NamesTo Node)
+      → (nodes ≡ changed_at raised r.book_nodes b) ⊎ (nodes ≡ remove r.book_nodes b) → Remembers (record r { book_nodes = nodes }) (apply o (PutCard b c owner text))
+  put_remembers b c owner text nodes counted =
+      still_remembers (put_card c owner text) (λ _. refl) r o b nodes remembers
+      (nodes_counted (put_card c owner text) r.book_nodes o b remembers.book_nodes (λ _. refl) (λ _. refl) nodes counted)
+      (bare_after (put_card c owner text) (put_gives c owner text) r o b remembers)
+
+  pub remove_remembers : (b c : List ℕ) (nodes : NamesTo Node)
+      → (nodes ≡ changed_at raised r.book_nodes b) ⊎ (nodes ≡ remove r.book_nodes b) → Remembers (record r { book_nodes = nodes }) (apply o (RemoveCard b c))
+  remove_remembers b c nodes counted =
+      still_remembers (remove_card c) (λ _. refl) r o b nodes remembers
+      (nodes_counted (remove_card c) r.book_nodes o b remembers.book_nodes (λ _. refl) (λ _. refl) nodes counted)
+      (bare_after (remove_card c) (remove_gives c) r o b remembers)
+
+  pub copy_remembers : (from_book from_card to_book to_card : List ℕ) (owner : Option (List ℕ))
+      → Remembers (record r { book_nodes = remove r.book_nodes to_book }) (apply o (CopyCard from_book from_card to_book to_card owner))
+  copy_remembers from_book from_card to_book to_card owner =
+      let source = card_at o from_book from_card in
+      still_remembers (copy_from source to_card owner) (copy_keeps source to_card owner) r o to_book (remove r.book_nodes to_book) remembers
+      (nodes_forgotten (copy_from source to_card owner) r.book_nodes o to_book remembers.book_nodes)
+      (bare_after (copy_from source to_card owner) (copy_gives source to_card owner) r o to_book remembers)
+
+  pub move_remembers : (from_book from_card to_book to_card : List ℕ) → r.book_nodes ≡ empty → r.bare ≡ empty → Remembers r (apply o (MoveCard from_book from_card to_book to_card))
+  move_remembers from_book from_card to_book to_card no_nodes none =
+      let source = card_at o from_book from_card in
+      let left = with_book (remove_card from_card) o from_book in
+      let moved = with_book (move_to source to_card) left to_book in
+      let first = still_remembers (remove_card from_card) (λ _. refl) r o from_book r.book_nodes remembers
+      (λ n. none_in (λ node. node_at left (path.Book n) ≡ Some node) r.book_nodes no_nodes n) (λ n. none_in (AreBare left n) r.bare none n) in
+      still_remembers (move_to source to_card) (move_keeps source to_card) r left to_book r.book_nodes first
+      (λ n. none_in (λ node. node_at moved (path.Book n) ≡ Some node) r.book_nodes no_nodes n) (λ n. none_in (AreBare moved n) r.bare none n)

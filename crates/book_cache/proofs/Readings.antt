@@ -1,10 +1,9 @@
 -- Reads behind what is remembered.
-use Rattle.std.proofs.Common.{◌≡◌, ◌⊎◌, Result, Ok, Err, IfOk, inl, inr, refl, ap, ◌∙◌}
+use Rattle.std.proofs.Common.{Result, Ok, Err, IfOk, refl, ap, ◌∙◌}
 use Rattle.book_cache.specs.Remembering.{Remembers, remembering}
 use Rattle.book_cache.specs.declared.remembered.Remembered.{Remembered}
 use Rattle.book_office.specs.Edits.{apply}
-use Rattle.book_office.specs.Keeping.{Edits, Leftover, Reads, Standing, failures_after, whole}
-use Rattle.book_office.specs.Sound.{Fits}
+use Rattle.book_office.specs.Keeping.{Edits, Reads, Standing, failures_after}
 use Rattle.book_office.specs.declared.edits.Edit.{Edit}
 use Rattle.book_office.specs.declared.keepers.StoreFault.{StoreFault}
 use Rattle.book_office.specs.declared.keepers.StoreFault.TheVariants.{Memory}
@@ -104,22 +103,25 @@ reads_failed old new f T V read = record {
   counted = read.counted;
 }
 
--- an edit behind what is remembered, which stays true
-pub edits_behind : (old new : Standing) (before r : Remembered) (result : Result (Unit {0}) StoreFault) (edit : Edit)
-    → ((o : Office) → Remembers before o → Remembers r o) → ((o : Office) → Remembers r o → Remembers r (apply o edit))
-    → Edits old new result edit → Edits (remembering old before) (remembering new r) result edit
-edits_behind old new before r (Ok x) edit first stays made = record {
+-- an edit that was made behind what is remembered, of which what is true after it stays
+pub edit_made : (old new : Standing) (before r : Remembered) (edit : Edit) → ((o : Office) → Remembers before o → Remembers r (apply o edit))
+    → Edits old new (Ok tt) edit → Edits (remembering old before) (remembering new r) (Ok tt) edit
+edit_made old new before r edit stays made = record {
   was_honest = made.was_honest;
-  made = λ h o stands fits. (made.made h o stands.0 fits, stays o (first o stands.1));
+  made = λ h o stands fits. (made.made h o stands.0 fits, stays o stands.1);
   kept = λ h. tt;
   left_made = λ h o stands. made.left_made h o stands.0;
   left_kept = λ h. tt;
   counted = made.counted;
 }
-edits_behind old new before r (Err e) edit first stays made = record {
+
+-- an edit that failed, after which nothing is remembered
+pub edit_failed : (old new : Standing) (before r : Remembered) (e : StoreFault) (edit : Edit) → ((o : Office) → Remembers r o)
+    → Edits old new (Err e) edit → Edits (remembering old before) (remembering new r) (Err e) edit
+edit_failed old new before r e edit nothing made = record {
   was_honest = made.was_honest;
   made = λ h. tt;
-  kept = λ h o stands. (made.kept h o stands.0, first o stands.1);
+  kept = λ h o stands. (made.kept h o stands.0, nothing o);
   left_made = λ h. tt;
   left_kept = λ h o stands. made.left_kept h o stands.0;
   counted = made.counted;

@@ -1,5 +1,5 @@
 -- What is remembered of an Office, and what stands behind it.
-use Rattle.std.specs.Prelude.{◌≡◌, ℕ, Bool, true, false, List, Some, IfSome, Result}
+use Rattle.std.specs.Prelude.{◌≡◌, ℕ, ◌+◌, Bool, true, List, [], Some, IfSome, is_some, option_and_then, Result}
 use Rattle.std.specs.FinMap.{get}
 use Rattle.book_cache.specs.declared.cached.Cached.{Cached}
 use Rattle.book_cache.specs.declared.remembered.Remembered.{Remembered}
@@ -7,10 +7,28 @@ use Rattle.book_office.specs.Keeping.{Edits, Reads, Standing}
 use Rattle.book_office.specs.Levels.{level_at}
 use Rattle.book_office.specs.Resources.{node_at}
 use Rattle.book_office.specs.declared.edits.Edit.{Edit}
-use Rattle.book_office.specs.declared.edits.Edit.TheVariants.{PutCard, RemoveCard, CopyCard, MoveCard, AddBook, RemoveBook, SetLabel, SetList, SetMembers, Adopt}
 use Rattle.book_office.specs.declared.keepers.StoreFault.{StoreFault}
+use Rattle.book_office.specs.declared.nodes.Level.{Level}
+use Rattle.book_office.specs.declared.nodes.Node.{Node}
+use Rattle.book_values.specs.Names.{NamesTo}
 use Rattle.book_values.specs.declared.offices.Office.{Office}
+use Rattle.book_values.specs.declared.paths.Path.{Path}
 use Rattle.book_values.specs.declared.paths.Path.TheVariants as path
+
+-- the lists at a path without entries
+abbrev pub bare_level : Path → Level
+bare_level p = record { path = p; protected = []; own = [] }
+
+-- names of a book of which no card has entries
+abbrev pub AreBare : Office → List ℕ → NamesTo (Unit {0}) → Type 0
+AreBare o b cards = (c : List ℕ) → is_some (get cards c) ≡ true → bare_level (path.Card b c) ≡ level_at o (path.Card b c)
+
+abbrev pub is_bare : NamesTo (NamesTo (Unit {0})) → List ℕ → List ℕ → Bool
+is_bare bare b c = is_some (option_and_then (λ (cards : NamesTo (Unit {0})). get cards c) (get bare b))
+
+-- a resource with the next number
+abbrev pub raised : Node → Node
+raised node = record node { number = node.number + 1 }
 
 -- what is remembered is what the Office has
 pub record Remembers (r : Remembered) (o : Office) : Type 0 where
@@ -19,19 +37,8 @@ pub record Remembers (r : Remembered) (o : Office) : Type 0 where
   pub root : IfSome r.root (λ level. level ≡ level_at o path.Root)
   pub home : IfSome r.home (λ level. level ≡ level_at o path.Books)
   pub books : (name : List ℕ) → IfSome (get r.books name) (λ level. level ≡ level_at o (path.Book name))
-
--- which edits change cards alone, with their names and the numbers of their books
-abbrev pub changes_cards_alone : Edit → Bool
-changes_cards_alone (PutCard b c owner text) = true
-changes_cards_alone (RemoveCard b c) = true
-changes_cards_alone (CopyCard from_book from_card to_book to_card owner) = true
-changes_cards_alone (MoveCard from_book from_card to_book to_card) = true
-changes_cards_alone (AddBook b owner) = false
-changes_cards_alone (RemoveBook b) = false
-changes_cards_alone (SetLabel p label) = false
-changes_cards_alone (SetList p list) = false
-changes_cards_alone (SetMembers group members) = false
-changes_cards_alone (Adopt t) = false
+  pub book_nodes : (name : List ℕ) → IfSome (get r.book_nodes name) (λ node. node_at o (path.Book name) ≡ Some node)
+  pub bare : (name : List ℕ) → IfSome (get r.bare name) (AreBare o name)
 
 -- what the keeper stands for, where what is remembered of it is true
 abbrev pub remembering : Standing → Remembered → Standing

@@ -1,6 +1,6 @@
 //! A keeper that remembers.
 
-ghost use Rattle.std.specs.Prelude.{◌≡◌, ◌∷◌, [], ℕ, List, IfOk};
+ghost use Rattle.std.specs.Prelude.{◌≡◌, ◌∷◌, [], IfOk};
 ghost use Rattle.book_adopting.specs.Adopting.{adoption_of};
 ghost use Rattle.book_cache.specs.Remembering.{EditsBehind, ReadsBehind, Remembers, remembering};
 ghost use Rattle.book_lists.specs.Callers.{IsCircle};
@@ -9,17 +9,19 @@ ghost use Rattle.book_office.specs.Resources.{changed_after, children_at, count_
 ghost use Rattle.book_values.specs.declared.offices.Office.{Office as OfficeOf};
 ghost use Rattle.book_values.specs.declared.paths.Path.TheVariants as paths;
 
-use crate::remembered::Remembered;
+use crate::remembered::{Remembered, bare_level};
 use book_lists::{Caller, Circle, Name, Pairs, expand};
 use book_office::{
     Adoption, Changed, Edit, Items, Keeper, Level, Listed, Lists, Node, Path, Policy, StoreFault,
 };
 use std::alloc::{AllocError, Global};
 
-/// A keeper in front of another, which remembers what it was told: the members of the groups, persons, and the lists of
-/// books and of what stands above them.
+/// A keeper in front of another, which remembers what it was told: the members of the groups, persons and books, the lists
+/// of books and of what stands above them, and which cards have no entries.
 ///
-/// It stands for what the keeper stands for. An edit of cards leaves what is remembered, any other edit forgets it.
+/// It stands for what the keeper stands for. With an edit of cards what is remembered stays true, but a card that is moved
+/// or copied makes it forget books, and a card that is moved which cards have no entries. Any other edit forgets all, and
+/// one that fails too.
 #[derive(Drop)]
 pub struct Cached<K> {
     pub(crate) keeper: K,
@@ -86,6 +88,19 @@ impl<K: Keeper> Cached<K> {
         Ok(node)
     }
 
+    /// The book of a name, if there is one.
+    fn book_node(&mut self, alloc: Global, name: &Name) -> Result<Option<Node>, StoreFault>
+        ensures { ReadsBehind K.standing self.old self.new result (λ o node. node ≡ node_at o (paths.Book name.now)) }
+    {
+        if let Some(node) = self.remembered.book_node(name)? {
+            return Ok(Some(node));
+        }
+        let path = Path::Book(name.clone()?);
+        let node = self.keeper.find(alloc, &path)?;
+        self.remembered.keep_book_node(name, &node);
+        Ok(node)
+    }
+
     /// The lists of the root.
     fn root(&mut self, alloc: Global) -> Result<Level, StoreFault>
         ensures { ReadsBehind K.standing self.old self.new result (λ o level. level ≡ level_at o paths.Root) }
@@ -142,12 +157,37 @@ impl<K: Keeper> Cached<K> {
         Ok(Lists { levels })
     }
 
-    /// The lists of the card of a book at a path, and of what stands above it.
-    fn card_lists(&mut self, alloc: Global, book: &Name, path: &Path) -> Result<Lists, StoreFault>
-        ensures { ReadsBehind K.standing self.old self.new result
-            (λ o lists. (c : List ℕ) → path.now ≡ paths.Card book.now c → lists ≡ lists_at o path.now) }
+    /// The lists of the card of a book at a path.
+    fn card(
+        &mut self,
+        alloc: Global,
+        book: &Name,
+        name: &Name,
+        path: &Path,
+    ) -> Result<Level, StoreFault>
+        requires { path.now ≡ paths.Card book.now name.now }
+        ensures { ReadsBehind K.standing self.old self.new result (λ o level. level ≡ level_at o path.now) }
     {
-        let card = self.keeper.level(alloc, path)?;
+        if self.remembered.is_bare(book, name) {
+            return Ok(bare_level(alloc, path)?);
+        }
+        let level = self.keeper.level(alloc, path)?;
+        self.remembered.keep_bare(alloc, book, name, &level);
+        Ok(level)
+    }
+
+    /// The lists of the card of a book at a path, and of what stands above it.
+    fn card_lists(
+        &mut self,
+        alloc: Global,
+        book: &Name,
+        name: &Name,
+        path: &Path,
+    ) -> Result<Lists, StoreFault>
+        requires { path.now ≡ paths.Card book.now name.now }
+        ensures { ReadsBehind K.standing self.old self.new result (λ o lists. lists ≡ lists_at o path.now) }
+    {
+        let card = self.card(alloc, book, name, path)?;
         let above = self.book_lists(alloc, book)?;
         let levels = card_levels(alloc, card, above.levels)?;
         Ok(Lists { levels })
@@ -162,12 +202,12 @@ impl<K: Keeper> Keeper for Cached<K> {
     {
         match path {
             Path::Person(name) => self.person(alloc, name),
+            Path::Book(name) => self.book_node(alloc, name),
             Path::Root
             | Path::People
             | Path::Groups
             | Path::Books
             | Path::Group(_)
-            | Path::Book(_)
             | Path::Card(_, _) => self.keeper.find(alloc, path),
         }
     }
@@ -188,7 +228,7 @@ impl<K: Keeper> Keeper for Cached<K> {
         ensures { ReadsBehind K.standing self.old self.new result (λ o lists. lists ≡ lists_at o path.now) }
     {
         match path {
-            Path::Card(book, _) => self.card_lists(alloc, book, path),
+            Path::Card(book, card) => self.card_lists(alloc, book, card, path),
             Path::Book(name) => self.book_lists(alloc, name),
             Path::Root
             | Path::People
@@ -253,7 +293,15 @@ impl<K: Keeper> Keeper for Cached<K> {
     fn act(&mut self, alloc: Global, edit: &Edit) -> Result<(), StoreFault>
         ensures { EditsBehind K.standing self.old self.new result edit.now }
     {
-        self.remembered.follow(alloc, edit);
-        self.keeper.act(alloc, edit)
+        match self.keeper.act(alloc, edit) {
+            Ok(()) => {
+                self.remembered.follow(alloc, edit);
+                Ok(())
+            }
+            Err(fault) => {
+                self.remembered.forget(alloc);
+                Err(fault)
+            }
+        }
     }
 }

@@ -1,20 +1,21 @@
 //! What is remembered of an Office.
 
-ghost use Rattle.std.specs.Prelude.{◌≡◌, IfOk};
-ghost use Rattle.std.specs.FinMap.{get};
-ghost use Rattle.book_cache.specs.Remembering.{Remembers, changes_cards_alone};
+ghost use Rattle.std.specs.Prelude.{◌≡◌, ◌⊎◌, ◌+◌, ◌<◌, ◌^◌, IfOk, IfSome, IsFalse, IsTrue};
+ghost use Rattle.std.specs.FinMap.{empty, get, remove};
+ghost use Rattle.book_cache.specs.Remembering.{AreBare, Remembers, bare_level, is_bare, raised};
 ghost use Rattle.book_office.specs.Edits.{apply};
 ghost use Rattle.book_office.specs.Levels.{level_at};
 ghost use Rattle.book_office.specs.Resources.{node_at};
+ghost use Rattle.book_values.specs.Names.{changed_at};
 ghost use Rattle.book_values.specs.declared.offices.Office.{Office as OfficeOf};
 ghost use Rattle.book_values.specs.declared.paths.Path.TheVariants as paths;
 
-use book_limits::MAX_BOOKS;
+use book_limits::{MAX_BOOKS, MAX_CARDS};
 use book_lists::{Name, Pairs};
-use book_office::{Edit, Level, NameMap, Node};
+use book_office::{Edit, Items, Level, NameMap, Node, Path};
 use std::alloc::{AllocError, Global};
 
-/// What is remembered of an Office. It is no more than the Office has without its cards.
+/// What is remembered of an Office. It is no more than the Office has without its cards, and 10,000 names of cards.
 #[derive(Drop)]
 pub(crate) struct Remembered {
     /// The direct members of all groups.
@@ -27,24 +28,12 @@ pub(crate) struct Remembered {
     pub(crate) home: Option<Level>,
     /// The lists of books.
     pub(crate) books: NameMap<Level>,
-}
-
-/// Whether an edit changes cards alone, with their names and the numbers of their books.
-fn changes_cards_alone(edit: &Edit) -> bool
-    ensures { result ≡ changes_cards_alone edit.now }
-{
-    match edit {
-        Edit::PutCard { .. }
-        | Edit::RemoveCard { .. }
-        | Edit::CopyCard { .. }
-        | Edit::MoveCard { .. } => true,
-        Edit::AddBook { .. }
-        | Edit::RemoveBook { .. }
-        | Edit::SetLabel { .. }
-        | Edit::SetList { .. }
-        | Edit::SetMembers { .. }
-        | Edit::Adopt { .. } => false,
-    }
+    /// Books.
+    pub(crate) book_nodes: NameMap<Node>,
+    /// By the name of a book, names of which no card has entries.
+    pub(crate) bare: NameMap<NameMap<()>>,
+    /// At least how many these are.
+    pub(crate) bare_count: usize,
 }
 
 /// A copy of a resource.
@@ -60,6 +49,47 @@ fn copy_of_node(node: &Node) -> Result<Node, AllocError>
     })
 }
 
+/// A copy of the resource of a name, if it is there.
+fn copy_in(nodes: &NameMap<Node>, name: &Name) -> Result<Option<Node>, AllocError>
+    ensures { IfOk result (λ node. node ≡ get nodes.now name.now) }
+{
+    match nodes.get(name) {
+        Some(node) => Ok(Some(copy_of_node(node)?)),
+        None => Ok(None),
+    }
+}
+
+/// Gives the resource of a name the next number, if it is there.
+fn raise(nodes: &mut NameMap<Node>, name: &Name)
+    requires { IfSome (get nodes.old name.now) (λ node. node.number + 1 < 2 ^ 64) }
+    ensures { nodes.new ≡ changed_at raised nodes.old name.now }
+{
+    if let Some(node) = nodes.get_mut(name) {
+        node.number += 1;
+    }
+}
+
+/// Whether the resource of a name has the last number that there is.
+fn is_at_last(nodes: &NameMap<Node>, name: &Name) -> bool
+    ensures { IsFalse result → IfSome (get nodes.now name.now) (λ node. node.number + 1 < 2 ^ 64) }
+{
+    match nodes.get(name) {
+        Some(node) => node.number >= u64::MAX,
+        None => false,
+    }
+}
+
+/// Gives the resource of a name the next number, or forgets it where there is none.
+fn count_change(nodes: &mut NameMap<Node>, name: &Name)
+    ensures { (nodes.new ≡ changed_at raised nodes.old name.now) ⊎ (nodes.new ≡ remove nodes.old name.now) }
+{
+    if is_at_last(nodes, name) {
+        nodes.remove(name);
+    } else {
+        raise(nodes, name);
+    }
+}
+
 /// A copy of the lists at a path.
 fn copy_of_level(level: &Level) -> Result<Level, AllocError>
     ensures { IfOk result (λ copy. copy ≡ level.now) }
@@ -69,6 +99,24 @@ fn copy_of_level(level: &Level) -> Result<Level, AllocError>
         protected: level.protected.clone()?,
         own: level.own.clone()?,
     })
+}
+
+/// The lists of a card without entries.
+pub(crate) fn bare_level(alloc: Global, path: &Path) -> Result<Level, AllocError>
+    ensures { IfOk result (λ level. level ≡ bare_level path.now) }
+{
+    Ok(Level {
+        path: path.clone()?,
+        protected: Items::new(alloc),
+        own: Items::new(alloc),
+    })
+}
+
+/// Whether there are no entries at a path.
+fn is_empty(level: &Level) -> bool
+    ensures { IsTrue result → level.now ≡ bare_level level.now.path }
+{
+    level.protected.len() == 0 && level.own.len() == 0
 }
 
 impl Remembered {
@@ -82,6 +130,9 @@ impl Remembered {
             root: None,
             home: None,
             books: NameMap::new(alloc),
+            book_nodes: NameMap::new(alloc),
+            bare: NameMap::new(alloc),
+            bare_count: 0,
         }
     }
 
@@ -89,10 +140,7 @@ impl Remembered {
     pub(crate) fn person(&self, name: &Name) -> Result<Option<Node>, AllocError>
         ensures { IfOk result (λ node. node ≡ get self.now.persons name.now) }
     {
-        match self.persons.get(name) {
-            Some(node) => Ok(Some(copy_of_node(node)?)),
-            None => Ok(None),
-        }
+        copy_in(&self.persons, name)
     }
 
     /// Remembers a person, if there is one of that name. An error is want of memory.
@@ -112,6 +160,32 @@ impl Remembered {
         ensures { (o : OfficeOf) → Remembers self.old o → node.now ≡ node_at o (paths.Person name.now) → Remembers self.new o }
     {
         let _ = self.try_person(name, node);
+    }
+
+    /// The book of a name, if it is remembered. An error is want of memory.
+    pub(crate) fn book_node(&self, name: &Name) -> Result<Option<Node>, AllocError>
+        ensures { IfOk result (λ node. node ≡ get self.now.book_nodes name.now) }
+    {
+        copy_in(&self.book_nodes, name)
+    }
+
+    /// Remembers a book, if there is one of that name. An error is want of memory.
+    fn try_book_node(&mut self, name: &Name, node: &Option<Node>) -> Result<(), AllocError>
+        ensures { (o : OfficeOf) → Remembers self.old o → node.now ≡ node_at o (paths.Book name.now) → Remembers self.new o }
+    {
+        if let Some(node) = node {
+            let name = name.clone()?;
+            let node = copy_of_node(node)?;
+            self.book_nodes.insert(name, node)?;
+        }
+        Ok(())
+    }
+
+    /// Remembers a book, if there is one of that name and memory is not refused.
+    pub(crate) fn keep_book_node(&mut self, name: &Name, node: &Option<Node>)
+        ensures { (o : OfficeOf) → Remembers self.old o → node.now ≡ node_at o (paths.Book name.now) → Remembers self.new o }
+    {
+        let _ = self.try_book_node(name, node);
     }
 
     /// The lists of the root, if they are remembered. An error is want of memory.
@@ -189,13 +263,102 @@ impl Remembered {
         let _ = self.try_book(name, level);
     }
 
-    /// Remembers what stays true with an edit: all where it changes cards alone, and else nothing. Takes no memory.
-    pub(crate) fn follow(&mut self, alloc: Global, edit: &Edit)
-        ensures before { (o : OfficeOf) → Remembers self.old o → Remembers self.new o }
-        ensures after { (o : OfficeOf) → Remembers self.new o → Remembers self.new (apply o edit.now) }
+    /// Whether it is remembered that no card of that name has entries. Takes no memory.
+    pub(crate) fn is_bare(&self, book: &Name, card: &Name) -> bool
+        ensures { result ≡ is_bare self.now.bare book.now card.now }
     {
-        if !changes_cards_alone(edit) {
-            *self = Remembered::new(alloc);
+        match self.bare.get(book) {
+            Some(cards) => cards.get(card).is_some(),
+            None => false,
+        }
+    }
+
+    /// Forgets which cards have no entries.
+    fn forget_bare(&mut self, alloc: Global)
+        ensures bare { self.new.bare ≡ empty }
+        ensures remembers { (o : OfficeOf) → Remembers self.old o → Remembers self.new o }
+    {
+        self.bare = NameMap::new(alloc);
+        self.bare_count = 0;
+    }
+
+    /// Forgets which cards have no entries where there are as many as there may be.
+    fn make_bare_room(&mut self, alloc: Global)
+        ensures { (o : OfficeOf) → Remembers self.old o → Remembers self.new o }
+    {
+        if self.bare_count >= MAX_CARDS {
+            self.forget_bare(alloc);
+        }
+    }
+
+    /// Takes out which cards of a book have no entries.
+    fn take_bare(&mut self, alloc: Global, book: &Name) -> NameMap<()>
+        ensures cards { (o : OfficeOf) → Remembers self.old o → AreBare o book.now result }
+        ensures remembers { (o : OfficeOf) → Remembers self.old o → Remembers self.new o }
+    {
+        match self.bare.remove(book) {
+            Some(cards) => cards,
+            None => NameMap::new(alloc),
+        }
+    }
+
+    /// Remembers that no card of that name has entries. An error is want of memory.
+    fn try_bare(&mut self, alloc: Global, book: &Name, card: &Name) -> Result<(), AllocError>
+        ensures { (o : OfficeOf) → Remembers self.old o → bare_level (paths.Card book.now card.now) ≡ level_at o (paths.Card book.now card.now) → Remembers self.new o }
+    {
+        let name = book.clone()?;
+        let mut cards = self.take_bare(alloc, book);
+        cards.insert(card.clone()?, ())?;
+        self.bare.insert(name, cards)?;
+        self.bare_count = self.bare_count.saturating_add(1);
+        Ok(())
+    }
+
+    /// Remembers that no card of that name has entries, where these are its lists and memory is not refused.
+    pub(crate) fn keep_bare(&mut self, alloc: Global, book: &Name, card: &Name, level: &Level)
+        ensures { (o : OfficeOf) → Remembers self.old o → level.now ≡ level_at o (paths.Card book.now card.now) → Remembers self.new o }
+    {
+        if is_empty(level) {
+            self.make_bare_room(alloc);
+            let _ = self.try_bare(alloc, book, card);
+        }
+    }
+
+    /// Forgets books, and which cards have no entries.
+    fn forget_cards(&mut self, alloc: Global)
+        ensures nodes { self.new.book_nodes ≡ empty }
+        ensures bare { self.new.bare ≡ empty }
+        ensures remembers { (o : OfficeOf) → Remembers self.old o → Remembers self.new o }
+    {
+        self.forget_bare(alloc);
+        self.book_nodes = NameMap::new(alloc);
+    }
+
+    /// Forgets all. Takes no memory.
+    pub(crate) fn forget(&mut self, alloc: Global)
+        ensures { (o : OfficeOf) → Remembers self.new o }
+    {
+        *self = Remembered::new(alloc);
+    }
+
+    /// Remembers what is true after an edit: after one of cards all that was remembered, with the next number of a book that
+    /// has changed, but books and which cards have no entries where a card is moved; after any other nothing. Takes no memory.
+    pub(crate) fn follow(&mut self, alloc: Global, edit: &Edit)
+        ensures { (o : OfficeOf) → Remembers self.old o → Remembers self.new (apply o edit.now) }
+    {
+        match edit {
+            Edit::PutCard { book, .. } => count_change(&mut self.book_nodes, book),
+            Edit::RemoveCard { book, .. } => count_change(&mut self.book_nodes, book),
+            Edit::CopyCard { to_book, .. } => {
+                self.book_nodes.remove(to_book);
+            }
+            Edit::MoveCard { .. } => self.forget_cards(alloc),
+            Edit::AddBook { .. }
+            | Edit::RemoveBook { .. }
+            | Edit::SetLabel { .. }
+            | Edit::SetList { .. }
+            | Edit::SetMembers { .. }
+            | Edit::Adopt { .. } => self.forget(alloc),
         }
     }
 }

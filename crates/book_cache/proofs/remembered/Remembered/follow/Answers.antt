@@ -1,15 +1,23 @@
-use Rattle.std.proofs.Common.{◌≡◌, true, rules}
-use Rattle.book_cache.specs.Remembering.{changes_cards_alone}
-use Rattle.book_cache.proofs.CardEdits.{edit_remembers}
+use Rattle.book_cache.proofs.CardEdits.{put_remembers, remove_remembers, copy_remembers, move_remembers}
 use Rattle.book_cache.proofs.remembered.Remembered.follow.Goals as goal
 
-pub returns-then-not-changes_cards_alone-clause-before : goal.returns-then-not-changes_cards_alone-clause-before
-returns-then-not-changes_cards_alone-clause-before c = λ o remembers. c.new.ensures o
+pub returns-in-PutCard : goal.returns-in-PutCard
+returns-in-PutCard c = λ o remembers.
+    rw c.in-PutCard.is (put_remembers c.args.self.now o remembers c.in-PutCard.book c.in-PutCard.card c.in-PutCard.owner c.in-PutCard.text c.count_change.new.nodes c.count_change.ensures)
 
-pub returns-then-not-changes_cards_alone-clause-after : goal.returns-then-not-changes_cards_alone-clause-after
-returns-then-not-changes_cards_alone-clause-after c = λ o remembers. c.new.ensures _
+pub returns-in-RemoveCard : goal.returns-in-RemoveCard
+returns-in-RemoveCard c = λ o remembers.
+    rw c.in-RemoveCard.is (remove_remembers c.args.self.now o remembers c.in-RemoveCard.book c.in-RemoveCard.card c.count_change-in-RemoveCard.new.nodes c.count_change-in-RemoveCard.ensures)
 
-pub returns-else-not-changes_cards_alone-clause-after : goal.returns-else-not-changes_cards_alone-clause-after
-returns-else-not-changes_cards_alone-clause-after c =
-    let is : changes_cards_alone c.args.edit.now ≡ true = search rules in
-    λ o remembers. edit_remembers c.args.edit.now is c.args.self.now o remembers
+pub returns-in-CopyCard : goal.returns-in-CopyCard
+returns-in-CopyCard c = λ o remembers.
+    rw (c.in-CopyCard.is, c.remove.ensures.removed)
+    (copy_remembers c.args.self.now o remembers c.in-CopyCard.from_book c.in-CopyCard.from_card c.in-CopyCard.to_book c.in-CopyCard.to_card c.in-CopyCard.owner)
+
+pub returns-in-MoveCard : goal.returns-in-MoveCard
+returns-in-MoveCard c = λ o remembers.
+    rw c.in-MoveCard.is (move_remembers c.forget_cards.new.self o (c.forget_cards.ensures.remembers o remembers)
+    c.in-MoveCard.from_book c.in-MoveCard.from_card c.in-MoveCard.to_book c.in-MoveCard.to_card c.forget_cards.ensures.nodes c.forget_cards.ensures.bare)
+
+pub returns-in-AddBook : goal.returns-in-AddBook
+returns-in-AddBook c = λ o remembers. c.forget.ensures _

@@ -1,4 +1,4 @@
-use Rattle.std.proofs.Common.{◌≡◌, Some, rules, ap, ◌∙◌}
+use Rattle.std.proofs.Common.{◌≡◌, Some, rules, ◌∙◌}
 use Rattle.book_office.specs.Resources.{node_at}
 use Rattle.book_values.specs.declared.paths.Path.TheVariants as path
 use Rattle.book_cache.proofs.Kept.{person_remembered}

@@ -1,0 +1,10 @@
+use Rattle.std.proofs.Common.{ap, ◌∙◌}
+use Rattle.book_cache.specs.Remembering.{raised}
+use Rattle.book_values.specs.Names.{changed_if}
+use Rattle.book_values.proofs.NameMapLaws.{at_some}
+use Rattle.book_cache.proofs.remembered.raise.Goals as goal
+
+pub returns-in-Some : goal.returns-in-Some
+returns-in-Some c =
+    at_some c.get_mut.result _ c.in-Some.is (c.get_mut.follows.holds _)
+    ∙ ap (changed_if raised c.args.nodes.now c.args.name.now) c.in-Some.ensures.value
