@@ -1,5 +1,5 @@
 -- What a statement makes of the rows.
-use Rattle.std.proofs.Common.{◌≡◌, ◌≢◌, ◌⊎◌, inl, inr, ℕ, zero, suc, ℤ, pos, Bool, true, false, ◌&&◌, List, [], ◌∷◌, ◌++◌, map, filter, find, Option, Some, None, Ok, refl, sym, ap, subst, ◌∙◌, arith, IsTrue}
+use Rattle.std.proofs.Common.{◌≡◌, ◌≢◌, ◌⊎◌, inl, inr, ℕ, zero, suc, ℤ, pos, Bool, true, false, ◌&&◌, List, [], ◌∷◌, ◌++◌, map, filter, find, length, nat_lt, is_some, Option, Some, None, Ok, refl, sym, ap, subst, ◌∙◌, arith, IsTrue}
 use Rattle.std.specs.Option.{option_to_list}
 use Rattle.std.specs.List.Sorted.{IsPermutation}
 use Rattle.std.proofs.lemmas.List.Sorted.{length_permutation, IsPermutation-map}
@@ -35,7 +35,7 @@ use Rattle.book_rows.specs.Schema.{book_schema, node_table, gone_table}
 use Rattle.book_rows.specs.Texts as text
 use Rattle.book_rows.specs.Rows.{rows_of, has, IsBook}
 use Rattle.book_rows.specs.Writes as writes
-use Rattle.book_rows.specs.Writes.{is_at, is_gone, node_row, or_null, with_number, with_text}
+use Rattle.book_rows.specs.Writes.{is_at, is_mapped, is_gone, node_row, or_null, with_number, with_text}
 use Rattle.book_rows.specs.Steps.{Becomes}
 use Rattle.book_rows.proofs.Meanings.{equals, set_number_is, set_number_plain, set_text_is, set_text_plain, delete_gone_name_is, delete_gone_name_plain}
 use Rattle.book_rows.proofs.Once.{filter_finds}
@@ -218,6 +218,32 @@ module _ (old new : State) (sql path : List ℕ) (more : Row) (columns : List Te
   stays_shaped rows shaped (Some r) there =
       IsShaped-put_row (change r) (without_rowid (id_in (rowid r)) rows) (ap is_int (same_id r) ∙ all_has _ rows r shaped.1 (there r refl)) (IsShaped-filter TableShape _ rows shaped)
 
+  counted : (db : Trees) (found : Option Row) → length (edit_for db found).news ≡ length (option_to_list found)
+  counted trees None = refl
+  counted trees (Some r) = refl
+
+  some_counts : (found : Option Row) → nat_lt 0 (length (option_to_list found)) ≡ is_some found
+  some_counts None = refl
+  some_counts (Some r) = refl
+
+  -- the statement writes the row at the path, if there is one, and counts it
+  picks : (count : ℕ) → ExecutesInside 0 sql params old new (Ok count) → IsBook old.now
+      → Wrote old.now.trees (edit_for old.now.trees (find (is_at path) (old.now.trees 0))) new.now × (count ≡ length (option_to_list (find (is_at path) (old.now.trees 0))))
+  picks count h book =
+      let db = old.now.trees in
+      let rules = subst (λ k. IsDatabase (record { schema = k; trees = db })) book.schema book.rules in
+      let shaped = book.rising node_table (inl refl) in
+      let found = find (is_at path) (db 0) in
+      let once = filter_finds (is_at path) (db 0) (path_once path db rules shaped) in
+      let it = updates old new book.schema sql params 0 node_table refl (simple 0 (equals 2 0 ∷ []) (col 1 0 ∷ columns)) is plain count h.0 in
+      let picked : filter (passes params (equals 2 0 ∷ [])) (db 0) ≡ option_to_list found = (λ i. filter (λ r. same_test r i) (db 0)) ∙ once in
+      let answer = answers 0 (equals 2 0 ∷ []) (col 1 0 ∷ columns) (overlay db []) params it.0 it.1 in
+      let given : it.0 ≡ shown found =
+      one_or_none (shown_by params (col 1 0 ∷ columns)) found it.0 (subst (λ xs. IsPermutation (map (shown_by params (col 1 0 ∷ columns)) xs) it.0) picked answer) in (
+        subst (λ all. Wrote db (edit_of db node_table (ids_of all) Given 1 all) new.now) given it.2,
+        it.3 ∙ ap (λ all. length (edit_of db node_table (ids_of all) Given 1 all).news) given ∙ counted db found,
+      )
+
   pub becomes_updated : (count : ℕ) → ExecutesInside 0 sql params old new (Ok count)
       → Becomes old new (λ rows. record rows { nodes = update_where (is_at path) change rows.nodes })
   becomes_updated count h = record {
@@ -231,18 +257,17 @@ module _ (old new : State) (sql path : List ℕ) (more : Row) (columns : List Te
         let found = find (is_at path) (db 0) in
         let there = found_there (is_at path) (db 0) in
         let once = filter_finds (is_at path) (db 0) (path_once path db rules shaped) in
-        let it = updates old new book.schema sql params 0 node_table refl (simple 0 (equals 2 0 ∷ []) (col 1 0 ∷ columns)) is plain count h.0 in
-        let picked : filter (passes params (equals 2 0 ∷ [])) (db 0) ≡ option_to_list found = (λ i. filter (λ r. same_test r i) (db 0)) ∙ once in
-        let answer = answers 0 (equals 2 0 ∷ []) (col 1 0 ∷ columns) (overlay db []) params it.0 it.1 in
-        let given : it.0 ≡ shown found =
-        one_or_none (shown_by params (col 1 0 ∷ columns)) found it.0 (subst (λ xs. IsPermutation (map (shown_by params (col 1 0 ∷ columns)) xs) it.0) picked answer) in
-        let w : Wrote db (edit_for db found) new.now = subst (λ all. Wrote db (edit_of db node_table (ids_of all) Given 1 all) new.now) given it.2 in
+        let w = (picks count h book).0 in
         let applied = applies db new.now.trees found w.written in
         let made : new.now.trees 0 ≡ put_back db found = applied.rows ∙ makes db rules shaped found there in
         let shaped_after = subst (IsShaped TableShape) (sym made) (stays_shaped (db 0) shaped found there) in
         let listed : new.now.trees 0 ≡ update_where (is_at path) change (db 0) = made ∙ updates_one (is_at path) change same_id (db 0) shaped found once there in
         (book_after db new.now (edit_for db found) (as_book old.now book) w applied shaped_after, nodes_changed db new.now.trees (edit_for db found) applied refl ∙ ap (λ ns. record (rows_of db) { nodes = ns }) listed);
   }
+
+  -- whether a row was counted tells whether one is at the path
+  pub tells_mapped : (count : ℕ) → ExecutesInside 0 sql params old new (Ok count) → IsBook old.now → nat_lt 0 count ≡ is_mapped path (rows_of old.now.trees)
+  tells_mapped count h book = ap (nat_lt 0) ((picks count h book).1) ∙ some_counts (find (is_at path) (old.now.trees 0))
 
 -- ---- the two updates of one node
 
@@ -256,15 +281,20 @@ becomes_numbered old new path number count h =
         let id = int_of (rowid r) int in
         rw (id.1, cast_integer (Int id.0) refl, cast_integer Null refl, cast_text (column r 2) t.path, cast_integer (column r 3) t.parent, cast_integer (column r 4) t.kind, cast_text (column r 5) t.owner, cast_text (column r 6) t.label, cast_text (column r 7) t.text, cast_integer (Int (pos number)) refl) refl
 
+rewritten_cast : (words : List ℕ) (number : ℕ) (r : Row) → IsTrue (is_int (rowid r)) → TypedNode r → cast_row node_table (with_text words number r) ≡ with_text words number r
+rewritten_cast words number r int t =
+    let id = int_of (rowid r) int in
+    rw (id.1, cast_integer (Int id.0) refl, cast_integer Null refl, cast_text (column r 2) t.path, cast_integer (column r 3) t.parent, cast_integer (column r 4) t.kind, cast_text (column r 5) t.owner, cast_text (column r 6) t.label, cast_integer (Int (pos number)) refl) refl
+
 pub becomes_rewritten : (old new : State) (path words : List ℕ) (number count : ℕ) → ExecutesInside 0 text.set_text (Text path ∷ Text words ∷ Int (pos number) ∷ []) old new (Ok count) → Becomes old new (writes.set_text path words number)
 becomes_rewritten old new path words number count h =
     becomes_updated old new text.set_text path (Text words ∷ Int (pos number) ∷ []) (col 1 0 ∷ lit Null ∷ col 1 2 ∷ col 1 3 ∷ col 1 4 ∷ col 1 5 ∷ col 1 6 ∷ col 0 1 ∷ col 0 2 ∷ []) (with_text words number)
     set_text_is set_text_plain (λ r. refl) (λ r. refl) (rewritten_cast words number) count h
-  where
-    rewritten_cast : (words : List ℕ) (number : ℕ) (r : Row) → IsTrue (is_int (rowid r)) → TypedNode r → cast_row node_table (with_text words number r) ≡ with_text words number r
-    rewritten_cast words number r int t =
-        let id = int_of (rowid r) int in
-        rw (id.1, cast_integer (Int id.0) refl, cast_integer Null refl, cast_text (column r 2) t.path, cast_integer (column r 3) t.parent, cast_integer (column r 4) t.kind, cast_text (column r 5) t.owner, cast_text (column r 6) t.label, cast_integer (Int (pos number)) refl) refl
+
+pub tells_rewritten : (old new : State) (path words : List ℕ) (number count : ℕ) → ExecutesInside 0 text.set_text (Text path ∷ Text words ∷ Int (pos number) ∷ []) old new (Ok count) → IsBook old.now → nat_lt 0 count ≡ is_mapped path (rows_of old.now.trees)
+tells_rewritten old new path words number count h =
+    tells_mapped old new text.set_text path (Text words ∷ Int (pos number) ∷ []) (col 1 0 ∷ lit Null ∷ col 1 2 ∷ col 1 3 ∷ col 1 4 ∷ col 1 5 ∷ col 1 6 ∷ col 0 1 ∷ col 0 2 ∷ []) (with_text words number)
+    set_text_is set_text_plain (λ r. refl) (λ r. refl) (rewritten_cast words number) count h
 
 -- ---- DELETE of removed names
 

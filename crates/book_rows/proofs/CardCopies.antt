@@ -1,5 +1,5 @@
 -- A card or another node is labelled, and a card is copied, step by step.
-use Rattle.std.proofs.Common.{◌≡◌, ℕ, ◌+◌, Bool, List, [], find, Option, Some, option_map, unwrap_or, is_some, string_bytes, sym, ap, subst, ◌∙◌}
+use Rattle.std.proofs.Common.{◌≡◌, ℕ, ◌+◌, List, [], find, Option, Some, option_map, unwrap_or, string_bytes, sym, ap, subst, ◌∙◌}
 use Rattle.sqlite.specs.declared.types.Value.{Value}
 use Rattle.sqlite.specs.declared.types.Value.TheVariants.{Int}
 use Rattle.sqlite.specs.Effect.{Database}
@@ -7,10 +7,9 @@ use Rattle.sqlite.specs.Edit.{id_in}
 use Rattle.sqlite.specs.Order.{column}
 use Rattle.sqlite.specs.Tree.{rowid}
 use Rattle.sqlite.specs.State.{State}
-use Rattle.sqlite_keyed.proofs.SliceLemmas.{is_some-map}
 use Rattle.book_rows.specs.declared.nodes.Found.{Found}
 use Rattle.book_rows.specs.Rows.{rows_of, IsBook}
-use Rattle.book_rows.specs.Writes.{is_at, label_card, set_label, put_copy}
+use Rattle.book_rows.specs.Writes.{is_at, is_mapped, label_card, set_label, put_copy}
 use Rattle.book_rows.specs.Nodes.{Told, Finds, labelling_card, labelling_node, copying_card, told, told_of, number_in, text_in}
 use Rattle.book_rows.specs.Steps.{Becomes, Looks, Makes}
 use Rattle.book_rows.proofs.CardPuts.{told_row}
@@ -55,11 +54,11 @@ module _ (old mid new : State) (path : List ℕ) (f : Found) (found : Option Fou
         );
   }
 
-module _ (old s1 s2 s3 new : State) (source_path book_path card_path name : List ℕ) (owner : Option (List ℕ)) (h f : Found) (text : List ℕ) (found_source found_book found_card : Option Found) (is_mapped : Bool)
-    (first : Looks old s1) (second : Looks s1 s2) (third : Looks s2 s3) (is_source : found_source ≡ Some h) (is_book : found_book ≡ Some f) (mapped : is_mapped ≡ is_some found_card)
+module _ (old s1 s2 new : State) (source_path book_path card_path name : List ℕ) (owner : Option (List ℕ)) (h f : Found) (text : List ℕ) (found_source found_book : Option Found)
+    (first : Looks old s1) (second : Looks s1 s2) (is_source : found_source ≡ Some h) (is_book : found_book ≡ Some f)
     (text_is : option_map string_bytes h.text ≡ Some text)
-    (source_found : Finds old source_path (option_map told found_source)) (book_found : Finds s1 book_path (option_map told found_book)) (card_found : Finds s2 card_path (option_map told found_card))
-    (written : Becomes s3 new (put_copy (Int f.id) is_mapped book_path card_path name owner (string_bytes h.label) text (f.number + 1))) where
+    (source_found : Finds old source_path (option_map told found_source)) (book_found : Finds s1 book_path (option_map told found_book))
+    (written : Becomes s2 new (λ rows. put_copy (Int f.id) (is_mapped card_path rows) book_path card_path name owner (string_bytes h.label) text (f.number + 1) rows)) where
   pub copies : Makes old new (copying_card source_path book_path card_path name owner)
   copies = record {
     inside = written.inside;
@@ -70,16 +69,11 @@ module _ (old s1 s2 s3 new : State) (source_path book_path card_path name : List
         let s1_is : s1.now ≡ old.now = first.same book in
         let book_1 = subst IsBook (sym s1_is) book in
         let s2_is : s2.now ≡ old.now = second.same book_1 ∙ s1_is in
-        let book_2 = subst IsBook (sym s2_is) book in
-        let s3_is : s3.now ≡ old.now = third.same book_2 ∙ s2_is in
         let s = told_row h (find (is_at source_path) rows.nodes) (sym (ap (option_map told) is_source) ∙ source_found.1 book) in
         let b = told_row f (find (is_at book_path) rows.nodes)
         (sym (ap (option_map told) is_book) ∙ book_found.1 book_1 ∙ ap (λ (d : Database). option_map told_of (find (is_at book_path) (rows_of d.trees).nodes)) s1_is) in
-        let card : is_mapped ≡ is_some (find (is_at card_path) rows.nodes) =
-        mapped ∙ sym (is_some-map told found_card) ∙ ap is_some (card_found.1 book_2) ∙ is_some-map told_of (find (is_at card_path) (rows_of s2.now.trees).nodes)
-        ∙ ap (λ (d : Database). is_some (find (is_at card_path) (rows_of d.trees).nodes)) s2_is in
         let label : unwrap_or (text_in (column s.0 6)) [] ≡ string_bytes h.label = ap (λ (t : Told). t.label) s.2 in
-        let done = written.rows (subst IsBook (sym s3_is) book) in
+        let done = written.rows (subst IsBook (sym s2_is) book) in
         let id : Value = Int (id_in (rowid b.0)) in (
           done.0,
           record {
@@ -89,10 +83,10 @@ module _ (old s1 s2 s3 new : State) (source_path book_path card_path name : List
             text_is = ap (λ (t : Told). t.text) s.2 ∙ text_is;
             book = b.0;
             there = b.1;
-            rows_are = done.1 ∙ ap (λ (d : Database). put_copy (Int f.id) is_mapped book_path card_path name owner (string_bytes h.label) text (f.number + 1) (rows_of d.trees)) s3_is
-                ∙ ap (λ (t : Told). put_copy (Int t.id) is_mapped book_path card_path name owner (string_bytes h.label) text (t.number + 1) rows) (sym b.2)
-                ∙ ap (λ m. put_copy id m book_path card_path name owner (string_bytes h.label) text (number_in (column b.0 8) + 1) rows) card
-                ∙ ap (λ l. put_copy id (is_some (find (is_at card_path) rows.nodes)) book_path card_path name owner l text (number_in (column b.0 8) + 1) rows) (sym label);
+            rows_are = done.1
+                ∙ ap (λ (d : Database). let rs = rows_of d.trees in put_copy (Int f.id) (is_mapped card_path rs) book_path card_path name owner (string_bytes h.label) text (f.number + 1) rs) s2_is
+                ∙ ap (λ (t : Told). put_copy (Int t.id) (is_mapped card_path rows) book_path card_path name owner (string_bytes h.label) text (t.number + 1) rows) (sym b.2)
+                ∙ ap (λ l. put_copy id (is_mapped card_path rows) book_path card_path name owner l text (number_in (column b.0 8) + 1) rows) (sym label);
           },
         );
   }

@@ -1,16 +1,14 @@
 -- A card is found and put, step by step.
-use Rattle.std.proofs.Common.{◌≡◌, ℕ, ◌+◌, Bool, List, find, Option, Some, None, option_map, is_some, refl, sym, ap, subst, ◌∙◌}
+use Rattle.std.proofs.Common.{◌≡◌, ℕ, ◌+◌, Bool, true, false, cond, List, [], ◌∷◌, find, Option, Some, None, option_map, is_some, refl, sym, ap, subst, ◌∙◌}
 use Rattle.sqlite.specs.declared.types.Value.TheVariants.{Int}
 use Rattle.sqlite.specs.Effect.{Database}
-use Rattle.sqlite.specs.Edit.{id_in}
-use Rattle.sqlite.specs.Order.{Row, column}
-use Rattle.sqlite.specs.Tree.{rowid}
+use Rattle.sqlite.specs.Order.{Row}
 use Rattle.sqlite.specs.State.{State}
-use Rattle.sqlite_keyed.proofs.SliceLemmas.{is_some-map}
 use Rattle.book_rows.specs.declared.nodes.Found.{Found}
 use Rattle.book_rows.specs.Rows.{Rows, rows_of, IsBook}
-use Rattle.book_rows.specs.Writes.{is_at, put_card}
-use Rattle.book_rows.specs.Nodes.{Told, Finds, putting_card, told, told_of, number_in}
+use Rattle.sqlite_keyed.specs.Lists.{update_where}
+use Rattle.book_rows.specs.Writes.{is_at, is_mapped, put_card}
+use Rattle.book_rows.specs.Nodes.{Told, Finds, putting_card, told, told_of}
 use Rattle.book_rows.specs.Steps.{Becomes, Looks, Makes}
 
 -- one write after another
@@ -26,10 +24,38 @@ pub told_row : (f : Found) (found : Option Row) → Some (told f) ≡ option_map
 told_row f None e = absurd cc
 told_row f (Some row) e = (row, refl, (let same : told_of row ≡ told f = cc in same))
 
-module _ (old mid before new : State) (book_path card_path name : List ℕ) (owner : Option (List ℕ)) (text : List ℕ) (f : Found) (found_book found_card : Option Found) (is_mapped : Bool)
-    (first : Looks old mid) (second : Looks mid before) (is_book : found_book ≡ Some f) (mapped : is_mapped ≡ is_some found_card)
-    (book_found : Finds old book_path (option_map told found_book)) (card_found : Finds mid card_path (option_map told found_card))
-    (written : Becomes before new (put_card (Int f.id) is_mapped book_path card_path name owner text (f.number + 1))) where
+-- where no row is picked, none is changed
+none_updated : (p : Row → Bool) (f : Row → Row) (xs : List Row) → find p xs ≡ None → update_where p f xs ≡ xs
+none_updated p f [] none = refl
+none_updated p f (x ∷ xs) none = elim (p x) as (λ b. cond b (Some x) (find p xs) ≡ None → cond b (f x) x ∷ update_where p f xs ≡ x ∷ xs) [
+  | true ↦ λ is. absurd (let e = is in cc)
+  | false ↦ λ is. ap (λ more. x ∷ more) (none_updated p f xs is)
+] none
+
+none_there : (found : Option Row) → is_some found ≡ false → found ≡ None
+none_there None is = refl
+none_there (Some r) is = absurd cc
+
+-- a row is written where one is at a path, and else added: the answer of the first statement tells which
+module _ (old mid : State) (at : List ℕ) (change : Row → Row) (write : Bool → Rows → Rows) (there : Bool)
+    (updated : Becomes old mid (λ rows. record rows { nodes = update_where (is_at at) change rows.nodes })) (tells : IsBook old.now → there ≡ is_mapped at (rows_of old.now.trees)) where
+  pub writes_new : (new : State) → there ≡ false → Becomes mid new (write false) → Becomes old new (λ rows. write (is_mapped at rows) rows)
+  writes_new new is added = record {
+    inside = added.inside;
+    was_open = updated.was_open;
+    is_open = added.is_open;
+    rows = λ book.
+        let rows = rows_of old.now.trees in
+        let first = updated.rows book in
+        let done = added.rows first.0 in
+        let none = none_there (find (is_at at) rows.nodes) (sym (tells book) ∙ is) in
+        let same : rows_of mid.now.trees ≡ rows = first.1 ∙ ap (λ nodes. record rows { nodes = nodes }) (none_updated (is_at at) change rows.nodes none) in
+        (done.0, done.1 ∙ ap (write false) same ∙ ap (λ b. write b rows) (sym is ∙ tells book));
+  }
+
+module _ (old mid new : State) (book_path card_path name : List ℕ) (owner : Option (List ℕ)) (text : List ℕ) (f : Found) (found_book : Option Found)
+    (first : Looks old mid) (is_book : found_book ≡ Some f) (book_found : Finds old book_path (option_map told found_book))
+    (written : Becomes mid new (λ rows. put_card (Int f.id) (is_mapped card_path rows) book_path card_path name owner text (f.number + 1) rows)) where
   pub puts : Makes old new (putting_card book_path card_path name owner text)
   puts = record {
     inside = written.inside;
@@ -37,22 +63,16 @@ module _ (old mid before new : State) (book_path card_path name : List ℕ) (own
     is_open = written.is_open;
     made = λ book fits.
         let rows = rows_of old.now.trees in
-        let book_mid = subst IsBook (sym (first.same book)) book in
-        let before_is : before.now ≡ old.now = second.same book_mid ∙ first.same book in
+        let mid_is : mid.now ≡ old.now = first.same book in
         let row = told_row f (find (is_at book_path) rows.nodes) (sym (ap (option_map told) is_book) ∙ book_found.1 book) in
-        let done = written.rows (subst IsBook (sym before_is) book) in
-        let card : is_mapped ≡ is_some (find (is_at card_path) rows.nodes) =
-        mapped ∙ sym (is_some-map told found_card) ∙ ap is_some (card_found.1 book_mid) ∙ is_some-map told_of (find (is_at card_path) (rows_of mid.now.trees).nodes)
-        ∙ ap (λ (d : Database). is_some (find (is_at card_path) (rows_of d.trees).nodes)) (first.same book) in
-        let at_old : rows_of new.now.trees ≡ put_card (Int f.id) is_mapped book_path card_path name owner text (f.number + 1) rows =
-        done.1 ∙ ap (λ (d : Database). put_card (Int f.id) is_mapped book_path card_path name owner text (f.number + 1) (rows_of d.trees)) before_is in (
+        let done = written.rows (subst IsBook (sym mid_is) book) in (
           done.0,
           record {
             book = row.0;
             there = row.1;
-            rows_are = at_old
-                ∙ ap (λ (t : Told). put_card (Int t.id) is_mapped book_path card_path name owner text (t.number + 1) rows) (sym row.2)
-                ∙ ap (λ b. put_card (Int (id_in (rowid row.0))) b book_path card_path name owner text (number_in (column row.0 8) + 1) rows) card;
+            rows_are = done.1
+                ∙ ap (λ (d : Database). let rs = rows_of d.trees in put_card (Int f.id) (is_mapped card_path rs) book_path card_path name owner text (f.number + 1) rs) mid_is
+                ∙ ap (λ (t : Told). put_card (Int t.id) (is_mapped card_path rows) book_path card_path name owner text (t.number + 1) rows) (sym row.2);
           },
         );
   }

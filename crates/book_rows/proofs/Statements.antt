@@ -1,5 +1,5 @@
 -- What a statement of the fixed texts leaves of the tables.
-use Rattle.std.proofs.Common.{◌≡◌, ◌≢◌, ◌⊎◌, inl, inr, ℕ, ℤ, pos, negsuc, Bool, true, false, ◌&&◌, List, [], ◌∷◌, ◌++◌, map, filter, flat_map, find, slice_get, Option, Some, None, Result, Ok, Err, refl, sym, ap, subst, ◌∙◌, arith, if◌then◌else◌, IsTrue}
+use Rattle.std.proofs.Common.{◌≡◌, ◌≢◌, ◌⊎◌, inl, inr, ℕ, ℤ, pos, negsuc, Bool, true, false, ◌&&◌, List, [], ◌∷◌, ◌++◌, map, filter, flat_map, find, slice_get, length, unwrap_or, Option, Some, None, Result, Ok, Err, refl, sym, ap, subst, ◌∙◌, arith, if◌then◌else◌, IsTrue}
 use Rattle.std.specs.List.{list_all}
 use Rattle.std.specs.List.Sorted.{IsPermutation}
 use Rattle.std.proofs.lemmas.List.Sorted.{IsPermutation-map}
@@ -93,14 +93,15 @@ module _ (old new : State) (has : old.now.schema ≡ book_schema) where
         )
 
     pub updates : command_of (understood book_schema sql) ≡ Update at (record { lets = []; body = q }) → IsPlain (understood book_schema sql) → (count : ℕ) → Executes sql params old new (Ok count)
-        → (rows : List Row) × IsAnswer q (overlay db []) params rows × Wrote db (edit_of db table (ids_of rows) Given 1 rows) new.now
+        → (rows : List Row) × IsAnswer q (overlay db []) params rows × Wrote db (edit_of db table (ids_of rows) Given 1 rows) new.now × (count ≡ length (edit_of db table (ids_of rows) Given 1 rows).news)
     updates is plain count h =
         let command = Update at (record { lets = []; body = q }) in
         let w = runs_as sql params old new book_schema has command is plain count h in
         let text = statement_of sql (understood book_schema sql) in
         let does = subst (λ s. Does old.step_limit (mode_of old) params (record old.now { schema = s }) text None command (Ok (w.tally, new.now))) has w.changed in
         let done = went (subst (λ o. AtPlace (λ t. OnRows (record task { table = t }) (mode_of old) None command db) o (Ok (w.tally, new.now))) there does) in
-        let now = ap (λ (p : Tally × Database). p.1) (same_value (went (went done.2).2).2) in
+        let concluded = same_value (went (went done.2).2).2 in
+        let now = ap (λ (p : Tally × Database). p.1) concluded in
         let queried = went done.1 in
         let written = went queried.2 in
         let trees : done.0.trees ≡ written.0 = ap (λ (it : Written). it.trees) (same_value written.2) in (
@@ -111,6 +112,7 @@ module _ (old new : State) (has : old.now.schema ≡ book_schema) where
             sound = w.sound;
             written = subst (λ t. EditWrites book_schema Enforced db (edit_of db table (ids_of queried.0) Given 1 queried.0) (Ok t)) (sym (ap (λ (d : Database). d.trees) now ∙ trees)) written.1;
           },
+          w.counted ∙ ap (λ (p : Tally × Database). unwrap_or p.0.rows 0) concluded ∙ ap (λ (it : Written). length it.rows) (same_value written.2),
         )
 
 -- ---- what a query of one table shows

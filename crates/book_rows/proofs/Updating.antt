@@ -1,5 +1,5 @@
 -- What the UPDATEs of a label, of a copy and of a place leave.
-use Rattle.std.proofs.Common.{◌≡◌, ℕ, ℤ, pos, Option, List, [], ◌∷◌, Ok, refl, IsTrue}
+use Rattle.std.proofs.Common.{◌≡◌, ℕ, ℤ, pos, nat_lt, Option, List, [], ◌∷◌, Ok, refl, IsTrue}
 use Rattle.sqlite.specs.declared.types.Value.TheVariants.{Null, Int, Text}
 use Rattle.sqlite.specs.Order.{Row, column}
 use Rattle.sqlite.specs.Term.{lit, col}
@@ -10,12 +10,13 @@ use Rattle.sqlite_trees.specs.View.{is_int}
 use Rattle.book_rows.specs.Schema.{node_table}
 use Rattle.book_rows.specs.Texts as text
 use Rattle.book_rows.specs.Writes as writes
-use Rattle.book_rows.specs.Writes.{or_null, with_label, with_place, with_copy, moved_to}
+use Rattle.book_rows.specs.Writes.{is_mapped, or_null, with_label, with_place, with_copy, moved_to}
+use Rattle.book_rows.specs.Rows.{rows_of, IsBook}
 use Rattle.book_rows.specs.Steps.{Becomes}
 use Rattle.book_rows.proofs.Meanings.{set_label_is, set_label_plain, set_place_is, set_place_plain, set_copy_is, set_copy_plain, move_is, move_plain}
 use Rattle.book_rows.proofs.Typing.{cast_integer, cast_text, TypedNode}
 use Rattle.book_rows.proofs.Shapes.{int_of}
-use Rattle.book_rows.proofs.Becoming.{becomes_updated, owner_typed}
+use Rattle.book_rows.proofs.Becoming.{becomes_updated, tells_mapped, owner_typed}
 
 pub becomes_labelled : (old new : State) (path label : List ℕ) (number count : ℕ) → ExecutesInside 0 text.set_label (Text path ∷ Text label ∷ Int (pos number) ∷ []) old new (Ok count) → Becomes old new (writes.set_label path label number)
 becomes_labelled old new path label number count h =
@@ -38,16 +39,21 @@ becomes_placed old new path owner label count h =
         let id = int_of (rowid r) int in
         rw (id.1, cast_integer (Int id.0) refl, cast_integer Null refl, cast_text (column r 2) t.path, cast_integer (column r 3) t.parent, cast_integer (column r 4) t.kind, cast_text (or_null owner) (owner_typed owner), cast_text (column r 7) t.text, cast_integer (column r 8) t.number) refl
 
-pub becomes_copied : (old new : State) (path label words : List ℕ) (number count : ℕ) → ExecutesInside 0 text.set_copy (Text path ∷ Text label ∷ Text words ∷ Int (pos number) ∷ []) old new (Ok count)
-    → Becomes old new (writes.set_copy path label words number)
-becomes_copied old new path label words number count h =
-    becomes_updated old new text.set_copy path (Text label ∷ Text words ∷ Int (pos number) ∷ []) (col 1 0 ∷ lit Null ∷ col 1 2 ∷ col 1 3 ∷ col 1 4 ∷ col 1 5 ∷ col 0 1 ∷ col 0 2 ∷ col 0 3 ∷ []) (with_copy label words number)
-    set_copy_is set_copy_plain (λ r. refl) (λ r. refl) (copied_cast label words number) count h
-  where
-    copied_cast : (label words : List ℕ) (number : ℕ) (r : Row) → IsTrue (is_int (rowid r)) → TypedNode r → cast_row node_table (with_copy label words number r) ≡ with_copy label words number r
-    copied_cast label words number r int t =
-        let id = int_of (rowid r) int in
-        rw (id.1, cast_integer (Int id.0) refl, cast_integer Null refl, cast_text (column r 2) t.path, cast_integer (column r 3) t.parent, cast_integer (column r 4) t.kind, cast_text (column r 5) t.owner, cast_integer (Int (pos number)) refl) refl
+copied_cast : (label words : List ℕ) (number : ℕ) (r : Row) → IsTrue (is_int (rowid r)) → TypedNode r → cast_row node_table (with_copy label words number r) ≡ with_copy label words number r
+copied_cast label words number r int t =
+    let id = int_of (rowid r) int in
+    rw (id.1, cast_integer (Int id.0) refl, cast_integer Null refl, cast_text (column r 2) t.path, cast_integer (column r 3) t.parent, cast_integer (column r 4) t.kind, cast_text (column r 5) t.owner, cast_integer (Int (pos number)) refl) refl
+
+module _ (old new : State) (path label words : List ℕ) (number count : ℕ) (h : ExecutesInside 0 text.set_copy (Text path ∷ Text label ∷ Text words ∷ Int (pos number) ∷ []) old new (Ok count)) where
+  pub becomes_copied : Becomes old new (writes.set_copy path label words number)
+  becomes_copied =
+      becomes_updated old new text.set_copy path (Text label ∷ Text words ∷ Int (pos number) ∷ []) (col 1 0 ∷ lit Null ∷ col 1 2 ∷ col 1 3 ∷ col 1 4 ∷ col 1 5 ∷ col 0 1 ∷ col 0 2 ∷ col 0 3 ∷ []) (with_copy label words number)
+      set_copy_is set_copy_plain (λ r. refl) (λ r. refl) (copied_cast label words number) count h
+
+  pub tells_copied : IsBook old.now → nat_lt 0 count ≡ is_mapped path (rows_of old.now.trees)
+  tells_copied =
+      tells_mapped old new text.set_copy path (Text label ∷ Text words ∷ Int (pos number) ∷ []) (col 1 0 ∷ lit Null ∷ col 1 2 ∷ col 1 3 ∷ col 1 4 ∷ col 1 5 ∷ col 0 1 ∷ col 0 2 ∷ col 0 3 ∷ []) (with_copy label words number)
+      set_copy_is set_copy_plain (λ r. refl) (λ r. refl) (copied_cast label words number) count h
 
 pub becomes_moved : (old new : State) (path destination : List ℕ) (parent : ℤ) (number count : ℕ) → ExecutesInside 0 text.move_node (Text path ∷ Text destination ∷ Int parent ∷ Int (pos number) ∷ []) old new (Ok count)
     → Becomes old new (writes.move_node path destination (Int parent) number)

@@ -1,5 +1,5 @@
 -- What a look-up tells of a node.
-use Rattle.std.specs.Prelude.{◌≡◌, ℕ, ℤ, pos, ◌+◌, List, [], find, Option, Some, None, option_map, unwrap_or, is_some, string_bytes, IsTrue}
+use Rattle.std.specs.Prelude.{◌≡◌, ℕ, ℤ, pos, ◌+◌, List, [], find, Option, Some, None, option_map, unwrap_or, string_bytes, IsTrue}
 use Rattle.sqlite.specs.declared.types.Value.{Value}
 use Rattle.sqlite.specs.declared.types.Value.TheVariants.{Int, Text}
 use Rattle.sqlite.specs.Edit.{id_in}
@@ -10,7 +10,7 @@ use Rattle.book_rows.specs.declared.nodes.Found.{Found}
 use Rattle.book_rows.specs.declared.setting.EntryRow.{EntryRow}
 use Rattle.book_rows.specs.Rows.{Rows, rows_of, has, IsBook}
 use Rattle.book_rows.specs.Steps.{Change, change_of}
-use Rattle.book_rows.specs.Writes.{is_at, is_under, put_card, remove_book, remove_cards, remove_card, add_book, set_label, label_card, put_copy, clear_at, leave_book, arrive_in, delete_gone, delete_entries_below, delete_entries, Said, set_list, set_members, AreFree, IsMeta, HasMeta}
+use Rattle.book_rows.specs.Writes.{is_at, is_mapped, is_under, put_card, remove_book, remove_cards, remove_card, add_book, set_label, label_card, put_copy, clear_at, leave_book, arrive_in, delete_gone, delete_entries_below, delete_entries, Said, set_list, set_members, AreFree, IsMeta, HasMeta}
 
 abbrev pub number_in : Value → ℕ
 number_in (Int (pos n)) = n
@@ -51,7 +51,7 @@ Finds s path found = IsTrue s.is_open × (IsBook s.now → found ≡ option_map 
 pub record PutsCard (rows after : Rows) (book_path card_path name : List ℕ) (owner : Option (List ℕ)) (text : List ℕ) : Type 0 where
   pub book : Row
   pub there : find (is_at book_path) rows.nodes ≡ Some book
-  pub rows_are : after ≡ put_card (Int (id_in (rowid book))) (is_some (find (is_at card_path) rows.nodes)) book_path card_path name owner text (number_in (column book 8) + 1) rows
+  pub rows_are : after ≡ put_card (Int (id_in (rowid book))) (is_mapped card_path rows) book_path card_path name owner text (number_in (column book 8) + 1) rows
 
 abbrev pub putting_card : List ℕ → List ℕ → List ℕ → Option (List ℕ) → List ℕ → Change
 putting_card book_path card_path name owner text = change_of (λ rows after. PutsCard rows after book_path card_path name owner text)
@@ -131,7 +131,7 @@ pub record PutsCopy (rows after : Rows) (source_path book_path card_path name : 
   pub book : Row
   pub there : find (is_at book_path) rows.nodes ≡ Some book
   pub rows_are : after
-      ≡ put_copy (Int (id_in (rowid book))) (is_some (find (is_at card_path) rows.nodes)) book_path card_path name owner (unwrap_or (text_in (column source 6)) []) text (number_in (column book 8) + 1) rows
+      ≡ put_copy (Int (id_in (rowid book))) (is_mapped card_path rows) book_path card_path name owner (unwrap_or (text_in (column source 6)) []) text (number_in (column book 8) + 1) rows
 
 abbrev pub copying_card : List ℕ → List ℕ → List ℕ → List ℕ → Option (List ℕ) → Change
 copying_card source_path book_path card_path name owner = change_of (λ rows after. PutsCopy rows after source_path book_path card_path name owner)

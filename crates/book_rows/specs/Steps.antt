@@ -1,10 +1,11 @@
 -- What a call does to a connection: a step inside a transaction, and a whole transaction.
-use Rattle.std.specs.Prelude.{◌≡◌, IsTrue, OnOk, IfOk, Result, ⊤}
+use Rattle.std.specs.Prelude.{◌≡◌, ℕ, Bool, List, IsTrue, OnOk, IfOk, Result, ⊤}
 use Rattle.sqlite.specs.declared.error.Error.{Error}
 use Rattle.sqlite.specs.Effect.{Database}
 use Rattle.sqlite.specs.State.{State, HasCleanDisk, KeepsCommit}
 use Rattle.sqlite.specs.Tree.{Trees}
 use Rattle.book_rows.specs.Rows.{Rows, rows_of, IsBook, in_store}
+use Rattle.book_rows.specs.Writes.{is_mapped}
 
 -- ---- a step inside a transaction
 
@@ -35,6 +36,11 @@ pub record Turns (old new : State) (Fit : Rows → Type 0) (write : Rows → Row
 -- a step that answers Ok has made the rows so
 abbrev pub Writes : State → State → Result (Unit {0}) Error → (Rows → Rows) → Type 0
 Writes old new result write = HasCleanDisk new → IsTrue old.in_transaction → OnOk result (Becomes old new write)
+
+-- the same of the node at a path, where the answer tells whether a row was there
+abbrev pub WritesAt : State → State → Result Bool Error → List ℕ → (Rows → Rows) → Type 0
+WritesAt old new result path write = HasCleanDisk new → IsTrue old.in_transaction
+    → IfOk result (λ there. Becomes old new write × (IsBook old.now → there ≡ is_mapped path (rows_of old.now.trees)))
 
 abbrev pub WritesIf : State → State → Result (Unit {0}) Error → (Rows → Type 0) → (Rows → Rows) → Type 0
 WritesIf old new result Fit write = HasCleanDisk new → IsTrue old.in_transaction → OnOk result (BecomesIf old new Fit write)

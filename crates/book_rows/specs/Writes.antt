@@ -1,5 +1,5 @@
 -- What each statement makes of the rows.
-use Rattle.std.specs.Prelude.{◌≡◌, ℕ, ◌+◌, ℤ, pos, Bool, true, false, ◌&&◌, List, [], ◌∷◌, ◌++◌, filter, Option, Some, None}
+use Rattle.std.specs.Prelude.{◌≡◌, ℕ, ◌+◌, ℤ, pos, Bool, true, false, ◌&&◌, List, [], ◌∷◌, ◌++◌, filter, find, is_some, Option, Some, None}
 use Rattle.sqlite.specs.declared.types.Value.{Value}
 use Rattle.sqlite.specs.declared.types.Value.TheVariants.{Null, Int, Text}
 use Rattle.sqlite.specs.Order.{Row, column, value_cmp}
@@ -21,6 +21,10 @@ or_null (Some text) = Text text
 -- a row of `node` stands at a path, or under the node with a number
 abbrev pub is_at : List ℕ → Row → Bool
 is_at path = has 2 (Text path)
+
+-- a row of `node` is there at a path
+abbrev pub is_mapped : List ℕ → Rows → Bool
+is_mapped path rows = is_some (find (is_at path) rows.nodes)
 
 abbrev pub is_under : Value → Row → Bool
 is_under id = has 3 id
@@ -163,8 +167,8 @@ write_card id true at name owner text number rows = set_text at text number rows
 
 -- PUT of a card under the book whose row has a number: the card is written, and the book has the change number
 abbrev pub put_card : Value → Bool → List ℕ → List ℕ → List ℕ → Option (List ℕ) → List ℕ → ℕ → Rows → Rows
-put_card id is_mapped book_path card_path name owner text number rows =
-    set_number book_path number (write_card id is_mapped card_path name owner text number rows)
+put_card id there book_path card_path name owner text number rows =
+    set_number book_path number (write_card id there card_path name owner text number rows)
 
 -- the cards of a book, and what refers to them
 abbrev pub remove_cards : Value → Rows → Rows
@@ -194,8 +198,8 @@ write_copy id true at name owner label text number rows = set_copy at label text
 
 -- COPY into the book whose row has a number: the card is written, and the book has the change number
 abbrev pub put_copy : Value → Bool → List ℕ → List ℕ → List ℕ → Option (List ℕ) → List ℕ → List ℕ → ℕ → Rows → Rows
-put_copy id is_mapped book_path card_path name owner label text number rows =
-    set_number book_path number (write_copy id is_mapped card_path name owner label text number rows)
+put_copy id there book_path card_path name owner label text number rows =
+    set_number book_path number (write_copy id there card_path name owner label text number rows)
 
 -- a card that is there is taken out with its entries
 abbrev pub clear_at : Option Row → Rows → Rows

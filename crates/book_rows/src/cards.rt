@@ -5,7 +5,7 @@ ghost use Rattle.sqlite.specs.declared.types.Value.TheVariants.{Int};
 ghost use Rattle.sqlite.specs.Held.{state};
 ghost use Rattle.sqlite.specs.State.{Survives};
 ghost use Rattle.book_rows.specs.Writes as writes;
-ghost use Rattle.book_rows.specs.Steps.{Keeps, Writes};
+ghost use Rattle.book_rows.specs.Steps.{Keeps, Writes, WritesAt};
 
 use sqlite::{Alter, Error, Transaction, params};
 
@@ -30,26 +30,26 @@ pub(crate) fn set_number<S: Alter>(
     Ok(())
 }
 
-/// Gives the node at a path another text and change number.
+/// Gives the node at a path another text and change number, and tells whether there is one.
 pub(crate) fn set_text<'x, S: Alter>(
     transaction: &mut Transaction<'_, S>,
     path: &'x str,
     text: &'x str,
     number: u64,
-) -> Result<(), Error>
+) -> Result<bool, Error>
     requires { number < 2 ^ 53 }
     ensures same_reference { transaction.new.conn.ghost_name ≡ transaction.old.conn.ghost_name }
     ensures survives { Survives (state S.Store transaction.old.conn.now) (state S.Store transaction.new.conn.now)
         (λ _. ⊥) }
     ensures kept { Keeps (state S.Store transaction.old.conn.now) (state S.Store transaction.new.conn.now) }
-    ensures done { Writes (state S.Store transaction.old.conn.now) (state S.Store transaction.new.conn.now) result
-        (writes.set_text path.now text.now number) }
+    ensures done { WritesAt (state S.Store transaction.old.conn.now) (state S.Store transaction.new.conn.now) result
+        path.now (writes.set_text path.now text.now number) }
 {
-    transaction.execute(
+    let count = transaction.execute(
         "UPDATE node SET text = ?2, number = ?3 WHERE path = ?1",
         params![path, text, number as i64],
     )?;
-    Ok(())
+    Ok(count > 0)
 }
 
 /// Takes a name out of the removed names of the book with a number.
@@ -116,27 +116,27 @@ pub(crate) fn set_label<'x, S: Alter>(
     Ok(())
 }
 
-/// Gives the node at a path another label, text and change number.
+/// Gives the node at a path another label, text and change number, and tells whether there is one.
 pub(crate) fn set_copy<'x, S: Alter>(
     transaction: &mut Transaction<'_, S>,
     path: &'x str,
     label: &'x str,
     text: &'x str,
     number: u64,
-) -> Result<(), Error>
+) -> Result<bool, Error>
     requires { number < 2 ^ 53 }
     ensures same_reference { transaction.new.conn.ghost_name ≡ transaction.old.conn.ghost_name }
     ensures survives { Survives (state S.Store transaction.old.conn.now) (state S.Store transaction.new.conn.now)
         (λ _. ⊥) }
     ensures kept { Keeps (state S.Store transaction.old.conn.now) (state S.Store transaction.new.conn.now) }
-    ensures done { Writes (state S.Store transaction.old.conn.now) (state S.Store transaction.new.conn.now) result
-        (writes.set_copy path.now label.now text.now number) }
+    ensures done { WritesAt (state S.Store transaction.old.conn.now) (state S.Store transaction.new.conn.now) result
+        path.now (writes.set_copy path.now label.now text.now number) }
 {
-    transaction.execute(
+    let count = transaction.execute(
         "UPDATE node SET label = ?2, text = ?3, number = ?4 WHERE path = ?1",
         params![path, label, text, number as i64],
     )?;
-    Ok(())
+    Ok(count > 0)
 }
 
 /// Gives the node at a path another path, parent and change number.

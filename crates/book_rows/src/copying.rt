@@ -7,18 +7,18 @@ ghost use Rattle.sqlite.specs.Held.{state};
 ghost use Rattle.sqlite.specs.State.{HasCleanDisk, Survives};
 ghost use Rattle.book_rows.specs.Nodes.{copying_card};
 ghost use Rattle.book_rows.specs.Writes as writes;
+ghost use Rattle.book_rows.specs.Writes.{is_mapped};
 ghost use Rattle.book_rows.specs.Steps.{Commits, Keeps, MayLeave, Performs, Stays, Writes};
 
 use crate::cards::{delete_gone_name, set_copy, set_number};
 use crate::nodes::{CARD, LAST_NUMBER, insert_node, look_up};
 use sqlite::{Alter, Connection, Error, ErrorCode, Transaction};
 
-/// The card's row gets the label and the text, or a row is added under the book with a number and its name is taken out of
-/// the removed ones.
+/// The card's row gets the label and the text. Where there is none, one is added under the book with a number, and its name
+/// is taken out of the removed ones.
 fn write_copy<'x, S: Alter>(
     transaction: &mut Transaction<'_, S>,
     book: i64,
-    is_mapped: bool,
     path: &'x str,
     name: &str,
     owner: Option<&'x str>,
@@ -32,11 +32,11 @@ fn write_copy<'x, S: Alter>(
         (λ _. ⊥) }
     ensures kept { Keeps (state S.Store transaction.old.conn.now) (state S.Store transaction.new.conn.now) }
     ensures done { Writes (state S.Store transaction.old.conn.now) (state S.Store transaction.new.conn.now) result
-        (writes.write_copy (Int book) is_mapped path.now name.now (option_copied owner.entry) label.now text.now
-        number) }
+        (λ rows. writes.write_copy (Int book) (is_mapped path.now rows) path.now name.now (option_copied owner.entry)
+        label.now text.now number rows) }
 {
-    if is_mapped {
-        return set_copy(transaction, path, label, text, number);
+    if set_copy(transaction, path, label, text, number)? {
+        return Ok(());
     }
     insert_node(
         transaction,
@@ -55,7 +55,6 @@ fn write_copy<'x, S: Alter>(
 fn write_put_copy<'x, S: Alter>(
     transaction: &mut Transaction<'_, S>,
     book: i64,
-    is_mapped: bool,
     book_path: &str,
     card_path: &'x str,
     name: &str,
@@ -70,13 +69,12 @@ fn write_put_copy<'x, S: Alter>(
         (λ _. ⊥) }
     ensures kept { Keeps (state S.Store transaction.old.conn.now) (state S.Store transaction.new.conn.now) }
     ensures done { Writes (state S.Store transaction.old.conn.now) (state S.Store transaction.new.conn.now) result
-        (writes.put_copy (Int book) is_mapped book_path.now card_path.now name.now (option_copied owner.entry)
-        label.now text.now number) }
+        (λ rows. writes.put_copy (Int book) (is_mapped card_path.now rows) book_path.now card_path.now name.now
+        (option_copied owner.entry) label.now text.now number rows) }
 {
     write_copy(
         transaction,
         book,
-        is_mapped,
         card_path,
         name,
         owner,
@@ -87,7 +85,7 @@ fn write_put_copy<'x, S: Alter>(
     set_number(transaction, book_path, number)
 }
 
-/// Finds the source, the book and the card, and writes the copy with the next change number.
+/// Finds the source and the book, and writes the copy with the next change number.
 fn find_and_copy<'x, S: Alter>(
     transaction: &mut Transaction<'_, S>,
     source_path: &str,
@@ -115,12 +113,9 @@ fn find_and_copy<'x, S: Alter>(
     if book.number >= LAST_NUMBER {
         return Err(Error::QueryReturnedNoRows);
     }
-    let card = look_up(transaction, card_path)?;
-    let is_mapped = card.is_some();
     write_put_copy(
         transaction,
         book.id,
-        is_mapped,
         book_path,
         card_path,
         name,

@@ -6,6 +6,7 @@ ghost use Rattle.sqlite.specs.declared.types.Value.TheVariants.{Int};
 ghost use Rattle.sqlite.specs.Held.{state};
 ghost use Rattle.sqlite.specs.State.{HasCleanDisk, Survives};
 ghost use Rattle.book_rows.specs.Writes as writes;
+ghost use Rattle.book_rows.specs.Writes.{is_mapped};
 ghost use Rattle.book_rows.specs.Nodes.{putting_card};
 ghost use Rattle.book_rows.specs.Steps.{Commits, Keeps, MayLeave, Performs, Stays, Writes};
 
@@ -13,12 +14,11 @@ use crate::cards::{delete_gone_name, set_number, set_text};
 use crate::nodes::{CARD, LAST_NUMBER, insert_node, look_up};
 use sqlite::{Alter, Connection, Error, ErrorCode, Transaction};
 
-/// The card's row gets the text, or a row is added under the book with a number and its name is taken out of the removed
-/// ones.
+/// The card's row gets the text. Where there is none, one is added under the book with a number, and its name is taken out
+/// of the removed ones.
 fn write_card<'x, S: Alter>(
     transaction: &mut Transaction<'_, S>,
     book: i64,
-    is_mapped: bool,
     path: &'x str,
     name: &str,
     owner: Option<&'x str>,
@@ -31,10 +31,11 @@ fn write_card<'x, S: Alter>(
         (λ _. ⊥) }
     ensures kept { Keeps (state S.Store transaction.old.conn.now) (state S.Store transaction.new.conn.now) }
     ensures done { Writes (state S.Store transaction.old.conn.now) (state S.Store transaction.new.conn.now) result
-        (writes.write_card (Int book) is_mapped path.now name.now (option_copied owner.entry) text.now number) }
+        (λ rows. writes.write_card (Int book) (is_mapped path.now rows) path.now name.now (option_copied owner.entry)
+        text.now number rows) }
 {
-    if is_mapped {
-        return set_text(transaction, path, text, number);
+    if set_text(transaction, path, text, number)? {
+        return Ok(());
     }
     insert_node(transaction, path, book, CARD, owner, "", Some(text), number)?;
     delete_gone_name(transaction, book, name)
@@ -44,7 +45,6 @@ fn write_card<'x, S: Alter>(
 fn write_put<'x, S: Alter>(
     transaction: &mut Transaction<'_, S>,
     book: i64,
-    is_mapped: bool,
     book_path: &str,
     card_path: &'x str,
     name: &str,
@@ -58,23 +58,14 @@ fn write_put<'x, S: Alter>(
         (λ _. ⊥) }
     ensures kept { Keeps (state S.Store transaction.old.conn.now) (state S.Store transaction.new.conn.now) }
     ensures done { Writes (state S.Store transaction.old.conn.now) (state S.Store transaction.new.conn.now) result
-        (writes.put_card (Int book) is_mapped book_path.now card_path.now name.now (option_copied owner.entry)
-        text.now number) }
+        (λ rows. writes.put_card (Int book) (is_mapped card_path.now rows) book_path.now card_path.now name.now
+        (option_copied owner.entry) text.now number rows) }
 {
-    write_card(
-        transaction,
-        book,
-        is_mapped,
-        card_path,
-        name,
-        owner,
-        text,
-        number,
-    )?;
+    write_card(transaction, book, card_path, name, owner, text, number)?;
     set_number(transaction, book_path, number)
 }
 
-/// Finds the book and the card, and writes the card with the next change number.
+/// Finds the book, and writes the card with the next change number.
 fn find_and_put<'x, S: Alter>(
     transaction: &mut Transaction<'_, S>,
     book_path: &str,
@@ -96,12 +87,9 @@ fn find_and_put<'x, S: Alter>(
     if book.number >= LAST_NUMBER {
         return Err(Error::QueryReturnedNoRows);
     }
-    let card = look_up(transaction, card_path)?;
-    let is_mapped = card.is_some();
     write_put(
         transaction,
         book.id,
-        is_mapped,
         book_path,
         card_path,
         name,

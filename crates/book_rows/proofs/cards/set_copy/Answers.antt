@@ -2,11 +2,15 @@ use mir.Syntax.{w64}
 use Rattle.std.proofs.Common.{arith}
 use Rattle.std.proofs.lemmas.Int.{to_z_pos}
 use Rattle.sqlite.specs.Held.{state}
-use Rattle.book_rows.proofs.Updating.{becomes_copied}
+use Rattle.book_rows.proofs.Updating.{becomes_copied, tells_copied}
 use Rattle.book_rows.proofs.cards.set_copy.Goals as goal
 
 pub returns-clause-done : goal.returns-clause-done
 returns-clause-done g c clean inside =
     let number = to_z_pos w64 c.args.number (omega (arith, c.requires)) in
-    becomes_copied (state g.S.Store c.args.transaction.now.conn.now) (state g.S.Store c.execute.new.self.conn.now) c.args.path.now c.args.label.now c.args.text.now c.args.number c.in_ok-execute.field-0
-    (rw (c.params-to_sql.ensures, c.params-to_sql-2.ensures, c.params-to_sql-3.ensures, c.params-to_sql-4.ensures, number) at (c.in_ok-execute.ensures.runs clean inside))
+    let old = state g.S.Store c.args.transaction.now.conn.now in
+    let new = state g.S.Store c.execute.new.self.conn.now in
+    let ran = rw (c.params-to_sql.ensures, c.params-to_sql-2.ensures, c.params-to_sql-3.ensures, c.params-to_sql-4.ensures, number) at (c.in_ok-count.ensures.runs clean inside) in (
+      becomes_copied old new c.args.path.now c.args.label.now c.args.text.now c.args.number c.in_ok-count.count ran,
+      tells_copied old new c.args.path.now c.args.label.now c.args.text.now c.args.number c.in_ok-count.count ran,
+    )

@@ -2,11 +2,15 @@ use mir.Syntax.{w64}
 use Rattle.std.proofs.Common.{arith}
 use Rattle.std.proofs.lemmas.Int.{to_z_pos}
 use Rattle.sqlite.specs.Held.{state}
-use Rattle.book_rows.proofs.Becoming.{becomes_rewritten}
+use Rattle.book_rows.proofs.Becoming.{becomes_rewritten, tells_rewritten}
 use Rattle.book_rows.proofs.cards.set_text.Goals as goal
 
 pub returns-clause-done : goal.returns-clause-done
 returns-clause-done g c clean inside =
     let number = to_z_pos w64 c.args.number (omega (arith, c.requires)) in
-    becomes_rewritten (state g.S.Store c.args.transaction.now.conn.now) (state g.S.Store c.execute.new.self.conn.now) c.args.path.now c.args.text.now c.args.number c.in_ok-execute.field-0
-    (rw (c.params-to_sql.ensures, c.params-to_sql-2.ensures, c.params-to_sql-3.ensures, number) at (c.in_ok-execute.ensures.runs clean inside))
+    let old = state g.S.Store c.args.transaction.now.conn.now in
+    let new = state g.S.Store c.execute.new.self.conn.now in
+    let ran = rw (c.params-to_sql.ensures, c.params-to_sql-2.ensures, c.params-to_sql-3.ensures, number) at (c.in_ok-count.ensures.runs clean inside) in (
+      becomes_rewritten old new c.args.path.now c.args.text.now c.args.number c.in_ok-count.count ran,
+      tells_rewritten old new c.args.path.now c.args.text.now c.args.number c.in_ok-count.count ran,
+    )

@@ -1,6 +1,6 @@
 use mir.Syntax.{w64}
-use Rattle.std.proofs.lemmas.Int.{to_z-of_z}
 use Rattle.std.proofs.Common.{FitsSigned, rules, arith, ◌∙◌, IsTrue}
+use Rattle.std.proofs.lemmas.Int.{to_z-of_z}
 use Rattle.std.specs.Option.{option_copied}
 use Rattle.sqlite.specs.State.{HasCleanDisk}
 use Rattle.sqlite.specs.Held.{state}
@@ -13,15 +13,11 @@ pub returns-clause-done : goal.returns-clause-done
 returns-clause-done g c clean inside =
     let old = state g.S.Store c.args.transaction.now.conn.now in
     let mid = state g.S.Store c.look_up.new.transaction.conn.now in
-    let before = state g.S.Store c.look_up-2.new.transaction.conn.now in
     let new = state g.S.Store c.write_put.new.transaction.conn.now in
-    let clean_before : HasCleanDisk before = omega (arith, c.write_put.ensures.survives.clean) in
-    let clean_mid : HasCleanDisk mid = omega (arith, c.look_up-2.ensures.survives.clean) in
+    let clean_mid : HasCleanDisk mid = omega (arith, c.write_put.ensures.survives.clean) in
     let first : Looks old mid = c.in_ok-book.ensures.stays clean_mid in
-    let second : Looks mid before = c.in_ok-card.ensures.stays clean_before in
-    let inside_before : IsTrue before.in_transaction = second.mode ∙ first.mode ∙ inside in
+    let inside_mid : IsTrue mid.in_transaction = first.mode ∙ inside in
     let range : FitsSigned w64 c.in-Some.book.id = search rules in
     let id = to_z-of_z w64 c.in-Some.book.id range in
-    on_ok c.write_put.result _ _ (λ w. puts old mid before new c.args.book_path.now c.args.card_path.now c.args.name.now (option_copied c.args.owner) c.args.text.now
-    c.in-Some.book c.in_ok-book.field-0 c.in_ok-card.card c.is_some-is_mapped.result first second c.in-Some.is c.is_some-is_mapped.ensures
-    (c.in_ok-book.ensures.found clean_mid) (c.in_ok-card.ensures.found clean_before) w) (rw id at (c.write_put.ensures.done clean inside_before))
+    on_ok c.write_put.result _ _ (λ w. puts old mid new c.args.book_path.now c.args.card_path.now c.args.name.now (option_copied c.args.owner) c.args.text.now
+    c.in-Some.book c.in_ok-book.field-0 first c.in-Some.is (c.in_ok-book.ensures.found clean_mid) w) (rw id at (c.write_put.ensures.done clean inside_mid))
