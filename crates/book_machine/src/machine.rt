@@ -220,7 +220,8 @@ impl<K: Keeper> Machine<K> {
         }
     }
 
-    /// The verdict on one need at a resource with this owner.
+    /// The verdict on one need at a resource with this owner. The lists in force are told where it is not granted alone: then
+    /// a denial names its entry by them.
     fn check_owned(
         &mut self,
         alloc: Global,
@@ -233,9 +234,11 @@ impl<K: Keeper> Machine<K> {
             (λ o r. owner ≡ owner_at o path.now → JudgesNeed o circle.now path.now set r) }
     {
         let principal = principal_of(alloc, path)?;
-        let lists = self.keeper.lists(alloc, path)?;
         let here = Here { owner, principal };
-        judge(lists.levels.as_slice(), circle, path, &here, set)
+        match self.keeper.unless_granted(alloc, path, circle, &here, set)? {
+            None => Ok(()),
+            Some(lists) => judge(lists.levels.as_slice(), circle, path, &here, set),
+        }
     }
 
     /// The verdict on one need. Of the target the owner is known, and no path is copied.

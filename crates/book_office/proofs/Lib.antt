@@ -10,6 +10,7 @@ pub mod ProtectedLists
 pub mod SameOffices
 pub mod SoundAdoptions
 pub mod SoundBooks
+pub mod ReadLists
 pub mod StandingResources
 pub mod TouchedNames
 pub mod MovedCards

@@ -3,6 +3,7 @@ pub mod Fitting
 pub mod Keeping
 pub mod Laws
 pub mod Levels
+pub mod InForce
 pub mod OwnLists
 pub mod ResourceTree
 pub mod Resources

@@ -7,12 +7,15 @@ ghost use Rattle.book_adopting.specs.Adopting.{adoption_of};
 ghost use Rattle.book_office.specs.Keeping.{Standing, Reads, Edits};
 ghost use Rattle.book_office.specs.Resources.{node_at, children_at, count_at, changed_after};
 ghost use Rattle.book_office.specs.Levels.{level_at, lists_at};
+ghost use Rattle.book_office.specs.InForce.{AreUnlessGranted};
 
 use crate::edits::Edit;
+use crate::granting::grant;
 use crate::nodes::{Changed, Level, Listed, Lists, Node};
 use book_adopting::Adoption;
-use book_lists::{Caller, Circle, Name, Pairs};
+use book_lists::{Caller, Circle, Here, Name, Pairs};
 use book_policies::Policy;
+use book_rights::LeafSet;
 use book_values::{Items, Path};
 use std::alloc::{AllocError, Global};
 
@@ -60,6 +63,26 @@ pub trait Keeper {
     /// The lists that stand at a path itself; those of a path that is not mapped are empty.
     fn level(&mut self, alloc: Global, path: &Path) -> Result<Level, StoreFault>
         ensures { Reads (standing self.old) (standing self.new) result (λ o level. level ≡ level_at o path.now) };
+
+    /// The lists of the resource at a path and of each ancestor, unless the entries in force grant each leaf of the set (RFC
+    /// 3744, section 6): then none. A keeper may tell so without a copy of them.
+    fn unless_granted(
+        &mut self,
+        alloc: Global,
+        path: &Path,
+        circle: &Circle,
+        here: &Here,
+        set: LeafSet,
+    ) -> Result<Option<Lists>, StoreFault>
+        ensures { Reads (standing self.old) (standing self.new) result
+            (λ o lists. AreUnlessGranted o path.now circle.now here.now set lists) }
+    {
+        let lists = self.lists(alloc, path)?;
+        if grant(lists.levels.as_slice(), circle, here, set) {
+            return Ok(None);
+        }
+        Ok(Some(lists))
+    }
 
     /// The last changes of a book above a number, in order of number, each with the card that has the name; none where there
     /// is no such book.

@@ -4,12 +4,13 @@
 //! The crate above uses that a `Keeper` stands for a sound Office: each read tells what that Office has (`Reads`), and `act`
 //! leaves the edited Office or, on an error, the Office as it was (`Edits`); and that edits within the limits fit.
 //!
-//! Read `nodes`, `edits` and `keepers` first; then `reads`, `changing`, `moving`, `setting` and `memory_keepers`, which keep an Office in memory;
+//! Read `nodes`, `edits` and `keepers` first; then `reads`, `granting`, `changing`, `moving`, `setting` and `memory_keepers`, which keep an Office in memory;
 //! then `views` and `laws`.
 #![tactic(auto)]
 
 mod changing;
 mod edits;
+mod granting;
 mod keepers;
 mod laws;
 mod memory_keepers;

@@ -7,12 +7,14 @@ ghost use Rattle.book_office.specs.Sound.{IsSound};
 
 use crate::changing::act;
 use crate::edits::Edit;
+use crate::granting::grant_at;
 use crate::keepers::{Keeper, StoreFault};
 use crate::nodes::{Changed, Level, Listed, Lists, Node};
 use crate::reads::{changed, children, count, find, level, lists};
 use book_adopting::{Adoption, adoption_of};
-use book_lists::{Caller, Circle, Name, Pairs, expand};
+use book_lists::{Caller, Circle, Here, Name, Pairs, expand};
 use book_policies::Policy;
+use book_rights::LeafSet;
 use book_values::{Items, NameMap, Office, Path, Properties};
 use std::alloc::{AllocError, Global};
 use std::marker::Model;
@@ -88,6 +90,20 @@ impl Keeper for MemoryKeeper {
 
     fn level(&mut self, alloc: Global, path: &Path) -> Result<Level, StoreFault> {
         Ok(level(alloc, &self.office, path)?)
+    }
+
+    fn unless_granted(
+        &mut self,
+        alloc: Global,
+        path: &Path,
+        circle: &Circle,
+        here: &Here,
+        set: LeafSet,
+    ) -> Result<Option<Lists>, StoreFault> {
+        if grant_at(&self.office, path, circle, here, set) {
+            return Ok(None);
+        }
+        Ok(Some(lists(alloc, &self.office, path)?))
     }
 
     fn changes_after(

@@ -341,7 +341,7 @@ pub(crate) fn children(
 }
 
 /// The protected list that stands at a path.
-fn protected_list<'a>(office: &'a Office, path: &Path) -> Option<&'a Items<Entry>>
+pub(crate) fn protected_list<'a>(office: &'a Office, path: &Path) -> Option<&'a Items<Entry>>
     ensures { unwrap_or (option_copied result) [] ≡ protected_at office.now path.now }
 {
     match properties_of(office, path) {
@@ -351,7 +351,7 @@ fn protected_list<'a>(office: &'a Office, path: &Path) -> Option<&'a Items<Entry
 }
 
 /// The own list that stands at a path.
-fn own_list<'a>(office: &'a Office, path: &Path) -> Option<&'a Items<Entry>>
+pub(crate) fn own_list<'a>(office: &'a Office, path: &Path) -> Option<&'a Items<Entry>>
     ensures { unwrap_or (option_copied result) [] ≡ own_at office.now path.now }
 {
     if let Path::Card(book, name) = path {

@@ -1,0 +1,24 @@
+use Rattle.std.proofs.Common.{◌++◌, take, ap, ◌∙◌, subst, arith}
+use Rattle.std.proofs.lemmas.List.{take_all}
+use Rattle.book_lists.specs.Scans.{IsScan, read_by}
+use Rattle.book_office.specs.InForce.{list_in, lists_in}
+use Rattle.book_office.proofs.ReadLists.{reads_more}
+use Rattle.book_office.proofs.granting.over_levels.Goals as goal
+
+pub loop-level-preserved : goal.loop-level-preserved
+loop-level-preserved c = λ need readings scanned.
+    let i = c.loop-level.level-index in
+    let levels = c.args.levels.now in
+    let circle = c.args.circle.now in
+    let here = c.args.here.now in
+    let so_far = readings ++ read_by circle here (lists_in c.args.protected (take i levels)) in
+    subst (λ rs. IsScan need rs c.over.new.self)
+    (ap (λ list. so_far ++ read_by circle here list) c.list_in.ensures
+    ∙ reads_more circle here (list_in c.args.protected) readings levels i c.level-item.result (omega arith) c.level-item.is)
+    (c.over.ensures.scanned need so_far (c.loop-level.invariant need readings scanned))
+
+pub returns : goal.returns
+returns c = λ need readings scanned.
+    subst (λ levels. IsScan need (readings ++ read_by c.args.circle.now c.args.here.now (lists_in c.args.protected levels)) c.loop-level.scan)
+    (take_all c.loop-level.level-index c.args.levels.now c.loop-level-test.false)
+    (c.loop-level.invariant need readings scanned)

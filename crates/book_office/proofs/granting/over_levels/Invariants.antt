@@ -1,0 +1,10 @@
+use Rattle.std.proofs.Common.{◌++◌, take, Bool, List}
+use Rattle.book_rights.specs.declared.privileges.Leaf.{Leaf}
+use Rattle.book_lists.specs.Scans.{IsScan, Reading, read_by}
+use Rattle.book_office.specs.InForce.{lists_in}
+use Rattle.book_office.proofs.granting.over_levels.Given as goal
+
+-- the levels so far are gone over
+abbrev pub invariant-loop-level : goal.invariant-loop-level
+invariant-loop-level l = (need : Leaf → Bool) (readings : List Reading) → IsScan need readings l.initial.scan
+    → IsScan need (readings ++ read_by l.circle l.here (lists_in l.protected (take l.level-index l.levels))) l.scan
