@@ -12,11 +12,11 @@ pub trait Bench: Clock + AllocGlobal + Print + Eprint {}
 
 impl<R: Clock + AllocGlobal + Print + Eprint> Bench for R {}
 
-/// How many rows there are.
-const ROWS: u32 = 500;
+/// How many rows there are: as many as fill the log several times over, so that checkpoints have their share.
+const ROWS: u32 = 2000;
 
 /// How often each is looked up.
-const TURNS: u32 = 20;
+const TURNS: u32 = 5;
 
 /// The bytes of a row's text.
 const LENGTH: usize = 1000;
