@@ -8,9 +8,10 @@ use Rattle.std.specs.Ordering.{is_eq, int_cmp, int_eq, nat_cmp}
 use Rattle.sqlite.specs.declared.types.Value.{Value}
 use Rattle.sqlite.specs.declared.types.Value.TheVariants.{Int, Text}
 use Rattle.sqlite.specs.Edit.{id_in}
-use Rattle.sqlite.specs.Order.{Row, column}
+use Rattle.sqlite.specs.Order.{Row}
 use Rattle.book_lists.specs.Names.{name_cmp}
 use Rattle.book_rows.specs.Nodes.{number_in}
+use Rattle.book_opening.specs.Shown.{shown_id, shown_kind, shown_path}
 
 -- the value is this text, or this whole number
 abbrev pub is_text_of : List ℕ → Value → Bool
@@ -23,11 +24,11 @@ is_int_of number _ = false
 
 -- the first row with a path
 abbrev pub node_at : List Row → List ℕ → Option Row
-node_at nodes path = find (λ row. is_text_of path (column row 1)) nodes
+node_at nodes path = find (λ row. is_text_of path (shown_path row)) nodes
 
 -- the first row with a number
 abbrev pub node_numbered : List Row → ℤ → Option Row
-node_numbered nodes id = find (λ row. is_int_of id (column row 0)) nodes
+node_numbered nodes id = find (λ row. is_int_of id (shown_id row)) nodes
 
 -- the row whose number is a value
 abbrev pub node_of : List Row → Value → Option Row
@@ -36,11 +37,11 @@ node_of nodes _ = None
 
 -- the number of the row with a path
 abbrev pub number_at : List Row → List ℕ → Option ℤ
-number_at nodes path = option_map (λ row. id_in (column row 0)) (node_at nodes path)
+number_at nodes path = option_map (λ row. id_in (shown_id row)) (node_at nodes path)
 
 -- a row of a node has the kind with this code
 abbrev pub is_of_kind : ℕ → Row → Bool
-is_of_kind code row = nat_eq (number_in (column row 3)) code
+is_of_kind code row = nat_eq (number_in (shown_kind row)) code
 
 -- ---- places of rows
 

@@ -1,3 +1,4 @@
+pub mod Shown
 pub mod WholeNodes
 pub mod Directories
 pub mod RowTests

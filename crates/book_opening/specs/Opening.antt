@@ -7,7 +7,7 @@ use Rattle.std.specs.Ordering.{int_eq}
 use Rattle.sqlite.specs.declared.types.Value.{Value}
 use Rattle.sqlite.specs.declared.types.Value.TheVariants.{Null, Int, Text}
 use Rattle.sqlite.specs.Edit.{id_in}
-use Rattle.sqlite.specs.Order.{Row, column}
+use Rattle.sqlite.specs.Order.{Row}
 use Rattle.book_limits.specs.declared.TheConstants.{MAX_ENTRIES, MAX_MEMBERS, MAX_LABEL_BYTES, MAX_CARD_BYTES, MAX_CARDS, MAX_BOOKS, LAST_NUMBER}
 use Rattle.book_lists.specs.Names.{IsName}
 use Rattle.book_values.specs.declared.paths.Kind.{Kind}
@@ -16,6 +16,7 @@ use Rattle.book_values.specs.declared.paths.Path.{Path}
 use Rattle.book_values.specs.Paths.{IsPath, path_text, parent_of, kind_of}
 use Rattle.book_rows.specs.Nodes.{number_in, text_in}
 use Rattle.book_tables.specs.Rows.{kind_code, flag_in}
+use Rattle.book_opening.specs.Shown.{shown_gone_book, shown_gone_name, shown_gone_number, shown_group, shown_kind, shown_label, shown_member, shown_node, shown_number, shown_owner, shown_parent, shown_path, shown_principal, shown_protected, shown_text}
 use Rattle.book_opening.specs.Directories.{node_at, node_of, number_at, is_of_kind}
 use Rattle.book_opening.specs.RowTests.{IsSpelledEntry}
 
@@ -69,14 +70,14 @@ IsChangeNumber kind.Card number = Unit {0}
 pub record IsNodeRow (nodes : List Row) (row : Row) : Type 0 where
   pub at : Path
   pub named : IsPath at
-  pub path : column row 1 ≡ Text (path_text at)
-  pub parent : IsBelow nodes (parent_of at) (column row 2)
-  pub kind : column row 3 ≡ Int (pos (kind_code (kind_of at)))
-  pub owner : IsKnown nodes (text_in (column row 4))
-  pub label : length (unwrap_or (text_in (column row 5)) []) ≤ MAX_LABEL_BYTES
-  pub text : IsContent (kind_of at) (text_in (column row 6))
-  pub natural : column row 7 ≡ Int (pos (number_in (column row 7)))
-  pub number : IsChangeNumber (kind_of at) (number_in (column row 7))
+  pub path : shown_path row ≡ Text (path_text at)
+  pub parent : IsBelow nodes (parent_of at) (shown_parent row)
+  pub kind : shown_kind row ≡ Int (pos (kind_code (kind_of at)))
+  pub owner : IsKnown nodes (text_in (shown_owner row))
+  pub label : length (unwrap_or (text_in (shown_label row)) []) ≤ MAX_LABEL_BYTES
+  pub text : IsContent (kind_of at) (text_in (shown_text row))
+  pub natural : shown_number row ≡ Int (pos (number_in (shown_number row)))
+  pub number : IsChangeNumber (kind_of at) (number_in (shown_number row))
 
 -- the value is the text of no path
 abbrev pub HasNoPath : Value → Type 0
@@ -84,16 +85,16 @@ HasNoPath value = (p : Path) → IsPath p → value ≢ Text (path_text p)
 
 -- where a row stands, and its kind
 pub record StandsAt (nodes : List Row) (at : Path) (row : Row) : Type 0 where
-  pub parent : IsBelow nodes (parent_of at) (column row 2)
-  pub kind : column row 3 ≡ Int (pos (kind_code (kind_of at)))
+  pub parent : IsBelow nodes (parent_of at) (shown_parent row)
+  pub kind : shown_kind row ≡ Int (pos (kind_code (kind_of at)))
 
 -- what a row of a kind says
 pub record HasContent (nodes : List Row) (kind : Kind) (row : Row) : Type 0 where
-  pub owner : IsKnown nodes (text_in (column row 4))
-  pub label : length (unwrap_or (text_in (column row 5)) []) ≤ MAX_LABEL_BYTES
-  pub text : IsContent kind (text_in (column row 6))
-  pub natural : column row 7 ≡ Int (pos (number_in (column row 7)))
-  pub number : IsChangeNumber kind (number_in (column row 7))
+  pub owner : IsKnown nodes (text_in (shown_owner row))
+  pub label : length (unwrap_or (text_in (shown_label row)) []) ≤ MAX_LABEL_BYTES
+  pub text : IsContent kind (text_in (shown_text row))
+  pub natural : shown_number row ≡ Int (pos (number_in (shown_number row)))
+  pub number : IsChangeNumber kind (number_in (shown_number row))
 
 -- the root and the three homes are there
 pub record HasHomes (nodes : List Row) : Type 0 where
@@ -108,24 +109,24 @@ pub record HasHomes (nodes : List Row) : Type 0 where
 pub record IsEntryRow (nodes : List Row) (row : Row) : Type 0 where
   pub spelled : IsSpelledEntry row
   pub node : Row
-  pub there : node_of nodes (column row 0) ≡ Some node
-  pub placed : IsTrue (is_of_kind 5 node) → flag_in (column row 1) ≡ false
-  pub principal : IsKnown nodes (text_in (column row 4))
+  pub there : node_of nodes (shown_node row) ≡ Some node
+  pub placed : IsTrue (is_of_kind 5 node) → flag_in (shown_protected row) ≡ false
+  pub principal : IsKnown nodes (text_in (shown_principal row))
 
 -- its node is there, and it is none of a card's protected ones
 pub record IsPlaced (nodes : List Row) (row : Row) : Type 0 where
   pub node : Row
-  pub there : node_of nodes (column row 0) ≡ Some node
-  pub placed : IsTrue (is_of_kind 5 node) → flag_in (column row 1) ≡ false
+  pub there : node_of nodes (shown_node row) ≡ Some node
+  pub placed : IsTrue (is_of_kind 5 node) → flag_in (shown_protected row) ≡ false
 
 -- ---- members
 
 pub record IsMemberRow (nodes : List Row) (row : Row) : Type 0 where
   pub group : List ℕ
-  pub group_is : column row 0 ≡ Text group
+  pub group_is : shown_group row ≡ Text group
   pub group_there : HasGroup nodes group
   pub member : List ℕ
-  pub member_is : column row 1 ≡ Text member
+  pub member_is : shown_member row ≡ Text member
   pub member_there : HasPrincipal nodes member
 
 -- ---- removed names
@@ -133,13 +134,13 @@ pub record IsMemberRow (nodes : List Row) (row : Row) : Type 0 where
 -- it is a name of a book that is there, and no card has it
 pub record IsGoneRow (nodes : List Row) (row : Row) : Type 0 where
   pub book : Row
-  pub there : node_of nodes (column row 0) ≡ Some book
+  pub there : node_of nodes (shown_gone_book row) ≡ Some book
   pub kind : IsTrue (is_of_kind 4 book)
   pub name : List ℕ
   pub named : IsName name
-  pub name_is : column row 1 ≡ Text name
-  pub free : node_at nodes (unwrap_or (text_in (column book 1)) [] ++ codes "/" ++ name) ≡ None
-  pub natural : column row 2 ≡ Int (pos (number_in (column row 2)))
+  pub name_is : shown_gone_name row ≡ Text name
+  pub free : node_at nodes (unwrap_or (text_in (shown_path book)) [] ++ codes "/" ++ name) ≡ None
+  pub natural : shown_gone_number row ≡ Int (pos (number_in (shown_gone_number row)))
 
 -- ---- how often
 
@@ -156,28 +157,28 @@ AreAtMost limit keys = (k : Key) → count_by (same_key k) keys ≤ limit
 
 -- the lists of the entries: node, and whether protected
 abbrev pub list_keys : List Row → List Key
-list_keys entries = map (λ row. (id_in (column row 0), id_in (column row 1))) entries
+list_keys entries = map (λ row. (id_in (shown_node row), id_in (shown_protected row))) entries
 
 -- the groups of the members, by their numbers
 abbrev pub group_key : List Row → Row → ℤ
-group_key nodes row = unwrap_or (number_at nodes (unwrap_or (text_in (column row 0)) [])) (pos 0)
+group_key nodes row = unwrap_or (number_at nodes (unwrap_or (text_in (shown_group row)) [])) (pos 0)
 
 abbrev pub group_keys : List Row → List Row → List Key
 group_keys nodes members = map (λ row. (group_key nodes row, pos 0)) members
 
 -- the books of the cards
 abbrev pub card_keys : List Row → List Key
-card_keys nodes = map (λ row. (id_in (column row 2), pos 0)) (filter (is_of_kind 5) nodes)
+card_keys nodes = map (λ row. (id_in (shown_parent row), pos 0)) (filter (is_of_kind 5) nodes)
 
 -- book and number of each card, and of each removed name
 abbrev pub card_change : Row → Key
-card_change row = (id_in (column row 2), id_in (column row 7))
+card_change row = (id_in (shown_parent row), id_in (shown_number row))
 
 abbrev pub card_changes : List Row → List Key
 card_changes nodes = map card_change (filter (is_of_kind 5) nodes)
 
 abbrev pub gone_change : Row → Key
-gone_change row = (id_in (column row 0), id_in (column row 2))
+gone_change row = (id_in (shown_gone_book row), id_in (shown_gone_number row))
 
 abbrev pub gone_changes : List Row → List Key
 gone_changes gone = map gone_change gone
@@ -192,7 +193,7 @@ pub record IsWithinBook (nodes : List Row) (key : Key) : Type 0 where
   pub number : ℕ
   pub number_is : key.1 ≡ pos number
   pub from_one : 1 ≤ number
-  pub to_last : number ≤ number_in (column book 7)
+  pub to_last : number ≤ number_in (shown_number book)
 
 -- ---- version and epoch
 

@@ -2,12 +2,13 @@
 use Rattle.std.specs.Prelude.{◌≡◌, ℕ, pos, nat_eq, nat_lt, nat_le, length, Bool, true, false, ◌&&◌, ◌||◌, [], ◌∷◌}
 use Rattle.sqlite.specs.declared.types.Value.{Value}
 use Rattle.sqlite.specs.declared.types.Value.TheVariants.{Null, Int, Text}
-use Rattle.sqlite.specs.Order.{Row, column}
+use Rattle.sqlite.specs.Order.{Row}
 use Rattle.book_limits.specs.declared.TheConstants.{LAST_NUMBER}
 use Rattle.book_lists.specs.declared.entries.Entry.{Entry}
 use Rattle.book_rows.specs.Nodes.{number_in}
 use Rattle.book_rows.specs.Writes.{flag}
 use Rattle.book_tables.specs.Rows.{flag_in, entry_told, entry_values}
+use Rattle.book_opening.specs.Shown.{shown_deny, shown_epoch, shown_form, shown_invert, shown_mask, shown_place, shown_principal, shown_protected, shown_version}
 
 -- ---- a value
 
@@ -51,22 +52,22 @@ is_one _ = false
 -- ---- a row of `meta`: version, epoch
 
 abbrev pub is_meta : Row → Bool
-is_meta row = nat_eq (length row) 2 && (is_one (column row 0) && is_up_to LAST_NUMBER (column row 1))
+is_meta row = nat_eq (length row) 2 && (is_one (shown_version row) && is_up_to LAST_NUMBER (shown_epoch row))
 
 -- ---- a row of `ace`: node, protected, place, form, principal, invert, deny, mask
 
 abbrev pub is_spelled : Row → Bool
-is_spelled row = is_form (column row 3) (column row 4) && (is_below 2 (column row 5) && (is_below 2 (column row 6) && is_below 256 (column row 7)))
+is_spelled row = is_form (shown_form row) (shown_principal row) && (is_below 2 (shown_invert row) && (is_below 2 (shown_deny row) && is_below 256 (shown_mask row)))
 
 abbrev pub is_entry : Row → Bool
-is_entry row = is_below 2 (column row 1) && (is_natural (column row 2) && is_spelled row)
+is_entry row = is_below 2 (shown_protected row) && (is_natural (shown_place row) && is_spelled row)
 
 -- the entry that the row tells
 abbrev pub entry_in : Row → Entry
-entry_in row = entry_told (column row 3) (column row 4) (column row 5) (column row 6) (column row 7)
+entry_in row = entry_told (shown_form row) (shown_principal row) (shown_invert row) (shown_deny row) (shown_mask row)
 
 -- it is in one of the two lists of its node, and is spelled in the one way
 pub record IsSpelledEntry (row : Row) : Type 0 where
-  pub protected : column row 1 ≡ flag (flag_in (column row 1))
-  pub place : column row 2 ≡ Int (pos (number_in (column row 2)))
-  pub spelled : (column row 3 ∷ column row 4 ∷ column row 5 ∷ column row 6 ∷ column row 7 ∷ []) ≡ entry_values (entry_in row)
+  pub protected : shown_protected row ≡ flag (flag_in (shown_protected row))
+  pub place : shown_place row ≡ Int (pos (number_in (shown_place row)))
+  pub spelled : (shown_form row ∷ shown_principal row ∷ shown_invert row ∷ shown_deny row ∷ shown_mask row ∷ []) ≡ entry_values (entry_in row)

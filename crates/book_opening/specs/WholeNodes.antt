@@ -2,6 +2,7 @@
 use Rattle.std.specs.Prelude.{◌≡◌, List, [], ◌∷◌, map, codes, ℕ, IsTrue}
 use Rattle.sqlite.specs.Order.{Row, column}
 use Rattle.sqlite.specs.State.{State}
+use Rattle.book_rows.specs.Columns.{node_kind, node_label, node_number, node_owner, node_parent, node_path, node_text}
 use Rattle.book_rows.specs.Rows.{Rows, rows_of, IsBook}
 
 abbrev pub list_whole_nodes : List ℕ
@@ -9,7 +10,7 @@ list_whole_nodes = codes "SELECT id, path, parent, kind, owner, label, text, num
 
 -- number of the row, path, parent, kind, owner, label, text and change number of a node
 abbrev pub node_shown : Row → Row
-node_shown row = column row 0 ∷ column row 2 ∷ column row 3 ∷ column row 4 ∷ column row 5 ∷ column row 6 ∷ column row 7 ∷ column row 8 ∷ []
+node_shown row = column row 0 ∷ node_path row ∷ node_parent row ∷ node_kind row ∷ node_owner row ∷ node_label row ∷ node_text row ∷ node_number row ∷ []
 
 abbrev pub whole_nodes : Rows → List Row
 whole_nodes rows = map node_shown rows.nodes

@@ -1,5 +1,6 @@
 pub mod Schema
 pub mod Texts
+pub mod Columns
 pub mod Rows
 pub mod Writes
 pub mod Steps

@@ -12,13 +12,14 @@ use Rattle.sqlite.specs.declared.types.Value.TheVariants.{Int}
 use Rattle.sqlite.specs.Order.{Row, column, value_cmp}
 use Rattle.sqlite.specs.State.{State}
 use Rattle.sqlite.specs.Tree.{rowid}
+use Rattle.book_rows.specs.Columns.{ace_deny, ace_form, ace_invert, ace_mask, ace_node, ace_place, ace_principal, ace_protected, gone_name, gone_number, node_kind, node_label, node_number, node_owner, node_path, node_text}
 use Rattle.book_rows.specs.Rows.{Rows, rows_of, has, IsBook}
 use Rattle.book_rows.specs.Nodes.{number_in}
 use Rattle.book_rows.specs.Writes.{Said, is_at, is_under, is_below, is_entry, entries_of, or_null, flag, write_list, write_both}
 
 -- form, principal, invert, deny and mask of an entry
 abbrev pub entry_columns : Row → Row
-entry_columns row = column row 4 ∷ column row 5 ∷ column row 6 ∷ column row 7 ∷ column row 8 ∷ []
+entry_columns row = ace_form row ∷ ace_principal row ∷ ace_invert row ∷ ace_deny row ∷ ace_mask row ∷ []
 
 -- an open connection shows the entries of a list, in order of their places
 abbrev pub ShowsList : State → ℤ → Bool → List Row → Type 0
@@ -38,19 +39,19 @@ pairs_of rows = map (λ row. column row 1 ∷ column row 2 ∷ []) rows.members
 
 -- name and number of the removed names of a book whose numbers are above another
 abbrev pub gone_after : ℤ → ℕ → Rows → List Row
-gone_after book number rows = map (λ row. column row 2 ∷ column row 3 ∷ []) (filter (λ row. has 1 (Int book) row && is_above 3 number row) rows.gone)
+gone_after book number rows = map (λ row. gone_name row ∷ gone_number row ∷ []) (filter (λ row. has 1 (Int book) row && is_above 3 number row) rows.gone)
 
 -- number of the row, path, owner, label, text and change number of the children of a node whose change numbers are above another
 abbrev pub changed_after : ℤ → ℕ → Rows → List Row
 changed_after book number rows =
-    map (λ row. column row 0 ∷ column row 2 ∷ column row 5 ∷ column row 6 ∷ column row 7 ∷ column row 8 ∷ []) (filter (λ row. is_under (Int book) row && is_above 8 number row) rows.nodes)
+    map (λ row. column row 0 ∷ node_path row ∷ node_owner row ∷ node_label row ∷ node_text row ∷ node_number row ∷ []) (filter (λ row. is_under (Int book) row && is_above 8 number row) rows.nodes)
 
 abbrev pub by_path : Row → Row → Ordering
-by_path a b = value_cmp (column a 2) (column b 2)
+by_path a b = value_cmp (node_path a) (node_path b)
 
 -- number of the row, path, kind, owner, label and change number of the children of a node, in order of their paths
 abbrev pub children_of : ℤ → Rows → List Row
-children_of id rows = map (λ row. column row 0 ∷ column row 2 ∷ column row 4 ∷ column row 5 ∷ column row 6 ∷ column row 8 ∷ []) (sort_by by_path (filter (is_under (Int id)) rows.nodes))
+children_of id rows = map (λ row. column row 0 ∷ node_path row ∷ node_kind row ∷ node_owner row ∷ node_label row ∷ node_number row ∷ []) (sort_by by_path (filter (is_under (Int id)) rows.nodes))
 
 -- an open connection shows the children of a node, in order of their paths
 abbrev pub ShowsChildren : State → ℤ → List Row → Type 0
@@ -58,11 +59,11 @@ ShowsChildren s id shown = IsTrue s.is_open × (IsBook s.now → shown ≡ child
 
 -- in order of the node, of the list and of the place
 abbrev pub by_list : Row → Row → Ordering
-by_list a b = ordering_then (value_cmp (column a 1) (column b 1)) (ordering_then (value_cmp (column a 2) (column b 2)) (value_cmp (column a 3) (column b 3)))
+by_list a b = ordering_then (value_cmp (ace_node a) (ace_node b)) (ordering_then (value_cmp (ace_protected a) (ace_protected b)) (value_cmp (ace_place a) (ace_place b)))
 
 -- node, list, form, principal, invert, deny and mask of an entry
 abbrev pub listed_columns : Row → Row
-listed_columns row = column row 1 ∷ column row 2 ∷ column row 4 ∷ column row 5 ∷ column row 6 ∷ column row 7 ∷ column row 8 ∷ []
+listed_columns row = ace_node row ∷ ace_protected row ∷ ace_form row ∷ ace_principal row ∷ ace_invert row ∷ ace_deny row ∷ ace_mask row ∷ []
 
 -- the entries of all children of a node, the own list of each before its protected one, in order of their places
 abbrev pub child_entries : ℤ → Rows → List Row

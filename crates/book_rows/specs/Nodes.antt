@@ -6,6 +6,7 @@ use Rattle.sqlite.specs.Edit.{id_in}
 use Rattle.sqlite.specs.Order.{Row, column}
 use Rattle.sqlite.specs.State.{State}
 use Rattle.sqlite.specs.Tree.{rowid}
+use Rattle.book_rows.specs.Columns.{node_kind, node_label, node_number, node_owner, node_text}
 use Rattle.book_rows.specs.declared.nodes.Found.{Found}
 use Rattle.book_rows.specs.declared.setting.EntryRow.{EntryRow}
 use Rattle.book_rows.specs.Rows.{Rows, rows_of, has, IsBook}
@@ -34,7 +35,7 @@ told_by id kind owner label text number =
     record { id = id_in id; kind = number_in kind; owner = text_in owner; label = unwrap_or (text_in label) []; text = text_in text; number = number_in number }
 
 abbrev pub told_of : Row → Told
-told_of row = told_by (rowid row) (column row 4) (column row 5) (column row 6) (column row 7) (column row 8)
+told_of row = told_by (rowid row) (node_kind row) (node_owner row) (node_label row) (node_text row) (node_number row)
 
 -- the columns that a look-up shows
 abbrev pub told_shown : Row → Told
@@ -51,7 +52,7 @@ Finds s path found = IsTrue s.is_open × (IsBook s.now → found ≡ option_map 
 pub record PutsCard (rows after : Rows) (book_path card_path name : List ℕ) (owner : Option (List ℕ)) (text : List ℕ) : Type 0 where
   pub book : Row
   pub there : find (is_at book_path) rows.nodes ≡ Some book
-  pub rows_are : after ≡ put_card (Int (id_in (rowid book))) (is_mapped card_path rows) book_path card_path name owner text (number_in (column book 8) + 1) rows
+  pub rows_are : after ≡ put_card (Int (id_in (rowid book))) (is_mapped card_path rows) book_path card_path name owner text (number_in (node_number book) + 1) rows
 
 abbrev pub putting_card : List ℕ → List ℕ → List ℕ → Option (List ℕ) → List ℕ → Change
 putting_card book_path card_path name owner text = change_of (λ rows after. PutsCard rows after book_path card_path name owner text)
@@ -85,7 +86,7 @@ pub record RemovesCard (rows after : Rows) (book_path card_path name : List ℕ)
   pub there : find (is_at book_path) rows.nodes ≡ Some book
   pub card : Row
   pub card_there : find (is_at card_path) rows.nodes ≡ Some card
-  pub rows_are : after ≡ remove_card (Int (id_in (rowid book))) (Int (id_in (rowid card))) book_path name (number_in (column book 8) + 1) rows
+  pub rows_are : after ≡ remove_card (Int (id_in (rowid book))) (Int (id_in (rowid card))) book_path name (number_in (node_number book) + 1) rows
 
 -- rows from which a card can be taken out: without its entries, no row refers to it
 pub record FitCardRemoval (card_path : List ℕ) (rows : Rows) : Type 0 where
@@ -108,7 +109,7 @@ adding_book home_path path owner = change_of (λ rows after. AddsBook rows after
 pub record LabelsCard (rows after : Rows) (book_path card_path label : List ℕ) : Type 0 where
   pub book : Row
   pub there : find (is_at book_path) rows.nodes ≡ Some book
-  pub rows_are : after ≡ label_card book_path card_path label (number_in (column book 8) + 1) rows
+  pub rows_are : after ≡ label_card book_path card_path label (number_in (node_number book) + 1) rows
 
 abbrev pub labelling_card : List ℕ → List ℕ → List ℕ → Change
 labelling_card book_path card_path label = change_of (λ rows after. LabelsCard rows after book_path card_path label)
@@ -117,7 +118,7 @@ labelling_card book_path card_path label = change_of (λ rows after. LabelsCard 
 pub record LabelsNode (rows after : Rows) (path label : List ℕ) : Type 0 where
   pub node : Row
   pub there : find (is_at path) rows.nodes ≡ Some node
-  pub rows_are : after ≡ set_label path label (number_in (column node 8)) rows
+  pub rows_are : after ≡ set_label path label (number_in (node_number node)) rows
 
 abbrev pub labelling_node : List ℕ → List ℕ → Change
 labelling_node path label = change_of (λ rows after. LabelsNode rows after path label)
@@ -127,11 +128,11 @@ pub record PutsCopy (rows after : Rows) (source_path book_path card_path name : 
   pub source : Row
   pub source_there : find (is_at source_path) rows.nodes ≡ Some source
   pub text : List ℕ
-  pub text_is : text_in (column source 7) ≡ Some text
+  pub text_is : text_in (node_text source) ≡ Some text
   pub book : Row
   pub there : find (is_at book_path) rows.nodes ≡ Some book
   pub rows_are : after
-      ≡ put_copy (Int (id_in (rowid book))) (is_mapped card_path rows) book_path card_path name owner (unwrap_or (text_in (column source 6)) []) text (number_in (column book 8) + 1) rows
+      ≡ put_copy (Int (id_in (rowid book))) (is_mapped card_path rows) book_path card_path name owner (unwrap_or (text_in (node_label source)) []) text (number_in (node_number book) + 1) rows
 
 abbrev pub copying_card : List ℕ → List ℕ → List ℕ → List ℕ → Option (List ℕ) → Change
 copying_card source_path book_path card_path name owner = change_of (λ rows after. PutsCopy rows after source_path book_path card_path name owner)
@@ -140,7 +141,7 @@ copying_card source_path book_path card_path name owner = change_of (λ rows aft
 pub record LeavesBook (rows after : Rows) (book_path name destination : List ℕ) : Type 0 where
   pub book : Row
   pub there : find (is_at book_path) rows.nodes ≡ Some book
-  pub rows_are : after ≡ leave_book (Int (id_in (rowid book))) book_path name (number_in (column book 8) + 1) (clear_at (find (is_at destination) rows.nodes) rows)
+  pub rows_are : after ≡ leave_book (Int (id_in (rowid book))) book_path name (number_in (node_number book) + 1) (clear_at (find (is_at destination) rows.nodes) rows)
 
 abbrev pub leaving_book : List ℕ → List ℕ → List ℕ → Change
 leaving_book book_path name destination = record { Fits = FitCardRemoval destination; Makes = λ rows after. LeavesBook rows after book_path name destination }
@@ -149,7 +150,7 @@ leaving_book book_path name destination = record { Fits = FitCardRemoval destina
 pub record ArrivesIn (rows after : Rows) (book_path card_path destination name : List ℕ) : Type 0 where
   pub book : Row
   pub there : find (is_at book_path) rows.nodes ≡ Some book
-  pub rows_are : after ≡ arrive_in (Int (id_in (rowid book))) book_path card_path destination name (number_in (column book 8) + 1) rows
+  pub rows_are : after ≡ arrive_in (Int (id_in (rowid book))) book_path card_path destination name (number_in (node_number book) + 1) rows
 
 abbrev pub arriving_in : List ℕ → List ℕ → List ℕ → List ℕ → Change
 arriving_in book_path card_path destination name = change_of (λ rows after. ArrivesIn rows after book_path card_path destination name)

@@ -11,6 +11,7 @@ use Rattle.sqlite.specs.Edit.{next_rowid, id_in}
 use Rattle.sqlite.specs.Tree.{rowid}
 use Rattle.sqlite_keyed.specs.Lists.{update_where, delete_where, sort_by}
 use Rattle.std.specs.declared.cmp.Ordering.{Ordering}
+use Rattle.book_rows.specs.Columns.{ace_node, ace_place, node_kind, node_label, node_number, node_owner, node_parent, node_path, node_text}
 use Rattle.book_rows.specs.Rows.{Rows, has}
 
 -- a value, or NULL
@@ -43,7 +44,7 @@ abbrev pub is_entry : Value → Bool → Row → Bool
 is_entry id protected row = has 1 id row && has 2 (flag protected) row
 
 abbrev pub by_place : Row → Row → Ordering
-by_place a b = value_cmp (column a 3) (column b 3)
+by_place a b = value_cmp (ace_place a) (ace_place b)
 
 -- the rows of a list, in order of their places
 abbrev pub entries_of : List Row → Value → Bool → List Row
@@ -61,11 +62,11 @@ insert_node path parent kind owner label text number rows =
 
 abbrev pub with_number : ℕ → Row → Row
 with_number number row =
-    column row 0 ∷ Null ∷ column row 2 ∷ column row 3 ∷ column row 4 ∷ column row 5 ∷ column row 6 ∷ column row 7 ∷ Int (pos number) ∷ []
+    column row 0 ∷ Null ∷ node_path row ∷ node_parent row ∷ node_kind row ∷ node_owner row ∷ node_label row ∷ node_text row ∷ Int (pos number) ∷ []
 
 abbrev pub with_text : List ℕ → ℕ → Row → Row
 with_text text number row =
-    column row 0 ∷ Null ∷ column row 2 ∷ column row 3 ∷ column row 4 ∷ column row 5 ∷ column row 6 ∷ Text text ∷ Int (pos number) ∷ []
+    column row 0 ∷ Null ∷ node_path row ∷ node_parent row ∷ node_kind row ∷ node_owner row ∷ node_label row ∷ Text text ∷ Int (pos number) ∷ []
 
 abbrev pub set_number : List ℕ → ℕ → Rows → Rows
 set_number path number rows = record rows { nodes = update_where (is_at path) (with_number number) rows.nodes }
@@ -84,7 +85,7 @@ delete_entries id rows = record rows { entries = delete_where (has 1 id) rows.en
 
 -- an entry of a child of the node with a number
 abbrev pub is_below : Value → List Row → Row → Bool
-is_below id nodes entry = list_any (λ child. is_under id child && equal Binary (column child 0) (column entry 1)) nodes
+is_below id nodes entry = list_any (λ child. is_under id child && equal Binary (column child 0) (ace_node entry)) nodes
 
 abbrev pub delete_entries_below : Value → Rows → Rows
 delete_entries_below id rows = record rows { entries = delete_where (is_below id rows.nodes) rows.entries }
@@ -131,20 +132,20 @@ delete_members group rows = record rows { members = delete_where (has 1 (Text gr
 
 abbrev pub with_label : List ℕ → ℕ → Row → Row
 with_label label number row =
-    column row 0 ∷ Null ∷ column row 2 ∷ column row 3 ∷ column row 4 ∷ column row 5 ∷ Text label ∷ column row 7 ∷ Int (pos number) ∷ []
+    column row 0 ∷ Null ∷ node_path row ∷ node_parent row ∷ node_kind row ∷ node_owner row ∷ Text label ∷ node_text row ∷ Int (pos number) ∷ []
 
 abbrev pub with_copy : List ℕ → List ℕ → ℕ → Row → Row
 with_copy label text number row =
-    column row 0 ∷ Null ∷ column row 2 ∷ column row 3 ∷ column row 4 ∷ column row 5 ∷ Text label ∷ Text text ∷ Int (pos number) ∷ []
+    column row 0 ∷ Null ∷ node_path row ∷ node_parent row ∷ node_kind row ∷ node_owner row ∷ Text label ∷ Text text ∷ Int (pos number) ∷ []
 
 abbrev pub with_place : Option (List ℕ) → List ℕ → Row → Row
 with_place owner label row =
-    column row 0 ∷ Null ∷ column row 2 ∷ column row 3 ∷ column row 4 ∷ or_null owner ∷ Text label ∷ column row 7 ∷ column row 8 ∷ []
+    column row 0 ∷ Null ∷ node_path row ∷ node_parent row ∷ node_kind row ∷ or_null owner ∷ Text label ∷ node_text row ∷ node_number row ∷ []
 
 -- the row of a node at another path, under another node
 abbrev pub moved_to : List ℕ → Value → ℕ → Row → Row
 moved_to path parent number row =
-    column row 0 ∷ Null ∷ Text path ∷ parent ∷ column row 4 ∷ column row 5 ∷ column row 6 ∷ column row 7 ∷ Int (pos number) ∷ []
+    column row 0 ∷ Null ∷ Text path ∷ parent ∷ node_kind row ∷ node_owner row ∷ node_label row ∷ node_text row ∷ Int (pos number) ∷ []
 
 abbrev pub set_label : List ℕ → List ℕ → ℕ → Rows → Rows
 set_label path label number rows = record rows { nodes = update_where (is_at path) (with_label label number) rows.nodes }

@@ -2,7 +2,7 @@
 use Rattle.std.specs.Prelude.{ℕ, zero, suc, pos, Bool, true, false, nat_eq, ◌&&◌, List, [], ◌∷◌, map, find, option_map, option_and_then, unwrap_or, is_some, Option}
 use Rattle.sqlite.specs.declared.types.Value.{Value}
 use Rattle.sqlite.specs.declared.types.Value.TheVariants.{Null, Int, Text}
-use Rattle.sqlite.specs.Order.{Row, column}
+use Rattle.sqlite.specs.Order.{Row}
 use Rattle.sqlite.specs.Tree.{rowid}
 use Rattle.book_rights.specs.declared.privileges.Leaf.{Leaf}
 use Rattle.book_rights.specs.Leaves.{leaves_in, mask_of}
@@ -14,6 +14,7 @@ use Rattle.book_values.specs.declared.paths.Kind.{Kind}
 use Rattle.book_values.specs.declared.paths.Kind.TheVariants as kind
 use Rattle.book_values.specs.Paths.{book_path}
 use Rattle.book_office.specs.Resources.{Resource}
+use Rattle.book_rows.specs.Columns.{ace_deny, ace_form, ace_invert, ace_mask, ace_principal, gone_number, node_kind, node_label, node_number, node_owner, node_text}
 use Rattle.book_rows.specs.Nodes.{number_in, text_in}
 use Rattle.book_rows.specs.Rows.{Rows, has}
 use Rattle.book_rows.specs.Writes.{is_at, is_gone, flag, entries_of}
@@ -88,7 +89,7 @@ entry_values e = Int (pos (form_code e.who)) ∷ principal_value e.who ∷ flag 
 
 -- the entry of a row of `ace`
 abbrev pub entry_of : Row → Entry
-entry_of row = entry_told (column row 4) (column row 5) (column row 6) (column row 7) (column row 8)
+entry_of row = entry_told (ace_form row) (ace_principal row) (ace_invert row) (ace_deny row) (ace_mask row)
 
 -- the protected or the own list of the node with a number: its entries in order of their places
 abbrev pub list_in : List Row → Value → Bool → List Entry
@@ -99,11 +100,11 @@ list_in entries id protected = map entry_of (entries_of entries id protected)
 -- the resource that a row of `node` gives, with its lists
 abbrev pub resource_of : List Row → Row → Resource
 resource_of entries row = record {
-  kind = kind_in (column row 4);
-  owner = text_in (column row 5);
-  label = unwrap_or (text_in (column row 6)) [];
-  text = text_in (column row 7);
-  number = number_in (column row 8);
+  kind = kind_in (node_kind row);
+  owner = text_in (node_owner row);
+  label = unwrap_or (text_in (node_label row)) [];
+  text = text_in (node_text row);
+  number = number_in (node_number row);
   protected = list_in entries (rowid row) true;
   own = list_in entries (rowid row) false;
 }
@@ -127,7 +128,7 @@ has_member rows m = is_some (find (is_member m) rows.members)
 
 -- the number of a removed name of the book whose row it is, if there is such a row
 abbrev pub removed_from : List Row → List ℕ → Option Row → Option ℕ
-removed_from gone name book = option_and_then (λ book. option_map (λ row. number_in (column row 3)) (find (is_gone (rowid book) name) gone)) book
+removed_from gone name book = option_and_then (λ book. option_map (λ row. number_in (gone_number row)) (find (is_gone (rowid book) name) gone)) book
 
 -- the number of a removed name of a book
 abbrev pub removed_in : Rows → List ℕ → List ℕ → Option ℕ

@@ -4,7 +4,7 @@ use Rattle.std.specs.FinSet as set
 use Rattle.std.specs.List.{AllByRecursion}
 use Rattle.sqlite.specs.declared.types.Value.{Value}
 use Rattle.sqlite.specs.declared.types.Value.TheVariants.{Null, Int, Text}
-use Rattle.sqlite.specs.Order.{Row, column}
+use Rattle.sqlite.specs.Order.{Row}
 use Rattle.sqlite.specs.Tree.{Trees, rowid}
 use Rattle.sqlite.specs.Effect.{Database}
 use Rattle.sqlite.specs.State.{State}
@@ -18,6 +18,7 @@ use Rattle.book_values.specs.Paths.{IsPath, path_text, parent_of, kind_of}
 use Rattle.book_office.specs.Keeping.{Leftover, whole, broken}
 use Rattle.book_office.specs.Resources.{resource_at, removed_at}
 use Rattle.book_office.specs.Sound.{IsSound}
+use Rattle.book_rows.specs.Columns.{ace_node, ace_place, ace_protected, gone_book, gone_name, gone_number, node_kind, node_number, node_parent, node_path}
 use Rattle.book_rows.specs.Nodes.{number_in}
 use Rattle.book_rows.specs.Rows.{Rows, rows_of, IsBook, in_store}
 use Rattle.book_rows.specs.Writes.{IsMeta, flag}
@@ -33,10 +34,10 @@ IsParent rows value (Some above) = (row : Row) × (row_at rows (path_text above)
 -- a row of `node` is that of a path: its kind is the path's, its parent the row at the path above, its number no less than 0
 pub record IsNodeAt (rows : Rows) (row : Row) (p : Path) : Type 0 where
   pub named : IsPath p
-  pub path : column row 2 ≡ Text (path_text p)
-  pub parent : IsParent rows (column row 3) (parent_of p)
-  pub kind : column row 4 ≡ Int (pos (kind_code (kind_of p)))
-  pub number : column row 8 ≡ Int (pos (number_in (column row 8)))
+  pub path : node_path row ≡ Text (path_text p)
+  pub parent : IsParent rows (node_parent row) (parent_of p)
+  pub kind : node_kind row ≡ Int (pos (kind_code (kind_of p)))
+  pub number : node_number row ≡ Int (pos (number_in (node_number row)))
 
 abbrev pub IsNode : Rows → Row → Type 0
 IsNode rows row = (p : Path) × IsNodeAt rows row p
@@ -45,20 +46,20 @@ IsNode rows row = (p : Path) × IsNodeAt rows row p
 pub record IsEntry (rows : Rows) (row : Row) : Type 0 where
   pub node : Row
   pub there : Has rows.nodes node
-  pub its : column row 1 ≡ rowid node
+  pub its : ace_node row ≡ rowid node
   pub list : Bool
-  pub protected : column row 2 ≡ flag list
-  pub place : column row 3 ≡ Int (pos (number_in (column row 3)))
+  pub protected : ace_protected row ≡ flag list
+  pub place : ace_place row ≡ Int (pos (number_in (ace_place row)))
   pub spelled : drop 4 row ≡ entry_values (entry_of row)
 
 -- a row of `gone` is a removed name of a book
 pub record IsRemoved (rows : Rows) (row : Row) : Type 0 where
   pub book : List ℕ
   pub named : IsName book
-  pub there : IsParent rows (column row 1) (Some (path.Book book))
+  pub there : IsParent rows (gone_book row) (Some (path.Book book))
   pub name : List ℕ
-  pub spelled : column row 2 ≡ Text name
-  pub number : column row 3 ≡ Int (pos (number_in (column row 3)))
+  pub spelled : gone_name row ≡ Text name
+  pub number : gone_number row ≡ Int (pos (number_in (gone_number row)))
 
 -- ---- the Office of the rows
 
