@@ -84,8 +84,8 @@ The policy says who belongs where and who may do what. As in:
 
 Output:
   changed, epoch N | unchanged, epoch N
-N is the number of the accesses that the store has had: it rises with each policy that changes anything, and then every
-sync token that was given before is refused.
+N is the epoch of the store. It rises with each policy that changes anything, each change of an own list or of a group's
+members, and each book that is removed; then every sync token that was given before is refused.
 
 Told on standard error, each on a line, where nothing was changed
   input: read           the policy could not be read
