@@ -1,6 +1,7 @@
 -- Tables whose rows are those of a sound Office stand for it, and those of others for none.
 use Rattle.std.proofs.Common.{◌≡◌, inl, inr, Bool, List, IsTrue, sym, ap, subst, ◌∙◌, arith}
 use Rattle.std.proofs.lemmas.List.Sorted.{IsPermutation-sym}
+use Rattle.std.specs.List.{AllByRecursion}
 use Rattle.sqlite.specs.Effect.{Database}
 use Rattle.sqlite.specs.Order.{Row}
 use Rattle.sqlite.specs.State.{State, HasCleanDisk, Opens, Survives}
@@ -13,7 +14,7 @@ use Rattle.book_store.specs.Whole.{entries_shown, gone_shown, meta_shown}
 use Rattle.book_tables.specs.Stands.{Stands}
 use Rattle.book_tables.proofs.OneOffice.{only_left}
 use Rattle.book_opening.specs.Opening.{AreOfficeRows}
-use Rattle.book_opening.specs.Reading.{ShowsTables, StandsForOne, StandsForNone, TellsStanding, IsOpened}
+use Rattle.book_opening.specs.Reading.{ShowsTables, HasUtf8, AreReadable, IsWhole, StandsForOne, StandsForNone, TellsStanding, IsOpened}
 use Rattle.book_opening.specs.WholeNodes.{whole_nodes}
 use Rattle.book_opening.proofs.AnyOrder.{any_order}
 use Rattle.book_opening.proofs.GivenRows.{given_rows}
@@ -37,8 +38,9 @@ module _ (s : State) (nodes entries members gone meta : List Row) (shows : Shows
       (any_order (whole_nodes rows) (entries_shown rows) entries (pairs_of rows) members (gone_shown rows) gone (meta_shown rows) meta
       (shows.lists.entries_are.1 book) (shows.lists.members_are.1 book) (shows.rest.gone_are.1 book) (shows.rest.meta_are.1 book) (given_rows s.now book o st.gives st.sound))
 
-  pub office_told : (is : Bool) → (IsTrue is → AreOfficeRows nodes entries members gone meta) → (AreOfficeRows nodes entries members gone meta → IsTrue is) → TellsStanding s is
-  office_told is passes found = (shows.nodes_are.0, λ book. (λ yes. office_shown book (passes yes), λ one. found (shown_office book one)))
+  pub office_told : (is : Bool) → (IsTrue is → AreOfficeRows nodes entries members gone meta) → (AreOfficeRows nodes entries members gone meta → IsTrue is) → (IsTrue is → AllByRecursion HasUtf8 nodes) → TellsStanding s is
+  office_told is passes found texts =
+      (shows.nodes_are.0, λ book. (λ yes. (office_shown book (passes yes), subst (AllByRecursion HasUtf8) (shows.nodes_are.1 book) (texts yes)), λ one. found (shown_office book one)))
 
 -- tables without the schema of a store stand for none
 pub foreign_none : (db : Database) → (db.schema ≡ book_schema → ⊥) → ¬ (StandsForOne db)
@@ -49,8 +51,8 @@ module _ (old new : State) (stays : Stays old new) (survives : Survives old new 
   was_clean = omega (arith, clean, survives.clean)
 
   -- a connection whose tables stood for an Office stands for it
-  pub opened : ((trees : Trees) → IsTrue old.is_open → old.may_leave trees → trees ≡ old.committed.trees) → StandsForOne old.now → IsOpened old new
-  opened settled (o, st) = record {
+  pub opened : ((trees : Trees) → IsTrue old.is_open → old.may_leave trees → trees ≡ old.committed.trees) → IsWhole old.now → IsOpened old new
+  opened settled ((o, st), texts) = record {
     stands = (
       o,
       record {
@@ -62,6 +64,7 @@ module _ (old new : State) (stays : Stays old new) (survives : Survives old new 
             only_left left.0 o x (subst (λ db. Stands db o) (sym is) st) left.2;
       },
     );
+    readable = λ open_now. subst AreReadable (sym (stays open_now).1) texts;
     clean = was_clean;
     stays = stays;
   }

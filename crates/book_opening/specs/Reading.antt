@@ -1,5 +1,7 @@
 -- What reads of all tables show, and for what their rows stand.
-use Rattle.std.specs.Prelude.{◌≡◌, Bool, true, false, List, IsTrue}
+use Rattle.std.specs.Prelude.{◌≡◌, ℕ, Bool, true, false, List, Option, Some, None, IsTrue}
+use Rattle.std.specs.List.{AllByRecursion}
+use Rattle.std.specs.Str.{IsUtf8}
 use Rattle.sqlite.specs.Effect.{Database}
 use Rattle.sqlite.specs.Held.{Held, state}
 use Rattle.sqlite.specs.Order.{Row}
@@ -7,7 +9,8 @@ use Rattle.sqlite.specs.State.{State, HasCleanDisk, Opens}
 use Rattle.sqlite_trees.specs.declared.store.Store.{Ghosts}
 use Rattle.book_values.specs.declared.offices.Office.{Office}
 use Rattle.book_rows.specs.Lists.{ShowsRows, pairs_of}
-use Rattle.book_rows.specs.Rows.{IsBook}
+use Rattle.book_rows.specs.Nodes.{text_in}
+use Rattle.book_rows.specs.Rows.{IsBook, rows_of}
 use Rattle.book_rows.specs.Schema.{book_schema}
 use Rattle.book_rows.specs.Steps.{Stays}
 use Rattle.book_store.specs.Versions.{SaysOther}
@@ -16,7 +19,8 @@ use Rattle.book_tables.specs.Opened.{StandsAlone}
 use Rattle.book_tables.specs.Stands.{Stands}
 use Rattle.book_tables.specs.declared.opening.OpenFault.{OpenFault}
 use Rattle.book_tables.specs.declared.opening.OpenFault.TheVariants.{OtherVersion, NoStore, Memory, Store}
-use Rattle.book_opening.specs.WholeNodes.{ShowsWholeNodes}
+use Rattle.book_opening.specs.Shown.{shown_label, shown_text}
+use Rattle.book_opening.specs.WholeNodes.{ShowsWholeNodes, whole_nodes}
 use Rattle.book_opening.specs.declared.opening.Standing.{Standing}
 use Rattle.book_opening.specs.declared.opening.Standing.TheVariants.{Whole, Other, Broken}
 
@@ -35,16 +39,32 @@ pub record ShowsTables (s : State) (nodes entries members gone meta : List Row) 
   pub lists : ShowsLists s entries members
   pub rest : ShowsRest s gone meta
 
+-- the text is UTF-8, if there is one
+abbrev pub IsUtf8Text : Option (List ℕ) → Type 0
+IsUtf8Text None = Unit {0}
+IsUtf8Text (Some text) = IsUtf8 text
+
+-- label and text of a node can be read
+abbrev pub HasUtf8 : Row → Type 0
+HasUtf8 row = IsUtf8Text (text_in (shown_label row)) × IsUtf8Text (text_in (shown_text row))
+
 -- the tables stand for an Office
 abbrev pub StandsForOne : Database → Type 0
 StandsForOne db = (o : Office) × Stands db o
 
--- whether the tables of a connection stand for an Office, where it has them
+-- all their labels and texts can be read
+abbrev pub AreReadable : Database → Type 0
+AreReadable db = AllByRecursion HasUtf8 (whole_nodes (rows_of db.trees))
+
+abbrev pub IsWhole : Database → Type 0
+IsWhole db = StandsForOne db × AreReadable db
+
+-- whether the tables of a connection stand for an Office, where it has them; it is not told of those that can't be read
 abbrev pub TellsStanding : State → Bool → Type 0
-TellsStanding s is = IsTrue s.is_open × (IsBook s.now → (IsTrue is → StandsForOne s.now) × (StandsForOne s.now → IsTrue is))
+TellsStanding s is = IsTrue s.is_open × (IsBook s.now → (IsTrue is → IsWhole s.now) × (StandsForOne s.now → IsTrue is))
 
 abbrev pub IsStanding : Database → Standing → Type 0
-IsStanding db Whole = StandsForOne db
+IsStanding db Whole = IsWhole db
 IsStanding db Other = ¬ (StandsForOne db)
 IsStanding db Broken = ¬ (StandsForOne db)
 
@@ -78,6 +98,7 @@ StandsForNone s = IsTrue s.is_open → ¬ (StandsForOne s.now)
 -- its tables are tested, and left as they are
 pub record IsOpened (old new : State) : Type 0 where
   pub stands : StandsForItsOffice new
+  pub readable : IsTrue new.is_open → AreReadable new.now
   pub clean : HasCleanDisk old
   pub stays : Stays old new
 

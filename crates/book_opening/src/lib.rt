@@ -27,6 +27,7 @@ mod opening;
 mod principal_tests;
 mod reading;
 mod spelling_tests;
+mod text_tests;
 mod whole_nodes;
 
 pub use opening::open;

@@ -7,11 +7,12 @@ ghost use Rattle.book_rows.specs.Rows.{IsBook};
 ghost use Rattle.book_rows.specs.Schema.{book_schema};
 ghost use Rattle.book_rows.specs.Steps.{Keeps, Spares, Stays};
 ghost use Rattle.book_tables.specs.Opened.{open_fault};
-ghost use Rattle.book_opening.specs.Reading.{StandsForOne, TellsOther, TellsStanding, IsStanding, StandingSays, FaultSays, IsReopened, IsOpened, IsRefused, StandsForItsOffice, StandsForNone};
+ghost use Rattle.book_opening.specs.Reading.{AreReadable, IsWhole, StandsForOne, TellsOther, TellsStanding, IsStanding, StandingSays, FaultSays, IsReopened, IsOpened, IsRefused, StandsForItsOffice, StandsForNone};
 
 use crate::directories::Directory;
 use crate::office_tests::are_office_rows;
 use crate::reading::read_tables;
+use crate::text_tests::readable;
 use book_store::{is_book_schema, reopen, says_other_version};
 use book_tables::{OpenFault, Tables};
 use sqlite::{Alter, Connection, Error, ErrorCode, Transaction};
@@ -28,7 +29,8 @@ pub(crate) enum Standing {
     Broken,
 }
 
-/// Whether the rows of the tables are those of a sound Office.
+/// Whether the rows of the tables are those of a sound Office. Where they are, a label or a text that can't be read is a
+/// failure of the store.
 fn is_office<S: Alter>(alloc: Global, transaction: &mut Transaction<'_, S>) -> Result<bool, Error>
     ensures same_reference { transaction.new.conn.ghost_name ≡ transaction.old.conn.ghost_name }
     ensures survives { Survives (state S.Store transaction.old.conn.now) (state S.Store transaction.new.conn.now)
@@ -47,7 +49,8 @@ fn is_office<S: Alter>(alloc: Global, transaction: &mut Transaction<'_, S>) -> R
         &rows.rest.0,
         &rows.rest.1,
     )?;
-    Ok(found)
+    let told = readable(&directory, found)?;
+    Ok(told)
 }
 
 /// The same, in a transaction of its own.
@@ -87,7 +90,7 @@ fn is_whole<S: Alter>(alloc: Global, connection: &mut Connection<S>) -> Result<b
     ensures survives { Survives (state S.Store connection.old) (state S.Store connection.new) (λ _. ⊥) }
     ensures told { HasCleanDisk (state S.Store connection.new)
         → ((state S.Store connection.old).now.schema ≡ book_schema → IsBook (state S.Store connection.old).now)
-        → IfOk result (λ is. (IsTrue is → StandsForOne (state S.Store connection.old).now)
+        → IfOk result (λ is. (IsTrue is → IsWhole (state S.Store connection.old).now)
         × (StandsForOne (state S.Store connection.old).now → IsTrue is)) }
 {
     if !is_book_schema(connection.schema()) {
@@ -150,20 +153,22 @@ fn open_again<S: Alter>(
 }
 
 /// Opens the tables of a store that is there, as its last commit left it. They are given where their rows stand for a
-/// sound Office, and a stop just after leaves that one alone. Every row is read and tested, which takes a number of
+/// sound Office, and a stop just after leaves that one alone; its labels and texts are UTF-8. Every row is read and tested, which takes a number of
 /// comparisons that grows as the number of rows times its logarithm.
 ///
 /// # Errors
 ///
 /// `OtherVersion` where the rows stand for no Office, and `meta` has one row, with another version; `NoStore` where they
-/// stand for no Office else. `Memory` is want of memory, `Store` any other failure of the store. The connection comes
-/// back but where the store could not be opened again.
+/// stand for no Office else. `Memory` is want of memory, `Store` any other failure of the store, also a label or a text
+/// of a node that is not UTF-8. The connection comes back but where the store could not be opened again.
 pub fn open<S: Alter + Drop>(
     alloc: Global,
     connection: Connection<S>,
 ) -> Result<Tables<S>, (OpenFault, Option<Connection<S>>)>
     ensures stands { IfOk result (λ t. HasCleanDisk (state S.Store t.connection)
         → StandsForItsOffice (state S.Store t.connection)) }
+    ensures readable { IfOk result (λ t. HasCleanDisk (state S.Store t.connection)
+        → IsTrue (state S.Store t.connection).is_open → AreReadable (state S.Store t.connection).now) }
     ensures same { IfOk result (λ t. HasCleanDisk (state S.Store t.connection)
         → IsTrue (state S.Store t.connection).is_open
         → (state S.Store t.connection).now.trees ≡ (state S.Store connection).committed.trees) }

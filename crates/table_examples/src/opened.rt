@@ -96,6 +96,14 @@ const TOLD: &[(&str, &str)] = &[
         "no-store",
     ),
     (
+        "UPDATE node SET label = CAST(x'ff' AS TEXT) WHERE path = '/books/law'",
+        "store",
+    ),
+    (
+        "UPDATE node SET text = CAST(x'ff' AS TEXT) WHERE path = '/books/law/b.vcf'",
+        "store",
+    ),
+    (
         "UPDATE node SET owner = '/books' WHERE path = '/books/law'",
         "no-store",
     ),

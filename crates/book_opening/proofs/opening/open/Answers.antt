@@ -12,3 +12,8 @@ pub returns-in-Ok-clause-refused : goal.returns-in-Ok-clause-refused
 returns-in-Ok-clause-refused g c =
     let reopened : IsReopened (state g.S.Store c.in-Ok.opened) = λ clean. ((c.in-Ok.ensures.opens clean).0, c.in-Ok.ensures.book clean) in
     c.open_again.ensures.refused reopened
+
+pub returns-in-Ok-clause-readable : goal.returns-in-Ok-clause-readable
+returns-in-Ok-clause-readable g c =
+    let reopened : IsReopened (state g.S.Store c.in-Ok.opened) = λ clean. ((c.in-Ok.ensures.opens clean).0, c.in-Ok.ensures.book clean) in
+    if_ok c.open_again.result _ _ (λ t opened clean. (opened clean).readable) (c.open_again.ensures.stands reopened)
