@@ -1,13 +1,19 @@
 //! The files that the words name: the policy's and the store's.
 
+use book_files::open_files as open_store;
 use book_texts::InputFault;
 use book_work::{Failure, StoreFailure};
-use sqlite::{Connection, Error, ErrorCode, File as DiskFile, FileStore};
+use sqlite::{Connection, Error, ErrorCode, File as DiskFile, FileStore, Unknown};
+use sqlite_std_file::OpenError;
 use std::fs::{File, Files};
+use std::hash::{BuildHasher, RandomState};
 use std::io::{self, Read};
 
 /// A connection to the file of a store.
 pub type FileConnection = Connection<FileStore<DiskFile>>;
+
+/// How many bytes of a store's pages are kept in memory.
+const KEPT_IN_MEMORY: usize = 8_192_000;
 
 /// What the words name, read and opened.
 pub struct Opened {
@@ -46,6 +52,40 @@ fn open_failure(error: Error) -> Failure {
     }
 }
 
+fn path_failure(error: OpenError) -> Failure {
+    match error {
+        OpenError::OutOfMemory => Failure::Store(StoreFailure::Memory),
+        OpenError::Io(error) if error.kind() == io::ErrorKind::OutOfMemory => {
+            Failure::Store(StoreFailure::Memory)
+        }
+        _ => Failure::Store(StoreFailure::Store),
+    }
+}
+
+/// A number at random, for the salts of a log.
+fn seed(rt: &HostRuntime) -> Result<u64, Failure> {
+    match RandomState::new(rt) {
+        Ok(state) => Ok(state.hash_one(&0u8)),
+        Err(_) => Err(Failure::Store(StoreFailure::Store)),
+    }
+}
+
+/// Whether sqlite3 reads the name as something else than a path.
+fn is_no_path(name: &str) -> bool {
+    name == ":memory:" || name.starts_with("file:")
+}
+
+/// Opens the database at a path and its log, which are made where they are missing.
+fn open_at(rt: &HostRuntime, name: &str, seed: u64) -> Result<FileConnection, Failure> {
+    match sqlite_std_file::open(rt, name, Unknown) {
+        Ok(files) => match open_store(rt.alloc(), files, seed, KEPT_IN_MEMORY) {
+            Ok(connection) => Ok(connection),
+            Err((error, _left)) => Err(open_failure(error)),
+        },
+        Err(error) => Err(path_failure(error)),
+    }
+}
+
 /// Opens the store's file, if one is named. It is made where it is missing.
 fn open_store_file(
     rt: &HostRuntime,
@@ -54,8 +94,10 @@ fn open_store_file(
     let Some(name) = name else {
         return Ok(None);
     };
-    let opened = Connection::open(rt, name.as_str()).map_err(open_failure);
-    Ok(Some(opened?))
+    if is_no_path(name.as_str()) {
+        return Err(Failure::Store(StoreFailure::Store));
+    }
+    Ok(Some(open_at(rt, name.as_str(), seed(rt)?)?))
 }
 
 /// Reads the policy's file, and then opens the store's file, where they are named.

@@ -4,9 +4,10 @@
 //! this one takes many times as long, in each function again.
 
 use anyhow::{Context, Result, bail};
+use book_files::open_files;
 use book_opening::open;
 use book_tables::Tables;
-use sqlite::{Alter, Connection, FileStore, Options};
+use sqlite::{Alter, Connection, FileStore};
 use sqlite_disk::{Crash, Disk as _, Files, Fuse, Memory};
 use std::alloc::Global;
 
@@ -16,8 +17,8 @@ pub(crate) type Disk = Fuse<Memory>;
 /// A store over two such files.
 pub(crate) type Store = FileStore<Disk>;
 
-/// The pages that a store keeps in memory, more than its files have: an open makes room for all of them.
-const CACHED_PAGES: usize = 64;
+/// The bytes of pages that a store keeps in memory, more than its files have: an open makes room for all of them.
+const KEPT_IN_MEMORY: usize = 262_144;
 
 /// Which file fails.
 #[derive(Clone, Copy)]
@@ -34,7 +35,7 @@ fn empty(alloc: Global) -> Disk {
 }
 
 /// The files of a store that is to be made.
-fn empty_files(alloc: Global) -> Files<Disk> {
+pub(crate) fn empty_files(alloc: Global) -> Files<Disk> {
     Files {
         log: empty(alloc),
         db: empty(alloc),
@@ -83,12 +84,6 @@ pub(crate) fn crash(files: &mut Files<Disk>) {
     files.db.crash();
 }
 
-fn options(seed: u64) -> Options {
-    let mut options = Options::new(seed);
-    options.cache_pages = CACHED_PAGES;
-    options
-}
-
 /// Opens the files of a store, or gives them back. Each open has a seed of its own.
 pub(crate) fn connect(
     alloc: Global,
@@ -98,7 +93,7 @@ pub(crate) fn connect(
     if !files.may_be_used() {
         return Err(files);
     }
-    match Connection::open_files(alloc, files, options(seed)) {
+    match open_files(alloc, files, seed, KEPT_IN_MEMORY) {
         Ok(connection) => Ok(connection),
         Err((_error, left)) => Err(left.into_files()),
     }

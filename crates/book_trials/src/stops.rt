@@ -6,10 +6,13 @@
 //!
 //! It prints a line a kind, `NAME: N stops, B before, A after, W wrong`, where B, A and W count both ways of stopping, and
 //! last `N stops, W wrong`; the status is 1 where one is wrong. Words name the kinds; without any all are tried. Which
-//! Offices are wanted is told by a keeper in memory.
+//! Offices are wanted is told by a keeper in memory. The first open of a store, which makes its files, is stopped alike:
+//! its line is `first open: N stops, A taken, W wrong`, where what is left opens and takes the tables.
 //!
-//! Read `cases` for what is edited, `crate::disks` for the files, `texts` for what is compared, and then `trials`.
+//! Read `cases` for what is edited, `crate::disks` for the files, `texts` for what is compared, and then `trials`;
+//! `beginnings` has the first open.
 
+mod beginnings;
 mod cases;
 mod counts;
 mod plans;
@@ -18,6 +21,7 @@ mod trials;
 
 use crate::disks::Disk;
 use anyhow::{Context, Result};
+use beginnings::stops_of_first_open;
 use cases::{CASES, Case};
 use counts::Count;
 use sqlite_disk::Files;
@@ -47,6 +51,14 @@ fn print_stops(rt: &(impl AllocGlobal + Print), start: &Files<Disk>, case: Case)
     Ok(count)
 }
 
+/// Tries the stops of the first open, and prints their line.
+fn print_first_stops(rt: &(impl AllocGlobal + Print)) -> Result<Count> {
+    let count = stops_of_first_open(rt.alloc())?;
+    let (stops, taken, wrong) = (count.stops, count.after, count.wrong);
+    println!(rt; "first open: {stops} stops, {taken} taken, {wrong} wrong")?;
+    Ok(count)
+}
+
 /// Tries the stops of each of these kinds.
 fn print_each(
     rt: &(impl AllocGlobal + Print),
@@ -73,7 +85,8 @@ fn print_asked(rt: &(impl AllocGlobal + Print), asked: &[Case]) -> Result<Count>
 /// nothing is wrong.
 pub(crate) fn try_stops(rt: &(impl AllocGlobal + Print), words: &[&str]) -> Result<bool> {
     let asked = asked_cases(rt.alloc(), words)?;
-    let all = print_asked(rt, asked.as_slice())?;
+    let first = print_first_stops(rt)?;
+    let all = first.plus(print_asked(rt, asked.as_slice())?);
     let (stops, wrong) = (all.stops, all.wrong);
     println!(rt; "{stops} stops, {wrong} wrong")?;
     Ok(wrong == 0)

@@ -16,10 +16,10 @@ use sqlite_disk::Files;
 use std::alloc::Global;
 
 /// The seeds of the opens of a store, in turn: as it is made, as it is edited, after a stop and after a restart.
-const SEEDS: [u64; 4] = [1, 2, 3, 4];
+pub(crate) const SEEDS: [u64; 4] = [1, 2, 3, 4];
 
 /// More calls than a trial makes of a file.
-const MOST_CALLS: u64 = 1_000;
+pub(crate) const MOST_CALLS: u64 = 1_000;
 
 /// What an edit left, where a file may have failed.
 #[derive(Drop)]
