@@ -48,7 +48,7 @@ fn refusal_value(alloc: Global, refusal: &Refusal) -> Result<Value, AllocError>
             let name = format!(in alloc; "{kind}")?;
             faulty_card(alloc, name.as_str(), fault.line as u64)
         }
-        Refusal::NeedPrivileges(denial) => denial_value(alloc, denial),
+        Refusal::NeedPrivileges(denial) => denial_value(alloc, denial.denial()),
         Refusal::BadRequest
         | Refusal::UnknownCaller
         | Refusal::NoProtectedAceConflict

@@ -57,7 +57,7 @@ fn tell_details(rt: &impl Abort, alloc: Global, refusal: &Refusal) -> String {
             let methods = methods.text();
             format!(in alloc; " {methods}").expect(rt, "memory")
         }
-        Refusal::NeedPrivileges(denial) => tell_denial(rt, alloc, denial),
+        Refusal::NeedPrivileges(denial) => tell_denial(rt, alloc, denial.denial()),
         _ => String::new(alloc),
     }
 }

@@ -6,7 +6,7 @@ ghost use Rattle.book_office.specs.Levels.{effective_of};
 ghost use Rattle.book_office.specs.declared.nodes.Level.{Level};
 ghost use Rattle.book_machine.specs.Verdicts.{Judges};
 
-use crate::refusals::Refusal;
+use crate::refusals::{BoxedDenial, Refusal};
 use book_listings::verdict;
 use book_lists::{Circle, Entry, Here};
 use book_office::{Level, Lists, Path};
@@ -28,6 +28,7 @@ pub(crate) fn protected_in(alloc: Global, lists: Lists) -> Result<Vec<Entry>, Al
 /// The decision on one need at the resource at a path, by one scan over its levels. No list is joined, and no path
 /// copied but for a denial.
 pub(crate) fn judge(
+    alloc: Global,
     levels: &[Level],
     circle: &Circle,
     path: &Path,
@@ -38,6 +39,6 @@ pub(crate) fn judge(
 {
     match verdict(path, &[], levels, circle, here, set)? {
         None => Ok(()),
-        Some(denial) => Err(Refusal::NeedPrivileges(denial)),
+        Some(denial) => Err(Refusal::NeedPrivileges(BoxedDenial::new(alloc, denial)?)),
     }
 }

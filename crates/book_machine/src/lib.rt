@@ -44,4 +44,4 @@ pub use leading::runs_lead_on;
 pub use machine::Machine;
 pub use messages::{Body, Content, Depth, Flag, Patch, Reply, ReportKind, Request, SyncFrom};
 pub use plans::{Plan, Ready, Target};
-pub use refusals::Refusal;
+pub use refusals::{BoxedDenial, Refusal};

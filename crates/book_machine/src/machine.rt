@@ -237,7 +237,7 @@ impl<K: Keeper> Machine<K> {
         let here = Here { owner, principal };
         match self.keeper.unless_granted(alloc, path, circle, &here, set)? {
             None => Ok(()),
-            Some(lists) => judge(lists.levels.as_slice(), circle, path, &here, set),
+            Some(lists) => judge(alloc, lists.levels.as_slice(), circle, path, &here, set),
         }
     }
 

@@ -1,6 +1,6 @@
 //! Why a request is refused.
 
-ghost use Rattle.std.specs.Prelude.{◌≡◌, IsErrAnd};
+ghost use Rattle.std.specs.Prelude.{◌≡◌, IfOk, IsErrAnd};
 ghost use Rattle.book_machine.specs.Refusals.{refused, refusal_name, status_of};
 ghost use Rattle.book_machine.specs.declared.refusals.Refusal.TheVariants.{Unavailable};
 
@@ -9,7 +9,43 @@ use crate::messages::{Content, Reply};
 use book_cards::CardFault;
 use book_listings::Denial;
 use book_office::StoreFault;
-use std::alloc::AllocError;
+use std::alloc::{AllocError, Global};
+use std::marker::Model;
+
+/// A denial in memory of its own, so that what may be refused is small to hand on. A contract sees the denial.
+#[derive(Debug, Drop)]
+pub struct BoxedDenial {
+    denial: Box<Denial>,
+}
+
+impl Model for BoxedDenial {
+    ghost use Rattle.book_listings.specs.declared.messages.Denial.{Denial};
+    ghost use Rattle.book_listings.specs.contracts.messages.Denial as denial_type;
+
+    ghost Value = { Denial };
+
+    ghost coded = { denial_type.the_row.coded };
+
+    ghost view = { λ boxed. boxed.denial.value };
+}
+
+impl BoxedDenial {
+    /// The denial, in memory of its own. An error is want of memory.
+    pub fn new(alloc: Global, denial: Denial) -> Result<BoxedDenial, AllocError>
+        ensures { IfOk result (λ boxed. boxed ≡ denial) }
+    {
+        Ok(BoxedDenial {
+            denial: Box::new(alloc, denial)?,
+        })
+    }
+
+    /// The denial. Takes no memory.
+    pub fn denial(&self) -> &Denial
+        ensures { result.now ≡ self.now }
+    {
+        &self.denial
+    }
+}
 
 /// Why a request is refused. Every refusal leaves the Office as it was.
 #[derive(Debug, Drop)]
@@ -21,7 +57,7 @@ pub enum Refusal {
     /// 400: the text is no card.
     BadCard(CardFault),
     /// 403: a privilege that the method needs is not granted (RFC 3744, section 7.1.1).
-    NeedPrivileges(Denial),
+    NeedPrivileges(BoxedDenial),
     /// 403: an entry conflicts with a protected one (RFC 3744, section 8.1.1).
     NoProtectedAceConflict,
     /// 403: an entry is marked as inherited (RFC 3744, section 8.1.1).

@@ -11,14 +11,19 @@ use matchit::Router;
 use std::alloc::{AllocError, Global};
 use url::{ParseError, Url};
 
+/// The bytes of the longest text of a home: the router is asked for no longer one.
+const MAX_HOME: usize = 7;
+
 /// The path that a text spells, if it spells one (own profile). The homes are found by the router, each other path by
 /// `Path::parse`. An error is want of memory.
 pub fn path_in(alloc: Global, router: &Router<Home>, text: &str) -> Result<Option<Path>, AllocError>
     requires { HasHomes router.now }
     ensures { IfOk result (IsPathIn text.now) }
 {
-    if let Some(home) = home_at(router, text) {
-        return Ok(Some(home_path(home)));
+    if text.len() <= MAX_HOME {
+        if let Some(home) = home_at(router, text) {
+            return Ok(Some(home_path(home)));
+        }
     }
     match Path::parse(alloc, text) {
         Ok(path) => Ok(Some(path)),
