@@ -1,14 +1,15 @@
 -- An edit of cards leaves what is remembered true.
-use Rattle.std.proofs.Common.{◌≡◌, ◌≢◌, ◌⊎◌, ℕ, ◌+◌, List, [], inl, inr, Option, Some, None, IfSome, option_map, option_and_then, unwrap_or, refl, sym, ap, subst, ◌∙◌}
-use Rattle.std.specs.FinMap.{empty, get, remove}
+use Rattle.std.proofs.Common.{arith, ◌≡◌, ◌≢◌, ◌≤◌, ◌⊎◌, ℕ, ◌+◌, ◌-◌, Bool, true, false, cond, List, [], inl, inr, Option, Some, None, IfSome, option_map, option_and_then, unwrap_or, refl, sym, ap, subst, ◌∙◌}
+use Rattle.std.specs.FinMap.{empty, get, insert, remove, len, len-insert, len-remove, contains_key}
+use Rattle.std.specs.Cmp.Lexicographic.{nat_list_cmp_total}
 use Rattle.book_cache.proofs.Kept.{none_in}
-use Rattle.book_cache.specs.Remembering.{AreBare, Remembers, bare_level, raised}
+use Rattle.book_cache.specs.Remembering.{AreBare, Remembers, bare_level, one_more, raised}
 use Rattle.book_cache.specs.declared.remembered.Remembered.{Remembered}
 use Rattle.book_lists.specs.declared.entries.Entry.{Entry}
 use Rattle.book_office.specs.Edits.{apply, with_book, put_card, card_put, remove_card, copy_from, card_copied, move_to}
 use Rattle.book_office.specs.declared.edits.Edit.TheVariants.{PutCard, RemoveCard, CopyCard, MoveCard}
 use Rattle.book_office.specs.Levels.{level_at}
-use Rattle.book_office.specs.Resources.{Resource, book_resource, card_at, card_in, card_resource, node_at, node_of, number_of}
+use Rattle.book_office.specs.Resources.{Resource, book_resource, card_at, card_in, card_resource, count_at, node_at, node_of, number_of}
 use Rattle.book_office.specs.declared.nodes.Level.{Level}
 use Rattle.book_office.specs.declared.nodes.Node.{Node}
 use Rattle.book_values.specs.declared.offices.Book.{Book}
@@ -142,9 +143,78 @@ module _ (f : Book → Book) (nodes : NamesTo Node) (o : Office) (b : List ℕ) 
   nodes_counted keeps raises after (inl is) = subst (λ m. AreNodes m (with_book f o b)) (sym is) (nodes_raised keeps raises)
   nodes_counted keeps raises after (inr is) = subst (λ m. AreNodes m (with_book f o b)) (sym is) nodes_forgotten
 
-still_remembers : (f : Book → Book) → KeepsProperties f → (r : Remembered) (o : Office) (b : List ℕ) (nodes : NamesTo Node) → Remembers r o → AreNodes nodes (with_book f o b) → StayBare r (with_book f o b)
-    → Remembers (record r { book_nodes = nodes }) (with_book f o b)
-still_remembers f keeps r o b nodes remembers are bare = record {
+-- the cards of a book, or of none, are counted
+abbrev count_under : Option Book → ℕ
+count_under book = unwrap_or (option_map (λ (book : Book). len book.cards) book) 0
+
+-- a change of a book that adds no card, or at most one
+abbrev AddsNone : (Book → Book) → Type 0
+AddsNone f = (book : Book) → len (f book).cards ≤ len book.cards
+
+abbrev AddsOne : (Book → Book) → Type 0
+AddsOne f = (book : Book) → len (f book).cards ≤ len book.cards + 1
+
+at_most_one : (there : Bool) (n : ℕ) → cond there n (n + 1) ≤ n + 1
+at_most_one true n = omega arith
+at_most_one false n = omega arith
+
+at_most_none : (there : Bool) (n : ℕ) → cond there (n - 1) n ≤ n
+at_most_none true n = omega arith
+at_most_none false n = omega arith
+
+inserted : (cards : NamesTo StoredCard) (c : List ℕ) (card : StoredCard) → len (insert cards c card) ≤ len cards + 1
+inserted cards c card = rw (len-insert nat_list_cmp_total cards c card) (at_most_one (contains_key cards c) (len cards))
+
+removed : (cards : NamesTo StoredCard) (c : List ℕ) → len (remove cards c) ≤ len cards
+removed cards c = rw (len-remove nat_list_cmp_total cards c) (at_most_none (contains_key cards c) (len cards))
+
+-- a book has at most as many cards as is remembered
+abbrev AreCounts : NamesTo ℕ → Office → Type 0
+AreCounts counts o = (n : List ℕ) → IfSome (get counts n) (λ count. count_at o (path.Book n) ≤ count)
+
+none_more : (f : Book → Book) → AddsNone f → (book : Option Book) → count_under (option_map f book) ≤ count_under book
+none_more f adds None = omega arith
+none_more f adds (Some book) = adds book
+
+counts_kept : (f : Book → Book) → AddsNone f → (counts : NamesTo ℕ) (o : Office) (b : List ℕ) → AreCounts counts o → AreCounts counts (with_book f o b)
+counts_kept f adds counts o b are n =
+    if_some (get counts n) (λ count. count_at o (path.Book n) ≤ count) (λ count. count_at (with_book f o b) (path.Book n) ≤ count)
+    (λ count before. let now = by_changed o.books b f n (λ book. count_under book ≤ count_under (get o.books n)) (λ _. none_more f adds (get o.books n)) (λ _. omega arith) in omega (arith, before, now)) (are n)
+
+one_counted : (f : Book → Book) → AddsOne f → (found : Option ℕ) (book : Option Book) → IfSome found (λ count. count_under book ≤ count)
+    → IfSome (option_map one_more found) (λ count. count_under (option_map f book) ≤ count)
+one_counted f adds None book is = tt
+one_counted f adds (Some count) None is = omega arith
+one_counted f adds (Some count) (Some book) is = let now = adds book in omega (arith, is, now)
+
+module _ (f : Book → Book) (counts : NamesTo ℕ) (o : Office) (b : List ℕ) (are : AreCounts counts o) where
+  -- another book is as it was
+  counts_elsewhere : (after : NamesTo ℕ) (n : List ℕ) → n ≢ b → get after n ≡ get counts n → IfSome (get after n) (λ count. count_at (with_book f o b) (path.Book n) ≤ count)
+  counts_elsewhere after n apart is =
+      subst (λ found. IfSome found (λ count. count_at (with_book f o b) (path.Book n) ≤ count)) (sym is)
+      (subst (λ it. IfSome (get counts n) (λ count. it ≤ count)) (sym (ap count_under (changed_elsewhere o.books b f n apart))) (are n))
+
+  counts_forgotten : AreCounts (remove counts b) (with_book f o b)
+  counts_forgotten n = by_names n b (λ _. IfSome (get (remove counts b) n) (λ count. count_at (with_book f o b) (path.Book n) ≤ count))
+      (λ same. subst (λ found. IfSome found (λ count. count_at (with_book f o b) (path.Book n) ≤ count)) (sym (ap (get (remove counts b)) same ∙ removed_here counts b)) tt)
+      (λ apart. counts_elsewhere (remove counts b) n apart (removed_elsewhere counts b n apart))
+
+  counts_grown : AddsOne f → AreCounts (changed_at one_more counts b) (with_book f o b)
+  counts_grown adds n = by_names n b (λ _. IfSome (get (changed_at one_more counts b) n) (λ count. count_at (with_book f o b) (path.Book n) ≤ count))
+      (λ same. subst (λ n. IfSome (get (changed_at one_more counts b) n) (λ count. count_at (with_book f o b) (path.Book n) ≤ count)) (sym same)
+      (subst (λ found. IfSome found (λ count. count_at (with_book f o b) (path.Book b) ≤ count)) (sym (changed_here counts b one_more))
+      (subst (λ it. IfSome (option_map one_more (get counts b)) (λ count. it ≤ count)) (sym (ap count_under (changed_here o.books b f)))
+      (one_counted f adds (get counts b) (get o.books b) (are b)))))
+      (λ apart. counts_elsewhere (changed_at one_more counts b) n apart (changed_elsewhere counts b one_more n apart))
+
+  pub counts_counted : AddsOne f → (after : NamesTo ℕ) → (after ≡ changed_at one_more counts b) ⊎ (after ≡ remove counts b) → AreCounts after (with_book f o b)
+  counts_counted adds after (inl is) = subst (λ m. AreCounts m (with_book f o b)) (sym is) (counts_grown adds)
+  counts_counted adds after (inr is) = subst (λ m. AreCounts m (with_book f o b)) (sym is) counts_forgotten
+
+still_remembers : (f : Book → Book) → KeepsProperties f → (r : Remembered) (o : Office) (b : List ℕ) (nodes : NamesTo Node) (counts : NamesTo ℕ)
+    → Remembers r o → AreNodes nodes (with_book f o b) → StayBare r (with_book f o b) → AreCounts counts (with_book f o b)
+    → Remembers (record r { book_nodes = nodes; counts = counts }) (with_book f o b)
+still_remembers f keeps r o b nodes counts remembers are bare counted = record {
   pairs = remembers.pairs;
   persons = remembers.persons;
   root = remembers.root;
@@ -153,6 +223,7 @@ still_remembers f keeps r o b nodes remembers are bare = record {
       (λ level is. is ∙ sym (level_kept f keeps o b n)) (remembers.books n);
   book_nodes = are;
   bare = bare;
+  counts = counted;
 }
 
 put_gives : (c : List ℕ) (owner : Option (List ℕ)) (text : List ℕ) → GivesNone (put_card c owner text)
@@ -185,36 +256,56 @@ move_keeps : (source : Option StoredCard) (c : List ℕ) → KeepsProperties (mo
 move_keeps None c book = refl
 move_keeps (Some source) c book = refl
 
+copy_adds : (source : Option StoredCard) (c : List ℕ) (owner : Option (List ℕ)) → AddsOne (copy_from source c owner)
+copy_adds None c owner book = omega arith
+copy_adds (Some source) c owner book = inserted book.cards c (card_copied (get book.cards c) owner source.label source.text)
+
+move_adds : (source : Option StoredCard) (c : List ℕ) → AddsOne (move_to source c)
+move_adds None c book = omega arith
+move_adds (Some source) c book = inserted book.cards c source
+
+-- a card more is counted, or the cards are not counted any more
+abbrev Counted : NamesTo ℕ → List ℕ → NamesTo ℕ → Type 0
+Counted counts b after = (after ≡ changed_at one_more counts b) ⊎ (after ≡ remove counts b)
+
 -- what is remembered after each edit of cards
 module _ (r : Remembered) (o : Office) (remembers : Remembers r o) where
-  pub put_remembers : (b c : List ℕ) (owner : Option (List ℕ)) (text : List ℕ) (nodes : NamesTo Node)
-      → (nodes ≡ changed_at raised r.book_nodes b) ⊎ (nodes ≡ remove r.book_nodes b) → Remembers (record r { book_nodes = nodes }) (apply o (PutCard b c owner text))
-  put_remembers b c owner text nodes counted =
-      still_remembers (put_card c owner text) (λ _. refl) r o b nodes remembers
-      (nodes_counted (put_card c owner text) r.book_nodes o b remembers.book_nodes (λ _. refl) (λ _. refl) nodes counted)
-      (bare_after (put_card c owner text) (put_gives c owner text) r o b remembers)
+  pub put_remembers : (b c : List ℕ) (owner : Option (List ℕ)) (text : List ℕ) (nodes : NamesTo Node) (counts : NamesTo ℕ)
+      → (nodes ≡ changed_at raised r.book_nodes b) ⊎ (nodes ≡ remove r.book_nodes b) → Counted r.counts b counts
+      → Remembers (record r { book_nodes = nodes; counts = counts }) (apply o (PutCard b c owner text))
+  put_remembers b c owner text nodes counts changed counted =
+      let f = put_card c owner text in
+      still_remembers f (λ _. refl) r o b nodes counts remembers
+      (nodes_counted f r.book_nodes o b remembers.book_nodes (λ _. refl) (λ _. refl) nodes changed)
+      (bare_after f (put_gives c owner text) r o b remembers)
+      (counts_counted f r.counts o b remembers.counts (λ book. inserted book.cards c (card_put (get book.cards c) owner text)) counts counted)
 
   pub remove_remembers : (b c : List ℕ) (nodes : NamesTo Node)
       → (nodes ≡ changed_at raised r.book_nodes b) ⊎ (nodes ≡ remove r.book_nodes b) → Remembers (record r { book_nodes = nodes }) (apply o (RemoveCard b c))
-  remove_remembers b c nodes counted =
-      still_remembers (remove_card c) (λ _. refl) r o b nodes remembers
-      (nodes_counted (remove_card c) r.book_nodes o b remembers.book_nodes (λ _. refl) (λ _. refl) nodes counted)
+  remove_remembers b c nodes changed =
+      still_remembers (remove_card c) (λ _. refl) r o b nodes r.counts remembers
+      (nodes_counted (remove_card c) r.book_nodes o b remembers.book_nodes (λ _. refl) (λ _. refl) nodes changed)
       (bare_after (remove_card c) (remove_gives c) r o b remembers)
+      (counts_kept (remove_card c) (λ book. removed book.cards c) r.counts o b remembers.counts)
 
-  pub copy_remembers : (from_book from_card to_book to_card : List ℕ) (owner : Option (List ℕ))
-      → Remembers (record r { book_nodes = remove r.book_nodes to_book }) (apply o (CopyCard from_book from_card to_book to_card owner))
-  copy_remembers from_book from_card to_book to_card owner =
+  pub copy_remembers : (from_book from_card to_book to_card : List ℕ) (owner : Option (List ℕ)) (counts : NamesTo ℕ) → Counted r.counts to_book counts
+      → Remembers (record r { book_nodes = remove r.book_nodes to_book; counts = counts }) (apply o (CopyCard from_book from_card to_book to_card owner))
+  copy_remembers from_book from_card to_book to_card owner counts counted =
       let source = card_at o from_book from_card in
-      still_remembers (copy_from source to_card owner) (copy_keeps source to_card owner) r o to_book (remove r.book_nodes to_book) remembers
+      still_remembers (copy_from source to_card owner) (copy_keeps source to_card owner) r o to_book (remove r.book_nodes to_book) counts remembers
       (nodes_forgotten (copy_from source to_card owner) r.book_nodes o to_book remembers.book_nodes)
       (bare_after (copy_from source to_card owner) (copy_gives source to_card owner) r o to_book remembers)
+      (counts_counted (copy_from source to_card owner) r.counts o to_book remembers.counts (copy_adds source to_card owner) counts counted)
 
-  pub move_remembers : (from_book from_card to_book to_card : List ℕ) → r.book_nodes ≡ empty → r.bare ≡ empty → Remembers r (apply o (MoveCard from_book from_card to_book to_card))
-  move_remembers from_book from_card to_book to_card no_nodes none =
+  pub move_remembers : (from_book from_card to_book to_card : List ℕ) (counts : NamesTo ℕ) → r.book_nodes ≡ empty → r.bare ≡ empty → Counted r.counts to_book counts
+      → Remembers (record r { counts = counts }) (apply o (MoveCard from_book from_card to_book to_card))
+  move_remembers from_book from_card to_book to_card counts no_nodes none counted =
       let source = card_at o from_book from_card in
       let left = with_book (remove_card from_card) o from_book in
       let moved = with_book (move_to source to_card) left to_book in
-      let first = still_remembers (remove_card from_card) (λ _. refl) r o from_book r.book_nodes remembers
-      (λ n. none_in (λ node. node_at left (path.Book n) ≡ Some node) r.book_nodes no_nodes n) (λ n. none_in (AreBare left n) r.bare none n) in
-      still_remembers (move_to source to_card) (move_keeps source to_card) r left to_book r.book_nodes first
+      let first = still_remembers (remove_card from_card) (λ _. refl) r o from_book r.book_nodes r.counts remembers
+      (λ n. none_in (λ node. node_at left (path.Book n) ≡ Some node) r.book_nodes no_nodes n) (λ n. none_in (AreBare left n) r.bare none n)
+      (counts_kept (remove_card from_card) (λ book. removed book.cards from_card) r.counts o from_book remembers.counts) in
+      still_remembers (move_to source to_card) (move_keeps source to_card) r left to_book r.book_nodes counts first
       (λ n. none_in (λ node. node_at moved (path.Book n) ≡ Some node) r.book_nodes no_nodes n) (λ n. none_in (AreBare moved n) r.bare none n)
+      (counts_counted (move_to source to_card) r.counts left to_book first.counts (move_adds source to_card) counts counted)

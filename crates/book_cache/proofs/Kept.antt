@@ -1,12 +1,12 @@
 -- What is remembered stays true where more is.
-use Rattle.std.proofs.Common.{◌≡◌, ℕ, List, Some, None, IfSome, is_some, true, sym, ap, ◌∙◌, subst}
+use Rattle.std.proofs.Common.{arith, ◌≡◌, ◌≤◌, ℕ, List, Some, None, IfSome, is_some, true, sym, ap, ◌∙◌, subst}
 use Rattle.std.proofs.lemmas.Bool.{false≢true}
 use Rattle.std.specs.FinMap.{empty, get, insert, remove, get-empty}
 use Rattle.book_lists.specs.Names.{name_cmp}
 use Rattle.book_cache.specs.Remembering.{AreBare, Remembers, bare_level}
 use Rattle.book_cache.specs.declared.remembered.Remembered.{Remembered}
 use Rattle.book_office.specs.Levels.{level_at}
-use Rattle.book_office.specs.Resources.{node_at}
+use Rattle.book_office.specs.Resources.{count_at, node_at}
 use Rattle.book_office.specs.declared.nodes.Level.{Level}
 use Rattle.book_office.specs.declared.nodes.Node.{Node}
 use Rattle.book_values.specs.declared.offices.Office.{Office}
@@ -14,12 +14,16 @@ use Rattle.book_values.specs.declared.paths.Path.TheVariants as path
 use Rattle.book_values.specs.Names.{NamesTo}
 use Rattle.book_values.proofs.OneName.{by_put, by_removed}
 
+at_most : {a b : ℕ} → a ≡ b → a ≤ b
+at_most is = omega (arith, is)
+
 pub none_in : {V : Type 0} (P : V → Type 0) (m : NamesTo V) → m ≡ empty → (n : List ℕ) → IfSome (get m n) P
 none_in P m is n = subst (λ r. IfSome r P) (sym (ap (λ m. get m n) is ∙ get-empty name_cmp n)) tt
 
-pub nothing_remembered : (persons : NamesTo Node) (books : NamesTo Level) (nodes : NamesTo Node) (bare : NamesTo (NamesTo (Unit {0}))) → persons ≡ empty → books ≡ empty → nodes ≡ empty → bare ≡ empty → (o : Office)
-    → Remembers (record { pairs = None; persons = persons; root = None; home = None; books = books; book_nodes = nodes; bare = bare; bare_count = 0 }) o
-nothing_remembered persons books nodes bare no_persons no_books no_nodes none_bare o = record {
+pub nothing_remembered : (persons : NamesTo Node) (books : NamesTo Level) (nodes : NamesTo Node) (bare : NamesTo (NamesTo (Unit {0}))) (counts : NamesTo ℕ)
+    → persons ≡ empty → books ≡ empty → nodes ≡ empty → bare ≡ empty → counts ≡ empty → (o : Office)
+    → Remembers (record { pairs = None; persons = persons; root = None; home = None; books = books; book_nodes = nodes; bare = bare; bare_count = 0; counts = counts }) o
+nothing_remembered persons books nodes bare counts no_persons no_books no_nodes none_bare no_counts o = record {
   pairs = tt;
   persons = λ n. none_in (λ node. node_at o (path.Person n) ≡ Some node) persons no_persons n;
   root = tt;
@@ -27,6 +31,7 @@ nothing_remembered persons books nodes bare no_persons no_books no_nodes none_ba
   books = λ n. none_in (λ level. level ≡ level_at o (path.Book n)) books no_books n;
   book_nodes = λ n. none_in (λ node. node_at o (path.Book n) ≡ Some node) nodes no_nodes n;
   bare = λ n. none_in (AreBare o n) bare none_bare n;
+  counts = λ n. none_in (λ count. count_at o (path.Book n) ≤ count) counts no_counts n;
 }
 
 pub no_cards_bare : (o : Office) (b : List ℕ) (cards : NamesTo (Unit {0})) → cards ≡ empty → AreBare o b cards
@@ -52,6 +57,7 @@ module _ (r : Remembered) (o : Office) (remembers : Remembers r o) where
     books = λ n. none_in (λ level. level ≡ level_at o (path.Book n)) books is n;
     book_nodes = remembers.book_nodes;
     bare = remembers.bare;
+    counts = remembers.counts;
   }
 
   pub no_bare_remembered : (bare : NamesTo (NamesTo (Unit {0}))) (count : ℕ) → bare ≡ empty → Remembers (record r { bare = bare; bare_count = count }) o
@@ -63,6 +69,7 @@ module _ (r : Remembered) (o : Office) (remembers : Remembers r o) where
     books = remembers.books;
     book_nodes = remembers.book_nodes;
     bare = λ n. none_in (AreBare o n) bare is n;
+    counts = remembers.counts;
   }
 
   pub no_nodes_remembered : (nodes : NamesTo Node) → nodes ≡ empty → Remembers (record r { book_nodes = nodes }) o
@@ -74,6 +81,7 @@ module _ (r : Remembered) (o : Office) (remembers : Remembers r o) where
     books = remembers.books;
     book_nodes = λ n. none_in (λ node. node_at o (path.Book n) ≡ Some node) nodes is n;
     bare = remembers.bare;
+    counts = remembers.counts;
   }
 
   pub book_node_remembered : (name : List ℕ) (node : Node) → Some node ≡ node_at o (path.Book name) → Remembers (record r { book_nodes = insert r.book_nodes name node }) o
@@ -86,6 +94,7 @@ module _ (r : Remembered) (o : Office) (remembers : Remembers r o) where
     book_nodes = λ n. by_put r.book_nodes name node n (λ found. IfSome found (λ node. node_at o (path.Book n) ≡ Some node))
         (λ same. ap (λ n. node_at o (path.Book n)) same ∙ sym is) (λ _. remembers.book_nodes n);
     bare = remembers.bare;
+    counts = remembers.counts;
   }
 
   pub bare_removed : (b : List ℕ) → Remembers (record r { bare = remove r.bare b }) o
@@ -97,6 +106,7 @@ module _ (r : Remembered) (o : Office) (remembers : Remembers r o) where
     books = remembers.books;
     book_nodes = remembers.book_nodes;
     bare = λ n. by_removed r.bare b n (λ found. IfSome found (AreBare o n)) (λ _. tt) (λ _. remembers.bare n);
+    counts = remembers.counts;
   }
 
   pub bare_remembered : (b : List ℕ) (cards : NamesTo (Unit {0})) (count : ℕ) → AreBare o b cards → Remembers (record r { bare = insert r.bare b cards; bare_count = count }) o
@@ -108,6 +118,7 @@ module _ (r : Remembered) (o : Office) (remembers : Remembers r o) where
     books = remembers.books;
     book_nodes = remembers.book_nodes;
     bare = λ n. by_put r.bare b cards n (λ found. IfSome found (AreBare o n)) (λ same. subst (λ b. AreBare o b cards) (sym same) are) (λ _. remembers.bare n);
+    counts = remembers.counts;
   }
 
   pub person_remembered : (name : List ℕ) (node : Node) → Some node ≡ node_at o (path.Person name) → Remembers (record r { persons = insert r.persons name node }) o
@@ -120,6 +131,7 @@ module _ (r : Remembered) (o : Office) (remembers : Remembers r o) where
     books = remembers.books;
     book_nodes = remembers.book_nodes;
     bare = remembers.bare;
+    counts = remembers.counts;
   }
 
   pub book_remembered : (name : List ℕ) (level : Level) → level ≡ level_at o (path.Book name) → Remembers (record r { books = insert r.books name level }) o
@@ -132,4 +144,18 @@ module _ (r : Remembered) (o : Office) (remembers : Remembers r o) where
         (λ same. is ∙ sym (ap (λ n. level_at o (path.Book n)) same)) (λ _. remembers.books n);
     book_nodes = remembers.book_nodes;
     bare = remembers.bare;
+    counts = remembers.counts;
+  }
+
+  pub counted : (name : List ℕ) (count : ℕ) → count ≡ count_at o (path.Book name) → Remembers (record r { counts = insert r.counts name count }) o
+  counted name count is = record {
+    pairs = remembers.pairs;
+    persons = remembers.persons;
+    root = remembers.root;
+    home = remembers.home;
+    books = remembers.books;
+    book_nodes = remembers.book_nodes;
+    bare = remembers.bare;
+    counts = λ n. by_put r.counts name count n (λ found. IfSome found (λ count. count_at o (path.Book n) ≤ count))
+        (λ same. at_most (ap (λ n. count_at o (path.Book n)) same ∙ sym is)) (λ _. remembers.counts n);
   }

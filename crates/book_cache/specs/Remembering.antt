@@ -1,11 +1,11 @@
 -- What is remembered of an Office, and what stands behind it.
-use Rattle.std.specs.Prelude.{◌≡◌, ℕ, ◌+◌, Bool, true, List, [], Some, IfSome, is_some, option_and_then, Result}
+use Rattle.std.specs.Prelude.{◌≡◌, ℕ, ◌+◌, ◌≤◌, Bool, true, List, [], Some, IfSome, is_some, option_and_then, Result}
 use Rattle.std.specs.FinMap.{get}
 use Rattle.book_cache.specs.declared.cached.Cached.{Cached}
 use Rattle.book_cache.specs.declared.remembered.Remembered.{Remembered}
 use Rattle.book_office.specs.Keeping.{Edits, Reads, Standing}
 use Rattle.book_office.specs.Levels.{level_at}
-use Rattle.book_office.specs.Resources.{node_at}
+use Rattle.book_office.specs.Resources.{count_at, node_at}
 use Rattle.book_office.specs.declared.edits.Edit.{Edit}
 use Rattle.book_office.specs.declared.keepers.StoreFault.{StoreFault}
 use Rattle.book_office.specs.declared.nodes.Level.{Level}
@@ -30,6 +30,10 @@ is_bare bare b c = is_some (option_and_then (λ (cards : NamesTo (Unit {0})). ge
 abbrev pub raised : Node → Node
 raised node = record node { number = node.number + 1 }
 
+-- a card more
+abbrev pub one_more : ℕ → ℕ
+one_more count = count + 1
+
 -- what is remembered is what the Office has
 pub record Remembers (r : Remembered) (o : Office) : Type 0 where
   pub pairs : IfSome r.pairs (λ pairs. pairs ≡ o.pairs)
@@ -39,6 +43,7 @@ pub record Remembers (r : Remembered) (o : Office) : Type 0 where
   pub books : (name : List ℕ) → IfSome (get r.books name) (λ level. level ≡ level_at o (path.Book name))
   pub book_nodes : (name : List ℕ) → IfSome (get r.book_nodes name) (λ node. node_at o (path.Book name) ≡ Some node)
   pub bare : (name : List ℕ) → IfSome (get r.bare name) (AreBare o name)
+  pub counts : (name : List ℕ) → IfSome (get r.counts name) (λ count. count_at o (path.Book name) ≤ count)
 
 -- what the keeper stands for, where what is remembered of it is true
 abbrev pub remembering : Standing → Remembered → Standing

@@ -1,6 +1,6 @@
 //! A keeper that remembers.
 
-ghost use Rattle.std.specs.Prelude.{◌≡◌, ◌∷◌, [], IfOk};
+ghost use Rattle.std.specs.Prelude.{◌≡◌, ◌∷◌, [], IfOk, nat_lt};
 ghost use Rattle.book_adopting.specs.Adopting.{adoption_of};
 ghost use Rattle.book_cache.specs.Remembering.{EditsBehind, ReadsBehind, Remembers, remembering};
 ghost use Rattle.book_lists.specs.Callers.{IsCircle};
@@ -17,7 +17,7 @@ use book_office::{
 use std::alloc::{AllocError, Global};
 
 /// A keeper in front of another, which remembers what it was told: the members of the groups, persons and books, the lists
-/// of books and of what stands above them, and which cards have no entries.
+/// of books and of what stands above them, which cards have no entries, and at most how many cards a book has.
 ///
 /// It stands for what the keeper stands for. With an edit of cards what is remembered stays true, but a card that is moved
 /// or copied makes it forget books, and a card that is moved which cards have no entries. Any other edit forgets all, and
@@ -99,6 +99,19 @@ impl<K: Keeper> Cached<K> {
         let node = self.keeper.find(alloc, &path)?;
         self.remembered.keep_book_node(name, &node);
         Ok(node)
+    }
+
+    /// Whether the book of a name has fewer cards than so many.
+    fn book_has_room(&mut self, alloc: Global, name: &Name, most: usize) -> Result<bool, StoreFault>
+        ensures { ReadsBehind K.standing self.old self.new result (λ o room. room ≡ nat_lt (count_at o (paths.Book name.now)) most) }
+    {
+        if self.remembered.has_room(name, most) {
+            return Ok(true);
+        }
+        let path = Path::Book(name.clone()?);
+        let count = self.keeper.count(alloc, &path)?;
+        self.remembered.keep_count(name, count);
+        Ok(count < most)
     }
 
     /// The lists of the root.
@@ -222,6 +235,21 @@ impl<K: Keeper> Keeper for Cached<K> {
         ensures { ReadsBehind K.standing self.old self.new result (λ o count. count ≡ count_at o path.now) }
     {
         self.keeper.count(alloc, path)
+    }
+
+    fn has_room(&mut self, alloc: Global, path: &Path, most: usize) -> Result<bool, StoreFault>
+        ensures { ReadsBehind K.standing self.old self.new result (λ o room. room ≡ nat_lt (count_at o path.now) most) }
+    {
+        match path {
+            Path::Book(name) => self.book_has_room(alloc, name, most),
+            Path::Root
+            | Path::People
+            | Path::Groups
+            | Path::Books
+            | Path::Person(_)
+            | Path::Group(_)
+            | Path::Card(_, _) => self.keeper.has_room(alloc, path, most),
+        }
     }
 
     fn lists(&mut self, alloc: Global, path: &Path) -> Result<Lists, StoreFault>

@@ -1,11 +1,11 @@
 //! What is remembered of an Office.
 
-ghost use Rattle.std.specs.Prelude.{◌≡◌, ◌⊎◌, ◌+◌, ◌<◌, ◌^◌, IfOk, IfSome, IsFalse, IsTrue};
+ghost use Rattle.std.specs.Prelude.{◌≡◌, ◌⊎◌, ◌+◌, ◌<◌, ◌^◌, IfOk, IfSome, IsFalse, IsTrue, true, nat_lt};
 ghost use Rattle.std.specs.FinMap.{empty, get, remove};
-ghost use Rattle.book_cache.specs.Remembering.{AreBare, Remembers, bare_level, is_bare, raised};
+ghost use Rattle.book_cache.specs.Remembering.{AreBare, Remembers, bare_level, is_bare, raised, one_more};
 ghost use Rattle.book_office.specs.Edits.{apply};
 ghost use Rattle.book_office.specs.Levels.{level_at};
-ghost use Rattle.book_office.specs.Resources.{node_at};
+ghost use Rattle.book_office.specs.Resources.{count_at, node_at};
 ghost use Rattle.book_values.specs.Names.{changed_at};
 ghost use Rattle.book_values.specs.declared.offices.Office.{Office as OfficeOf};
 ghost use Rattle.book_values.specs.declared.paths.Path.TheVariants as paths;
@@ -34,6 +34,8 @@ pub(crate) struct Remembered {
     pub(crate) bare: NameMap<NameMap<()>>,
     /// At least how many these are.
     pub(crate) bare_count: usize,
+    /// By the name of a book, at most how many cards it has.
+    pub(crate) counts: NameMap<usize>,
 }
 
 /// A copy of a resource.
@@ -90,6 +92,37 @@ fn count_change(nodes: &mut NameMap<Node>, name: &Name)
     }
 }
 
+/// Counts a card more in a book, if its cards are counted.
+fn add_card(counts: &mut NameMap<usize>, book: &Name)
+    requires { IfSome (get counts.old book.now) (λ count. count + 1 < 2 ^ 64) }
+    ensures { counts.new ≡ changed_at one_more counts.old book.now }
+{
+    if let Some(count) = counts.get_mut(book) {
+        *count += 1;
+    }
+}
+
+/// Whether a book is told to have at most as many cards as can be counted.
+fn is_counted_out(counts: &NameMap<usize>, book: &Name) -> bool
+    ensures { IsFalse result → IfSome (get counts.now book.now) (λ count. count + 1 < 2 ^ 64) }
+{
+    match counts.get(book) {
+        Some(count) => *count >= usize::MAX,
+        None => false,
+    }
+}
+
+/// Counts a card more in a book, or forgets how many it has where they can't be counted.
+fn count_card(counts: &mut NameMap<usize>, book: &Name)
+    ensures { (counts.new ≡ changed_at one_more counts.old book.now) ⊎ (counts.new ≡ remove counts.old book.now) }
+{
+    if is_counted_out(counts, book) {
+        counts.remove(book);
+    } else {
+        add_card(counts, book);
+    }
+}
+
 /// A copy of the lists at a path.
 fn copy_of_level(level: &Level) -> Result<Level, AllocError>
     ensures { IfOk result (λ copy. copy ≡ level.now) }
@@ -133,6 +166,7 @@ impl Remembered {
             book_nodes: NameMap::new(alloc),
             bare: NameMap::new(alloc),
             bare_count: 0,
+            counts: NameMap::new(alloc),
         }
     }
 
@@ -324,6 +358,32 @@ impl Remembered {
         }
     }
 
+    /// Whether it is remembered that a book has fewer cards than so many. Takes no memory.
+    pub(crate) fn has_room(&self, book: &Name, most: usize) -> bool
+        ensures { (o : OfficeOf) → Remembers self.now o → IsTrue result → nat_lt (count_at o (paths.Book book.now)) most ≡ true }
+    {
+        match self.counts.get(book) {
+            Some(count) => *count < most,
+            None => false,
+        }
+    }
+
+    /// Remembers how many cards a book has. An error is want of memory.
+    fn try_count(&mut self, book: &Name, count: usize) -> Result<(), AllocError>
+        ensures { (o : OfficeOf) → Remembers self.old o → count ≡ count_at o (paths.Book book.now) → Remembers self.new o }
+    {
+        let name = book.clone()?;
+        self.counts.insert(name, count)?;
+        Ok(())
+    }
+
+    /// Remembers how many cards a book has, if memory is not refused.
+    pub(crate) fn keep_count(&mut self, book: &Name, count: usize)
+        ensures { (o : OfficeOf) → Remembers self.old o → count ≡ count_at o (paths.Book book.now) → Remembers self.new o }
+    {
+        let _ = self.try_count(book, count);
+    }
+
     /// Forgets books, and which cards have no entries.
     fn forget_cards(&mut self, alloc: Global)
         ensures nodes { self.new.book_nodes ≡ empty }
@@ -342,17 +402,25 @@ impl Remembered {
     }
 
     /// Remembers what is true after an edit: after one of cards all that was remembered, with the next number of a book that
-    /// has changed, but books and which cards have no entries where a card is moved; after any other nothing. Takes no memory.
+    /// has changed and a card more where one may have been added, but books and which cards have no entries where a card is
+    /// moved; after any other nothing. Takes no memory.
     pub(crate) fn follow(&mut self, alloc: Global, edit: &Edit)
         ensures { (o : OfficeOf) → Remembers self.old o → Remembers self.new (apply o edit.now) }
     {
         match edit {
-            Edit::PutCard { book, .. } => count_change(&mut self.book_nodes, book),
+            Edit::PutCard { book, .. } => {
+                count_change(&mut self.book_nodes, book);
+                count_card(&mut self.counts, book);
+            }
             Edit::RemoveCard { book, .. } => count_change(&mut self.book_nodes, book),
             Edit::CopyCard { to_book, .. } => {
                 self.book_nodes.remove(to_book);
+                count_card(&mut self.counts, to_book);
             }
-            Edit::MoveCard { .. } => self.forget_cards(alloc),
+            Edit::MoveCard { to_book, .. } => {
+                self.forget_cards(alloc);
+                count_card(&mut self.counts, to_book);
+            }
             Edit::AddBook { .. }
             | Edit::RemoveBook { .. }
             | Edit::SetLabel { .. }

@@ -320,7 +320,7 @@ impl<K: Keeper> Machine<K> {
         ensures { StageAsks K.standing self.old self.new result
             (λ o r. Meets r (Ok (nat_lt (count_at o path.now) most))) }
     {
-        Ok(self.keeper.count(alloc, path)? < most)
+        Ok(self.keeper.has_room(alloc, path, most)?)
     }
 
     /// Whether a book has fewer cards than the most. Each card took a number of its own, so that they are counted only where

@@ -1,6 +1,6 @@
 //! What keeps an Office.
 
-ghost use Rattle.std.specs.Prelude.{◌≡◌};
+ghost use Rattle.std.specs.Prelude.{◌≡◌, nat_lt};
 ghost use Rattle.book_lists.specs.Callers.{IsCircle};
 ghost use Rattle.book_office.specs.declared.keepers.StoreFault.TheVariants.{Memory};
 ghost use Rattle.book_adopting.specs.Adopting.{adoption_of};
@@ -51,10 +51,18 @@ pub trait Keeper {
     fn children(&mut self, alloc: Global, path: &Path) -> Result<Items<Listed>, StoreFault>
         ensures { Reads (standing self.old) (standing self.new) result (λ o children. children ≡ children_at o path.now) };
 
-    /// How many children a path has; 0 where none is mapped there. It is asked only where a name is added, so that no other
-    /// request makes a store count the cards of a book.
+    /// How many children a path has; 0 where none is mapped there.
     fn count(&mut self, alloc: Global, path: &Path) -> Result<usize, StoreFault>
         ensures { Reads (standing self.old) (standing self.new) result (λ o count. count ≡ count_at o path.now) };
+
+    /// Whether a path has fewer children than so many. It is asked only where a name is added, so that no other request makes
+    /// a store count the cards of a book. A keeper may tell so without counting them.
+    fn has_room(&mut self, alloc: Global, path: &Path, most: usize) -> Result<bool, StoreFault>
+        ensures { Reads (standing self.old) (standing self.new) result (λ o room. room ≡ nat_lt (count_at o path.now) most) }
+    {
+        let count = self.count(alloc, path)?;
+        Ok(count < most)
+    }
 
     /// The lists of the resource at a path and of each ancestor; the lists of a path that is not mapped are empty.
     fn lists(&mut self, alloc: Global, path: &Path) -> Result<Lists, StoreFault>
