@@ -21,24 +21,24 @@ use Rattle.sqlite.proofs.ListingLemmas.{empty_is_sound}
 use Rattle.book_files.specs.Finding.{HasNoRow, IsUnmade}
 
 -- pages of a store without a table
-no_table : (image : Image) (pages : PageMap) → IsPageSize 1024 → Recovers 1024 image pages → IsOurs 1024 true [] pages → (db : Trees) × HoldsDatabase image db × IsEmpty db
+no_table : (image : Image) (pages : PageMap) → IsPageSize 512 → Recovers 512 image pages → IsOurs 512 true [] pages → (db : Trees) × HoldsDatabase image db × IsEmpty db
 unfolding trees_in
 no_table image pages valid found ours =
-    let db = file_trees 1024 [] pages in
-    let unlisted = catalog_rows 1024 [] (in_use 1024 pages) in
+    let db = file_trees 512 [] pages in
+    let unlisted = catalog_rows 512 [] (in_use 512 pages) in
     let held : HoldsDatabase image db =
-    (1024, valid, record { pages = pages; wanted = []; schema = _; found = adopts_of 1024 image pages found; ours = ours; reads = refl; sound = empty_is_sound db unlisted }) in
-    (db, held, (λ tree low. past_version tree low (all_trees 1024 [] (in_use 1024 pages)) (version_in pages) ∙ named_tree tree low 1024 [] (in_use 1024 pages), unlisted))
+    (512, valid, record { pages = pages; wanted = []; schema = _; found = adopts_of 512 image pages found; ours = ours; reads = refl; sound = empty_is_sound db unlisted }) in
+    (db, held, (λ tree low. past_version tree low (all_trees 512 [] (in_use 512 pages)) (version_in pages) ∙ named_tree tree low 512 [] (in_use 512 pages), unlisted))
 
 -- what is left on the way is a store still to be made, or one without a row
-pub still_begun : (image : Image) → IsPageSize 1024
-    → IsBlankFile 1024 image ⊎ ((pages : PageMap) × Recovers 1024 image pages × (IsNew 1024 pages ⊎ ∥ store.IsFresh 1024 [] pages ∥₁))
+pub still_begun : (image : Image) → IsPageSize 512
+    → IsBlankFile 512 image ⊎ ((pages : PageMap) × Recovers 512 image pages × (IsNew 512 pages ⊎ ∥ store.IsFresh 512 [] pages ∥₁))
     → IsUnmade image ⊎ HasNoRow image
 still_begun image valid (inl blank) = inl blank
 still_begun image valid (inr made) = inr (elim made.2 [
   | inl new ↦
-      let whole : AreWhole 1024 made.0 = subst (AreWhole 1024) made.1.shows (trimmed_whole 1024 made.1.stored made.1.whole) in
-      let empty = new_is_empty 1024 made.0 whole new in
+      let whole : AreWhole 512 made.0 = subst (AreWhole 512) made.1.shows (trimmed_whole 512 made.1.stored made.1.whole) in
+      let empty = new_is_empty 512 made.0 whole new in
       ∣ no_table image made.0 valid made.1 (record { file = empty.0; numbered = λ _. record { listed = empty.1; spaced = refl; ordered = refl } }) ∣₁
   | inr fresh ↦ ∥∥₁_map fresh (λ it. no_table image made.0 valid made.1 it.0)
 ])

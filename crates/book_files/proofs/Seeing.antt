@@ -22,7 +22,7 @@ use Rattle.book_files.specs.Finding.{FindsStore, IsUnmade, LeavesFirstOpen}
 pub holds_none : (image : Image) (db : Trees) → HoldsDatabase image db → ¬ IsUnmade image
 holds_none image db held =
     let few : reserved held.0 ≤ 8 = grind arith in
-    not_blank held.0 image held.2.pages held.2.found (omega (arith, held.1.0)) held.2.ours.file.sound 1024 (omega arith)
+    not_blank held.0 image held.2.pages held.2.found (omega (arith, held.1.0)) held.2.ours.file.sound 512 (omega arith)
 
 module _ {D : Type 0} {g : Ghosts D} (old new : Files D) (log : OnlyReads g old.log new.log) (db : OnlyReads g old.db new.db) where
   pub clean_before : AreClean g new.log new.db → AreClean g old.log old.db

@@ -16,9 +16,9 @@ use Rattle.sqlite.specs.declared.file.Leftover.{Leftover}
 use Rattle.sqlite.specs.declared.file.Leftover.TheVariants as left
 use Rattle.sqlite.specs.Files.{file_state, image_of, HoldsDatabase, IsEmpty, LeavesFiles}
 
--- the database file is empty, or is what was left where one with pages of 1,024 bytes was begun
+-- the database file is empty, or is what was left where one with pages of 512 bytes was begun
 abbrev pub IsUnmade : Image → Type 0
-IsUnmade = IsBlankFile 1024
+IsUnmade = IsBlankFile 512
 
 -- the files hold a store without a row
 abbrev pub HasNoRow : Image → Type 0

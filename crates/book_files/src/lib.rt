@@ -1,6 +1,6 @@
 //! Opens the two files of a store, the database and its log, for `book_desk` and for `book_trials`.
 //!
-//! A store that is not there yet is made with pages of 1,024 bytes, where `sqlite` by itself makes pages of 4,096: an edit
+//! A store that is not there yet is made with pages of 512 bytes, where `sqlite` by itself makes pages of 4,096: an edit
 //! writes few rows, each in another page, and what it costs is the bytes of those pages, which are summed, logged and
 //! synced. A store that is there keeps its pages. It stands on `sqlite` and its parts alone; the layer above uses
 //! `FindsStore`, and what a stop leaves of the first open is `LeavesFirstOpen`.
@@ -26,7 +26,7 @@ use sqlite_wal::{PageSize, probe_page_size};
 use std::alloc::{AllocFailed, Global};
 
 /// The bytes of a page of a store that is made.
-const NEW_PAGE: usize = 1024;
+const NEW_PAGE: usize = 512;
 
 /// The bytes of a page where the files do not tell it.
 const USUAL_PAGE: usize = 4096;
@@ -73,7 +73,7 @@ fn probe_error(error: sqlite_wal::Error) -> Error
 fn is_unmade<D: Disk>(alloc: Global, files: &mut Files<D>, size: PageSize) -> Result<bool, Error>
     requires log { IsTrue (D.Disk.is_usable files.old.log) }
     requires db { IsTrue (D.Disk.is_usable files.old.db) }
-    requires size { bytes_of size ≡ 1024 }
+    requires size { bytes_of size ≡ 512 }
     ensures ok { IfOk result (λ b. AreClean D.Disk files.new.log files.new.db → (IsTrue b ↔ IsUnmade (image_of D.Disk files.old))) }
     ensures named { IfErr result (λ e. IsTrue (is_open_error e)) }
     ensures log { OnlyReads D.Disk files.old.log files.new.log }
@@ -116,7 +116,7 @@ fn make<D: Disk>(
 ) -> Result<FileStore<D>, (Error, Leftover<D>)>
     requires log { IsTrue (D.Disk.is_usable files.log) }
     requires db { IsTrue (D.Disk.is_usable files.db) }
-    requires size { bytes_of size ≡ 1024 }
+    requires size { bytes_of size ≡ 512 }
     requires unmade { AreClean D.Disk files.log files.db → IsUnmade (image_of D.Disk files) }
     ensures made { IfOk result (λ store. IsTrue (view store).is_clean → IsMadeIn files store) }
     ensures guarded { IfOk result (λ store. IsTrue (view store).is_clean → is_shielded store) }
@@ -142,7 +142,7 @@ fn create<D: Disk + Drop>(
 ) -> Result<Connection<FileStore<D>>, (Error, Leftover<D>)>
     requires log { IsTrue (D.Disk.is_usable files.log) }
     requires db { IsTrue (D.Disk.is_usable files.db) }
-    requires size { bytes_of size ≡ 1024 }
+    requires size { bytes_of size ≡ 512 }
     requires unmade { AreClean D.Disk files.log files.db → IsUnmade (image_of D.Disk files) }
     ensures opened { IfOk result (λ c. HasCleanDisk (file_state c) → IsOpened c) }
     ensures made { IfOk result (λ c. HasCleanDisk (file_state c) → AreClean D.Disk files.log files.db × IsEmpty (file_state c).committed.trees) }
@@ -184,7 +184,7 @@ fn reopen<D: Disk + Drop>(
 }
 
 /// Opens the store in these two files: recovers its log, and checks each page, index and rule, as `Connection::open_files`
-/// does. Where no store was made yet, one without a row is made, with pages of 1,024 bytes; one that is there keeps its
+/// does. Where no store was made yet, one without a row is made, with pages of 512 bytes; one that is there keeps its
 /// pages. The salts of the log are drawn from the seed, and about so many bytes of pages are kept in memory.
 ///
 /// # Errors

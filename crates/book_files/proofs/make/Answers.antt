@@ -35,10 +35,10 @@ returns-in-Err-create-clause-begun g c clean =
     let made = c.in-Ok.ensures in
     let before : AreClean g.D.Disk files.log files.db =
     sym ((pool_files fresh.pool).1 ∙ ap (λ pair. are_clean g.D.Disk pair.0 pair.1) made.files) ∙ c.in-Err-create.ensures.falls clean in
-    let size : (state_of fresh).page_size ≡ 1024 = made.size ∙ c.requires.size in
+    let size : (state_of fresh).page_size ≡ 512 = made.size ∙ c.requires.size in
     let seen : image fresh ≡ image_of g.D.Disk files = ap (λ pair. seen_image g.D.Disk pair.0 pair.1) made.files in
     let blank : IsBlankFile (state_of fresh).page_size (image fresh) = subst₂ IsBlankFile (sym size) (sym seen) (c.requires.unmade before) in
-    let valid : IsPageSize 1024 = subst IsPageSize c.requires.size (given.smallest, given.largest, given.power, given.aligned) in (
+    let valid : IsPageSize 512 = subst IsPageSize c.requires.size (given.smallest, given.largest, given.power, given.aligned) in (
       before,
       λ left may. elim ((c.in-Err-create.ensures.unharmed clean).blank blank left may) [
         | inl was ↦ inl (subst (λ pair. outcomes g.D.Disk pair.0 pair.1 left) made.files ((pool_files fresh.pool).2 left was))
