@@ -1,5 +1,6 @@
 -- Lists that are read one after the other.
-use Rattle.std.proofs.Common.{◌≡◌, ℕ, ◌+◌, ◌<◌, ◌↔◌, Bool, true, false, List, [], ◌∷◌, ◌++◌, length, get_or, take, sym, ap, ◌∙◌, append_assoc}
+use Rattle.std.proofs.Common.{◌≡◌, ℕ, ◌+◌, ◌<◌, ◌↔◌, Bool, true, false, List, [], ◌∷◌, ◌++◌, length, get_or, take, Option, Some, option_map, option_and_then, unwrap_or, sym, ap, ◌∙◌, append_assoc}
+use Rattle.std.specs.FinMap.{get}
 use Rattle.std.specs.List.{flat_map}
 use Rattle.std.proofs.lemmas.List.{take_more, flat_map_more}
 use Rattle.book_rights.specs.declared.privileges.Leaf.{Leaf}
@@ -9,8 +10,12 @@ use Rattle.book_lists.specs.Scans.{IsAllowedRead, Reading, read_by}
 use Rattle.book_lists.specs.declared.entries.Entry.{Entry}
 use Rattle.book_lists.specs.declared.entries.Here.{Here}
 use Rattle.book_lists.proofs.OneReader.{allowed_one, read_append}
-use Rattle.book_office.specs.InForce.{in_force, lists_in}
+use Rattle.book_office.specs.InForce.{in_force, in_force_at, lists_in}
+use Rattle.book_office.specs.Resources.{Resource, book_resource, card_in}
 use Rattle.book_office.specs.declared.nodes.Level.{Level}
+use Rattle.book_values.specs.declared.offices.Book.{Book}
+use Rattle.book_values.specs.declared.offices.Office.{Office}
+use Rattle.book_values.specs.declared.paths.Path.TheVariants as path
 
 module _ (circle : CircleOf) (here : Here) where
   -- one list, and another after it
@@ -35,3 +40,22 @@ module _ (circle : CircleOf) (here : Here) (set : Leaf → Bool) (entries : List
   tells_allowed told =
       let one = allowed_one circle here entries set in
       (λ is. one.0 (told.0 is), λ all. told.1 (one.1 all))
+
+-- ---- the entries in force at a card whose book was looked up
+module _ (o : Office) (b c : List ℕ) (book : Book) where
+  -- by the protected list of the card and of its book, and by their own ones
+  abbrev in_force_by : List Entry → List Entry → List Entry → List Entry → List Entry
+  in_force_by p q r s =
+      (p ++ (q ++ (o.books_home.protected ++ (o.root.protected ++ [])))) ++ (r ++ (s ++ (o.books_home.own ++ (o.root.own ++ []))))
+
+  pub card_in_force : get o.books b ≡ Some book
+      → unwrap_or (option_map (λ (r : Resource). r.protected) (card_in book c)) [] ≡ []
+      → in_force_at o (path.Card b c)
+      ≡ in_force_by [] book.properties.protected (unwrap_or (option_map (λ (r : Resource). r.own) (card_in book c)) []) book.properties.own
+  card_in_force at none =
+      ap (λ (found : Option Book). in_force_by
+      (unwrap_or (option_map (λ (r : Resource). r.protected) (option_and_then (λ (x : Book). card_in x c) found)) [])
+      (unwrap_or (option_map (λ (r : Resource). r.protected) (option_map book_resource found)) [])
+      (unwrap_or (option_map (λ (r : Resource). r.own) (option_and_then (λ (x : Book). card_in x c) found)) [])
+      (unwrap_or (option_map (λ (r : Resource). r.own) (option_map book_resource found)) [])) at
+      ∙ ap (λ list. in_force_by list book.properties.protected (unwrap_or (option_map (λ (r : Resource). r.own) (card_in book c)) []) book.properties.own) none

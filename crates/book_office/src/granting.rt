@@ -1,20 +1,20 @@
 //! Whether the entries in force grant a set, by one scan over lists where they lie.
 
-ghost use Rattle.std.specs.Prelude.{◌≡◌, ◌↔◌, ◌++◌, [], true, map, unwrap_or};
+ghost use Rattle.std.specs.Prelude.{◌≡◌, ◌↔◌, ◌∷◌, ◌++◌, [], true, map, option_map, unwrap_or};
 ghost use Rattle.std.specs.List.{flat_map};
-ghost use Rattle.std.specs.Option.{option_copied};
 ghost use Rattle.book_lists.specs.Decisions.{IsAllowed};
 ghost use Rattle.book_lists.specs.Scans.{IfScanned, IsAllowedRead, IsScan, read_by};
 ghost use Rattle.book_office.specs.InForce.{in_force, in_force_at, list_in, lists_in};
 ghost use Rattle.book_office.specs.Levels.{level_at};
+ghost use Rattle.book_office.specs.Resources.{Resource, card_in};
 ghost use Rattle.book_values.specs.Paths.{levels};
-ghost use Rattle.book_values.specs.declared.paths.Path.TheVariants as path;
+ghost use Rattle.book_values.specs.declared.paths.Path.TheVariants as paths;
 
 use crate::nodes::Level;
 use crate::reads::{own_list, protected_list};
 use book_lists::{Circle, Entry, Here, Name, Outcome, Scan};
 use book_rights::LeafSet;
-use book_values::{Items, Office, Path};
+use book_values::{Book, Office, Path};
 
 /// Whether all of the need is granted by what the scan has come over.
 fn is_granted(scan: &Scan) -> bool
@@ -57,116 +57,153 @@ pub(crate) fn grant(levels: &[Level], circle: &Circle, here: &Here, set: LeafSet
 }
 
 /// The protected list that stands at a path, or the own list.
-fn list_at<'a>(office: &'a Office, path: &Path, protected: bool) -> Option<&'a Items<Entry>>
-    ensures { unwrap_or (option_copied result) [] ≡ list_in protected (level_at office.now path.now) }
+fn list_at<'a>(office: &'a Office, path: &Path, protected: bool) -> &'a [Entry]
+    ensures { result.now ≡ list_in protected (level_at office.now path.now) }
 {
-    if protected {
+    let list = if protected {
         protected_list(office, path)
     } else {
         own_list(office, path)
+    };
+    match list {
+        Some(list) => list.as_slice(),
+        None => &[],
     }
 }
 
-/// The same of the book of a name.
-fn list_of_book<'a>(office: &'a Office, book: &Name, protected: bool) -> Option<&'a Items<Entry>>
-    ensures { unwrap_or (option_copied result) [] ≡ list_in protected (level_at office.now (path.Book book.now)) }
-{
-    match office.books.get(book) {
-        Some(book) => {
-            if protected {
-                Some(&book.properties.protected)
-            } else {
-                Some(&book.properties.own)
-            }
-        }
-        None => None,
-    }
-}
-
-/// The scan after a list, if there is one.
-fn over_list(list: Option<&Items<Entry>>, circle: &Circle, here: &Here, scan: Scan) -> Scan
-    ensures { IfScanned scan (λ need readings. IsScan need (readings ++ read_by circle.now here.now (unwrap_or (option_copied list.entry) [])) result) }
+/// The scan after a list.
+fn over_list(list: &[Entry], circle: &Circle, here: &Here, scan: Scan) -> Scan
+    ensures { IfScanned scan (λ need readings. IsScan need (readings ++ read_by circle.now here.now list.now) result) }
 {
     let mut scan = scan;
-    if let Some(list) = list {
-        scan.over(list.as_slice(), circle, here);
+    if !list.is_empty() {
+        scan.over(list, circle, here);
     }
     scan
 }
 
-/// The scan after the lists of one kind at paths in turn.
-fn over_paths(
-    office: &Office,
-    paths: &[&Path],
-    protected: bool,
+/// The scan after lists in turn.
+fn over_lists(lists: &[&[Entry]], circle: &Circle, here: &Here, scan: Scan) -> Scan
+    ensures { IfScanned scan (λ need readings. IsScan need (readings ++ read_by circle.now here.now (flat_map (λ l. l.now) lists.now)) result) }
+{
+    let mut scan = scan;
+    for list in lists {
+        scan = over_list(list, circle, here, scan);
+    }
+    scan
+}
+
+/// Whether the protected lists and then the own lists grant the set.
+fn grant_in(
+    protected: &[&[Entry]],
+    own: &[&[Entry]],
     circle: &Circle,
     here: &Here,
-    scan: Scan,
-) -> Scan
-    ensures { IfScanned scan (λ need readings. IsScan need (readings ++ read_by circle.now here.now
-        (flat_map (λ p. list_in protected (level_at office.now p.now)) paths.now)) result) }
+    set: LeafSet,
+) -> bool
+    ensures { (result ≡ true) ↔ IsAllowed (flat_map (λ l. l.now) protected.now ++ flat_map (λ l. l.now) own.now) circle.now here.now set }
 {
-    let mut scan = scan;
-    for path in paths {
-        scan = over_list(list_at(office, path, protected), circle, here, scan);
-    }
-    scan
+    let scan = over_lists(protected, circle, here, Scan::start(set));
+    is_granted(&over_lists(own, circle, here, scan))
 }
 
-/// The scan after the lists of one kind at a path and at each of its ancestors.
-fn over_path(
+/// The own list of the card that has a name in a book.
+fn own_in<'a>(book: &'a Book, name: &Name) -> &'a [Entry]
+    ensures own { result.now ≡ unwrap_or (option_map (λ (r : Resource). r.own) (card_in book.now name.now)) [] }
+    ensures protected { unwrap_or (option_map (λ (r : Resource). r.protected) (card_in book.now name.now)) [] ≡ [] }
+{
+    match book.cards.get(name) {
+        Some(card) => card.own.as_slice(),
+        None => &[],
+    }
+}
+
+/// Whether the lists at the path of a card and at each of its ancestors grant the set. Its book is looked up once.
+fn grant_at_card(
+    office: &Office,
+    book: &Name,
+    name: &Name,
+    circle: &Circle,
+    here: &Here,
+    set: LeafSet,
+) -> bool
+    ensures { (result ≡ true) ↔ IsAllowed (in_force_at office.now (paths.Card book.now name.now)) circle.now here.now set }
+{
+    let Office {
+        root,
+        books_home,
+        ..
+    } = office;
+    match office.books.get(book) {
+        Some(found) => grant_in(
+            &[
+                found.properties.protected.as_slice(),
+                books_home.protected.as_slice(),
+                root.protected.as_slice(),
+            ],
+            &[
+                own_in(found, name),
+                found.properties.own.as_slice(),
+                books_home.own.as_slice(),
+                root.own.as_slice(),
+            ],
+            circle,
+            here,
+            set,
+        ),
+        None => grant_in(
+            &[books_home.protected.as_slice(), root.protected.as_slice()],
+            &[books_home.own.as_slice(), root.own.as_slice()],
+            circle,
+            here,
+            set,
+        ),
+    }
+}
+
+/// Whether the lists at a path, at its home and at the root grant the set.
+fn grant_below(
     office: &Office,
     path: &Path,
-    protected: bool,
+    home: &Path,
     circle: &Circle,
     here: &Here,
-    scan: Scan,
-) -> Scan
-    ensures { IfScanned scan (λ need readings. IsScan need (readings ++ read_by circle.now here.now
-        (lists_in protected (map (level_at office.now) (levels path.now)))) result) }
+    set: LeafSet,
+) -> bool
+    requires { levels path.now ≡ path.now ∷ home.now ∷ paths.Root ∷ [] }
+    ensures { (result ≡ true) ↔ IsAllowed (in_force_at office.now path.now) circle.now here.now set }
 {
-    match path {
-        Path::Root => over_paths(office, &[path], protected, circle, here, scan),
-        Path::People | Path::Groups | Path::Books => {
-            over_paths(office, &[path, &Path::Root], protected, circle, here, scan)
-        }
-        Path::Person(_) => over_paths(
-            office,
-            &[path, &Path::People, &Path::Root],
-            protected,
-            circle,
-            here,
-            scan,
-        ),
-        Path::Group(_) => over_paths(
-            office,
-            &[path, &Path::Groups, &Path::Root],
-            protected,
-            circle,
-            here,
-            scan,
-        ),
-        Path::Book(_) => over_paths(
-            office,
-            &[path, &Path::Books, &Path::Root],
-            protected,
-            circle,
-            here,
-            scan,
-        ),
-        Path::Card(book, _) => {
-            let scan = over_paths(office, &[path], protected, circle, here, scan);
-            let scan = over_list(list_of_book(office, book, protected), circle, here, scan);
-            over_paths(
-                office,
-                &[&Path::Books, &Path::Root],
-                protected,
-                circle,
-                here,
-                scan,
-            )
-        }
-    }
+    let root = &office.root;
+    grant_in(
+        &[
+            list_at(office, path, true),
+            list_at(office, home, true),
+            root.protected.as_slice(),
+        ],
+        &[
+            list_at(office, path, false),
+            list_at(office, home, false),
+            root.own.as_slice(),
+        ],
+        circle,
+        here,
+        set,
+    )
+}
+
+/// Whether the lists at the path of a home and at the root grant the set.
+fn grant_home(office: &Office, path: &Path, circle: &Circle, here: &Here, set: LeafSet) -> bool
+    requires { levels path.now ≡ path.now ∷ paths.Root ∷ [] }
+    ensures { (result ≡ true) ↔ IsAllowed (in_force_at office.now path.now) circle.now here.now set }
+{
+    let root = &office.root;
+    grant_in(
+        &[list_at(office, path, true), root.protected.as_slice()],
+        &[list_at(office, path, false), root.own.as_slice()],
+        circle,
+        here,
+        set,
+    )
 }
 
 /// Whether the lists at a path and at each of its ancestors grant the set. Takes no memory.
@@ -179,6 +216,18 @@ pub(crate) fn grant_at(
 ) -> bool
     ensures { (result ≡ true) ↔ IsAllowed (in_force_at office.now path.now) circle.now here.now set }
 {
-    let scan = over_path(office, path, true, circle, here, Scan::start(set));
-    is_granted(&over_path(office, path, false, circle, here, scan))
+    match path {
+        Path::Root => grant_in(
+            &[office.root.protected.as_slice()],
+            &[office.root.own.as_slice()],
+            circle,
+            here,
+            set,
+        ),
+        Path::People | Path::Groups | Path::Books => grant_home(office, path, circle, here, set),
+        Path::Person(_) => grant_below(office, path, &Path::People, circle, here, set),
+        Path::Group(_) => grant_below(office, path, &Path::Groups, circle, here, set),
+        Path::Book(_) => grant_below(office, path, &Path::Books, circle, here, set),
+        Path::Card(book, name) => grant_at_card(office, book, name, circle, here, set),
+    }
 }

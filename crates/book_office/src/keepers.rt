@@ -1,6 +1,6 @@
 //! What keeps an Office.
 
-ghost use Rattle.std.specs.Prelude.{◌≡◌, nat_lt};
+ghost use Rattle.std.specs.Prelude.{◌≡◌, is_some, nat_lt};
 ghost use Rattle.book_lists.specs.Callers.{IsCircle};
 ghost use Rattle.book_office.specs.declared.keepers.StoreFault.TheVariants.{Memory};
 ghost use Rattle.book_adopting.specs.Adopting.{adoption_of};
@@ -46,6 +46,14 @@ pub trait Keeper {
     /// The resource at a path; none where none is mapped.
     fn find(&mut self, alloc: Global, path: &Path) -> Result<Option<Node>, StoreFault>
         ensures { Reads (standing self.old) (standing self.new) result (λ o node. node ≡ node_at o path.now) };
+
+    /// Whether a resource is mapped at a path. A keeper may tell so without a copy of it.
+    fn has(&mut self, alloc: Global, path: &Path) -> Result<bool, StoreFault>
+        ensures { Reads (standing self.old) (standing self.new) result (λ o mapped. mapped ≡ is_some (node_at o path.now)) }
+    {
+        let node = self.find(alloc, path)?;
+        Ok(node.is_some())
+    }
 
     /// The children of a resource, in byte order of their names; none where none is mapped.
     fn children(&mut self, alloc: Global, path: &Path) -> Result<Items<Listed>, StoreFault>

@@ -1,6 +1,6 @@
 //! What an Office in memory has.
 
-ghost use Rattle.std.specs.Prelude.{◌≡◌, [], IfOk, option_map, unwrap_or};
+ghost use Rattle.std.specs.Prelude.{◌≡◌, [], IfOk, is_some, option_map, unwrap_or};
 ghost use Rattle.std.specs.FinMap.{entries, get};
 ghost use Rattle.std.specs.Option.{option_copied};
 ghost use Rattle.book_lists.specs.Names.{IsName};
@@ -231,6 +231,19 @@ pub(crate) fn find(office: &Office, path: &Path) -> Result<Option<Node>, AllocEr
             Some(book) => find_card(book, name),
             None => Ok(None),
         },
+    }
+}
+
+/// Whether a resource is mapped at a path.
+pub(crate) fn has(office: &Office, path: &Path) -> bool
+    ensures { result ≡ is_some (node_at office.now path.now) }
+{
+    match path {
+        Path::Root | Path::People | Path::Groups | Path::Books => true,
+        Path::Person(name) => office.persons.get(name).is_some(),
+        Path::Group(name) => office.groups.get(name).is_some(),
+        Path::Book(name) => office.books.get(name).is_some(),
+        Path::Card(book, name) => card_of(office, book, name).is_some(),
     }
 }
 
