@@ -53,11 +53,10 @@ use Rattle.book_machine.specs.declared.messages.ReportKind.TheVariants as report
 use Rattle.book_machine.specs.declared.messages.Request.{Request}
 use Rattle.book_machine.specs.declared.messages.SyncFrom.{SyncFrom}
 use Rattle.book_machine.specs.declared.plans.Plan.{Plan}
-use Rattle.book_machine.specs.declared.plans.Ready.{Ready}
-use Rattle.book_machine.specs.declared.plans.Target.{Target}
+use Rattle.book_machine.specs.Targets.{Ready, Target}
 use Rattle.book_listings.specs.declared.messages.Denial.{Denial}
 use Rattle.book_machine.specs.declared.refusals.Refusal.{Refusal}
-use Rattle.book_machine.specs.declared.refusals.Refusal.TheVariants.{UnknownCaller, Full, NotAllowed, NoParent, Overwrite}
+use Rattle.book_machine.specs.declared.refusals.Refusal.TheVariants.{UnknownCaller, Full, NotAllowed, NoParent}
 
 -- ---- results of stages
 abbrev told_of : {A B : Type 0} → (A → B) → Result A Refusal → Result B Refusal
@@ -81,16 +80,16 @@ bound_told g h (Ok x) (Err s) f k e each = absurd (cc (e))
 bound_told g h (Err r) (Ok y) f k e each = absurd (cc (e))
 bound_told g h (Err r) (Err s) f k e each = let same : r ≡ s = cc (e) in ap Err same
 
--- ---- what is found out before the verdict, but for the labels and the texts of target and destination
+-- ---- what is found out before the verdict, but for the label and the text of the target
 abbrev outline_of_target : Target → Target
-outline_of_target t = record { path = t.path; node = option_map outline_of_node t.node; destination = option_map outline_of_node t.destination }
+outline_of_target t = record { path = t.path; node = option_map outline_of_node t.node; replaces = t.replaces }
 
 abbrev outline_of_ready : Ready → Ready
 outline_of_ready r = record { caller = r.caller; asked = r.asked; target = outline_of_target r.target }
 
 node_told : (o : Office) (m : Method) (q : Path) (r : Option Node) → told_of outline_of_target (at_node o m q r) ≡ at_node o m q (option_map outline_of_node r)
-node_told o m q None = told_then_ok outline_of_target (at_unmapped o m q) (record { path = q; node = None; destination = None })
-node_told o m q (Some node) = told_then_ok outline_of_target (check (goes_on m node.kind) (NotAllowed (allowed_of node.kind))) (record { path = q; node = Some node; destination = None })
+node_told o m q None = told_then_ok outline_of_target (at_unmapped o m q) (record { path = q; node = None; replaces = false })
+node_told o m q (Some node) = told_then_ok outline_of_target (check (goes_on m node.kind) (NotAllowed (allowed_of node.kind))) (record { path = q; node = Some node; replaces = false })
 
 -- ---- the verdict
 module _ (o p : Office) (same : outline o ≡ outline p) where
@@ -161,7 +160,7 @@ module _ (o p : Office) (same : outline o ≡ outline p) where
   new_card_same Report q = refl
 
   at_node_same : (m : Method) (q : Path) (r : Option Node) → at_node o m q r ≡ at_node p m q r
-  at_node_same m q None = ap (λ r. r >>= λ _. Ok (record { path = q; node = None; destination = None })) (new_card_same m q)
+  at_node_same m q None = ap (λ r. r >>= λ _. Ok (record { path = q; node = None; replaces = false })) (new_card_same m q)
   at_node_same m q (Some node) = refl
 
   target_same : (m : Method) (q : Option Path) → told_of outline_of_target (target_of o m q) ≡ told_of outline_of_target (target_of p m q)
@@ -172,19 +171,12 @@ module _ (o p : Office) (same : outline o ≡ outline p) where
       ∙ at_node_same m q (option_map outline_of_node (node_at p q))
       ∙ sym (node_told p m q (node_at p q))
 
-  replaceable_told : (overwrite : Bool) (r : Option Node)
-      → told_of (option_map outline_of_node) (replaceable overwrite r) ≡ replaceable overwrite (option_map outline_of_node r)
-  replaceable_told overwrite None = refl
-  replaceable_told overwrite (Some node) = told_then_ok (option_map outline_of_node) (check overwrite Overwrite) (Some node)
+  mapped_same : (q : Path) → is_some (node_at o q) ≡ is_some (node_at p q)
+  mapped_same q = sym (there_mapped outline_of_node (node_at o q)) ∙ ap is_some (nodes_alike o p same q) ∙ there_mapped outline_of_node (node_at p q)
 
-  destination_same : (to : Option Destination) → told_of (option_map outline_of_node) (destination_of o to) ≡ told_of (option_map outline_of_node) (destination_of p to)
+  destination_same : (to : Option Destination) → destination_of o to ≡ destination_of p to
   destination_same None = refl
-  destination_same (Some to) =
-      bound (option_map outline_of_node) (check (is_some (get o.books to.book)) NoParent) (check (is_some (get p.books to.book)) NoParent) _ _
-      (ap (λ there. check there NoParent) (book_there o p same to.book)) (λ _.
-      replaceable_told to.overwrite (node_at o (destination_path to))
-      ∙ ap (replaceable to.overwrite) (nodes_alike o p same (destination_path to))
-      ∙ sym (replaceable_told to.overwrite (node_at p (destination_path to))))
+  destination_same (Some to) = λ i. check (book_there o p same to.book i) NoParent >>= λ _. replaceable to.overwrite (mapped_same (destination_path to) i)
 
   caller_same : (name : Option (List ℕ)) → caller_of o name ≡ caller_of p name
   caller_same None = refl
@@ -196,8 +188,8 @@ module _ (o p : Office) (same : outline o ≡ outline p) where
       bound outline_of_ready (asked_of request.method request) (asked_of request.method request) _ _ refl (λ what.
       bound_told outline_of_target outline_of_ready (target_of o request.method request.path) (target_of p request.method request.path) _ _ (target_same request.method request.path) (λ t u alike.
       bound outline_of_ready (suits_target what t) (suits_target what u) _ _ (ap (suits_target what) alike) (λ _.
-      bound_told (option_map outline_of_node) outline_of_ready (destination_of o (destination_in what)) (destination_of p (destination_in what)) _ _ (destination_same (destination_in what)) (λ x y found.
-      λ i. Ok (record { caller = caller; asked = what; target = record (alike i) { destination = found i } }))))))
+      bound outline_of_ready (destination_of o (destination_in what)) (destination_of p (destination_in what)) _ _ (destination_same (destination_in what)) (λ found.
+      λ i. Ok (record { caller = caller; asked = what; target = record (alike i) { replaces = found } }))))))
 
   -- ---- the limits
   book_changes_same : (b : List ℕ) → can_change (node_at o (path.Book b)) ≡ can_change (node_at p (path.Book b))
@@ -364,11 +356,8 @@ module _ (a b : Ready) (alike : outline_of_ready a ≡ outline_of_ready b) where
   mapped_is : is_some a.target.node ≡ is_some b.target.node
   mapped_is = sym (there_mapped outline_of_node a.target.node) ∙ ap (λ (r : Ready). is_some r.target.node) alike ∙ there_mapped outline_of_node b.target.node
 
-  taken_is : is_some a.target.destination ≡ is_some b.target.destination
-  taken_is =
-      sym (there_mapped outline_of_node a.target.destination)
-      ∙ ap (λ (r : Ready). is_some r.target.destination) alike
-      ∙ there_mapped outline_of_node b.target.destination
+  taken_is : a.target.replaces ≡ b.target.replaces
+  taken_is = ap (λ (r : Ready). r.target.replaces) alike
 
   needs_is : needs_at a ≡ needs_at b
   needs_is = λ i. needs_of (method_of (asked_is i)) (record {
@@ -402,13 +391,7 @@ module _ (a b : Ready) (alike : outline_of_ready a ≡ outline_of_ready b) where
     }
 
     limits_same : limits_of o a.asked a.target ≡ limits_of p b.asked b.target
-    limits_same = ap (λ t. check t Full) (keeps_limits_same o p same a.asked a.target.path (is_some a.target.node) (is_some a.target.destination) ∙ (λ i. keeps_limits p (asked_is i) (path_is i) (mapped_is i) (taken_is i)))
-
-  put_status_same : (r s : Option Node) → is_some r ≡ is_some s → put_status r ≡ put_status s
-  put_status_same None None e = refl
-  put_status_same (Some x) (Some y) e = refl
-  put_status_same None (Some y) e = absurd cc
-  put_status_same (Some x) None e = absurd cc
+    limits_same = ap (λ t. check t Full) (keeps_limits_same o p same a.asked a.target.path (is_some a.target.node) a.target.replaces ∙ (λ i. keeps_limits p (asked_is i) (path_is i) (mapped_is i) (taken_is i)))
 
   -- what is replied and done rests on the label and text of the target in methods alone that need `read` there
   module _ (o p : Office) (circle : CircleOf) (offices : AreAlike o p circle) (reports : AreReportedAlike o p circle) where
@@ -448,9 +431,8 @@ module _ (a b : Ready) (alike : outline_of_ready a ≡ outline_of_ready b) where
     success_same asked.Head shaped shown result is = sym (ap card_plan (shown refl)) ∙ is
     success_same asked.Options shaped shown result is = sym (ap allow_plan path_is) ∙ is
     success_same (asked.Put text) shaped shown result is =
-        let status = put_status_same a.target.node b.target.node mapped_is in
         let plans : put_plan a.caller text a.target ≡ put_plan b.caller text b.target =
-        λ i. put_edit (caller_is i) text (path_is i) >>= λ edit. Ok (replied (status i) content.Empty (Some edit)) in
+        λ i. put_edit (caller_is i) text (path_is i) >>= λ edit. Ok (replied (put_status (mapped_is i)) content.Empty (Some edit)) in
         sym plans ∙ is
     success_same (asked.Propfind find) shaped shown result is =
         subst (λ q. IsListed p circle find q b.target.node result) path_is
@@ -458,14 +440,12 @@ module _ (a b : Ready) (alike : outline_of_ready a ≡ outline_of_ready b) where
     success_same (asked.Proppatch patched) shaped shown result is = sym (ap (λ q. patch_plan q patched) path_is) ∙ is
     success_same (asked.Acl list) shaped shown result is = sym (ap (λ q. acl_plan q list) path_is) ∙ is
     success_same (asked.Copy to) shaped shown result is =
-        let status = put_status_same a.target.destination b.target.destination taken_is in
         let plans : copy_plan a.caller to a.target ≡ copy_plan b.caller to b.target =
-        λ i. copy_edit (caller_is i) (path_is i) to >>= λ edit. Ok (replied (status i) content.Empty (Some edit)) in
+        λ i. copy_edit (caller_is i) (path_is i) to >>= λ edit. Ok (replied (put_status (taken_is i)) content.Empty (Some edit)) in
         sym plans ∙ is
     success_same (asked.Move to) shaped shown result is =
-        let status = put_status_same a.target.destination b.target.destination taken_is in
         let plans : move_plan to a.target ≡ move_plan to b.target =
-        λ i. move_edit (path_is i) to >>= λ edit. Ok (replied (status i) content.Empty (Some edit)) in
+        λ i. move_edit (path_is i) to >>= λ edit. Ok (replied (put_status (taken_is i)) content.Empty (Some edit)) in
         sym plans ∙ is
     success_same asked.Delete shaped shown result is = sym (ap delete_plan path_is) ∙ is
     success_same asked.Mkcol shaped shown result is =
@@ -498,7 +478,7 @@ caller_named o (Some name) caller e =
 
 abbrev then_destination : Office → Caller → Asked → Target → Result Ready Refusal
 then_destination o caller what target =
-    destination_of o (destination_in what) >>= λ found. Ok (record { caller = caller; asked = what; target = record target { destination = found } })
+    destination_of o (destination_in what) >>= λ found. Ok (record { caller = caller; asked = what; target = record target { replaces = found } })
 
 abbrev then_suited : Office → Caller → Asked → Target → Result Ready Refusal
 then_suited o caller what target = suits_target what target >>= λ _. then_destination o caller what target
@@ -516,7 +496,7 @@ ready_named o name request ready is =
     let c = bind_ok (target_of o request.method request.path) (then_suited o a.0 b.0) ready b.2 in
     let d = bind_ok (suits_target b.0 c.0) (λ _. then_destination o a.0 b.0 c.0) ready c.2 in
     let f = bind_ok (destination_of o (destination_in b.0)) _ ready d.2 in
-    let made : record { caller = a.0; asked = b.0; target = record c.0 { destination = f.0 } } ≡ ready = cc (f.2) in
+    let made : record { caller = a.0; asked = b.0; target = record c.0 { replaces = f.0 } } ≡ ready = cc (f.2) in
     sym (ap (λ (r : Ready). r.caller) made) ∙ caller_named o name a.0 a.1
 
 -- ---- plans

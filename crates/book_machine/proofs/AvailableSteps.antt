@@ -42,8 +42,7 @@ use Rattle.book_machine.specs.declared.messages.Patch.TheVariants as patch
 use Rattle.book_machine.specs.declared.messages.Reply.{Reply}
 use Rattle.book_machine.specs.declared.messages.Request.{Request}
 use Rattle.book_machine.specs.declared.plans.Plan.{Plan}
-use Rattle.book_machine.specs.declared.plans.Ready.{Ready}
-use Rattle.book_machine.specs.declared.plans.Target.{Target}
+use Rattle.book_machine.specs.Targets.{Ready, Target}
 use Rattle.book_machine.specs.declared.refusals.Refusal.{Refusal}
 use Rattle.book_machine.specs.declared.refusals.Refusal.TheVariants.{BadRequest, BodyOnMkcol, UnknownCaller, NotAllowed, NoParent, Overwrite, Unavailable}
 
@@ -222,25 +221,25 @@ unmapped_available o Mkcol p e = book_available o p e
 unmapped_available o Report p e = absurd (cc (e))
 
 node_available : (o : Office) (m : Method) (p : Path) (node : Option Node) → IsAvailable (at_node o m p node)
-node_available o m p None e = both (at_unmapped o m p) (λ _. Ok (record { path = p; node = None; destination = None })) (unmapped_available o m p) (λ _. value _) e
+node_available o m p None e = both (at_unmapped o m p) (λ _. Ok (record { path = p; node = None; replaces = false })) (unmapped_available o m p) (λ _. value _) e
 node_available o m p (Some node) e =
-    both (check (goes_on m node.kind) (NotAllowed (allowed_of node.kind))) (λ _. Ok (record { path = p; node = Some node; destination = None }))
+    both (check (goes_on m node.kind) (NotAllowed (allowed_of node.kind))) (λ _. Ok (record { path = p; node = Some node; replaces = false }))
     (check_available (goes_on m node.kind) (NotAllowed (allowed_of node.kind)) (λ h. absurd (cc (h)))) (λ _. value _) e
 
 target_available : (o : Office) (m : Method) (p : Option Path) → IsAvailable (target_of o m p)
 target_available o m None e = absurd (cc (e))
 target_available o m (Some p) e = node_available o m p (node_at o p) e
 
-replaceable_available : (overwrite : Bool) (node : Option Node) → IsAvailable (replaceable overwrite node)
-replaceable_available overwrite None e = absurd (cc (e))
-replaceable_available overwrite (Some node) e =
-    both (check overwrite Overwrite) (λ _. Ok (Some node)) (check_available overwrite Overwrite (λ h. absurd (cc (h)))) (λ _. value _) e
+replaceable_available : (overwrite taken : Bool) → IsAvailable (replaceable overwrite taken)
+replaceable_available overwrite false e = absurd (cc (e))
+replaceable_available overwrite true e =
+    both (check overwrite Overwrite) (λ _. Ok true) (check_available overwrite Overwrite (λ h. absurd (cc (h)))) (λ _. value _) e
 
 found_available : (o : Office) (at : Option Destination) → IsAvailable (destination_of o at)
 found_available o None e = absurd (cc (e))
 found_available o (Some to) e =
-    both (check (is_some (get o.books to.book)) NoParent) (λ _. replaceable to.overwrite (node_at o (destination_path to)))
-    (check_available (is_some (get o.books to.book)) NoParent no_parent) (λ _. replaceable_available to.overwrite (node_at o (destination_path to))) e
+    both (check (is_some (get o.books to.book)) NoParent) (λ _. replaceable to.overwrite (is_some (node_at o (destination_path to))))
+    (check_available (is_some (get o.books to.book)) NoParent no_parent) (λ _. replaceable_available to.overwrite (is_some (node_at o (destination_path to)))) e
 
 text_of_available : (node : Option Node) → IsAvailable (text_of node)
 text_of_available None e = absurd (cc (e))

@@ -1,5 +1,5 @@
 -- What sync reports tell in runs of the machine.
-use Rattle.std.proofs.Common.{◌≡◌, inl, inr, ℕ, List, [], ◌∷◌, Option, Some, None, Result, Ok, Err, refl, sym, ap, ◌∙◌, subst, arith}
+use Rattle.std.proofs.Common.{◌≡◌, inl, inr, ℕ, List, [], ◌∷◌, false, Option, Some, None, Result, Ok, Err, refl, sym, ap, ◌∙◌, subst, arith}
 use Rattle.book_lists.specs.Circles.{CircleOf}
 use Rattle.book_lists.specs.Callers.{IsCircle}
 use Rattle.book_lists.proofs.OneOutcome.{one_circle}
@@ -35,15 +35,14 @@ use Rattle.book_machine.specs.declared.messages.Reply.{Reply}
 use Rattle.book_machine.specs.declared.messages.ReportKind.TheVariants.{SyncCollection}
 use Rattle.book_machine.specs.declared.messages.Request.{Request}
 use Rattle.book_machine.specs.declared.plans.Plan.{Plan}
-use Rattle.book_machine.specs.declared.plans.Ready.{Ready}
-use Rattle.book_machine.specs.declared.plans.Target.{Target}
+use Rattle.book_machine.specs.Targets.{Ready, Target}
 use Rattle.book_machine.specs.declared.refusals.Refusal.{Refusal}
 use Rattle.book_machine.specs.declared.refusals.Refusal.TheVariants.{NeedPrivileges, Unavailable, ValidSyncToken}
 
 -- ---- what is found out about a request for a report
 target_path : (o : Office) (m : Method) (p : Path) (node : Option Node) (t : Target) → at_node o m p node ≡ Ok t → t.path ≡ p
 target_path o m p None t e = let found = bind_ok (at_unmapped o m p) _ t e in sym (ap (λ (t : Target). t.path) (same_Ok _ t found.2))
-target_path o m p (Some node) t e = let found = bind_ok _ (λ _. Ok (record { path = p; node = Some node; destination = None })) t e in sym (ap (λ (t : Target). t.path) (same_Ok _ t found.2))
+target_path o m p (Some node) t e = let found = bind_ok _ (λ _. Ok (record { path = p; node = Some node; replaces = false })) t e in sym (ap (λ (t : Target). t.path) (same_Ok _ t found.2))
 
 module _ (o : Office) (name : Option (List ℕ)) (request : Request) (b : List ℕ) (token : Option Token) (asks : AsksReport request b token) (ready : Ready) (is : ready_of o name request ≡ Ok ready) where
   -- it asks for the report on the book
@@ -69,12 +68,12 @@ module _ (o : Office) (name : Option (List ℕ)) (request : Request) (b : List �
       let room : limits_of o ready.asked ready.target ≡ Ok tt = ap (λ w. limits_of o w ready.target) what in
       let done = accepted_done o circle ready result body (granted_as o ready result granted (decided o name request ready result is planned)) in
       let succeeds : IsSuccessOf o circle ready.asked ready.caller ready.target result = subst (λ c. IsDone o circle ready c result) room done in
-      let at_book = subst (λ p. IsSuccessOf o circle (asked.Report (SyncCollection (from_of token))) ready.caller (record { path = p; node = ready.target.node; destination = ready.target.destination }) result) asks_for_report.1
+      let at_book = subst (λ p. IsSuccessOf o circle (asked.Report (SyncCollection (from_of token))) ready.caller (record { path = p; node = ready.target.node; replaces = ready.target.replaces }) result) asks_for_report.1
       (subst (λ w. IsSuccessOf o circle w ready.caller ready.target result) what succeeds) in
       by_token circle result token at_book
     where
       by_token : (circle : CircleOf) (result : Result Plan Refusal) (t : Option Token)
-          → IsSuccessOf o circle (asked.Report (SyncCollection (from_of t))) ready.caller (record { path = path.Book b; node = ready.target.node; destination = ready.target.destination }) result
+          → IsSuccessOf o circle (asked.Report (SyncCollection (from_of t))) ready.caller (record { path = path.Book b; node = ready.target.node; replaces = ready.target.replaces }) result
           → report_plan (sync o circle b t None) ≡ result
       by_token circle result None h = h
       by_token circle result (Some t) h = h

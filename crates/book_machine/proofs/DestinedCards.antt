@@ -8,7 +8,6 @@ use Rattle.book_values.specs.declared.offices.Office.{Office}
 use Rattle.book_values.specs.declared.paths.Path.{Path}
 use Rattle.book_values.specs.declared.paths.Path.TheVariants as path
 use Rattle.book_office.specs.Resources.{node_at}
-use Rattle.book_office.specs.declared.nodes.Node.{Node}
 use Rattle.book_machine.specs.Asked.{is_card, destination_by, destination_asked, destination_path, copy_asked, move_asked}
 use Rattle.book_machine.specs.Asking.{HasPath}
 use Rattle.book_machine.specs.Stages.{◌>>=◌, check, replaceable, destination_of}
@@ -88,25 +87,25 @@ abbrev pub IsDestined : Office → Path → Option Destination → Type 0
 IsDestined o p None = Unit {0}
 IsDestined o p (Some to) = IsName to.card × (get o.books to.book ≢ None) × (p ≡ destination_path to → ⊥)
 
--- what is mapped at the destination
-abbrev pub destined_node : Office → Option Destination → Option Node
-destined_node o None = None
-destined_node o (Some to) = node_at o (destination_path to)
+-- whether something is mapped at the destination
+abbrev pub is_taken : Office → Option Destination → Bool
+is_taken o None = false
+is_taken o (Some to) = is_some (node_at o (destination_path to))
 
-replaced : (overwrite : Bool) (found told : Option Node) → replaceable overwrite found ≡ Ok told → told ≡ found
-replaced overwrite None told e = sym (same_Ok _ told e)
-replaced overwrite (Some node) told e = let a = bind_ok (check overwrite Overwrite) (λ _. Ok (Some node)) told e in sym (same_Ok _ told a.2)
+replaced : (overwrite taken told : Bool) → replaceable overwrite taken ≡ Ok told → told ≡ taken
+replaced overwrite false told e = sym (same_Ok _ told e)
+replaced overwrite true told e = let a = bind_ok (check overwrite Overwrite) (λ _. Ok true) told e in sym (same_Ok _ told a.2)
 
 -- what the stage of the destination lets through
-pub destination_told : (o : Office) (at : Option Destination) (told : Option Node) → destination_of o at ≡ Ok told → told ≡ destined_node o at
+pub destination_told : (o : Office) (at : Option Destination) (told : Bool) → destination_of o at ≡ Ok told → told ≡ is_taken o at
 destination_told o None told e = sym (same_Ok _ told e)
 destination_told o (Some to) told e =
-    let a = bind_ok (check (is_some (get o.books to.book)) NoParent) (λ _. replaceable to.overwrite (node_at o (destination_path to))) told e in
-    replaced to.overwrite (node_at o (destination_path to)) told a.2
+    let a = bind_ok (check (is_some (get o.books to.book)) NoParent) (λ _. replaceable to.overwrite (is_some (node_at o (destination_path to)))) told e in
+    replaced to.overwrite (is_some (node_at o (destination_path to))) told a.2
 
-pub destined_at : (o : Office) (source : Option Path) (p : Path) (at : Option Destination) (told : Option Node) → source ≡ Some p
+pub destined_at : (o : Office) (source : Option Path) (p : Path) (at : Option Destination) (told : Bool) → source ≡ Some p
     → IsAskedTo source at → destination_of o at ≡ Ok told → IsDestined o p at
 destined_at o source p None told is shaped e = tt
 destined_at o source p (Some to) told is shaped e =
-    let a = bind_ok (check (is_some (get o.books to.book)) NoParent) (λ _. replaceable to.overwrite (node_at o (destination_path to))) told e in
+    let a = bind_ok (check (is_some (get o.books to.book)) NoParent) (λ _. replaceable to.overwrite (is_some (node_at o (destination_path to)))) told e in
     (shaped.0, some_not_none (get o.books to.book) (check_true _ _ a.0 a.1), λ same. shaped.1 (is ∙ ap Some same))

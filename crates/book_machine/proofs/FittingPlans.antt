@@ -41,7 +41,7 @@ use Rattle.book_machine.specs.AllowedMethods.{goes_on}
 use Rattle.book_machine.proofs.BodyAnswers.{accepted_list}
 use Rattle.book_machine.proofs.ReportPlans.{reported_told}
 use Rattle.book_machine.specs.Asked.{asked_of, put_asked, find_asked_to, find_asked, each_once, patch_asked, proppatch_asked, acl_asked, mkcol_asked, report_asked, is_empty, method_of, destination_asked, copy_asked, move_asked, destination_in, destination_path}
-pub use Rattle.book_machine.proofs.DestinedCards.{IsDestined, answered, bind_ok, destined_node, same_Ok}
+pub use Rattle.book_machine.proofs.DestinedCards.{IsDestined, answered, bind_ok, is_taken, same_Ok}
 use Rattle.book_machine.proofs.DestinedCards.{IsAskedTo, asked_to, check_true, copied_to, destination_told, destined_at, moved_to, some_not_none}
 use Rattle.book_machine.specs.Asking.{HasPath, HasPaths}
 use Rattle.book_machine.specs.Finding.{find_of, may_be_asked, needed_for}
@@ -60,8 +60,7 @@ use Rattle.book_machine.specs.declared.messages.Patch.{Patch}
 use Rattle.book_machine.specs.declared.messages.Patch.TheVariants as patch
 use Rattle.book_machine.specs.declared.messages.Request.{Request}
 use Rattle.book_machine.specs.declared.plans.Plan.{Plan}
-use Rattle.book_machine.specs.declared.plans.Ready.{Ready}
-use Rattle.book_machine.specs.declared.plans.Target.{Target}
+use Rattle.book_machine.specs.Targets.{Ready, Target}
 use Rattle.book_machine.specs.declared.refusals.Refusal.{Refusal}
 use Rattle.book_machine.specs.declared.refusals.Refusal.TheVariants.{BadRequest, BodyOnMkcol, Full, UnknownCaller}
 
@@ -92,16 +91,16 @@ caller_is_owner o (Some name) caller e =
 -- ---- the path
 -- what the path stage lets through
 record GoesOn (o : Office) (m : Method) (p : Path) (node : Option Node) (t : Target) : Type 0 where
-  is : t ≡ record { path = p; node = node; destination = None }
+  is : t ≡ record { path = p; node = node; replaces = false }
   free : node ≡ None → at_unmapped o m p ≡ Ok tt
   there : (n : Node) → node ≡ Some n → goes_on m n.kind ≡ true
 
 gone_on : (o : Office) (m : Method) (p : Path) (node : Option Node) (t : Target) → at_node o m p node ≡ Ok t → GoesOn o m p node t
 gone_on o m p None t e =
-    let answered = bind_ok (at_unmapped o m p) (λ _. Ok (record { path = p; node = None; destination = None })) t e in
+    let answered = bind_ok (at_unmapped o m p) (λ _. Ok (record { path = p; node = None; replaces = false })) t e in
     record { is = sym (same_Ok _ t answered.2); free = λ _. answered.1; there = λ n none. absurd cc }
 gone_on o m p (Some node) t e =
-    let answered = bind_ok (check (goes_on m node.kind) _) (λ _. Ok (record { path = p; node = Some node; destination = None })) t e in
+    let answered = bind_ok (check (goes_on m node.kind) _) (λ _. Ok (record { path = p; node = Some node; replaces = false })) t e in
     record { is = sym (same_Ok _ t answered.2); free = λ none. absurd cc; there = λ n same. cc (check_true _ _ answered.0 answered.1, same) }
 
 -- ---- books and cards
@@ -247,7 +246,7 @@ IsShaped (asked.Report which) = Unit {0}
 
 -- what has passed the path stage at a path
 abbrev pub ready_at : Office → Path → Caller → Asked → Ready
-ready_at o p caller what = record { caller = caller; asked = what; target = record { path = p; node = node_at o p; destination = destined_node o (destination_in what) } }
+ready_at o p caller what = record { caller = caller; asked = what; target = record { path = p; node = node_at o p; replaces = is_taken o (destination_in what) } }
 
 pub record Passed (o : Office) (request : Request) (ready : Ready) : Type 0 where
   pub caller : Caller
@@ -686,13 +685,13 @@ record Staged (o : Office) (request : Request) (name : Option (List ℕ)) (ready
   target_at : target_of o request.method request.path ≡ Ok target
   fits_kind : Unit {0}
   suits_kind : suits_target what target ≡ Ok fits_kind
-  found : Option Node
+  found : Bool
   found_at : destination_of o (destination_in what) ≡ Ok found
-  made : record { caller = caller; asked = what; target = record target { destination = found } } ≡ ready
+  made : record { caller = caller; asked = what; target = record target { replaces = found } } ≡ ready
 
 module _ (o : Office) (request : Request) where
-  abbrev to_ready : Caller → Asked → Target → Option Node → Result Ready Refusal
-  to_ready caller what target found = Ok (record { caller = caller; asked = what; target = record target { destination = found } })
+  abbrev to_ready : Caller → Asked → Target → Bool → Result Ready Refusal
+  to_ready caller what target found = Ok (record { caller = caller; asked = what; target = record target { replaces = found } })
 
   abbrev to_destination : Caller → Asked → Target → Result Ready Refusal
   to_destination caller what target = destination_of o (destination_in what) >>= to_ready caller what target
@@ -749,7 +748,7 @@ module _ (o : Office) (request : Request) where
         shaped = asked_shaped request.method request s.what s.what_is;
         destined = λ named.
             destined_at o request.path at.0 (destination_in s.what) s.found at.1 (asked_destined request.method request s.what s.what_is named) s.found_at;
-        is = sym s.made ∙ (λ i. record { caller = s.caller; asked = s.what; target = record (at.2.is i) { destination = found_is i } });
+        is = sym s.made ∙ (λ i. record { caller = s.caller; asked = s.what; target = record (at.2.is i) { replaces = found_is i } });
       }
 
   -- what a request that has passed asks is within its bounds

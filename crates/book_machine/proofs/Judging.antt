@@ -18,9 +18,9 @@ use Rattle.book_values.specs.declared.offices.Office.{Office}
 use Rattle.book_listings.specs.Scanning.{standing_in}
 use Rattle.book_listings.specs.Verdicts.{IsGrantedAt, entries_of, here_of, owner_at}
 use Rattle.book_listings.proofs.InTurn.{entries_standing}
-use Rattle.book_machine.specs.Verdicts.{place_path, Judges, JudgesNeed, JudgesNeeds, IsTarget}
+use Rattle.book_machine.specs.Verdicts.{place_path, Judges, JudgesNeed, JudgesNeeds, IsTarget, owned_by, owner_in}
 use Rattle.book_machine.specs.declared.asked.Destination.{Destination}
-use Rattle.book_machine.specs.declared.plans.Target.{Target}
+use Rattle.book_machine.specs.Targets.{Target}
 use Rattle.book_machine.specs.declared.refusals.Refusal.{Refusal}
 
 -- a decision by the list and the owner that are those of the resource
@@ -35,8 +35,13 @@ owner_of_node None = refl
 owner_of_node (Some r) = refl
 
 -- the owner of what is mapped at the target
-pub owner_of_target : (o : Office) (target : Target) → IsTarget o target → option_and_then (λ (n : Node). n.owner) target.node ≡ owner_at o target.path
-owner_of_target o target is = ap (option_and_then (λ (n : Node). n.owner)) is ∙ owner_of_node (resource_at o target.path)
+pub owner_of_target : (o : Office) (target : Target) → IsTarget o target → owner_in target.node ≡ owner_at o target.path
+owner_of_target o target is = ap owner_in is ∙ owner_of_node (resource_at o target.path)
+
+-- the owner that was taken out is put back
+pub owned_again : (node : Option Node) → owned_by (owner_in node) (owned_by None node) ≡ node
+owned_again None = refl
+owned_again (Some n) = refl
 
 module _ (o : Office) (circle : CircleOf) (to : Option Destination) (target : Path) where
   -- a need that is granted, and then others

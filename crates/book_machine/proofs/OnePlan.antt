@@ -20,10 +20,9 @@ use Rattle.book_office.specs.declared.nodes.Node.{Node}
 use Rattle.book_machine.specs.declared.asked.Asked.{Asked}
 use Rattle.book_machine.specs.declared.asked.Asked.TheVariants as asked
 use Rattle.book_machine.specs.declared.asked.Destination.{Destination}
-use Rattle.book_machine.specs.declared.plans.Target.{Target}
 use Rattle.book_machine.specs.declared.messages.Request.{Request}
 use Rattle.book_machine.specs.declared.plans.Plan.{Plan}
-use Rattle.book_machine.specs.declared.plans.Ready.{Ready}
+use Rattle.book_machine.specs.Targets.{Ready, Target}
 use Rattle.book_listings.specs.declared.messages.Denial.{Denial}
 use Rattle.book_machine.specs.declared.refusals.Refusal.{Refusal}
 use Rattle.book_machine.specs.declared.refusals.Refusal.TheVariants.{NeedPrivileges}

@@ -1,5 +1,5 @@
 -- A plan, from what its stages tell.
-use Rattle.std.proofs.Common.{◌≡◌, ℕ, List, Option, Some, None, Result, Ok, Err, inl, inr, refl, sym, subst, ap, ◌∙◌}
+use Rattle.std.proofs.Common.{◌≡◌, ℕ, List, Bool, Option, Some, None, Result, Ok, Err, inl, inr, refl, sym, subst, ap, ◌∙◌}
 use Rattle.std.specs.FinMap.{get}
 use Rattle.book_lists.specs.Callers.{IsCircle}
 use Rattle.book_lists.specs.Circles.{CircleOf}
@@ -15,14 +15,13 @@ use Rattle.book_machine.proofs.FittingPlans.{ready_is_target}
 use Rattle.book_lists.specs.declared.circles.Caller.{Caller}
 use Rattle.book_machine.specs.Asked.{asked_of, destination_in}
 use Rattle.book_machine.specs.declared.asked.Asked.{Asked}
-use Rattle.book_machine.specs.declared.plans.Target.{Target}
 use Rattle.book_machine.specs.Asking.{Meets, MeetsAny, MeetsPlan}
 use Rattle.book_machine.specs.Stages.{◌>>=◌, caller_of, target_of, suits_target, destination_of, ready_of, limits_of, listed_plan, IsBodyAnswer, IsListed, IsSuccess, IsDone, IsGrantedPlan}
 use Rattle.book_machine.specs.Steps.{IsDecided, IsPlannedFrom, IsPlan}
 use Rattle.book_machine.specs.Verdicts.{needs_at, JudgesNeeds, IsTarget}
 use Rattle.book_machine.specs.declared.messages.Request.{Request}
 use Rattle.book_machine.specs.declared.plans.Plan.{Plan}
-use Rattle.book_machine.specs.declared.plans.Ready.{Ready}
+use Rattle.book_machine.specs.Targets.{Ready, Target}
 use Rattle.book_machine.specs.declared.refusals.Refusal.{Refusal}
 use Rattle.book_machine.specs.declared.refusals.Refusal.TheVariants.{UnknownCaller}
 
@@ -89,8 +88,8 @@ module _ (o : Office) (name : Option (List ℕ)) (request : Request) where
     planned u (Err e) granted (inr is_refused) =
         inr (decided (Err e) (inl (record { circle = circle; is_circle = is_circle; granted = granted }, is_refused)))
 
-  abbrev pub ready_with : Caller → Asked → Target → Option Node → Result Ready Refusal
-  ready_with caller what target found = Ok (record { caller = caller; asked = what; target = record target { destination = found } })
+  abbrev pub ready_with : Caller → Asked → Target → Bool → Result Ready Refusal
+  ready_with caller what target found = Ok (record { caller = caller; asked = what; target = record target { replaces = found } })
 
   abbrev pub ready_to : Caller → Asked → Target → Result Ready Refusal
   ready_to caller what target = destination_of o (destination_in what) >>= ready_with caller what target

@@ -1,5 +1,5 @@
 -- What the path stage lets through is served: a granted request with an accepted body within the limits has a plan.
-use Rattle.std.proofs.Common.{◌≡◌, ◌⊎◌, ℕ, ◌<◌, List, true, Option, Some, None, option_map, option_and_then, Result, Ok, Err, inl, inr, refl, sym, ap, ◌∙◌, subst, arith}
+use Rattle.std.proofs.Common.{◌≡◌, ◌⊎◌, ℕ, ◌<◌, List, Bool, true, false, Option, Some, None, is_some, option_map, option_and_then, Result, Ok, Err, inl, inr, refl, sym, ap, ◌∙◌, subst, arith}
 use Rattle.std.specs.FinMap.{get}
 use Rattle.book_values.specs.Paths.{kind_of}
 use Rattle.book_values.specs.declared.offices.Book.{Book}
@@ -20,7 +20,7 @@ use Rattle.book_office.specs.declared.edits.Edit.{Edit}
 use Rattle.book_office.specs.declared.nodes.Node.{Node}
 use Rattle.book_rights.specs.declared.methods.Method.{Method}
 use Rattle.book_sync.specs.declared.messages.Report.{Report}
-use Rattle.book_machine.proofs.FittingPlans.{Passed, answered, bind_ok, book_kind, ready_at, same_Ok, same_Some, destined_node}
+use Rattle.book_machine.proofs.FittingPlans.{Passed, answered, bind_ok, book_kind, is_taken, ready_at, same_Ok, same_Some}
 use Rattle.book_machine.proofs.ReportPlans.{reported_told}
 use Rattle.book_machine.specs.AllowedMethods.{goes_on}
 use Rattle.book_machine.specs.Asked.{method_of}
@@ -38,7 +38,7 @@ use Rattle.book_machine.specs.declared.messages.ReportKind.TheVariants as report
 use Rattle.book_machine.specs.declared.messages.Request.{Request}
 use Rattle.book_machine.specs.declared.messages.SyncFrom.{SyncFrom}
 use Rattle.book_machine.specs.declared.plans.Plan.{Plan}
-use Rattle.book_machine.specs.declared.plans.Ready.{Ready}
+use Rattle.book_machine.specs.Targets.{Ready}
 use Rattle.book_machine.specs.declared.refusals.Refusal.{Refusal}
 use Rattle.book_machine.specs.declared.refusals.Refusal.TheVariants.{ValidSyncToken}
 
@@ -138,9 +138,9 @@ reported o circle report.GroupMembers p n result there suited is = members_repor
 reported o circle (report.Effective caller) p n result there suited is =
     rulings_reported o is.circle p n is.rulings.rulings result there is.rulings.are is.rulings.is_told
 
-put_low : (node : Option Node) → put_status node < 300
-put_low None = omega arith
-put_low (Some node) = omega arith
+put_low : (replaces : Bool) → put_status replaces < 300
+put_low false = omega arith
+put_low true = omega arith
 
 module _ (o : Office) (circle : CircleOf) (caller : Caller) where
   -- a method goes on at a path where its stage for unmapped paths does, or by the kind of the path
@@ -202,7 +202,7 @@ module _ (o : Office) (circle : CircleOf) (caller : Caller) where
   put_served text (path.Group n) (inr there) = let h = there.2 in absurd (cc (h))
   put_served text (path.Book b) (inl free) = absurd (cc (free))
   put_served text (path.Book b) (inr there) = let h = there.2 in absurd (cc (h))
-  put_served text (path.Card b c) through = at_once o circle _ _ (put_status (node_at o (path.Card b c))) _ _ refl (put_low (node_at o (path.Card b c))) (λ result h. h)
+  put_served text (path.Card b c) through = at_once o circle _ _ (put_status (is_some (node_at o (path.Card b c)))) _ _ refl (put_low (is_some (node_at o (path.Card b c)))) (λ result h. h)
 
   copy_served : (to : Destination) (p : Path) → ServedAt (asked.Copy to) p
   copy_served to p (inl free) = absurd (cc (free))
@@ -214,7 +214,7 @@ module _ (o : Office) (circle : CircleOf) (caller : Caller) where
   copy_served to (path.Group n) (inr there) = let h = there.2 in absurd (cc (h))
   copy_served to (path.Book b) (inr there) = let h = there.2 in absurd (cc (h))
   copy_served to (path.Card b c) (inr there) =
-      at_once o circle _ _ (put_status (destined_node o (Some to))) _ _ refl (put_low (destined_node o (Some to))) (λ result h. h)
+      at_once o circle _ _ (put_status (is_taken o (Some to))) _ _ refl (put_low (is_taken o (Some to))) (λ result h. h)
 
   move_served : (to : Destination) (p : Path) → ServedAt (asked.Move to) p
   move_served to p (inl free) = absurd (cc (free))
@@ -226,7 +226,7 @@ module _ (o : Office) (circle : CircleOf) (caller : Caller) where
   move_served to (path.Group n) (inr there) = let h = there.2 in absurd (cc (h))
   move_served to (path.Book b) (inr there) = let h = there.2 in absurd (cc (h))
   move_served to (path.Card b c) (inr there) =
-      at_once o circle _ _ (put_status (destined_node o (Some to))) _ _ refl (put_low (destined_node o (Some to))) (λ result h. h)
+      at_once o circle _ _ (put_status (is_taken o (Some to))) _ _ refl (put_low (is_taken o (Some to))) (λ result h. h)
 
   delete_served : (p : Path) → ServedAt asked.Delete p
   delete_served p (inl free) = absurd (cc (free))
@@ -306,12 +306,12 @@ pub success_low : (o : Office) (circle : CircleOf) (what : Asked) (ready : Ready
 success_low o circle asked.Get ready plan is = let told = bind_ok (text_of ready.target.node) _ plan is in low_at_once 200 _ _ plan told.2 (omega arith)
 success_low o circle asked.Head ready plan is = let told = bind_ok (text_of ready.target.node) _ plan is in low_at_once 200 _ _ plan told.2 (omega arith)
 success_low o circle asked.Options ready plan is = low_at_once 200 _ _ plan is (omega arith)
-success_low o circle (asked.Put text) ready plan is = let told = bind_ok (put_edit ready.caller text ready.target.path) _ plan is in low_at_once (put_status ready.target.node) _ _ plan told.2 (put_low ready.target.node)
+success_low o circle (asked.Put text) ready plan is = let told = bind_ok (put_edit ready.caller text ready.target.path) _ plan is in low_at_once (put_status (is_some ready.target.node)) _ _ plan told.2 (put_low (is_some ready.target.node))
 success_low o circle (asked.Propfind find) ready plan is = listed_low o circle find ready.target.path ready.target.node plan is
 success_low o circle (asked.Proppatch patched) ready plan is = let told = bind_ok (patch_edit ready.target.path patched) _ plan is in low_at_once 200 _ _ plan told.2 (omega arith)
 success_low o circle (asked.Acl list) ready plan is = low_at_once 200 _ _ plan is (omega arith)
-success_low o circle (asked.Copy to) ready plan is = let told = bind_ok (copy_edit ready.caller ready.target.path to) _ plan is in low_at_once (put_status ready.target.destination) _ _ plan told.2 (put_low ready.target.destination)
-success_low o circle (asked.Move to) ready plan is = let told = bind_ok (move_edit ready.target.path to) _ plan is in low_at_once (put_status ready.target.destination) _ _ plan told.2 (put_low ready.target.destination)
+success_low o circle (asked.Copy to) ready plan is = let told = bind_ok (copy_edit ready.caller ready.target.path to) _ plan is in low_at_once (put_status ready.target.replaces) _ _ plan told.2 (put_low ready.target.replaces)
+success_low o circle (asked.Move to) ready plan is = let told = bind_ok (move_edit ready.target.path to) _ plan is in low_at_once (put_status ready.target.replaces) _ _ plan told.2 (put_low ready.target.replaces)
 success_low o circle asked.Delete ready plan is = let told = bind_ok (delete_edit ready.target.path) _ plan is in low_at_once 204 _ _ plan told.2 (omega arith)
 success_low o circle asked.Mkcol ready plan is = let told = bind_ok (mkcol_edit ready.caller ready.target.path) _ plan is in low_at_once 201 _ _ plan told.2 (omega arith)
 success_low o circle (asked.Report which) ready plan is = let told = reported_told o circle which ready.target.path plan is in low_at_once told.status told.what None plan told.is told.low

@@ -23,8 +23,7 @@ use Rattle.book_machine.specs.declared.messages.Content.TheVariants as content
 use Rattle.book_machine.specs.declared.messages.Reply.{Reply}
 use Rattle.book_machine.specs.declared.messages.Request.{Request}
 use Rattle.book_machine.specs.declared.plans.Plan.{Plan}
-use Rattle.book_machine.specs.declared.plans.Ready.{Ready}
-use Rattle.book_machine.specs.declared.plans.Target.{Target}
+use Rattle.book_machine.specs.Targets.{Ready, Target}
 use Rattle.book_listings.specs.declared.messages.Denial.{Denial}
 use Rattle.book_machine.specs.declared.refusals.Refusal.{Refusal}
 use Rattle.book_machine.specs.declared.refusals.Refusal.TheVariants.{BadRequest, UnknownCaller, BadCard, NeedPrivileges, NoProtectedAceConflict, NoInheritedAceConflict, LimitedNumberOfAces, NotSupportedPrivilege, RecognizedPrincipal, ValidSyncToken, NotFound, NotAllowed, NoParent, Overwrite, BodyOnMkcol, Full, Unavailable}
@@ -35,7 +34,7 @@ check_answers true = inl refl
 check_answers false = inr refl
 
 pub limits_answers : (o : Office) (what : Asked) (target : Target) → (limits_of o what target ≡ Ok tt) ⊎ (limits_of o what target ≡ Err Full)
-limits_answers o what target = check_answers (keeps_limits o what target.path (is_some target.node) (is_some target.destination))
+limits_answers o what target = check_answers (keeps_limits o what target.path (is_some target.node) target.replaces)
 
 -- what follows a verdict that grants
 pub data GrantedAnswer (o : Office) (circle : CircleOf) (ready : Ready) (result : Result Plan Refusal) : Type 0 where

@@ -25,7 +25,7 @@ use Rattle.book_machine.specs.declared.messages.Content.TheVariants as content
 use Rattle.book_machine.specs.declared.messages.Reply.{Reply}
 use Rattle.book_machine.specs.declared.messages.Request.{Request}
 use Rattle.book_machine.specs.declared.plans.Plan.{Plan}
-use Rattle.book_machine.specs.declared.plans.Ready.{Ready}
+use Rattle.book_machine.specs.Targets.{Ready}
 use Rattle.book_machine.specs.declared.refusals.Refusal.{Refusal}
 
 -- what a PROPFIND asks

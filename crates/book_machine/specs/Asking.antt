@@ -23,6 +23,11 @@ abbrev pub Meets : {A : Type 0} → Result A Refusal → Result A Refusal → Ty
 Meets (Ok x) stage = stage ≡ Ok x
 Meets (Err e) stage = (e ≡ Unavailable) ⊎ (stage ≡ Err e)
 
+-- the same, where the contract sees the value so
+abbrev pub MeetsSeen : {A B : Type 0} → (A → B) → Result A Refusal → Result B Refusal → Type 0
+MeetsSeen seen (Ok x) stage = stage ≡ Ok (seen x)
+MeetsSeen seen (Err e) stage = (e ≡ Unavailable) ⊎ (stage ≡ Err e)
+
 -- the store did not fail, or failed once and the result is unavailable
 abbrev pub Counted : {A : Type 0} → Result A Refusal → ℕ → ℕ → Type 0
 Counted (Ok x) before after = after ≡ before

@@ -12,5 +12,6 @@ pub mod Runs
 pub mod Stages
 pub mod Steps
 pub mod SyncedCopies
+pub mod Targets
 pub mod Unseen
 pub mod Verdicts

@@ -57,8 +57,7 @@ use Rattle.book_machine.specs.declared.messages.Request.{Request}
 use Rattle.book_machine.specs.declared.messages.SyncFrom.{SyncFrom}
 use Rattle.book_machine.specs.declared.messages.SyncFrom.TheVariants.{Start, After, Unknown}
 use Rattle.book_machine.specs.declared.plans.Plan.{Plan}
-use Rattle.book_machine.specs.declared.plans.Ready.{Ready}
-use Rattle.book_machine.specs.declared.plans.Target.{Target}
+use Rattle.book_machine.specs.Targets.{Ready, Target}
 use Rattle.book_machine.specs.declared.refusals.Refusal.{Refusal}
 use Rattle.book_machine.specs.declared.refusals.Refusal.TheVariants.{UnknownCaller, BadCard, NoProtectedAceConflict, NoInheritedAceConflict, LimitedNumberOfAces, NotSupportedPrivilege, RecognizedPrincipal, ValidSyncToken, NotFound, NotAllowed, NoParent, Overwrite, Full}
 use Rattle.book_machine.specs.Verdicts.{is_book}
@@ -117,8 +116,8 @@ at_unmapped o method.Report p = Err NotFound
 
 -- the path: the target, with what is mapped there
 abbrev pub at_node : Office → Method → Path → Option Node → Result Target Refusal
-at_node o m p None = at_unmapped o m p >>= λ _. Ok (record { path = p; node = None; destination = None })
-at_node o m p (Some node) = check (goes_on m node.kind) (NotAllowed (allowed_of node.kind)) >>= λ _. Ok (record { path = p; node = Some node; destination = None })
+at_node o m p None = at_unmapped o m p >>= λ _. Ok (record { path = p; node = None; replaces = false })
+at_node o m p (Some node) = check (goes_on m node.kind) (NotAllowed (allowed_of node.kind)) >>= λ _. Ok (record { path = p; node = Some node; replaces = false })
 
 abbrev pub target_of : Office → Method → Option Path → Result Target Refusal
 target_of o m None = Err NotFound
@@ -169,14 +168,14 @@ abbrev pub suits_target : Asked → Target → Result (Unit {0}) Refusal
 suits_target a target = check (suits a (kind_of target.path)) (NotAllowed (allowed_of (kind_of target.path)))
 
 -- what is mapped may be replaced, or nothing is mapped (RFC 4918, section 10.6)
-abbrev pub replaceable : Bool → Option Node → Result (Option Node) Refusal
-replaceable overwrite None = Ok None
-replaceable overwrite (Some node) = check overwrite Overwrite >>= λ _. Ok (Some node)
+abbrev pub replaceable : Bool → Bool → Result Bool Refusal
+replaceable overwrite false = Ok false
+replaceable overwrite true = check overwrite Overwrite >>= λ _. Ok true
 
--- what is mapped at the destination of COPY and MOVE, whose book is there (RFC 4918, section 9.8.5); other methods have none
-abbrev pub destination_of : Office → Option Destination → Result (Option Node) Refusal
-destination_of o None = Ok None
-destination_of o (Some to) = check (is_some (get o.books to.book)) NoParent >>= λ _. replaceable to.overwrite (node_at o (destination_path to))
+-- whether something is mapped at the destination of COPY and MOVE, whose book is there (RFC 4918, section 9.8.5); other methods have none
+abbrev pub destination_of : Office → Option Destination → Result Bool Refusal
+destination_of o None = Ok false
+destination_of o (Some to) = check (is_some (get o.books to.book)) NoParent >>= λ _. replaceable to.overwrite (is_some (node_at o (destination_path to)))
 
 -- the stages before the verdict
 abbrev pub ready_of : Office → Option (List ℕ) → Request → Result Ready Refusal
@@ -185,8 +184,8 @@ ready_of o name request =
     asked_of request.method request >>= λ asked.
     target_of o request.method request.path >>= λ target.
     suits_target asked target >>= λ _.
-    destination_of o (destination_in asked) >>= λ destination.
-    Ok (record { caller = caller; asked = asked; target = record target { destination = destination } })
+    destination_of o (destination_in asked) >>= λ replaces.
+    Ok (record { caller = caller; asked = asked; target = record target { replaces = replaces } })
 
 -- the body: the text of a card that is put is a card
 abbrev pub bad_card : Option CardFault → Result (Unit {0}) Refusal
@@ -337,7 +336,7 @@ keeps_limits o asked.Mkcol p mapped taken = nat_lt (count_at o path.Books) MAX_B
 keeps_limits o (asked.Report which) p mapped taken = true
 
 abbrev pub limits_of : Office → Asked → Target → Result (Unit {0}) Refusal
-limits_of o a target = check (keeps_limits o a target.path (is_some target.node) (is_some target.destination)) Full
+limits_of o a target = check (keeps_limits o a target.path (is_some target.node) target.replaces) Full
 
 -- who owns what is made
 abbrev pub owner_of : Caller → Option (List ℕ)
@@ -357,9 +356,10 @@ abbrev pub text_of : Option Node → Result (List ℕ) Refusal
 text_of None = Err NotFound
 text_of (Some node) = text_told node.text
 
-abbrev pub put_status : Option Node → ℕ
-put_status None = 201
-put_status (Some node) = 204
+-- by whether a card is replaced
+abbrev pub put_status : Bool → ℕ
+put_status false = 201
+put_status true = 204
 
 abbrev pub put_edit : Caller → List ℕ → Path → Result Edit Refusal
 put_edit caller text path.Root = Err NotFound
@@ -434,7 +434,7 @@ abbrev pub allow_plan : Path → Result Plan Refusal
 allow_plan p = Ok (replied 200 (content.Allow (allowed_of (kind_of p))) None)
 
 abbrev pub put_plan : Caller → List ℕ → Target → Result Plan Refusal
-put_plan caller text target = put_edit caller text target.path >>= λ edit. Ok (replied (put_status target.node) content.Empty (Some edit))
+put_plan caller text target = put_edit caller text target.path >>= λ edit. Ok (replied (put_status (is_some target.node)) content.Empty (Some edit))
 
 abbrev pub patch_plan : Path → Patch → Result Plan Refusal
 patch_plan p patched = patch_edit p patched >>= λ edit. Ok (replied 200 content.Empty (Some edit))
@@ -444,10 +444,10 @@ acl_plan p list = Ok (replied 200 content.Empty (Some (SetList p (entries_of lis
 
 -- a new card at the destination, or one in the place of a card that is there (RFC 4918, sections 9.8.5 and 9.9.4)
 abbrev pub copy_plan : Caller → Destination → Target → Result Plan Refusal
-copy_plan caller to target = copy_edit caller target.path to >>= λ edit. Ok (replied (put_status target.destination) content.Empty (Some edit))
+copy_plan caller to target = copy_edit caller target.path to >>= λ edit. Ok (replied (put_status target.replaces) content.Empty (Some edit))
 
 abbrev pub move_plan : Destination → Target → Result Plan Refusal
-move_plan to target = move_edit target.path to >>= λ edit. Ok (replied (put_status target.destination) content.Empty (Some edit))
+move_plan to target = move_edit target.path to >>= λ edit. Ok (replied (put_status target.replaces) content.Empty (Some edit))
 
 abbrev pub delete_plan : Path → Result Plan Refusal
 delete_plan p = delete_edit p >>= λ edit. Ok (replied 204 content.Empty (Some edit))

@@ -28,7 +28,7 @@ use Rattle.book_machine.specs.declared.messages.ReportKind.TheVariants.{SyncColl
 use Rattle.book_machine.specs.declared.messages.Request.{Request}
 use Rattle.book_machine.specs.declared.messages.SyncFrom.{SyncFrom}
 use Rattle.book_machine.specs.declared.messages.SyncFrom.TheVariants.{Start, After}
-use Rattle.book_machine.specs.declared.plans.Ready.{Ready}
+use Rattle.book_machine.specs.Targets.{Ready}
 use Rattle.book_machine.specs.declared.refusals.Refusal.TheVariants.{ValidSyncToken, Unavailable}
 
 -- a request for the report on a book by a token, or from the start

@@ -1,5 +1,5 @@
 -- The verdict on a request: whether each privilege that its method needs is granted (RFC 3744, section 6).
-use Rattle.std.specs.Prelude.{◌≡◌, ◌⊎◌, Bool, true, false, List, [], ◌∷◌, Option, option_map, option_and_then, unwrap_or, is_some, Result, Ok, Err}
+use Rattle.std.specs.Prelude.{◌≡◌, ◌⊎◌, ℕ, Bool, true, false, List, [], ◌∷◌, Option, option_map, option_and_then, unwrap_or, is_some, Result, Ok, Err}
 use Rattle.book_lists.specs.Callers.{IsCircle}
 use Rattle.book_lists.specs.Circles.{CircleOf}
 use Rattle.book_lists.specs.declared.entries.Here.{Here}
@@ -7,6 +7,7 @@ use Rattle.book_office.specs.Levels.{effective_at}
 use Rattle.book_values.specs.Paths.{parent_of, kind_of}
 use Rattle.book_office.specs.Resources.{node_at}
 use Rattle.book_office.specs.declared.nodes.EffectiveEntry.{EffectiveEntry}
+use Rattle.book_office.specs.declared.nodes.Node.{Node}
 use Rattle.book_values.specs.declared.offices.Office.{Office}
 use Rattle.book_values.specs.declared.paths.Kind.{Kind}
 use Rattle.book_values.specs.declared.paths.Kind.TheVariants as kind
@@ -28,8 +29,7 @@ use Rattle.book_machine.specs.declared.asked.Asked.TheVariants as asked
 use Rattle.book_machine.specs.declared.asked.Destination.{Destination}
 use Rattle.book_machine.specs.declared.messages.ReportKind.{ReportKind}
 use Rattle.book_machine.specs.declared.messages.ReportKind.TheVariants as report
-use Rattle.book_machine.specs.declared.plans.Ready.{Ready}
-use Rattle.book_machine.specs.declared.plans.Target.{Target}
+use Rattle.book_machine.specs.Targets.{Ready, Target}
 use Rattle.book_machine.specs.declared.refusals.Refusal.{Refusal}
 use Rattle.book_machine.specs.declared.refusals.Refusal.TheVariants.{NeedPrivileges, Unavailable}
 
@@ -90,7 +90,7 @@ asks_effective (asked.Report which) = is_effective which
 abbrev pub shape_at : Ready → Shape
 shape_at ready = record {
   target_mapped = is_some ready.target.node;
-  destination_mapped = is_some ready.target.destination;
+  destination_mapped = ready.target.replaces;
   book = is_book (kind_of ready.target.path);
   acl = asks_for Acl ready.asked;
   privileges = asks_for CurrentUserPrivilegeSet ready.asked;
@@ -139,6 +139,13 @@ pub record IsDenied (o : Office) (ready : Ready) (denial : Denial) : Type 0 wher
 abbrev pub JudgesNeeds : Office → CircleOf → Option Destination → Path → List Need → Result (Unit {0}) Refusal → Type 0
 JudgesNeeds o circle to target needs (Ok u) = AreGranted o circle to target needs
 JudgesNeeds o circle to target needs (Err e) = (e ≡ Unavailable) ⊎ ((denial : Denial) × (e ≡ NeedPrivileges denial) × IsFirstDenial o circle to target needs denial)
+
+-- the owner of what is mapped, and what is mapped with this owner
+abbrev pub owner_in : Option Node → Option (List ℕ)
+owner_in node = option_and_then (λ (n : Node). n.owner) node
+
+abbrev pub owned_by : Option (List ℕ) → Option Node → Option Node
+owned_by owner node = option_map (λ (n : Node). record n { owner = owner }) node
 
 -- the target's node is what is mapped there
 abbrev pub IsTarget : Office → Target → Type 0

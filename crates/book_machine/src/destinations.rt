@@ -12,33 +12,29 @@ use crate::machine::Machine;
 use crate::refusals::Refusal;
 use crate::stages::{can_change_twice, replaceable};
 use book_lists::Name;
-use book_office::{Keeper, Node, Path};
+use book_office::{Keeper, Path};
 use std::alloc::Global;
 
 impl<K: Keeper> Machine<K> {
-    /// What is mapped at a destination: its book is there, and a card that is there may be replaced.
-    fn at_destination(&mut self, alloc: Global, to: &Destination) -> Result<Option<Node>, Refusal>
+    /// Whether something is mapped at a destination: its book is there, and a card that is there may be replaced.
+    fn replaces_at(&mut self, alloc: Global, to: &Destination) -> Result<bool, Refusal>
         ensures { StageAsks K.standing self.old self.new result (λ o r. Meets r (destination_of o (Some to.now))) }
     {
         if !self.has_book(alloc, &to.book)? {
             return Err(Refusal::NoParent);
         }
         let path = to.path()?;
-        let node = self.keeper.find(alloc, &path)?;
-        replaceable(to.overwrite, node)
+        let taken = self.keeper.has(alloc, &path)?;
+        replaceable(to.overwrite, taken)
     }
 
-    /// What is mapped at the destination, where there is one.
-    pub(crate) fn destination(
-        &mut self,
-        alloc: Global,
-        asked: &Asked,
-    ) -> Result<Option<Node>, Refusal>
+    /// Whether something is mapped at the destination, where there is one.
+    pub(crate) fn replaces(&mut self, alloc: Global, asked: &Asked) -> Result<bool, Refusal>
         ensures { StageAsks K.standing self.old self.new result (λ o r. Meets r (destination_of o (destination_in asked.now))) }
     {
         match asked {
-            Asked::Copy(to) => self.at_destination(alloc, to),
-            Asked::Move(to) => self.at_destination(alloc, to),
+            Asked::Copy(to) => self.replaces_at(alloc, to),
+            Asked::Move(to) => self.replaces_at(alloc, to),
             Asked::Get
             | Asked::Head
             | Asked::Options
@@ -48,7 +44,7 @@ impl<K: Keeper> Machine<K> {
             | Asked::Acl(_)
             | Asked::Delete
             | Asked::Mkcol
-            | Asked::Report(_) => Ok(None),
+            | Asked::Report(_) => Ok(false),
         }
     }
 

@@ -1,22 +1,22 @@
 //! The machine: it serves one request after the other.
 
-ghost use Rattle.std.specs.Prelude.{◌≡◌, [], Ok, IfOk, OnOk, OnErr, is_some, nat_lt, option_and_then};
+ghost use Rattle.std.specs.Prelude.{◌≡◌, [], Ok, IfOk, OnOk, OnErr, None, is_some, nat_lt};
 ghost use Rattle.std.specs.FinMap.{get};
 ghost use Rattle.std.specs.Option.{option_copied};
-ghost use Rattle.book_rights.specs.Needs.{listed_others, listed_too};
+ghost use Rattle.book_rights.specs.Needs.{listed, listed_others, listed_too};
 ghost use Rattle.book_office.specs.Resources.{count_at, node_at};
 ghost use Rattle.book_office.specs.Sound.{IsMapped};
-ghost use Rattle.book_office.specs.declared.nodes.Node.{Node};
 ghost use Rattle.book_values.specs.declared.paths.Path.TheVariants as path;
 ghost use Rattle.book_machine.specs.Asked.{destination_in};
-ghost use Rattle.book_machine.specs.Asking.{HasPath, HasPaths, Meets, MeetsAny, MeetsItems, MeetsPlan, StageAsks, TellsChecked, TellsCheckedEntry, TellsWhether};
+ghost use Rattle.book_machine.specs.Asking.{HasPath, HasPaths, Meets, MeetsAny, MeetsItems, MeetsPlan, MeetsSeen, StageAsks, TellsChecked, TellsCheckedEntry, TellsWhether};
 ghost use Rattle.book_machine.specs.LeadingRuns.{HavePaths};
 ghost use Rattle.book_machine.specs.Promises.{ServeAllPromise, ServeHidesUnread, ServePromise};
 ghost use Rattle.book_machine.specs.Runs.{calls_of, name_of};
 ghost use Rattle.book_machine.specs.SyncedCopies.{Synced};
 ghost use Rattle.book_machine.specs.Stages.{at_node, at_unmapped, can_change, caller_of, delete_limits, keeps_limits, label_limits, limits_of, new_book_at, new_card, patch_limits, put_limits, ready_of, target_of, IsAclAnswer, IsBodyAnswer, IsGrantedPlan, IsKnownWho, IsListed, IsMembersAnswer, IsPatchAnswer, IsSuccess, protected_entries_at};
-ghost use Rattle.book_listings.specs.Verdicts.{owner_at};
-ghost use Rattle.book_machine.specs.Verdicts.{IsTarget, JudgesNeed, JudgesNeeds, needs_at, place_path};
+ghost use Rattle.book_machine.specs.Targets.{ready_seen, target_seen};
+ghost use Rattle.book_listings.specs.Verdicts.{here_of, owner_at};
+ghost use Rattle.book_machine.specs.Verdicts.{IsTarget, JudgesNeed, JudgesNeeds, needs_at, owned_by, owner_in, place_path};
 
 use crate::allowed_methods::AllowedMethods;
 use crate::asked::{Asked, asked_of, copy_of_entry};
@@ -25,9 +25,9 @@ use crate::messages::{Content, Patch, Reply, Request};
 use crate::plans::{Plan, Ready, Target};
 use crate::refusals::{Refusal, refuse, refused};
 use crate::stages::{
-    acl_plan, allow_plan, can_change, card_plan, check_card, check_kind, check_suits, copy_of,
-    copy_plan, delete_plan, is_young, list_refusal, mkcol_plan, move_plan, patch_plan, path_of,
-    place_path, principal_of, put_plan, replied, shape_at,
+    acl_plan, allow_plan, can_change, card_plan, check_card, check_kind, check_suits, copy_plan,
+    delete_plan, is_young, list_refusal, mkcol_plan, move_plan, patch_plan, path_of, place_path,
+    principal_of, put_plan, replied, shape_at,
 };
 use book_limits::{LAST_NUMBER, MAX_BOOKS, MAX_CARDS, MAX_ENTRIES};
 use book_listings::{Find, listing};
@@ -70,9 +70,9 @@ impl<K: Keeper> Machine<K> {
             return Err(Refusal::UnknownCaller);
         };
         let person = Principal::person(alloc, &name)?;
-        match self.keeper.find(alloc, &Path::Person(name))? {
-            Some(_) => Ok(Caller::Known(person)),
-            None => Err(Refusal::UnknownCaller),
+        match self.keeper.has(alloc, &Path::Person(name))? {
+            true => Ok(Caller::Known(person)),
+            false => Err(Refusal::UnknownCaller),
         }
     }
 
@@ -81,7 +81,7 @@ impl<K: Keeper> Machine<K> {
         ensures { StageAsks K.standing self.old self.new result (λ o r. Meets r (Ok (is_some (get o.books book.now)))) }
     {
         let path = Path::Book(book.clone()?);
-        Ok(self.keeper.find(alloc, &path)?.is_some())
+        Ok(self.keeper.has(alloc, &path)?)
     }
 
     /// A PUT at a path where nothing is mapped: the path of a card whose book is there.
@@ -143,22 +143,22 @@ impl<K: Keeper> Machine<K> {
     }
 
     /// The path of a request, with what is mapped there.
-    fn target_at(
+    fn target_at<'r>(
         &mut self,
         alloc: Global,
         method: Method,
-        path: Path,
+        path: &'r Path,
         node: Option<Node>,
-    ) -> Result<Target, Refusal>
-        ensures { StageAsks K.standing self.old self.new result (λ o r. Meets r (at_node o method path node)) }
+    ) -> Result<Target<'r>, Refusal>
+        ensures { StageAsks K.standing self.old self.new result (λ o r. MeetsSeen target_seen r (at_node o method path.now node)) }
     {
         match node {
             None => {
-                self.check_unmapped(alloc, method, &path)?;
+                self.check_unmapped(alloc, method, path)?;
                 Ok(Target {
                     path,
                     node: None,
-                    destination: None,
+                    replaces: false,
                 })
             }
             Some(node) => {
@@ -166,47 +166,43 @@ impl<K: Keeper> Machine<K> {
                 Ok(Target {
                     path,
                     node: Some(node),
-                    destination: None,
+                    replaces: false,
                 })
             }
         }
     }
 
     /// The path: what the request asks for.
-    fn target(&mut self, alloc: Global, request: &Request) -> Result<Target, Refusal>
+    fn target<'r>(&mut self, alloc: Global, request: &'r Request) -> Result<Target<'r>, Refusal>
         ensures { StageAsks K.standing self.old self.new result
-            (λ o r. Meets r (target_of o request.now.method request.now.path)) }
+            (λ o r. MeetsSeen target_seen r (target_of o request.now.method request.now.path)) }
     {
         let Some(path) = &request.path else {
             return Err(Refusal::NotFound);
         };
-        let path = copy_of(path)?;
-        let node = self.keeper.find(alloc, &path)?;
+        let node = self.keeper.find(alloc, path)?;
         self.target_at(alloc, request.method, path, node)
     }
 
     /// The stages before the verdict.
-    fn ready(
+    fn ready<'r>(
         &mut self,
         alloc: Global,
         name: Option<&str>,
-        request: &Request,
-    ) -> Result<Ready, Refusal>
+        request: &'r Request,
+    ) -> Result<Ready<'r>, Refusal>
         ensures { StageAsks K.standing self.old self.new result
-            (λ o r. Meets r (ready_of o (option_copied name.entry) request.now)) }
+            (λ o r. MeetsSeen ready_seen r (ready_of o (option_copied name.entry) request.now)) }
     {
         let caller = self.caller(alloc, name)?;
         let asked = asked_of(alloc, request.method, request)?;
         let target = self.target(alloc, request)?;
         check_suits(&asked, &target)?;
-        let destination = self.destination(alloc, &asked)?;
+        let replaces = self.replaces(alloc, &asked)?;
         Ok(Ready {
             caller,
             asked,
-            target: Target {
-                destination,
-                ..target
-            },
+            target: Target { replaces, ..target },
         })
     }
 
@@ -220,45 +216,44 @@ impl<K: Keeper> Machine<K> {
         }
     }
 
-    /// The verdict on one need at a resource with this owner. The lists in force are told where it is not granted alone: then
-    /// a denial names its entry by them.
-    fn check_owned(
+    /// The verdict on one need at a resource. The lists in force are told where it is not granted alone: then a denial names
+    /// its entry by them.
+    fn check_here(
         &mut self,
         alloc: Global,
         circle: &Circle,
         path: &Path,
-        owner: Option<Principal>,
+        here: &Here,
         set: LeafSet,
     ) -> Result<(), Refusal>
         ensures { StageAsks K.standing self.old self.new result
-            (λ o r. owner ≡ owner_at o path.now → JudgesNeed o circle.now path.now set r) }
+            (λ o r. here.now ≡ here_of o path.now → JudgesNeed o circle.now path.now set r) }
     {
-        let principal = principal_of(alloc, path)?;
-        let here = Here { owner, principal };
-        match self.keeper.unless_granted(alloc, path, circle, &here, set)? {
+        match self.keeper.unless_granted(alloc, path, circle, here, set)? {
             None => Ok(()),
-            Some(lists) => judge(alloc, lists.levels.as_slice(), circle, path, &here, set),
+            Some(lists) => judge(alloc, lists.levels.as_slice(), circle, path, here, set),
         }
     }
 
-    /// The verdict on one need. Of the target the owner is known, and no path is copied.
+    /// The verdict on one need. What entries ask of the target is known, and its path is not copied.
     fn check_need(
         &mut self,
         alloc: Global,
         circle: &Circle,
-        ready: &Ready,
+        ready: &Ready<'_>,
+        target: &Here,
         need: Need,
     ) -> Result<(), Refusal>
         ensures { StageAsks K.standing self.old self.new result
-            (λ o r. IsTarget o ready.now.target → JudgesNeed o circle.now (place_path (destination_in ready.now.asked) ready.now.target.path need.place) need.set r) }
+            (λ o r. target.now ≡ here_of o ready.now.target.path.now → JudgesNeed o circle.now (place_path (destination_in ready.now.asked) ready.now.target.path.now need.place) need.set r) }
     {
         if need.place == Place::Target {
-            let owner = owner_in(&ready.target.node)?;
-            return self.check_owned(alloc, circle, &ready.target.path, owner, need.set);
+            return self.check_here(alloc, circle, ready.target.path, target, need.set);
         }
         let path = place_path(ready, need.place)?;
+        let principal = principal_of(alloc, &path)?;
         let owner = self.owner(alloc, &path)?;
-        self.check_owned(alloc, circle, &path, owner, need.set)
+        self.check_here(alloc, circle, &path, &Here { owner, principal }, need.set)
     }
 
     /// The verdict on a need, if there is one.
@@ -266,14 +261,15 @@ impl<K: Keeper> Machine<K> {
         &mut self,
         alloc: Global,
         circle: &Circle,
-        ready: &Ready,
+        ready: &Ready<'_>,
+        target: &Here,
         need: Option<Need>,
     ) -> Result<(), Refusal>
         ensures { StageAsks K.standing self.old self.new result
-            (λ o r. IsTarget o ready.now.target → JudgesNeeds o circle.now (destination_in ready.now.asked) ready.now.target.path (listed_too need []) r) }
+            (λ o r. target.now ≡ here_of o ready.now.target.path.now → JudgesNeeds o circle.now (destination_in ready.now.asked) ready.now.target.path.now (listed_too need []) r) }
     {
         match need {
-            Some(need) => self.check_need(alloc, circle, ready, need),
+            Some(need) => self.check_need(alloc, circle, ready, target, need),
             None => Ok(()),
         }
     }
@@ -283,27 +279,56 @@ impl<K: Keeper> Machine<K> {
         &mut self,
         alloc: Global,
         circle: &Circle,
-        ready: &Ready,
+        ready: &Ready<'_>,
+        target: &Here,
         others: Option<(Need, Option<Need>)>,
     ) -> Result<(), Refusal>
         ensures { StageAsks K.standing self.old self.new result
-            (λ o r. IsTarget o ready.now.target → JudgesNeeds o circle.now (destination_in ready.now.asked) ready.now.target.path (listed_others others) r) }
+            (λ o r. target.now ≡ here_of o ready.now.target.path.now → JudgesNeeds o circle.now (destination_in ready.now.asked) ready.now.target.path.now (listed_others others) r) }
     {
         let Some((second, third)) = others else {
             return Ok(());
         };
-        self.check_need(alloc, circle, ready, second)?;
-        self.check_any(alloc, circle, ready, third)
+        self.check_need(alloc, circle, ready, target, second)?;
+        self.check_any(alloc, circle, ready, target, third)
     }
 
-    /// The verdict: each need of the request in turn.
-    fn check_needs(&mut self, alloc: Global, circle: &Circle, ready: &Ready) -> Result<(), Refusal>
+    /// The verdict on each need in turn.
+    fn check_each(
+        &mut self,
+        alloc: Global,
+        circle: &Circle,
+        ready: &Ready<'_>,
+        target: &Here,
+        needs: Needs,
+    ) -> Result<(), Refusal>
         ensures { StageAsks K.standing self.old self.new result
-            (λ o r. IsTarget o ready.now.target → JudgesNeeds o circle.now (destination_in ready.now.asked) ready.now.target.path (needs_at ready.now) r) }
+            (λ o r. target.now ≡ here_of o ready.now.target.path.now → JudgesNeeds o circle.now (destination_in ready.now.asked) ready.now.target.path.now (listed needs) r) }
     {
-        let Needs { first, others } = needs(ready.asked.method(), shape_at(ready));
-        self.check_need(alloc, circle, ready, first)?;
-        self.check_others(alloc, circle, ready, others)
+        let Needs { first, others } = needs;
+        self.check_need(alloc, circle, ready, target, first)?;
+        self.check_others(alloc, circle, ready, target, others)
+    }
+
+    /// The verdict: each need of the request in turn. The owner of the target is taken out of its node until they are
+    /// checked, and is not copied.
+    fn check_needs(
+        &mut self,
+        alloc: Global,
+        circle: &Circle,
+        ready: &mut Ready<'_>,
+    ) -> Result<(), Refusal>
+        ensures judges { StageAsks K.standing self.old self.new result
+            (λ o r. IsTarget o (target_seen ready.old.target) → JudgesNeeds o circle.now (destination_in ready.old.asked) ready.old.target.path.now (needs_at (ready_seen ready.old)) r) }
+        ensures kept { ready.new ≡ ready.old }
+    {
+        let needs = needs(ready.asked.method(), shape_at(ready));
+        let principal = principal_of(alloc, ready.target.path)?;
+        let owner = take_owner(&mut ready.target.node);
+        let here = Here { owner, principal };
+        let verdict = self.check_each(alloc, circle, ready, &here, needs);
+        put_owner(&mut ready.target.node, here.owner);
+        verdict
     }
 
     /// Whether the number of a book can rise.
@@ -424,20 +449,18 @@ impl<K: Keeper> Machine<K> {
         &mut self,
         alloc: Global,
         asked: &Asked,
-        target: &Target,
+        target: &Target<'_>,
     ) -> Result<bool, Refusal>
         ensures { StageAsks K.standing self.old self.new result
-            (λ o r. Meets r (Ok (keeps_limits o asked.now target.now.path (is_some target.now.node) (is_some target.now.destination)))) }
+            (λ o r. Meets r (Ok (keeps_limits o asked.now target.now.path.now (is_some target.now.node) target.now.replaces))) }
     {
         match asked {
-            Asked::Put(_) => self.keeps_put_limits(alloc, &target.path, target.node.is_some()),
-            Asked::Proppatch(patch) => self.keeps_patch_limits(alloc, patch, &target.path),
+            Asked::Put(_) => self.keeps_put_limits(alloc, target.path, target.node.is_some()),
+            Asked::Proppatch(patch) => self.keeps_patch_limits(alloc, patch, target.path),
             Asked::Acl(_) => self.epoch_can_rise(),
-            Asked::Copy(to) => self.keeps_copy_limits(alloc, to, target.destination.is_some()),
-            Asked::Move(to) => {
-                self.keeps_move_limits(alloc, &target.path, to, target.destination.is_some())
-            }
-            Asked::Delete => self.keeps_delete_limits(alloc, &target.path),
+            Asked::Copy(to) => self.keeps_copy_limits(alloc, to, target.replaces),
+            Asked::Move(to) => self.keeps_move_limits(alloc, target.path, to, target.replaces),
+            Asked::Delete => self.keeps_delete_limits(alloc, target.path),
             Asked::Mkcol => self.has_room(alloc, &Path::Books, MAX_BOOKS),
             Asked::Get | Asked::Head | Asked::Options | Asked::Propfind(_) | Asked::Report(_) => Ok(
                 true,
@@ -446,8 +469,13 @@ impl<K: Keeper> Machine<K> {
     }
 
     /// The limits, which the Office keeps after the edit.
-    fn check_limits(&mut self, alloc: Global, asked: &Asked, target: &Target) -> Result<(), Refusal>
-        ensures { StageAsks K.standing self.old self.new result (λ o r. Meets r (limits_of o asked.now target.now)) }
+    fn check_limits(
+        &mut self,
+        alloc: Global,
+        asked: &Asked,
+        target: &Target<'_>,
+    ) -> Result<(), Refusal>
+        ensures { StageAsks K.standing self.old self.new result (λ o r. Meets r (limits_of o asked.now (target_seen target.now))) }
     {
         match self.keeps_limits(alloc, asked, target)? {
             true => Ok(()),
@@ -464,7 +492,7 @@ impl<K: Keeper> Machine<K> {
         ensures { StageAsks K.standing self.old self.new result (λ o r. TellsWhether (IsMapped o principal.now) r) }
     {
         let path = path_of(alloc, principal)?;
-        Ok(self.keeper.find(alloc, &path)?.is_some())
+        Ok(self.keeper.has(alloc, &path)?)
     }
 
     /// Each member is there.
@@ -580,23 +608,23 @@ impl<K: Keeper> Machine<K> {
         &mut self,
         alloc: Global,
         circle: &Circle,
-        target: &Target,
+        target: &Target<'_>,
         find: &Find,
     ) -> Result<Plan, Refusal>
-        ensures { StageAsks K.standing self.old self.new result (λ o r. IsTarget o target.now
-            → MeetsAny (IsListed o circle.now find.now target.now.path target.now.node) r) }
+        ensures { StageAsks K.standing self.old self.new result (λ o r. IsTarget o (target_seen target.now)
+            → MeetsAny (IsListed o circle.now find.now target.now.path.now target.now.node) r) }
     {
         let Some(node) = &target.node else {
             return Err(Refusal::NotFound);
         };
-        let responses = listing(alloc, &mut self.keeper, circle, &target.path, node, find)?;
+        let responses = listing(alloc, &mut self.keeper, circle, target.path, node, find)?;
         Ok(replied(207, Content::Listing(responses), None))
     }
 
     /// The reply, and the edit that is to be made.
-    fn success(&mut self, alloc: Global, circle: &Circle, ready: Ready) -> Result<Plan, Refusal>
+    fn success(&mut self, alloc: Global, circle: &Circle, ready: Ready<'_>) -> Result<Plan, Refusal>
         ensures { StageAsks K.standing self.old self.new result
-            (λ o r. IsTarget o ready.target → MeetsAny (IsSuccess o circle.now ready) r) }
+            (λ o r. IsTarget o (target_seen ready.entry.target) → MeetsAny (IsSuccess o circle.now (ready_seen ready.entry)) r) }
     {
         let Ready {
             caller,
@@ -605,7 +633,7 @@ impl<K: Keeper> Machine<K> {
         } = ready;
         match asked {
             Asked::Get | Asked::Head => card_plan(target.node),
-            Asked::Options => allow_plan(&target.path),
+            Asked::Options => allow_plan(target.path),
             Asked::Put(text) => put_plan(caller, text, target),
             Asked::Propfind(find) => self.listed(alloc, circle, &target, &find),
             Asked::Proppatch(patch) => patch_plan(alloc, target.path, patch),
@@ -614,16 +642,16 @@ impl<K: Keeper> Machine<K> {
             Asked::Move(to) => move_plan(to, target),
             Asked::Delete => delete_plan(target.path),
             Asked::Mkcol => mkcol_plan(caller, target.path),
-            Asked::Report(kind) => self.reported(alloc, circle, &target.path, &kind),
+            Asked::Report(kind) => self.reported(alloc, circle, target.path, &kind),
         }
     }
 
     /// The stages after a verdict that grants.
-    fn granted(&mut self, alloc: Global, circle: &Circle, ready: Ready) -> Result<Plan, Refusal>
+    fn granted(&mut self, alloc: Global, circle: &Circle, ready: Ready<'_>) -> Result<Plan, Refusal>
         ensures { StageAsks K.standing self.old self.new result
-            (λ o r. IsTarget o ready.target → MeetsAny (IsGrantedPlan o circle.now ready) r) }
+            (λ o r. IsTarget o (target_seen ready.entry.target) → MeetsAny (IsGrantedPlan o circle.now (ready_seen ready.entry)) r) }
     {
-        if let Err(refusal) = self.check_body(alloc, &ready.asked, &ready.target.path) {
+        if let Err(refusal) = self.check_body(alloc, &ready.asked, ready.target.path) {
             return refuse(ready, refusal);
         }
         if let Err(refusal) = self.check_limits(alloc, &ready.asked, &ready.target) {
@@ -642,11 +670,11 @@ impl<K: Keeper> Machine<K> {
         ensures { StageAsks K.standing self.old self.new result
             (λ o r. MeetsPlan o (option_copied name.entry) request.now r) }
     {
-        let ready = self.ready(alloc, name, request)?;
+        let mut ready = self.ready(alloc, name, request)?;
         let Ok(circle) = self.keeper.circle(alloc, &ready.caller) else {
             return refuse(ready, Refusal::Unavailable);
         };
-        if let Err(refusal) = self.check_needs(alloc, &circle, &ready) {
+        if let Err(refusal) = self.check_needs(alloc, &circle, &mut ready) {
             return refuse(ready, refusal);
         }
         self.granted(alloc, &circle, ready)
@@ -718,13 +746,23 @@ fn name_text(name: &Option<String>) -> Option<&str>
     }
 }
 
-/// The owner of what is mapped at the target.
-fn owner_in(node: &Option<Node>) -> Result<Option<Principal>, AllocError>
-    ensures { IfOk result (λ owner. owner ≡ option_and_then (λ (n : Node). n.owner) node.now) }
+/// Takes the owner out of what is mapped.
+fn take_owner(node: &mut Option<Node>) -> Option<Principal>
+    ensures owner { result ≡ owner_in node.old }
+    ensures rest { node.new ≡ owned_by None node.old }
 {
     match node {
-        Some(node) => node.owner.clone(),
-        None => Ok(None),
+        Some(node) => node.owner.take(),
+        None => None,
+    }
+}
+
+/// Puts an owner into what is mapped.
+fn put_owner(node: &mut Option<Node>, owner: Option<Principal>)
+    ensures { node.new ≡ owned_by owner node.old }
+{
+    if let Some(node) = node {
+        node.owner = owner;
     }
 }
 

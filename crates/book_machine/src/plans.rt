@@ -5,26 +5,26 @@ use crate::messages::Reply;
 use book_lists::Caller;
 use book_office::{Edit, Node, Path};
 
-/// The resource that a request asks for, and what it finds at its destination.
+/// The resource that a request asks for, and what is known of its destination.
 #[derive(Debug, Drop)]
-pub struct Target {
-    /// Where it is.
-    pub path: Path,
+pub struct Target<'r> {
+    /// Where it is, as the request tells it.
+    pub path: &'r Path,
     /// What is mapped there, if anything is.
     pub node: Option<Node>,
-    /// What is mapped at the destination of a COPY or MOVE, if anything is.
-    pub destination: Option<Node>,
+    /// Whether something is mapped at the destination of a COPY or MOVE.
+    pub replaces: bool,
 }
 
 /// A request that has passed the stages before its verdict: caller, what is asked, and path.
 #[derive(Debug, Drop)]
-pub struct Ready {
+pub struct Ready<'r> {
     /// Who asks.
     pub caller: Caller,
     /// What is asked, by method.
     pub asked: Asked,
     /// The resource that it is asked of.
-    pub target: Target,
+    pub target: Target<'r>,
 }
 
 /// What is to be done for a request that nothing refuses. The reply is made before the edit.

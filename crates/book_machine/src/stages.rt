@@ -11,6 +11,7 @@ ghost use Rattle.book_lists.specs.ListEdits.{entries_of};
 ghost use Rattle.book_machine.specs.Stages.{bad_card, can_change, can_change_twice, check, copy_edit, delete_edit, list_refusal, members_edit, mkcol_edit, move_edit, owner_of, patch_edit, put_edit, put_status, replaceable, replied, suits, suits_target, text_of};
 ghost use Rattle.book_machine.specs.Stages.{acl_plan, allow_plan, card_plan, copy_plan, delete_plan, mkcol_plan, move_plan, patch_plan, put_plan};
 ghost use Rattle.book_machine.specs.declared.refusals.Refusal.TheVariants.{BadCard, NotAllowed, Unavailable};
+ghost use Rattle.book_machine.specs.Targets.{ready_seen, target_seen};
 ghost use Rattle.book_listings.specs.Verdicts.{principal_of};
 ghost use Rattle.book_office.specs.declared.nodes.Node.{Node as NodeOf};
 ghost use Rattle.book_machine.specs.Verdicts.{asks_effective, asks_for, or_itself, place_path, shape_at};
@@ -88,12 +89,12 @@ fn asks_effective(asked: &Asked) -> bool
 }
 
 /// What decides the row of needs.
-pub(crate) fn shape_at(ready: &Ready) -> Shape
-    ensures { result ≡ shape_at ready.now }
+pub(crate) fn shape_at(ready: &Ready<'_>) -> Shape
+    ensures { result ≡ shape_at (ready_seen ready.now) }
 {
     Shape {
         target_mapped: ready.target.node.is_some(),
-        destination_mapped: ready.target.destination.is_some(),
+        destination_mapped: ready.target.replaces,
         book: ready.target.path.kind() == Kind::Book,
         acl: asks_for(Property::Acl, &ready.asked),
         privileges: asks_for(Property::CurrentUserPrivilegeSet, &ready.asked),
@@ -112,7 +113,7 @@ fn parent_or_itself(path: &Path) -> Result<Path, AllocError>
 }
 
 /// A copy of a path.
-pub(crate) fn copy_of(path: &Path) -> Result<Path, AllocError>
+fn copy_of(path: &Path) -> Result<Path, AllocError>
     ensures { IfOk result (λ copy. copy ≡ path.now) }
 {
     path.clone()
@@ -159,10 +160,10 @@ fn destination_book_or(asked: &Asked, path: &Path) -> Result<Path, AllocError>
 }
 
 /// The resource that a place of what is asked names.
-pub(crate) fn place_path(ready: &Ready, place: Place) -> Result<Path, AllocError>
-    ensures { IfOk result (λ p. p ≡ place_path (destination_in ready.now.asked) ready.now.target.path place) }
+pub(crate) fn place_path(ready: &Ready<'_>, place: Place) -> Result<Path, AllocError>
+    ensures { IfOk result (λ p. p ≡ place_path (destination_in ready.now.asked) ready.now.target.path.now place) }
 {
-    let path = &ready.target.path;
+    let path = ready.target.path;
     match place {
         Place::Target => path.clone(),
         Place::Parent => parent_or_itself(path),
@@ -253,8 +254,8 @@ fn suits(asked: &Asked, kind: Kind) -> bool
 }
 
 /// The kind of the resource at which something is asked is one of which it is asked.
-pub(crate) fn check_suits(asked: &Asked, target: &Target) -> Result<(), Refusal>
-    ensures { result ≡ suits_target asked.now target.now }
+pub(crate) fn check_suits(asked: &Asked, target: &Target<'_>) -> Result<(), Refusal>
+    ensures { result ≡ suits_target asked.now (target_seen target.now) }
 {
     let kind = target.path.kind();
     check(
@@ -264,19 +265,13 @@ pub(crate) fn check_suits(asked: &Asked, target: &Target) -> Result<(), Refusal>
 }
 
 /// What is mapped at a destination may be replaced, or nothing is mapped there.
-pub(crate) fn replaceable(overwrite: bool, node: Option<Node>) -> Result<Option<Node>, Refusal>
-    ensures { result ≡ replaceable overwrite node }
+pub(crate) fn replaceable(overwrite: bool, taken: bool) -> Result<bool, Refusal>
+    ensures { result ≡ replaceable overwrite taken }
 {
-    match node {
-        None => Ok(None),
-        Some(node) => {
-            if overwrite {
-                Ok(Some(node))
-            } else {
-                Err(Refusal::Overwrite)
-            }
-        }
+    if taken {
+        check(overwrite, Refusal::Overwrite)?;
     }
+    Ok(taken)
 }
 
 /// Whether the number of a book can rise.
@@ -432,10 +427,10 @@ pub(crate) fn replied(status: u16, content: Content, edit: Option<Edit>) -> Plan
     }
 }
 
-fn put_status(node: &Option<Node>) -> u16
-    ensures { result ≡ put_status node.now }
+fn put_status(replaces: bool) -> u16
+    ensures { result ≡ put_status replaces }
 {
-    if node.is_some() { 204 } else { 201 }
+    if replaces { 204 } else { 201 }
 }
 
 /// The edit that sets the members of a group.
@@ -495,69 +490,67 @@ pub(crate) fn allow_plan(path: &Path) -> Result<Plan, Refusal>
 }
 
 /// A card is put.
-pub(crate) fn put_plan(caller: Caller, text: Text, target: Target) -> Result<Plan, Refusal>
-    ensures { Meets result (put_plan caller text target) }
+pub(crate) fn put_plan(caller: Caller, text: Text, target: Target<'_>) -> Result<Plan, Refusal>
+    ensures { Meets result (put_plan caller text (target_seen target.entry)) }
 {
     let Target { path, node, .. } = target;
-    let status = put_status(&node);
-    let edit = put_edit(caller, text, path)?;
+    let status = put_status(node.is_some());
+    let edit = put_edit(caller, text, copy_of(path)?)?;
     Ok(replied(status, Content::Empty, Some(edit)))
 }
 
 /// A property is set.
-pub(crate) fn patch_plan(alloc: Global, path: Path, patch: Patch) -> Result<Plan, Refusal>
-    ensures { Meets result (patch_plan path patch) }
+pub(crate) fn patch_plan(alloc: Global, path: &Path, patch: Patch) -> Result<Plan, Refusal>
+    ensures { Meets result (patch_plan path.now patch) }
 {
-    let edit = patch_edit(alloc, path, patch)?;
+    let edit = patch_edit(alloc, copy_of(path)?, patch)?;
     Ok(replied(200, Content::Empty, Some(edit)))
 }
 
 /// An own list is set.
-pub(crate) fn acl_plan(alloc: Global, path: Path, list: Items<Submitted>) -> Result<Plan, Refusal>
-    ensures { Meets result (acl_plan path list) }
+pub(crate) fn acl_plan(alloc: Global, path: &Path, list: Items<Submitted>) -> Result<Plan, Refusal>
+    ensures { Meets result (acl_plan path.now list) }
 {
+    let path = copy_of(path)?;
     let entries = entries_of(alloc, list)?;
     let edit = Edit::SetList { path, entries };
     Ok(replied(200, Content::Empty, Some(edit)))
 }
 
 /// A card is copied.
-pub(crate) fn copy_plan(caller: Caller, to: Destination, target: Target) -> Result<Plan, Refusal>
-    ensures { Meets result (copy_plan caller to target) }
+pub(crate) fn copy_plan(
+    caller: Caller,
+    to: Destination,
+    target: Target<'_>,
+) -> Result<Plan, Refusal>
+    ensures { Meets result (copy_plan caller to (target_seen target.entry)) }
 {
-    let Target {
-        path,
-        destination,
-        ..
-    } = target;
-    let edit = copy_edit(caller, path, to)?;
-    Ok(replied(put_status(&destination), Content::Empty, Some(edit)))
+    let Target { path, replaces, .. } = target;
+    let edit = copy_edit(caller, copy_of(path)?, to)?;
+    Ok(replied(put_status(replaces), Content::Empty, Some(edit)))
 }
 
 /// A card is moved.
-pub(crate) fn move_plan(to: Destination, target: Target) -> Result<Plan, Refusal>
-    ensures { Meets result (move_plan to target) }
+pub(crate) fn move_plan(to: Destination, target: Target<'_>) -> Result<Plan, Refusal>
+    ensures { Meets result (move_plan to (target_seen target.entry)) }
 {
-    let Target {
-        path,
-        destination,
-        ..
-    } = target;
-    let edit = move_edit(path, to)?;
-    Ok(replied(put_status(&destination), Content::Empty, Some(edit)))
+    let Target { path, replaces, .. } = target;
+    let edit = move_edit(copy_of(path)?, to)?;
+    Ok(replied(put_status(replaces), Content::Empty, Some(edit)))
 }
 
 /// A card or a book is removed.
-pub(crate) fn delete_plan(path: Path) -> Result<Plan, Refusal>
-    ensures { Meets result (delete_plan path) }
+pub(crate) fn delete_plan(path: &Path) -> Result<Plan, Refusal>
+    ensures { Meets result (delete_plan path.now) }
 {
-    Ok(replied(204, Content::Empty, Some(delete_edit(path)?)))
+    let edit = delete_edit(copy_of(path)?)?;
+    Ok(replied(204, Content::Empty, Some(edit)))
 }
 
 /// A book is made.
-pub(crate) fn mkcol_plan(caller: Caller, path: Path) -> Result<Plan, Refusal>
-    ensures { Meets result (mkcol_plan caller path) }
+pub(crate) fn mkcol_plan(caller: Caller, path: &Path) -> Result<Plan, Refusal>
+    ensures { Meets result (mkcol_plan caller path.now) }
 {
-    let edit = mkcol_edit(caller, path)?;
+    let edit = mkcol_edit(caller, copy_of(path)?)?;
     Ok(replied(201, Content::Empty, Some(edit)))
 }

@@ -1,6 +1,5 @@
-use Rattle.std.proofs.Common.{rules, ◌≡◌, inl, inr, sym, ap, ◌∙◌, subst}
+use Rattle.std.proofs.Common.{rules, ◌≡◌, inl, inr, sym, ap, subst}
 use Rattle.book_rights.specs.declared.places.Place.TheVariants as at
-use Rattle.book_machine.proofs.Judging.{owner_of_target}
 use Rattle.book_machine.proofs.StagesInTurn.{asks_refused}
 use Rattle.book_machine.specs.Asked.{destination_in}
 use Rattle.book_machine.specs.Verdicts.{JudgesNeed, place_path}
@@ -9,20 +8,20 @@ use Rattle.book_machine.proofs.machine.Machine.check_need.Goals as goal
 pub returns-then-eq : goal.returns-then-eq
 returns-then-eq g c =
     let ready = c.args.ready.now in
-    let target = ready.target in
+    let path = ready.target.path.now in
     let need = c.args.need in
-    let asked = c.check_owned.ensures in
+    let asked = c.check_here.ensures in
     let is : need.place ≡ at.Target = search rules in
     record {
       was_honest = asked.was_honest;
-      tells = λ h o stands there. subst (λ p. JudgesNeed o c.args.circle.now p need.set c.check_owned.result)
-          (ap (place_path (destination_in ready.asked) target.path) (sym is))
-          (asked.tells h o stands (c.in_ok-owner.ensures ∙ owner_of_target o target there));
+      tells = λ h o stands here. subst (λ p. JudgesNeed o c.args.circle.now p need.set c.check_here.result)
+          (ap (place_path (destination_in ready.asked) path) (sym is))
+          (asked.tells h o stands here);
       kept = asked.kept;
       left = asked.left;
       counted = asked.counted;
     }
 
-pub returns-in_err-owner-2 : goal.returns-in_err-owner-2
-returns-in_err-owner-2 g c = asks_refused _ _ c.in_err-owner-2.field-0.0 c.from_residual-in_err-owner-2.result _ _ c.in_err-owner-2.ensures c.from_residual-in_err-owner-2.ensures.1
+pub returns-in_err-owner : goal.returns-in_err-owner
+returns-in_err-owner g c = asks_refused _ _ c.in_err-owner.field-0.0 c.from_residual-in_err-owner.result _ _ c.in_err-owner.ensures c.from_residual-in_err-owner.ensures.1
     (λ o stands told there. elim told [ inl unavailable ↦ inl unavailable | inr refused ↦ absurd cc ])

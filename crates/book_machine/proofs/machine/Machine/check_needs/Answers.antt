@@ -1,20 +1,27 @@
 use Rattle.std.proofs.Common.{subst, ◌∙◌}
-use Rattle.book_rights.specs.Needs.{listed_others, needs_of}
-use Rattle.book_machine.proofs.StagesInTurn.{asks_then}
-use Rattle.book_machine.proofs.Judging.{then_needs}
+use Rattle.book_rights.specs.Needs.{needs_of}
+use Rattle.book_machine.proofs.Judging.{owned_again, owner_of_target}
 use Rattle.book_machine.specs.Asked.{destination_in}
-use Rattle.book_machine.specs.Verdicts.{IsTarget, JudgesNeeds}
+use Rattle.book_machine.specs.Verdicts.{JudgesNeeds, owned_by}
+use Rattle.book_machine.specs.Targets.{target_seen}
 use Rattle.book_machine.proofs.machine.Machine.check_needs.Goals as goal
 
 pub returns : goal.returns
 returns g c =
-    let needs = c.needs-first.result in
-    let circle = c.args.circle.now in
     let ready = c.args.ready.now in
-    let to = destination_in ready.asked in
-    let path = ready.target.path in
-    let rest = listed_others needs.others in
-    let same = c.needs-first.ensures ∙ (λ i. needs_of (c.method.ensures i) (c.shape_at.ensures i)) in
-    asks_then _ _ _ c.in_ok-check_need.field-0 _ _ (λ o r. IsTarget o ready.target → JudgesNeeds o circle to path rest r) _ c.in_ok-check_need.ensures c.check_others.ensures
-    (λ o stands first others is. subst (λ ns. JudgesNeeds o circle to path ns c.check_others.result) same
-    (then_needs o circle to path needs.first rest c.in_ok-check_need.field-0 _ (first is) (others is)))
+    let path = ready.target.path.now in
+    let same = c.needs-needs.ensures ∙ (λ i. needs_of (c.method.ensures i) (c.shape_at.ensures i)) in
+    let asked = c.check_each-verdict.ensures in
+    let taken = c.take_owner-owner.ensures in
+    let node = c.put_owner.ensures ∙ (λ i. owned_by (taken.owner i) (taken.rest i)) ∙ owned_again ready.target.node in
+    record {
+      judges = record {
+        was_honest = asked.was_honest;
+        tells = λ h o stands there. subst (λ needs. JudgesNeeds o c.args.circle.now (destination_in ready.asked) path needs c.check_each-verdict.result) same
+            (asked.tells h o stands (λ i. record { owner = (taken.owner ∙ owner_of_target o (target_seen ready.target) there) i; principal = c.in_ok-principal.ensures i }));
+        kept = asked.kept;
+        left = asked.left;
+        counted = asked.counted;
+      };
+      kept = λ i. record ready { target = record ready.target { node = node i } };
+    }

@@ -5,15 +5,16 @@ use Rattle.book_machine.proofs.StagesInTurn.{asks_refused, asks_then}
 use Rattle.book_machine.specs.Asking.{Meets, MeetsAny}
 use Rattle.book_machine.specs.Stages.{limits_of, IsBodyAnswer, IsGrantedPlan, IsSuccess}
 use Rattle.book_machine.specs.Verdicts.{IsTarget}
+use Rattle.book_machine.specs.Targets.{ready_seen}
 use Rattle.book_machine.proofs.machine.Machine.granted.Goals as goal
 
 pub returns-in-Err : goal.returns-in-Err
 returns-in-Err g c = asks_refused _ _ c.in-Err.refusal c.refuse.result _ _ c.in-Err.ensures c.refuse.ensures
-    (λ o stands told there. refused_by_body o c.args.circle.now c.args.ready c.in-Err.refusal told)
+    (λ o stands told there. refused_by_body o c.args.circle.now (ready_seen c.args.ready) c.in-Err.refusal told)
 
 pub returns-in-Err-check_limits : goal.returns-in-Err-check_limits
 returns-in-Err-check_limits g c =
-    let ready = c.args.ready in
+    let ready = ready_seen c.args.ready in
     let e = c.in-Err-check_limits.refusal in
     asked_refused _ _ _ e c.refuse-in-Err-check_limits.result _ (λ o r. Meets r (limits_of o ready.asked ready.target))
     (λ o r. IsTarget o ready.target → MeetsAny (IsGrantedPlan o c.args.circle.now ready) r)
@@ -23,7 +24,7 @@ returns-in-Err-check_limits g c =
 
 pub returns : goal.returns
 returns g c =
-    let ready = c.args.ready in
+    let ready = ready_seen c.args.ready in
     let circle = c.args.circle.now in
     let r = c.success.result in
     asks_then _ _ _ tt r (λ o x. IsBodyAnswer o ready.asked ready.target.path (Ok tt) × (limits_of o ready.asked ready.target ≡ Ok tt))

@@ -1,4 +1,4 @@
-use Rattle.std.proofs.Common.{◌≡◌, ◌↔◌, ◌∙◌, IsTrue, is_some, sym, subst, ap}
+use Rattle.std.proofs.Common.{◌≡◌, ◌↔◌, IsTrue, is_some, sym, subst}
 use Rattle.book_office.specs.Resources.{node_at}
 use Rattle.book_office.specs.Sound.{IsMapped}
 use Rattle.book_machine.proofs.AskingEach.{asks_read}
@@ -7,6 +7,5 @@ use Rattle.book_machine.specs.Asking.{TellsWhether}
 use Rattle.book_machine.proofs.machine.Machine.is_mapped.Goals as goal
 
 pub returns : goal.returns
-returns g c = asks_read _ _ c.in_ok-find.field-0 c.is_some.result (λ o node. node ≡ node_at o c.in_ok-path.path) (λ o r. TellsWhether (IsMapped o c.args.principal.now) r) c.in_ok-find.ensures
-    (λ o is. subst (λ b. IsTrue b ↔ IsMapped o c.args.principal.now) (sym (c.is_some.ensures ∙ ap is_some is))
-    (mapped_principal o c.in_ok-path.path c.args.principal.now c.in_ok-path.ensures))
+returns g c = asks_read _ _ c.in_ok-has.field-0 c.in_ok-has.field-0 (λ o mapped. mapped ≡ is_some (node_at o c.in_ok-path.path)) (λ o r. TellsWhether (IsMapped o c.args.principal.now) r) c.in_ok-has.ensures
+    (λ o is. subst (λ b. IsTrue b ↔ IsMapped o c.args.principal.now) (sym is) (mapped_principal o c.in_ok-path.path c.args.principal.now c.in_ok-path.ensures))

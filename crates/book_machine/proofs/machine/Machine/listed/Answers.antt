@@ -6,13 +6,14 @@ use Rattle.book_machine.proofs.Planning.{listed_at}
 use Rattle.book_machine.specs.Asking.{MeetsAny}
 use Rattle.book_machine.specs.Stages.{IsListed}
 use Rattle.book_machine.specs.Verdicts.{IsTarget}
+use Rattle.book_machine.specs.Targets.{target_seen}
 use Rattle.book_machine.proofs.machine.Machine.listed.Goals as goal
 
 pub returns : goal.returns
 returns g c =
     let find = c.args.find.now in
     let circle = c.args.circle.now in
-    let target = c.args.target.now in
+    let target = target_seen c.args.target.now in
     let node = c.in-Some.node in
     let responses = c.in_ok-responses.responses in
     asks_read _ _ responses c.replied.result (λ o rs. node_at o target.path ≡ Some node → AreResponses find circle o target.path rs)

@@ -1,9 +1,12 @@
-use Rattle.std.proofs.Common.{◌∙◌, Err, inl, inr, refl, ap, option_copied}
+use Rattle.std.proofs.Common.{◌∙◌, Err, inl, inr, refl, ap, subst, option_copied}
 use Rattle.book_machine.proofs.Answering.{failed_once}
 use Rattle.book_machine.proofs.StagesInTurn.{counted_after, refused_on}
 use Rattle.book_machine.proofs.Planning.{refused_by_needs, planned, target_of_ready}
-use Rattle.book_machine.specs.Asking.{MeetsPlan, Counted}
+use Rattle.book_machine.specs.Asking.{MeetsAny, MeetsPlan, Counted}
+use Rattle.book_machine.specs.Stages.{IsGrantedPlan}
+use Rattle.book_machine.specs.Verdicts.{IsTarget}
 use Rattle.book_machine.specs.declared.plans.Plan.{Plan}
+use Rattle.book_machine.specs.Targets.{Ready, ready_seen}
 use Rattle.book_machine.specs.declared.refusals.Refusal.TheVariants.{Unavailable}
 use Rattle.book_office.specs.Keeping.{one_more}
 use Rattle.book_machine.proofs.machine.Machine.plan.Goals as goal
@@ -30,51 +33,52 @@ returns-in-Err g c =
     let is = c.refuse-in-Err.ensures in
     let r = c.refuse-in-Err.result in
     record {
-      was_honest = λ h. c.in_ok-ready.ensures.was_honest (c.in-Ok.ensures.was_honest (c.in-Err.ensures.was_honest h));
+      was_honest = λ h. c.in_ok-ready.ensures.was_honest (c.in-Ok.ensures.was_honest (c.in-Err.ensures.judges.was_honest h));
       tells = λ h o stands.
-          let h2 = c.in-Err.ensures.was_honest h in
+          let h2 = c.in-Err.ensures.judges.was_honest h in
           let h1 = c.in-Ok.ensures.was_honest h2 in
           let s1 = c.in_ok-ready.ensures.kept h1 o stands in
           let s2 = c.in-Ok.ensures.kept h2 o s1 in
           let ready_is = c.in_ok-ready.ensures.tells h1 o stands in
           refused_on r e (λ x. MeetsPlan o (option_copied c.args.name) c.args.request.now x) is
-          (refused_by_needs o (option_copied c.args.name) c.args.request.now c.in_ok-ready.ready ready_is _ (c.in-Ok.ensures.value h2 o s1) e
-          (c.in-Err.ensures.tells h o s2 (target_of_ready o (option_copied c.args.name) c.args.request.now c.in_ok-ready.ready ready_is)));
+          (refused_by_needs o (option_copied c.args.name) c.args.request.now (ready_seen c.in_ok-ready.ready) ready_is _ (c.in-Ok.ensures.value h2 o s1) e
+          (c.in-Err.ensures.judges.tells h o s2 (target_of_ready o (option_copied c.args.name) c.args.request.now (ready_seen c.in_ok-ready.ready) ready_is)));
       kept = λ h o stands.
-          let h2 = c.in-Err.ensures.was_honest h in
+          let h2 = c.in-Err.ensures.judges.was_honest h in
           let h1 = c.in-Ok.ensures.was_honest h2 in
-          c.in-Err.ensures.kept h o (c.in-Ok.ensures.kept h2 o (c.in_ok-ready.ensures.kept h1 o stands));
+          c.in-Err.ensures.judges.kept h o (c.in-Ok.ensures.kept h2 o (c.in_ok-ready.ensures.kept h1 o stands));
       left = λ h x left.
-          let h2 = c.in-Err.ensures.was_honest h in
+          let h2 = c.in-Err.ensures.judges.was_honest h in
           let h1 = c.in-Ok.ensures.was_honest h2 in
-          c.in_ok-ready.ensures.left h1 x (c.in-Ok.ensures.left h2 x (c.in-Err.ensures.left h x left));
+          c.in_ok-ready.ensures.left h1 x (c.in-Ok.ensures.left h2 x (c.in-Err.ensures.judges.left h x left));
       counted = refused_on r e (λ x. Counted {A = Plan} x (g.K.Keeper.standing c.args.self.now.keeper).failures (g.K.Keeper.standing c.check_needs.new.self.keeper).failures) is
-          (counted_after {A = Plan} (Err e) _ _ _ c.in-Err.ensures.counted (c.in-Ok.ensures.counted ∙ c.in_ok-ready.ensures.counted));
+          (counted_after {A = Plan} (Err e) _ _ _ c.in-Err.ensures.judges.counted (c.in-Ok.ensures.counted ∙ c.in_ok-ready.ensures.counted));
     }
 
 pub returns : goal.returns
 returns g c = record {
-  was_honest = λ h. c.in_ok-ready.ensures.was_honest (c.in-Ok.ensures.was_honest (c.in_default-check_needs.ensures.was_honest (c.granted.ensures.was_honest h)));
+  was_honest = λ h. c.in_ok-ready.ensures.was_honest (c.in-Ok.ensures.was_honest (c.in_default-check_needs.ensures.judges.was_honest (c.granted.ensures.was_honest h)));
   tells = λ h o stands.
       let h3 = c.granted.ensures.was_honest h in
-      let h2 = c.in_default-check_needs.ensures.was_honest h3 in
+      let h2 = c.in_default-check_needs.ensures.judges.was_honest h3 in
       let h1 = c.in-Ok.ensures.was_honest h2 in
       let s1 = c.in_ok-ready.ensures.kept h1 o stands in
       let s2 = c.in-Ok.ensures.kept h2 o s1 in
-      let s3 = c.in_default-check_needs.ensures.kept h3 o s2 in
+      let s3 = c.in_default-check_needs.ensures.judges.kept h3 o s2 in
       let ready_is = c.in_ok-ready.ensures.tells h1 o stands in
-      planned o (option_copied c.args.name) c.args.request.now c.in_ok-ready.ready ready_is _ (c.in-Ok.ensures.value h2 o s1) c.in_default-check_needs.field-0 c.granted.result
-      (c.in_default-check_needs.ensures.tells h3 o s2 (target_of_ready o (option_copied c.args.name) c.args.request.now c.in_ok-ready.ready ready_is))
-      (c.granted.ensures.tells h o s3 (target_of_ready o (option_copied c.args.name) c.args.request.now c.in_ok-ready.ready ready_is));
+      planned o (option_copied c.args.name) c.args.request.now (ready_seen c.in_ok-ready.ready) ready_is _ (c.in-Ok.ensures.value h2 o s1) c.in_default-check_needs.field-0 c.granted.result
+      (c.in_default-check_needs.ensures.judges.tells h3 o s2 (target_of_ready o (option_copied c.args.name) c.args.request.now (ready_seen c.in_ok-ready.ready) ready_is))
+      (subst (λ (ready : Ready). IsTarget o ready.target → MeetsAny (IsGrantedPlan o c.in-Ok.circle ready) c.granted.result) (ap ready_seen c.check_needs.ensures.kept)
+      (c.granted.ensures.tells h o s3) (target_of_ready o (option_copied c.args.name) c.args.request.now (ready_seen c.in_ok-ready.ready) ready_is));
   kept = λ h o stands.
       let h3 = c.granted.ensures.was_honest h in
-      let h2 = c.in_default-check_needs.ensures.was_honest h3 in
+      let h2 = c.in_default-check_needs.ensures.judges.was_honest h3 in
       let h1 = c.in-Ok.ensures.was_honest h2 in
-      c.granted.ensures.kept h o (c.in_default-check_needs.ensures.kept h3 o (c.in-Ok.ensures.kept h2 o (c.in_ok-ready.ensures.kept h1 o stands)));
+      c.granted.ensures.kept h o (c.in_default-check_needs.ensures.judges.kept h3 o (c.in-Ok.ensures.kept h2 o (c.in_ok-ready.ensures.kept h1 o stands)));
   left = λ h x left.
       let h3 = c.granted.ensures.was_honest h in
-      let h2 = c.in_default-check_needs.ensures.was_honest h3 in
+      let h2 = c.in_default-check_needs.ensures.judges.was_honest h3 in
       let h1 = c.in-Ok.ensures.was_honest h2 in
-      c.in_ok-ready.ensures.left h1 x (c.in-Ok.ensures.left h2 x (c.in_default-check_needs.ensures.left h3 x (c.granted.ensures.left h x left)));
-  counted = counted_after _ _ _ _ c.granted.ensures.counted (c.in_default-check_needs.ensures.counted ∙ c.in-Ok.ensures.counted ∙ c.in_ok-ready.ensures.counted);
+      c.in_ok-ready.ensures.left h1 x (c.in-Ok.ensures.left h2 x (c.in_default-check_needs.ensures.judges.left h3 x (c.granted.ensures.left h x left)));
+  counted = counted_after _ _ _ _ c.granted.ensures.counted (c.in_default-check_needs.ensures.judges.counted ∙ c.in-Ok.ensures.counted ∙ c.in_ok-ready.ensures.counted);
 }

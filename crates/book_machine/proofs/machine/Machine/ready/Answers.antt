@@ -3,8 +3,9 @@ use Rattle.book_machine.proofs.AskingEach.{asked_first, asked_refused, asked_the
 use Rattle.book_machine.proofs.Planning.{at_its_destination, ready_asked, ready_at_target, ready_suited, ready_with, refused_by_kind}
 use Rattle.book_machine.proofs.StagesInTurn.{counted_same, first_refuses, refused_on}
 use Rattle.book_machine.specs.Asked.{destination_in}
-use Rattle.book_machine.specs.Asking.{Meets}
+use Rattle.book_machine.specs.Asking.{Meets, MeetsSeen}
 use Rattle.book_machine.specs.Stages.{◌>>=◌, caller_of, destination_of, target_of, ready_of}
+use Rattle.book_machine.specs.Targets.{ready_seen, target_seen}
 use Rattle.book_machine.proofs.machine.Machine.ready.Goals as goal
 
 pub returns-in_err-target : goal.returns-in_err-target
@@ -14,7 +15,7 @@ returns-in_err-target g c =
     let caller = c.in_ok-caller.caller in
     let what = c.in_ok-asked.asked in
     let e = c.in_err-target.field-0.0 in
-    asked_refused _ _ _ e c.from_residual-in_err-target.result (λ o. caller_of o name ≡ Ok caller) (λ o x. Meets x (target_of o request.method request.path)) (λ o x. Meets x (ready_of o name request))
+    asked_refused _ _ _ e c.from_residual-in_err-target.result (λ o. caller_of o name ≡ Ok caller) (λ o x. MeetsSeen target_seen x (target_of o request.method request.path)) (λ o x. MeetsSeen ready_seen x (ready_of o name request))
     (asked_first _ _ caller (λ o x. Meets x (caller_of o name)) c.in_ok-caller.ensures)
     c.in_err-target.ensures c.from_residual-in_err-target.ensures.1
     (λ o first refused. subst (λ stage. Meets (Err e) stage)
@@ -27,32 +28,32 @@ returns-in_err-check_suits g c =
     let request = c.args.request.now in
     let e = c.in_err-check_suits.field-0.0 in
     let r = c.from_residual-in_err-check_suits.result in
-    asked_then _ _ r _ (λ o x. Meets x (ready_of o name request))
-    (one_more_asked _ _ _ c.in_ok-target.target _ (λ o. (caller_of o name ≡ Ok c.in_ok-caller.caller) × (target_of o request.method request.path ≡ Ok c.in_ok-target.target))
-    (λ o x. Meets x (target_of o request.method request.path))
+    asked_then _ _ r _ (λ o x. MeetsSeen ready_seen x (ready_of o name request))
+    (one_more_asked _ _ _ c.in_ok-target.target _ (λ o. (caller_of o name ≡ Ok c.in_ok-caller.caller) × (target_of o request.method request.path ≡ Ok (target_seen c.in_ok-target.target)))
+    (λ o x. MeetsSeen target_seen x (target_of o request.method request.path))
     (asked_first _ _ c.in_ok-caller.caller (λ o x. Meets x (caller_of o name)) c.in_ok-caller.ensures)
     c.in_ok-target.ensures (λ o first second. (first, second)))
     (λ n. counted_same r n)
-    (λ o told. refused_on r e (λ x. Meets x (ready_of o name request)) c.from_residual-in_err-check_suits.ensures.1
-    (inr (refused_by_kind o name request c.in_ok-caller.caller c.in_ok-asked.asked c.in_ok-target.target e told.0 c.in_ok-asked.ensures told.1 (sym c.in_err-check_suits.ensures))))
+    (λ o told. refused_on r e (λ x. MeetsSeen ready_seen x (ready_of o name request)) c.from_residual-in_err-check_suits.ensures.1
+    (inr (refused_by_kind o name request c.in_ok-caller.caller c.in_ok-asked.asked (target_seen c.in_ok-target.target) e told.0 c.in_ok-asked.ensures told.1 (sym c.in_err-check_suits.ensures))))
 
-pub returns-in_err-destination : goal.returns-in_err-destination
-returns-in_err-destination g c =
+pub returns-in_err-replaces : goal.returns-in_err-replaces
+returns-in_err-replaces g c =
     let name = option_copied c.args.name in
     let request = c.args.request.now in
     let caller = c.in_ok-caller.caller in
     let what = c.in_ok-asked.asked in
     let target = c.in_ok-target.target in
-    let e = c.in_err-destination.field-0.0 in
-    asked_refused _ _ _ e c.from_residual-in_err-destination.result _ (λ o x. Meets x (destination_of o (destination_in what))) (λ o x. Meets x (ready_of o name request))
-    (one_more_asked _ _ _ target _ (λ o. (caller_of o name ≡ Ok caller) × (target_of o request.method request.path ≡ Ok target))
-    (λ o x. Meets x (target_of o request.method request.path))
+    let e = c.in_err-replaces.field-0.0 in
+    asked_refused _ _ _ e c.from_residual-in_err-replaces.result _ (λ o x. Meets x (destination_of o (destination_in what))) (λ o x. MeetsSeen ready_seen x (ready_of o name request))
+    (one_more_asked _ _ _ target _ (λ o. (caller_of o name ≡ Ok caller) × (target_of o request.method request.path ≡ Ok (target_seen target)))
+    (λ o x. MeetsSeen target_seen x (target_of o request.method request.path))
     (asked_first _ _ caller (λ o x. Meets x (caller_of o name)) c.in_ok-caller.ensures)
     c.in_ok-target.ensures (λ o first second. (first, second)))
-    c.in_err-destination.ensures c.from_residual-in_err-destination.ensures.1
+    c.in_err-replaces.ensures c.from_residual-in_err-replaces.ensures.1
     (λ o told refused. subst (λ stage. Meets (Err e) stage)
-    (sym (at_its_destination o name request caller what target c.in_ok-check_suits.field-0 told.0 c.in_ok-asked.ensures told.1 (sym c.in_ok-check_suits.ensures)))
-    (first_refuses (destination_of o (destination_in what)) (ready_with o name request caller what target) e refused))
+    (sym (at_its_destination o name request caller what (target_seen target) c.in_ok-check_suits.field-0 told.0 c.in_ok-asked.ensures told.1 (sym c.in_ok-check_suits.ensures)))
+    (first_refuses (destination_of o (destination_in what)) (ready_with o name request caller what (target_seen target)) e refused))
 
 pub returns : goal.returns
 returns g c =
@@ -61,16 +62,16 @@ returns g c =
     let caller = c.in_ok-caller.caller in
     let what = c.in_ok-asked.asked in
     let target = c.in_ok-target.target in
-    let found = c.in_ok-destination.destination in
-    asked_then _ _ _ _ (λ o x. Meets x (ready_of o name request))
+    let found = c.in_ok-replaces.replaces in
+    asked_then _ _ _ _ (λ o x. MeetsSeen ready_seen x (ready_of o name request))
     (one_more_asked _ _ _ found _
-    (λ o. (caller_of o name ≡ Ok caller) × (target_of o request.method request.path ≡ Ok target) × (destination_of o (destination_in what) ≡ Ok found))
+    (λ o. (caller_of o name ≡ Ok caller) × (target_of o request.method request.path ≡ Ok (target_seen target)) × (destination_of o (destination_in what) ≡ Ok found))
     (λ o x. Meets x (destination_of o (destination_in what)))
-    (one_more_asked _ _ _ target _ (λ o. (caller_of o name ≡ Ok caller) × (target_of o request.method request.path ≡ Ok target))
-    (λ o x. Meets x (target_of o request.method request.path))
+    (one_more_asked _ _ _ target _ (λ o. (caller_of o name ≡ Ok caller) × (target_of o request.method request.path ≡ Ok (target_seen target)))
+    (λ o x. MeetsSeen target_seen x (target_of o request.method request.path))
     (asked_first _ _ caller (λ o x. Meets x (caller_of o name)) c.in_ok-caller.ensures)
     c.in_ok-target.ensures (λ o first second. (first, second)))
-    c.in_ok-destination.ensures (λ o told third. (told.0, told.1, third)))
+    c.in_ok-replaces.ensures (λ o told third. (told.0, told.1, third)))
     (λ n. refl)
-    (λ o told. at_its_destination o name request caller what target c.in_ok-check_suits.field-0 told.0 c.in_ok-asked.ensures told.1 (sym c.in_ok-check_suits.ensures)
-    ∙ ap (λ s. s >>= ready_with o name request caller what target) told.2)
+    (λ o told. at_its_destination o name request caller what (target_seen target) c.in_ok-check_suits.field-0 told.0 c.in_ok-asked.ensures told.1 (sym c.in_ok-check_suits.ensures)
+    ∙ ap (λ s. s >>= ready_with o name request caller what (target_seen target)) told.2)

@@ -4,13 +4,14 @@ use Rattle.book_machine.proofs.StagesInTurn.{asks_nothing}
 use Rattle.book_machine.specs.Asking.{Asks, MeetsAny}
 use Rattle.book_machine.specs.Stages.{IsReportOf, IsSuccessOf, allow_plan, delete_plan, mkcol_plan}
 use Rattle.book_machine.specs.Verdicts.{IsTarget}
+use Rattle.book_machine.specs.Targets.{ready_seen}
 use Rattle.book_machine.proofs.machine.Machine.success.Goals as goal
 
 pub returns-in-Propfind : goal.returns-in-Propfind
 returns-in-Propfind g c =
     let old = g.K.Keeper.standing c.args.self.now.keeper in
     let new = g.K.Keeper.standing c.listed.new.self.keeper in
-    let ready = c.args.ready in
+    let ready = ready_seen c.args.ready in
     let circle = c.args.circle.now in
     subst (λ what. Asks old new c.listed.result (λ o r. IsTarget o ready.target → MeetsAny (λ x. IsSuccessOf o circle what ready.caller ready.target x) r))
     (sym c.in-Propfind.is) c.listed.ensures
@@ -18,7 +19,7 @@ returns-in-Propfind g c =
 pub returns-in-Options : goal.returns-in-Options
 returns-in-Options g c =
     let old = g.K.Keeper.standing c.args.self.now.keeper in
-    let ready = c.args.ready in
+    let ready = ready_seen c.args.ready in
     let circle = c.args.circle.now in
     let r = c.allow_plan.result in
     let row : Asks old old r (λ o x. IsTarget o ready.target → MeetsAny (λ y. allow_plan ready.target.path ≡ y) x) =
@@ -28,7 +29,7 @@ returns-in-Options g c =
 pub returns-in-Delete : goal.returns-in-Delete
 returns-in-Delete g c =
     let old = g.K.Keeper.standing c.args.self.now.keeper in
-    let ready = c.args.ready in
+    let ready = ready_seen c.args.ready in
     let circle = c.args.circle.now in
     let r = c.delete_plan.result in
     let row : Asks old old r (λ o x. IsTarget o ready.target → MeetsAny (λ y. delete_plan ready.target.path ≡ y) x) =
@@ -38,7 +39,7 @@ returns-in-Delete g c =
 pub returns-in-Mkcol : goal.returns-in-Mkcol
 returns-in-Mkcol g c =
     let old = g.K.Keeper.standing c.args.self.now.keeper in
-    let ready = c.args.ready in
+    let ready = ready_seen c.args.ready in
     let circle = c.args.circle.now in
     let r = c.mkcol_plan.result in
     let row : Asks old old r (λ o x. IsTarget o ready.target → MeetsAny (λ y. mkcol_plan ready.caller ready.target.path ≡ y) x) =
@@ -49,7 +50,7 @@ pub returns-in-Report : goal.returns-in-Report
 returns-in-Report g c =
     let old = g.K.Keeper.standing c.args.self.now.keeper in
     let new = g.K.Keeper.standing c.reported.new.self.keeper in
-    let ready = c.args.ready in
+    let ready = ready_seen c.args.ready in
     let circle = c.args.circle.now in
     let r = c.reported.result in
     let asked = c.reported.ensures in
