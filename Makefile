@@ -8,7 +8,7 @@
 #   make turned  turns meanings of the code, and sees that the example that guards each fails: no proof is tried
 #   make faults  makes stores, memory and disks fail at each point at which they can, and compares what is answered and kept
 #   make bench   builds the program, and prints the processor time that it takes for many workloads (it needs python3)
-#   make figures builds the program, and prints what its requests over a store in a file take
+#   make figures builds the program, and prints what its requests over a store in a file take (it needs python3)
 #   make clean   removes what the others made
 #
 # They need rt, the command of the Rattle toolchain: on PATH, or in the kit whose folder RATTLE_KIT names.
