@@ -294,10 +294,10 @@ impl<K: Keeper> Keeper for Cached<K> {
         ensures { ReadsBehind K.standing self.old self.new result (λ o circle. IsCircle o.pairs caller.now circle) }
     {
         if let Some(pairs) = &self.remembered.pairs {
-            return Ok(expand(alloc, pairs, caller)?);
+            return Ok(expand(pairs, caller)?);
         }
         let pairs = self.keeper.pairs(alloc)?;
-        let circle = expand(alloc, &pairs, caller)?;
+        let circle = expand(&pairs, caller)?;
         self.remembered.pairs = Some(pairs);
         Ok(circle)
     }

@@ -90,7 +90,7 @@ fn answer(alloc: Global, question: &Question) -> Result<String, ExplainFaultKind
     let Some(need) = question.need else {
         return Err(ExplainFaultKind::Missing);
     };
-    let circle = expand(alloc, &question.pairs, caller)?;
+    let circle = expand(&question.pairs, caller)?;
     let outcome = decide(&question.entries, &circle, &question.here, need);
     let granted = granted(&question.entries, &circle, &question.here);
     Ok(answer_text(alloc, outcome, granted)?)

@@ -159,6 +159,17 @@ search_ends_alone pairs start found s q = (
       | inr never ↦ absurd (false≢true never)
     ]
 
+-- who is a direct member of no group belongs to itself alone
+pub alone : (pairs : Memberships) (p : List ℕ) → ((group : List ℕ) → IsDirect pairs group p → ⊥) → (q : List ℕ) → (set.contains (set.insert (set.empty {R = path_cmp}) p) q ≡ true) ↔ Belongs pairs p q
+alone pairs p none = search_ends_alone pairs p (set.insert set.empty p) (seen_first pairs (p ∷ []) set.empty [] p [] (λ q. (λ never. absurd (false≢true never), λ direct. absurd (none q direct))) (search_begins pairs (p ∷ [])))
+
+pub contains_alone : (p q : List ℕ) → set.contains (set.insert (set.empty {R = path_cmp}) p) q ≡ bytes_eq p q
+contains_alone p q = found_more set.empty p q ∙ ap (λ b. bytes_eq p q || b) (set.contains-empty path_cmp q) ∙ or_false (bytes_eq p q)
+  where
+    or_false : (b : Bool) → (b || false) ≡ b
+    or_false true = refl
+    or_false false = refl
+
 -- ---- the search ends: the groups of a member are added to the work once
 -- how many groups the members that are not found have
 abbrev pub ahead : GroupEntries → set.FinSet path_cmp → ℕ

@@ -2,13 +2,14 @@
 
 ghost use Rattle.std.specs.Prelude.{◌≡◌, IfOk};
 ghost use Rattle.book_lists.specs.Callers.{IsCircle};
-ghost use Rattle.book_lists.specs.Circles.{belongs};
+ghost use Rattle.book_lists.specs.Circles.{belongs, circle_of};
+ghost use Rattle.book_lists.specs.declared.circles.Caller.TheVariants.{Known};
 ghost use Rattle.std.specs.Option.{is_some};
 
 use crate::memberships::Pairs;
 use crate::principal_sets::PrincipalSet;
 use crate::principals::Principal;
-use std::alloc::{AllocError, Global};
+use std::alloc::AllocError;
 use std::marker::Model;
 
 /// Who asks: nobody, who is not authenticated, or a known person.
@@ -32,26 +33,37 @@ impl Clone for Caller {
     }
 }
 
+/// What a caller belongs to.
+#[derive(Debug, Drop)]
+enum Reached {
+    /// Nothing: nobody belongs to nothing.
+    Nothing,
+    /// Itself alone, as one who is in no group.
+    Itself(Principal),
+    /// Itself, and groups.
+    Groups(PrincipalSet),
+}
+
 /// The principals to which a caller belongs, and whether the caller is known. A contract sees none for nobody, and
 /// else the set of the principals.
 #[derive(Debug, Drop)]
 pub struct Circle {
-    known: bool,
-    principals: PrincipalSet,
+    reached: Reached,
 }
 
 impl Model for Circle {
-    ghost use Rattle.std.specs.Prelude.{List, ℕ, Option, Some, None, if◌then◌else◌};
+    ghost use Rattle.std.specs.Prelude.{List, ℕ, Option};
     ghost use Rattle.std.specs.FinSet as set;
     ghost use Rattle.std.specs.Ordering.{nat_cmp};
     ghost use Rattle.std.specs.Cmp.Lexicographic.{slice_cmp};
     ghost use Rattle.std.specs.Coded.{coded_ℕ, coded_list, coded_option};
+    ghost use Rattle.book_lists.specs.Circles.{circle_of};
 
     ghost Value = { Option (set.FinSet (slice_cmp nat_cmp)) };
 
     ghost coded = { coded_option (set.code (coded_list coded_ℕ)) };
 
-    ghost view = { λ c. if c.known then Some c.principals else None };
+    ghost view = { λ c. circle_of c.reached };
 }
 
 impl Circle {
@@ -59,7 +71,7 @@ impl Circle {
     pub fn is_known(&self) -> bool
         ensures { result ≡ is_some self.now }
     {
-        self.known
+        !matches!(self.reached, Reached::Nothing)
     }
 
     /// Whether the caller belongs to the principal: false for nobody. Takes no memory, and a number of comparisons that
@@ -67,28 +79,35 @@ impl Circle {
     pub fn has(&self, principal: &Principal) -> bool
         ensures { result ≡ belongs self.now principal.now }
     {
-        self.is_known() && self.principals.has(principal)
+        match &self.reached {
+            Reached::Nothing => false,
+            Reached::Itself(person) => person == principal,
+            Reached::Groups(principals) => principals.has(principal),
+        }
     }
+}
+
+/// What a person belongs to: itself alone where it is in no group, which is told without a search.
+fn reached_of(pairs: &Pairs, person: &Principal) -> Result<Reached, AllocError>
+    ensures { IfOk result (λ reached. IsCircle pairs.now (Known person.now) (circle_of reached)) }
+{
+    if pairs.is_in_none(person) {
+        return Ok(Reached::Itself(person.clone()?));
+    }
+    Ok(Reached::Groups(pairs.closure_of(person)?))
 }
 
 /// The principals to which the caller belongs by these memberships (RFC 3744, section 2): the caller itself, and each
 /// group from which a finite chain of memberships leads to it. Cycles are allowed. An error is want of memory.
 ///
 /// It looks at each pair whose member the caller belongs to once, and copies each path that it finds once.
-pub fn expand(alloc: Global, pairs: &Pairs, caller: &Caller) -> Result<Circle, AllocError>
+pub fn expand(pairs: &Pairs, caller: &Caller) -> Result<Circle, AllocError>
     ensures { IfOk result (IsCircle pairs.now caller.now) }
 {
-    match caller {
-        Caller::Nobody => Ok(Circle {
-            known: false,
-            principals: PrincipalSet::new(alloc),
-        }),
-        Caller::Known(person) => {
-            let principals = pairs.closure_of(person)?;
-            Ok(Circle {
-                known: true,
-                principals,
-            })
-        }
-    }
+    Ok(Circle {
+        reached: match caller {
+            Caller::Nobody => Reached::Nothing,
+            Caller::Known(person) => reached_of(pairs, person)?,
+        },
+    })
 }

@@ -1,11 +1,11 @@
 //! Direct memberships of groups, and the principals to which a principal belongs by chains of them.
 
-ghost use Rattle.std.specs.Prelude.{◌≡◌, ◌==◌, ◌++◌, ◌^◌, ◌-◌, min, ℕ, List, IfOk, OnOk, OnErr, map};
+ghost use Rattle.std.specs.Prelude.{◌≡◌, ◌==◌, ◌++◌, ◌^◌, ◌-◌, min, ℕ, List, IfOk, IsTrue, OnOk, OnErr, map};
 ghost use Rattle.std.specs.FinSet as set;
 ghost use Rattle.std.specs.BTreeMap.{IsOrdered};
 ghost use Rattle.book_lists.specs.GroupEntries.{pairs_in, groups_at};
 ghost use Rattle.std.specs.List.Sorted.{IsStrictlySortedBy};
-ghost use Rattle.book_lists.specs.Memberships.{membership_cmp, set_of};
+ghost use Rattle.book_lists.specs.Memberships.{membership_cmp, set_of, IsDirect};
 ghost use Rattle.book_lists.specs.PrincipalSets.{ListsAll, IsClosure};
 ghost use Rattle.book_lists.specs.Principals.{path_cmp};
 
@@ -136,6 +136,16 @@ impl Pairs {
             groups.append_memberships(member, &mut list)?;
         }
         in_order(self.alloc, list)
+    }
+
+    /// Whether the principal is a direct member of no group. Takes no memory.
+    pub(crate) fn is_in_none(&self, member: &Principal) -> bool
+        ensures { IsTrue result → (group : List ℕ) → IsDirect self.now group member.now → ⊥ }
+    {
+        match self.groups.get(member) {
+            Some(_) => false,
+            None => true,
+        }
     }
 
     /// The principal, and each group to which a chain of these memberships leads from it.

@@ -1,6 +1,7 @@
 //! Principals: persons and groups, by their paths.
 
 ghost use Rattle.std.specs.Prelude.{◌≡◌, ◌≢◌, ◌↔◌, ◌++◌, ℕ, List, IsTrue, IfOk, IfSome, IfNone};
+ghost use Rattle.std.specs.String.{string_bytes};
 ghost use Rattle.book_lists.specs.Principals.{IsGroup, IsPrincipal, Spells, EndsPlain, person_path, group_path};
 
 use crate::names::{Name, is_name};
@@ -124,6 +125,16 @@ fn without_slash(text: &str) -> &str
     text.strip_suffix('/').unwrap_or(text)
 }
 
+/// One text and then another, in memory of just their length.
+fn joined(alloc: Global, front: &str, back: &str) -> Result<String, AllocError>
+    ensures { IfOk result (λ joined. string_bytes joined ≡ front.now ++ back.now) }
+{
+    let mut joined = String::with_capacity(alloc, front.len().saturating_add(back.len()))?;
+    joined.push_str(front)?;
+    joined.push_str(back)?;
+    Ok(joined)
+}
+
 impl Principal {
     /// The principal whose path the text spells; none where the text spells no path of a person or a group. One slash
     /// at the end is dropped. An error is want of memory.
@@ -146,9 +157,9 @@ impl Principal {
         ensures { IfOk result (λ principal. principal ≡ person_path name.now) }
     {
         name.known();
-        let mut path = String::from_str(alloc, "/people/")?;
-        path.push_str(name.text())?;
-        Ok(Principal { path })
+        Ok(Principal {
+            path: joined(alloc, "/people/", name.text())?,
+        })
     }
 
     /// The group with this name. An error is want of memory.
@@ -156,9 +167,9 @@ impl Principal {
         ensures { IfOk result (λ principal. principal ≡ group_path name.now) }
     {
         name.known();
-        let mut path = String::from_str(alloc, "/groups/")?;
-        path.push_str(name.text())?;
-        Ok(Principal { path })
+        Ok(Principal {
+            path: joined(alloc, "/groups/", name.text())?,
+        })
     }
 
     /// Hands out the rule that each principal meets.

@@ -123,8 +123,8 @@ impl Keeper for MemoryKeeper {
         Ok(self.office.pairs.clone()?)
     }
 
-    fn circle(&mut self, alloc: Global, caller: &Caller) -> Result<Circle, StoreFault> {
-        Ok(expand(alloc, &self.office.pairs, caller)?)
+    fn circle(&mut self, _alloc: Global, caller: &Caller) -> Result<Circle, StoreFault> {
+        Ok(expand(&self.office.pairs, caller)?)
     }
 
     fn epoch(&mut self) -> Result<u64, StoreFault> {

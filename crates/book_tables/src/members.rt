@@ -99,6 +99,6 @@ impl<S: Alter> Tables<S> {
             (λ o circle. IsCircle o.pairs caller.now circle) }
     {
         let pairs = self.pairs(alloc)?;
-        Ok(expand(alloc, &pairs, caller)?)
+        Ok(expand(&pairs, caller)?)
     }
 }

@@ -131,7 +131,7 @@ fn circle(rt: &impl Abort, alloc: Global, pairs: &Pairs, person: Option<&str>) -
         Some(person) => Caller::Known(named(rt, alloc, person)),
         None => Caller::Nobody,
     };
-    expand(alloc, pairs, &caller).expect(rt, "memory")
+    expand(pairs, &caller).expect(rt, "memory")
 }
 
 /// Each pair once, in byte order of the groups and then of the members.

@@ -127,7 +127,7 @@ fn circle(rt: &impl Abort, alloc: Global, reader: &str) -> Circle {
         Some(person) => Caller::Known(person),
         None => Caller::Nobody,
     };
-    expand(alloc, &Pairs::new(alloc), &caller).expect(rt, "memory")
+    expand(&Pairs::new(alloc), &caller).expect(rt, "memory")
 }
 
 fn here(rt: &impl Abort, alloc: Global, reader: &str) -> Here {
