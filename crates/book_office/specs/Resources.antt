@@ -95,6 +95,10 @@ node_of r = record { kind = r.kind; owner = r.owner; label = r.label; text = r.t
 abbrev pub node_at : Office → Path → Option Node
 node_at o p = option_map node_of (resource_at o p)
 
+-- a resource of which no number is told
+abbrev pub unnumbered : Node → Node
+unnumbered n = record n { number = 0 }
+
 -- a child in a listing: a resource without its text
 abbrev pub listed : List ℕ → Resource → Listed
 listed name r = record { name = name; kind = r.kind; owner = r.owner; label = r.label; number = r.number; protected = r.protected; own = r.own }

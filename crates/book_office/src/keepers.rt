@@ -1,11 +1,11 @@
 //! What keeps an Office.
 
-ghost use Rattle.std.specs.Prelude.{◌≡◌, is_some, nat_lt};
+ghost use Rattle.std.specs.Prelude.{◌≡◌, is_some, nat_lt, option_map};
 ghost use Rattle.book_lists.specs.Callers.{IsCircle};
 ghost use Rattle.book_office.specs.declared.keepers.StoreFault.TheVariants.{Memory};
 ghost use Rattle.book_adopting.specs.Adopting.{adoption_of};
 ghost use Rattle.book_office.specs.Keeping.{Standing, Reads, Edits};
-ghost use Rattle.book_office.specs.Resources.{node_at, children_at, count_at, changed_after};
+ghost use Rattle.book_office.specs.Resources.{node_at, children_at, count_at, changed_after, unnumbered};
 ghost use Rattle.book_office.specs.Levels.{level_at, lists_at};
 ghost use Rattle.book_office.specs.InForce.{AreUnlessGranted};
 
@@ -46,6 +46,17 @@ pub trait Keeper {
     /// The resource at a path; none where none is mapped.
     fn find(&mut self, alloc: Global, path: &Path) -> Result<Option<Node>, StoreFault>
         ensures { Reads (standing self.old) (standing self.new) result (λ o node. node ≡ node_at o path.now) };
+
+    /// The resource at a path as `find` tells it, but with the number 0: a keeper may tell so without looking its number up.
+    fn find_unnumbered(&mut self, alloc: Global, path: &Path) -> Result<Option<Node>, StoreFault>
+        ensures { Reads (standing self.old) (standing self.new) result
+            (λ o node. node ≡ option_map unnumbered (node_at o path.now)) }
+    {
+        match self.find(alloc, path)? {
+            Some(node) => Ok(Some(node.unnumbered())),
+            None => Ok(None),
+        }
+    }
 
     /// Whether a resource is mapped at a path. A keeper may tell so without a copy of it.
     fn has(&mut self, alloc: Global, path: &Path) -> Result<bool, StoreFault>

@@ -10,7 +10,7 @@ use crate::edits::Edit;
 use crate::granting::grant_at;
 use crate::keepers::{Keeper, StoreFault};
 use crate::nodes::{Changed, Level, Listed, Lists, Node};
-use crate::reads::{changed, children, count, find, has, level, lists};
+use crate::reads::{changed, children, count, find, find_unnumbered, has, level, lists};
 use book_adopting::{Adoption, adoption_of};
 use book_lists::{Caller, Circle, Here, Name, Pairs, expand};
 use book_policies::Policy;
@@ -74,6 +74,10 @@ impl Keeper for MemoryKeeper {
 
     fn find(&mut self, _alloc: Global, path: &Path) -> Result<Option<Node>, StoreFault> {
         Ok(find(&self.office, path)?)
+    }
+
+    fn find_unnumbered(&mut self, _alloc: Global, path: &Path) -> Result<Option<Node>, StoreFault> {
+        Ok(find_unnumbered(&self.office, path)?)
     }
 
     fn has(&mut self, _alloc: Global, path: &Path) -> Result<bool, StoreFault> {

@@ -1,5 +1,8 @@
 //! What a keeper tells of resources.
 
+ghost use Rattle.std.specs.Prelude.{◌≡◌};
+ghost use Rattle.book_office.specs.Resources.{unnumbered};
+
 use book_lists::{Entry, Name, Principal};
 use book_values::{Items, Kind, Path, StoredCard, Text};
 
@@ -14,8 +17,17 @@ pub struct Node {
     pub label: Text,
     /// A card's text; none for other kinds.
     pub text: Option<Text>,
-    /// The number of a card's last change, or of a book's; else 0.
+    /// The number of a card's last change, or of a book's; else 0. `Keeper::find_unnumbered` tells 0 for each.
     pub number: u64,
+}
+
+impl Node {
+    /// The same resource with the number 0.
+    pub(crate) fn unnumbered(self) -> Node
+        ensures { result ≡ unnumbered self }
+    {
+        Node { number: 0, ..self }
+    }
 }
 
 /// A child in a listing, with the lists that stand at it. A card's text is not told: `Keeper::find` gives it.

@@ -6,7 +6,7 @@ ghost use Rattle.std.specs.Option.{option_copied};
 ghost use Rattle.book_lists.specs.Names.{IsName};
 ghost use Rattle.book_values.specs.Changes.{changes_after};
 ghost use Rattle.book_office.specs.Levels.{level_at, lists_at, own_at, protected_at};
-ghost use Rattle.book_office.specs.Resources.{changed_after, changed_in, book_resource, card_at, card_in, card_resource, children_at, count_at, listed, listed_books, listed_cards, listed_home, listed_homes, listed_principals, node_at, node_of, number_of, properties_at, properties_resource};
+ghost use Rattle.book_office.specs.Resources.{changed_after, changed_in, book_resource, card_at, card_in, card_resource, children_at, count_at, listed, listed_books, listed_cards, listed_home, listed_homes, listed_principals, node_at, node_of, number_of, properties_at, properties_resource, unnumbered};
 ghost use Rattle.book_values.specs.declared.paths.Kind.TheVariants as kind;
 
 use crate::nodes::{Changed, Level, Listed, Lists, Node};
@@ -231,6 +231,22 @@ pub(crate) fn find(office: &Office, path: &Path) -> Result<Option<Node>, AllocEr
             Some(book) => find_card(book, name),
             None => Ok(None),
         },
+    }
+}
+
+/// The resource at a path without its number. A card's number is not looked up.
+pub(crate) fn find_unnumbered(office: &Office, path: &Path) -> Result<Option<Node>, AllocError>
+    ensures { IfOk result (λ node. node ≡ option_map unnumbered (node_at office.now path.now)) }
+{
+    if let Path::Card(book, name) = path {
+        return match card_of(office, book, name) {
+            Some(card) => Ok(Some(card_node(card, 0)?)),
+            None => Ok(None),
+        };
+    }
+    match find(office, path)? {
+        Some(node) => Ok(Some(node.unnumbered())),
+        None => Ok(None),
     }
 }
 
