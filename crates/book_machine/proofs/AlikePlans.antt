@@ -12,7 +12,7 @@ use Rattle.book_lists.specs.declared.circles.Caller.TheVariants.{Nobody, Known}
 use Rattle.book_lists.specs.declared.submitted.Submitted.{Submitted}
 use Rattle.book_office.specs.Levels.{protected_entries, effective_at}
 use Rattle.book_office.specs.declared.nodes.EffectiveEntry.{EffectiveEntry}
-use Rattle.book_office.specs.Resources.{node_at}
+use Rattle.book_office.specs.Resources.{node_at, unnumbered}
 use Rattle.book_office.specs.Sound.{IsMapped}
 use Rattle.book_office.specs.declared.nodes.Node.{Node}
 use Rattle.book_rights.specs.Needs.{only, read_and, needs_of}
@@ -30,7 +30,7 @@ use Rattle.book_values.specs.Paths.{kind_of, levels}
 use Rattle.book_machine.proofs.AlikeOffices.{alike_of}
 use Rattle.book_machine.proofs.AlikeReports.{AreReportedAlike, members_alike, reports_alike, rulings_told_alike}
 use Rattle.book_machine.proofs.FittingPlans.{IsShaped, bind_ok, ready_is_target, ready_shaped}
-use Rattle.book_machine.proofs.Outlines.{there_mapped, outline_of_node, book_there, count_same, nodes_alike, node_same, level_same, effective_same, here_same}
+use Rattle.book_machine.proofs.Outlines.{there_mapped, outline_of_node, book_there, count_same, nodes_alike, targets_alike, node_same, level_same, effective_same, here_same}
 use Rattle.book_listings.proofs.AlikeListings.{unread_unseen}
 use Rattle.book_listings.specs.Laws.{AreAlike}
 use Rattle.book_listings.specs.declared.messages.Find.{Find}
@@ -166,10 +166,10 @@ module _ (o p : Office) (same : outline o ≡ outline p) where
   target_same : (m : Method) (q : Option Path) → told_of outline_of_target (target_of o m q) ≡ told_of outline_of_target (target_of p m q)
   target_same m None = refl
   target_same m (Some q) =
-      node_told o m q (node_at o q)
-      ∙ ap (at_node o m q) (nodes_alike o p same q)
-      ∙ at_node_same m q (option_map outline_of_node (node_at p q))
-      ∙ sym (node_told p m q (node_at p q))
+      node_told o m q (option_map unnumbered (node_at o q))
+      ∙ ap (at_node o m q) (targets_alike o p same q)
+      ∙ at_node_same m q (option_map outline_of_node (option_map unnumbered (node_at p q)))
+      ∙ sym (node_told p m q (option_map unnumbered (node_at p q)))
 
   mapped_same : (q : Path) → is_some (node_at o q) ≡ is_some (node_at p q)
   mapped_same q = sym (there_mapped outline_of_node (node_at o q)) ∙ ap is_some (nodes_alike o p same q) ∙ there_mapped outline_of_node (node_at p q)
@@ -504,12 +504,12 @@ module _ (o p : Office) (name : Option (List ℕ)) (request : Request) (agree : 
   target_seen : (a b : Ready) → ready_of o name request ≡ Ok a → ready_of p name request ≡ Ok b → outline_of_ready a ≡ outline_of_ready b
       → MayRead o a.caller a.target.path → a.target.node ≡ b.target.node
   target_seen a b a_is b_is alike may =
-      let where_a : a.target.node ≡ node_at o a.target.path = ready_is_target o request name a a_is in
-      let where_b : b.target.node ≡ node_at p b.target.path = ready_is_target p request name b b_is in
+      let where_a : a.target.node ≡ option_map unnumbered (node_at o a.target.path) = ready_is_target o request name a a_is in
+      let where_b : b.target.node ≡ option_map unnumbered (node_at p b.target.path) = ready_is_target p request name b b_is in
       let may_named : MayRead o (named name) a.target.path = subst (λ c. MayRead o c a.target.path) (ready_named o name request a a_is) may in
       where_a
-      ∙ node_same o p agree.outlines a.target.path (λ b' c' is. agree.readable b' c' (subst (MayRead o (named name)) is may_named))
-      ∙ ap (node_at p) (path_is a b alike)
+      ∙ ap (option_map unnumbered) (node_same o p agree.outlines a.target.path (λ b' c' is. agree.readable b' c' (subst (MayRead o (named name)) is may_named)))
+      ∙ ap (λ q. option_map unnumbered (node_at p q)) (path_is a b alike)
       ∙ sym where_b
 
   -- for the circle of a request that has passed

@@ -1,5 +1,5 @@
 -- No stage refuses a request as unavailable.
-use Rattle.std.proofs.Common.{◌≡◌, ℕ, List, Bool, true, false, Option, Some, None, Result, Ok, Err, inl, inr, sym, ap, ◌∙◌, is_some}
+use Rattle.std.proofs.Common.{◌≡◌, ℕ, List, Bool, true, false, Option, Some, None, Result, Ok, Err, inl, inr, sym, ap, ◌∙◌, is_some, option_map}
 use Rattle.std.specs.Prelude.{if◌then◌else◌, nat_le, length}
 use Rattle.std.specs.FinMap.{get}
 use Rattle.book_lists.specs.Principals.{person_path}
@@ -16,7 +16,7 @@ use Rattle.book_machine.specs.Finding.{may_be_asked}
 use Rattle.book_values.specs.Paths.{kind_of}
 use Rattle.book_values.specs.declared.paths.Path.{Path}
 use Rattle.book_values.specs.declared.paths.Path.TheVariants as path
-use Rattle.book_office.specs.Resources.{node_at}
+use Rattle.book_office.specs.Resources.{node_at, unnumbered}
 use Rattle.book_office.specs.declared.nodes.Node.{Node}
 use Rattle.book_values.specs.declared.offices.Office.{Office}
 use Rattle.book_machine.proofs.ReportPlans.{reported_available}
@@ -228,7 +228,7 @@ node_available o m p (Some node) e =
 
 target_available : (o : Office) (m : Method) (p : Option Path) → IsAvailable (target_of o m p)
 target_available o m None e = absurd (cc (e))
-target_available o m (Some p) e = node_available o m p (node_at o p) e
+target_available o m (Some p) e = node_available o m p (option_map unnumbered (node_at o p)) e
 
 replaceable_available : (overwrite taken : Bool) → IsAvailable (replaceable overwrite taken)
 replaceable_available overwrite false e = absurd (cc (e))

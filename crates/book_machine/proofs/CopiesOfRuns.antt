@@ -1,5 +1,5 @@
 -- What sync reports tell in runs of the machine.
-use Rattle.std.proofs.Common.{◌≡◌, inl, inr, ℕ, List, [], ◌∷◌, false, Option, Some, None, Result, Ok, Err, refl, sym, ap, ◌∙◌, subst, arith}
+use Rattle.std.proofs.Common.{◌≡◌, inl, inr, ℕ, List, [], ◌∷◌, false, Option, Some, None, option_map, Result, Ok, Err, refl, sym, ap, ◌∙◌, subst, arith}
 use Rattle.book_lists.specs.Circles.{CircleOf}
 use Rattle.book_lists.specs.Callers.{IsCircle}
 use Rattle.book_lists.proofs.OneOutcome.{one_circle}
@@ -7,7 +7,7 @@ use Rattle.book_values.specs.declared.offices.Office.{Office}
 use Rattle.book_values.specs.declared.paths.Path.{Path}
 use Rattle.book_values.specs.declared.paths.Path.TheVariants as path
 use Rattle.book_office.specs.Keeping.{Standing}
-use Rattle.book_office.specs.Resources.{node_at}
+use Rattle.book_office.specs.Resources.{node_at, unnumbered}
 use Rattle.book_office.specs.Sound.{IsSound}
 use Rattle.book_office.specs.declared.nodes.Node.{Node}
 use Rattle.book_rights.specs.declared.methods.Method.{Method}
@@ -54,10 +54,10 @@ module _ (o : Office) (name : Option (List ℕ)) (request : Request) (b : List �
       let s = bind_ok (suits_target c.0 t.0) _ ready t.2 in
       let d = bind_ok (destination_of o (destination_in c.0)) _ ready s.2 in
       let what : answered (asked.Report (SyncCollection (from_of token))) ≡ answered c.0 = sym (ap (λ m. asked_of m request) asks.is_report ∙ ap report_asked asks.of_changes) ∙ c.1 in
-      let where_at : at_node o request.method (path.Book b) (node_at o (path.Book b)) ≡ answered t.0 = sym (ap (target_of o request.method) asks.of_book) ∙ t.1 in
+      let where_at : at_node o request.method (path.Book b) (option_map unnumbered (node_at o (path.Book b))) ≡ answered t.0 = sym (ap (target_of o request.method) asks.of_book) ∙ t.1 in
       let made = same_Ok _ ready d.2 in (
         sym (ap (λ (r : Ready). r.asked) made) ∙ sym (same_Ok _ c.0 what),
-        sym (ap (λ (r : Ready). r.target.path) made) ∙ target_path o request.method (path.Book b) (node_at o (path.Book b)) t.0 where_at,
+        sym (ap (λ (r : Ready). r.target.path) made) ∙ target_path o request.method (path.Book b) (option_map unnumbered (node_at o (path.Book b))) t.0 where_at,
       )
 
   report_planned : (result : Result Plan Refusal) (granted : IsGranted o ready) → IsPlan o name request result → report_plan (sync o granted.circle b token None) ≡ result

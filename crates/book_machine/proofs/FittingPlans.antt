@@ -29,7 +29,7 @@ use Rattle.book_values.specs.declared.offices.Book.{Book}
 use Rattle.book_values.specs.declared.offices.Office.{Office}
 use Rattle.book_limits.specs.declared.TheConstants.{MAX_MEMBERS, MAX_LABEL_BYTES, MAX_CARD_BYTES, MAX_CARDS, LAST_NUMBER}
 use Rattle.book_office.specs.Fitting.{HasRoom, HasNumberFor}
-use Rattle.book_office.specs.Resources.{Resource, properties_resource, resource_at, node_of, node_at, count_at, book_resource, card_resource, card_in, number_of}
+use Rattle.book_office.specs.Resources.{Resource, properties_resource, resource_at, node_of, node_at, unnumbered, count_at, book_resource, card_resource, card_in, number_of}
 use Rattle.book_office.specs.Sound.{IsMapped, IsSound, IsOwner, Fits}
 use Rattle.book_listings.specs.declared.messages.Extent.{Extent}
 use Rattle.book_listings.specs.declared.messages.Extent.TheVariants.{Resource as Alone, Children}
@@ -39,6 +39,7 @@ use Rattle.book_rights.specs.declared.methods.Method.{Method}
 use Rattle.book_rights.specs.declared.methods.Method.TheVariants.{Get, Head, Options, Put, Propfind, Proppatch, Acl, Copy, Move, Delete, Mkcol, Report}
 use Rattle.book_machine.specs.AllowedMethods.{goes_on}
 use Rattle.book_machine.proofs.BodyAnswers.{accepted_list}
+use Rattle.book_machine.proofs.Outlines.{there_mapped}
 use Rattle.book_machine.proofs.ReportPlans.{reported_told}
 use Rattle.book_machine.specs.Asked.{asked_of, put_asked, find_asked_to, find_asked, each_once, patch_asked, proppatch_asked, acl_asked, mkcol_asked, report_asked, is_empty, method_of, destination_asked, copy_asked, move_asked, destination_in, destination_path}
 pub use Rattle.book_machine.proofs.DestinedCards.{IsDestined, answered, bind_ok, is_taken, same_Ok}
@@ -89,18 +90,18 @@ caller_is_owner o (Some name) caller e =
     ] refl e
 
 -- ---- the path
--- what the path stage lets through
+-- what the path stage lets through, where this is mapped
 record GoesOn (o : Office) (m : Method) (p : Path) (node : Option Node) (t : Target) : Type 0 where
-  is : t ≡ record { path = p; node = node; replaces = false }
+  is : t ≡ record { path = p; node = option_map unnumbered node; replaces = false }
   free : node ≡ None → at_unmapped o m p ≡ Ok tt
   there : (n : Node) → node ≡ Some n → goes_on m n.kind ≡ true
 
-gone_on : (o : Office) (m : Method) (p : Path) (node : Option Node) (t : Target) → at_node o m p node ≡ Ok t → GoesOn o m p node t
+gone_on : (o : Office) (m : Method) (p : Path) (node : Option Node) (t : Target) → at_node o m p (option_map unnumbered node) ≡ Ok t → GoesOn o m p node t
 gone_on o m p None t e =
     let answered = bind_ok (at_unmapped o m p) (λ _. Ok (record { path = p; node = None; replaces = false })) t e in
     record { is = sym (same_Ok _ t answered.2); free = λ _. answered.1; there = λ n none. absurd cc }
 gone_on o m p (Some node) t e =
-    let answered = bind_ok (check (goes_on m node.kind) _) (λ _. Ok (record { path = p; node = Some node; replaces = false })) t e in
+    let answered = bind_ok (check (goes_on m node.kind) _) (λ _. Ok (record { path = p; node = Some (unnumbered node); replaces = false })) t e in
     record { is = sym (same_Ok _ t answered.2); free = λ none. absurd cc; there = λ n same. cc (check_true _ _ answered.0 answered.1, same) }
 
 -- ---- books and cards
@@ -246,7 +247,7 @@ IsShaped (asked.Report which) = Unit {0}
 
 -- what has passed the path stage at a path
 abbrev pub ready_at : Office → Path → Caller → Asked → Ready
-ready_at o p caller what = record { caller = caller; asked = what; target = record { path = p; node = node_at o p; replaces = is_taken o (destination_in what) } }
+ready_at o p caller what = record { caller = caller; asked = what; target = record { path = p; node = option_map unnumbered (node_at o p); replaces = is_taken o (destination_in what) } }
 
 pub record Passed (o : Office) (request : Request) (ready : Ready) : Type 0 where
   pub caller : Caller
@@ -303,7 +304,8 @@ module _ (o : Office) (sound : IsSound o) (circle : CircleOf) (caller : Caller) 
   put_plan_fits text (path.Group n) named body limits is = absurd cc
   put_plan_fits text (path.Book b) named body limits is = absurd cc
   put_plan_fits text (path.Card b c) named body limits is =
-      subst (Fits o) (same_Some _ _ (edit_told _ _ _ plan edit is has)) (put_fits o sound b c (owner_of caller) text u v named.1 owned body limits)
+      subst (Fits o) (same_Some _ _ (edit_told _ _ _ plan edit is has)) (put_fits o sound b c (owner_of caller) text u v named.1 owned body
+      (subst (λ mapped. check (can_change (node_at o (path.Book b)) && (mapped || nat_lt (count_at o (path.Book b)) MAX_CARDS)) Full ≡ Ok v) (there_mapped unnumbered (node_at o (path.Card b c))) limits))
 
   copy_plan_fits : (to : Destination) (p : Path) → (node_at o p ≡ None → at_unmapped o Copy p ≡ Ok tt) → IsDestined o p (Some to)
       → limits_of o (asked.Copy to) (ready_at o p caller (asked.Copy to)).target ≡ Ok v → Succeeds (asked.Copy to) p → Fits o edit
@@ -414,11 +416,11 @@ module _ (o : Office) (sound : IsSound o) (circle : CircleOf) (caller : Caller) 
   pub plan_at_fits : (what : Asked) (p : Path) → HasPath (Some p) → IsShaped what → IsDestined o p (destination_in what) → (node_at o p ≡ None → at_unmapped o (method_of what) p ≡ Ok tt)
       → ((n : Node) → node_at o p ≡ Some n → goes_on (method_of what) n.kind ≡ true)
       → IsBodyAnswer o what p (Ok u) → limits_of o what (ready_at o p caller what).target ≡ Ok v → Succeeds what p → Fits o edit
-  plan_at_fits asked.Get p named shaped destined free there body limits is = absurd (text_makes_none (text_of (node_at o p)) _ _ plan edit is has)
-  plan_at_fits asked.Head p named shaped destined free there body limits is = absurd (text_makes_none (text_of (node_at o p)) _ _ plan edit is has)
+  plan_at_fits asked.Get p named shaped destined free there body limits is = absurd (text_makes_none (text_of (option_map unnumbered (node_at o p))) _ _ plan edit is has)
+  plan_at_fits asked.Head p named shaped destined free there body limits is = absurd (text_makes_none (text_of (option_map unnumbered (node_at o p))) _ _ plan edit is has)
   plan_at_fits asked.Options p named shaped destined free there body limits is = let h = edit_told _ _ None plan edit is has in absurd (cc (h))
   plan_at_fits (asked.Put text) p named shaped destined free there body limits is = put_plan_fits text p named body limits is
-  plan_at_fits (asked.Propfind find) p named shaped destined free there body limits is = absurd (listing_makes_none o circle find p (node_at o p) plan edit is has)
+  plan_at_fits (asked.Propfind find) p named shaped destined free there body limits is = absurd (listing_makes_none o circle find p (option_map unnumbered (node_at o p)) plan edit is has)
   plan_at_fits (asked.Proppatch (patch.DisplayName label)) p named shaped destined free there body limits is = label_plan_fits label p free shaped limits is
   plan_at_fits (asked.Proppatch (patch.GroupMembers members)) p named shaped destined free there body limits is = members_plan_fits members p free body shaped limits is
   plan_at_fits (asked.Acl list) p named shaped destined free there body limits is = acl_plan_fits list p free body limits is

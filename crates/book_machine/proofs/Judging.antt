@@ -11,7 +11,7 @@ use Rattle.book_values.specs.declared.paths.Path.{Path}
 use Rattle.book_office.specs.InForce.{in_force, in_force_at, list_in, lists_in}
 use Rattle.book_office.specs.Levels.{effective_at, effective_of, lists_at}
 use Rattle.book_office.specs.declared.nodes.Level.{Level}
-use Rattle.book_office.specs.Resources.{Resource, resource_at, node_of}
+use Rattle.book_office.specs.Resources.{Resource, resource_at, node_of, unnumbered}
 use Rattle.book_office.specs.declared.nodes.EffectiveEntry.{EffectiveEntry}
 use Rattle.book_office.specs.declared.nodes.Node.{Node}
 use Rattle.book_values.specs.declared.offices.Office.{Office}
@@ -30,7 +30,7 @@ judged_at o circle p set r list here same_list same_here judged =
     subst (λ h. Judges (effective_at o p) circle h p set r) same_here (subst (λ l. Judges l circle here p set r) same_list judged)
 
 owner_of_node : (found : Option Resource)
-    → option_and_then (λ (n : Node). n.owner) (option_map node_of found) ≡ option_and_then (λ (r : Resource). r.owner) found
+    → option_and_then (λ (n : Node). n.owner) (option_map unnumbered (option_map node_of found)) ≡ option_and_then (λ (r : Resource). r.owner) found
 owner_of_node None = refl
 owner_of_node (Some r) = refl
 

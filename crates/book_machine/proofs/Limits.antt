@@ -21,7 +21,7 @@ use Rattle.book_lists.specs.ListEdits.{entries_of}
 use Rattle.book_lists.specs.Principals.{group_path}
 use Rattle.book_lists.specs.declared.entries.Entry.{Entry}
 use Rattle.book_office.specs.Edits.{apply, place_card, put_card, card_put, copy_from, card_copied, move_to, remove_card, label_card}
-use Rattle.book_office.specs.Resources.{node_of, node_at, count_at, book_resource, card_at, card_in, card_resource, number_of}
+use Rattle.book_office.specs.Resources.{node_of, node_at, unnumbered, count_at, book_resource, card_at, card_in, card_resource, number_of}
 use Rattle.book_office.specs.Sound.{IsSound, IsSoundBook}
 use Rattle.book_office.specs.declared.edits.Edit.{Edit}
 use Rattle.book_office.specs.declared.edits.Edit.TheVariants.{PutCard, RemoveCard, CopyCard, MoveCard, AddBook, RemoveBook, SetLabel, SetList, SetMembers}
@@ -31,6 +31,7 @@ use Rattle.book_machine.proofs.BodyAnswers.{one_body_answer}
 use Rattle.book_machine.proofs.FittingPlans.{answered, passed, edit_told, IsDestined, no_mkcol_at, success_fits, ready_at, count_of_book, node_of_card, no_book, is_free, same_Some}
 use Rattle.book_lists.proofs.OneOutcome.{one_circle}
 use Rattle.book_machine.proofs.OnePlan.{one_success, verdicts_exclude}
+use Rattle.book_machine.proofs.Outlines.{there_mapped}
 use Rattle.book_machine.proofs.ServedPlans.{success_low}
 use Rattle.book_machine.proofs.StepLaws.{decided, limits_answers, not_success}
 use Rattle.book_machine.specs.Laws.{RequestsAreFullAtLimits}
@@ -251,7 +252,7 @@ module _ (o : Office) (circle : CircleOf) (caller : Caller) (plan : Plan) (edit 
   put_within text (path.Group n) free is = absurd cc
   put_within text (path.Book b) free is = absurd cc
   put_within text (path.Card b c) free is = book_for o b c _ free (λ book found.
-      checked _ Full (put_room o b c (owner_of caller) text book found (after_told _ _ _ is)))
+      checked _ Full (ap (put_limits o (path.Card b c)) (there_mapped unnumbered (node_at o (path.Card b c))) ∙ put_room o b c (owner_of caller) text book found (after_told _ _ _ is)))
 
   copy_within : (to : Destination) (p : Path) → IsDestined o p (Some to) → (node_at o p ≡ None → at_unmapped o Copy p ≡ Ok tt) → Within (asked.Copy to) p
   copy_within to path.Root destined free is = absurd cc

@@ -4,7 +4,7 @@ use Rattle.std.specs.FinMap.{get, len}
 use Rattle.book_adopting.proofs.Merges.{get_mapped}
 use Rattle.book_office.specs.declared.nodes.Node.{Node}
 use Rattle.book_office.specs.Levels.{protected_at, own_at, level_at, effective_of, effective_at}
-use Rattle.book_office.specs.Resources.{Resource, properties_resource, book_resource, card_resource, number_of, card_at, card_in, resource_at, count_at, node_of, node_at}
+use Rattle.book_office.specs.Resources.{Resource, properties_resource, book_resource, card_resource, number_of, card_at, card_in, resource_at, count_at, node_of, node_at, unnumbered}
 use Rattle.book_values.proofs.OneName.{some_apart, same_some}
 use Rattle.book_values.specs.Paths.{levels}
 use Rattle.book_values.specs.declared.offices.Book.{Book}
@@ -49,6 +49,10 @@ outline_of_node node = record node { label = []; text = None }
 node_outline : (r : Option Resource) → option_map outline_of_node (option_map node_of r) ≡ option_map node_of (option_map outline_of_resource r)
 node_outline None = refl
 node_outline (Some r) = refl
+
+unnumbered_outline : (r : Option Node) → option_map outline_of_node (option_map unnumbered r) ≡ option_map unnumbered (option_map outline_of_node r)
+unnumbered_outline None = refl
+unnumbered_outline (Some node) = refl
 
 card_outline : (number : ℕ) (r : Option StoredCard)
     → option_map outline_of_resource (option_map (card_resource number) r) ≡ option_map outline_of_resource (option_map (card_resource number) (option_map outline_of_card r))
@@ -135,6 +139,13 @@ module _ (o p : Office) (same : outline o ≡ outline p) where
       node_outline (resource_at o q)
       ∙ ap (option_map node_of) (resources_alike q)
       ∙ sym (node_outline (resource_at p q))
+
+  -- the same of nodes of which no number is told
+  pub targets_alike : (q : Path) → option_map outline_of_node (option_map unnumbered (node_at o q)) ≡ option_map outline_of_node (option_map unnumbered (node_at p q))
+  targets_alike q =
+      unnumbered_outline (node_at o q)
+      ∙ ap (option_map unnumbered) (nodes_alike q)
+      ∙ sym (unnumbered_outline (node_at p q))
 
   pub node_same : (q : Path) → ((b c : List ℕ) → q ≡ path.Card b c → card_at o b c ≡ card_at p b c) → node_at o q ≡ node_at p q
   node_same q h = ap (option_map node_of) (resource_same q h)

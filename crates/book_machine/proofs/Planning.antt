@@ -1,10 +1,11 @@
 -- A plan, from what its stages tell.
-use Rattle.std.proofs.Common.{◌≡◌, ℕ, List, Bool, Option, Some, None, Result, Ok, Err, inl, inr, refl, sym, subst, ap, ◌∙◌}
+use Rattle.std.proofs.Common.{◌≡◌, ℕ, List, Bool, Option, Some, None, Result, Ok, Err, inl, inr, refl, sym, subst, ap, ◌∙◌, option_map}
 use Rattle.std.specs.FinMap.{get}
 use Rattle.book_lists.specs.Callers.{IsCircle}
 use Rattle.book_lists.specs.Circles.{CircleOf}
 use Rattle.book_lists.specs.Names.{IsName}
 use Rattle.book_values.specs.declared.offices.Office.{Office}
+use Rattle.book_office.specs.Resources.{node_at, unnumbered}
 use Rattle.book_office.specs.Sound.{IsSound}
 use Rattle.book_office.specs.declared.nodes.Node.{Node}
 use Rattle.book_values.specs.declared.paths.Path.{Path}
@@ -55,6 +56,23 @@ granted_after_limits o circle ready (Err e) accepted room (inr is) = inr (Ok tt,
 pub meets_any : (stage r : Result Plan Refusal) → Meets r stage → MeetsAny (λ x. stage ≡ x) r
 meets_any stage (Ok plan) meets = meets
 meets_any stage (Err e) meets = meets
+
+-- what a listing is does not rest on the number of what is mapped
+listed_unnumbered : (o : Office) (circle : CircleOf) (find : Find) (p : Path) (found : Option Node) (r : Result Plan Refusal)
+    → IsListed o circle find p found r → IsListed o circle find p (option_map unnumbered found) r
+listed_unnumbered o circle find p None r is = is
+listed_unnumbered o circle find p (Some node) r is = is
+
+pub listed_at_target : (o : Office) (circle : CircleOf) (find : Find) (target : Target) (r : Result Plan Refusal) → IsTarget o target
+    → MeetsAny (IsListed o circle find target.path (node_at o target.path)) r → MeetsAny (IsListed o circle find target.path target.node) r
+listed_at_target o circle find target r there meets =
+    subst (λ node. MeetsAny (IsListed o circle find target.path node) r) (sym there) (go r meets)
+  where
+    go : (r : Result Plan Refusal) → MeetsAny (IsListed o circle find target.path (node_at o target.path)) r
+        → MeetsAny (IsListed o circle find target.path (option_map unnumbered (node_at o target.path))) r
+    go (Ok plan) is = listed_unnumbered o circle find target.path (node_at o target.path) (Ok plan) is
+    go (Err e) (inl unavailable) = inl unavailable
+    go (Err e) (inr is) = inr (listed_unnumbered o circle find target.path (node_at o target.path) (Err e) is)
 
 -- a listing that was told at its target
 pub listed_at : (o : Office) (circle : CircleOf) (find : Find) (p : Path) (found : Option Node) (node : Node) (responses : List Response) (r : Result Plan Refusal)

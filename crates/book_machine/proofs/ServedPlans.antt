@@ -15,7 +15,7 @@ use Rattle.book_lists.specs.declared.circles.Caller.{Caller}
 use Rattle.book_rulings.specs.Rulings.{AreRulingsAt}
 use Rattle.book_rulings.specs.declared.messages.Ruling.{Ruling}
 use Rattle.book_listings.specs.declared.messages.Find.{Find}
-use Rattle.book_office.specs.Resources.{node_of, node_at, book_resource, properties_resource, card_resource, card_in, number_of}
+use Rattle.book_office.specs.Resources.{node_of, node_at, unnumbered, properties_resource, card_resource, card_in, number_of}
 use Rattle.book_office.specs.declared.edits.Edit.{Edit}
 use Rattle.book_office.specs.declared.nodes.Node.{Node}
 use Rattle.book_rights.specs.declared.methods.Method.{Method}
@@ -156,10 +156,10 @@ module _ (o : Office) (circle : CircleOf) (caller : Caller) where
   ServedAt what p = (at_unmapped o (method_of what) p ≡ Ok tt) ⊎ ((n : Node) × (node_at o p ≡ Some n) × (goes_on (method_of what) (kind_of p) ≡ true)) → Served o circle (ready_at o p caller what)
 
   -- a card has a text
-  text_there : (b c : List ℕ) (n : Node) → node_at o (path.Card b c) ≡ Some n → (text : List ℕ) × (text_of (node_at o (path.Card b c)) ≡ Ok text)
+  text_there : (b c : List ℕ) (n : Node) → node_at o (path.Card b c) ≡ Some n → (text : List ℕ) × (text_of (option_map unnumbered (node_at o (path.Card b c))) ≡ Ok text)
   text_there b c n is =
       let card = (in_book c (get o.books b) n is).1 in
-      (card.0, ap text_of is ∙ ap (λ t. text_of (Some (record n { text = t }))) card.1)
+      (card.0, ap (λ r. text_of (option_map unnumbered r)) is ∙ ap (λ t. text_of (Some (record n { text = t }))) card.1)
 
   get_served : (p : Path) → ServedAt asked.Get p
   get_served p (inl free) = absurd (cc (free))
@@ -202,7 +202,7 @@ module _ (o : Office) (circle : CircleOf) (caller : Caller) where
   put_served text (path.Group n) (inr there) = let h = there.2 in absurd (cc (h))
   put_served text (path.Book b) (inl free) = absurd (cc (free))
   put_served text (path.Book b) (inr there) = let h = there.2 in absurd (cc (h))
-  put_served text (path.Card b c) through = at_once o circle _ _ (put_status (is_some (node_at o (path.Card b c)))) _ _ refl (put_low (is_some (node_at o (path.Card b c)))) (λ result h. h)
+  put_served text (path.Card b c) through = at_once o circle _ _ (put_status (is_some (option_map unnumbered (node_at o (path.Card b c))))) _ _ refl (put_low (is_some (option_map unnumbered (node_at o (path.Card b c))))) (λ result h. h)
 
   copy_served : (to : Destination) (p : Path) → ServedAt (asked.Copy to) p
   copy_served to p (inl free) = absurd (cc (free))
@@ -269,7 +269,7 @@ module _ (o : Office) (circle : CircleOf) (caller : Caller) where
 
   propfind_served : (find : Find) (p : Path) → ServedAt (asked.Propfind find) p
   propfind_served find p (inl free) = absurd (cc (free))
-  propfind_served find p (inr there) = record { told = λ result h. listed_told o circle find p (node_at o p) there.0 result there.1 h }
+  propfind_served find p (inr there) = record { told = λ result h. listed_told o circle find p (option_map unnumbered (node_at o p)) (unnumbered there.0) result (ap (option_map unnumbered) there.1) h }
 
   report_at_served : (which : ReportKind) (p : Path) → report_suits which (kind_of p) ≡ true → ServedAt (asked.Report which) p
   report_at_served which p suited (inl free) = absurd (cc (free))

@@ -1,5 +1,5 @@
 -- What the machine does for one request before its verdict, and after it.
-use Rattle.std.specs.Prelude.{◌≡◌, ◌⊎◌, ℕ, ◌+◌, ◌<◌, ◌≤◌, length, Bool, true, false, ◌&&◌, ◌||◌, List, map, All, nat_lt, is_some, Option, Some, None, Result, Ok, Err, if◌then◌else◌}
+use Rattle.std.specs.Prelude.{◌≡◌, ◌⊎◌, ℕ, ◌+◌, ◌<◌, ◌≤◌, length, Bool, true, false, ◌&&◌, ◌||◌, List, map, All, nat_lt, is_some, Option, Some, None, option_map, Result, Ok, Err, if◌then◌else◌}
 use Rattle.std.specs.FinMap.{get}
 use Rattle.std.specs.List.{AllZip}
 use Rattle.std.specs.Str.{bytes_eq}
@@ -30,7 +30,7 @@ use Rattle.book_values.specs.declared.paths.Path.TheVariants as path
 use Rattle.book_values.specs.Paths.{kind_of}
 use Rattle.book_members.specs.Members.{AreMembersAt}
 use Rattle.book_office.specs.OwnLists.{protected_in_force}
-use Rattle.book_office.specs.Resources.{node_at, count_at}
+use Rattle.book_office.specs.Resources.{node_at, count_at, unnumbered}
 use Rattle.book_office.specs.Sound.{IsMapped, IsKnownForm}
 use Rattle.book_listings.specs.Listings.{AreResponses}
 use Rattle.book_listings.specs.declared.messages.Find.{Find}
@@ -119,9 +119,10 @@ abbrev pub at_node : Office → Method → Path → Option Node → Result Targe
 at_node o m p None = at_unmapped o m p >>= λ _. Ok (record { path = p; node = None; replaces = false })
 at_node o m p (Some node) = check (goes_on m node.kind) (NotAllowed (allowed_of node.kind)) >>= λ _. Ok (record { path = p; node = Some node; replaces = false })
 
+-- no number is told of the target: no stage, and no reply, rests on it
 abbrev pub target_of : Office → Method → Option Path → Result Target Refusal
 target_of o m None = Err NotFound
-target_of o m (Some p) = at_node o m p (node_at o p)
+target_of o m (Some p) = at_node o m p (option_map unnumbered (node_at o p))
 
 -- what is asked is asked of a resource of this kind: members are set of a group, a sync report is one on a book, and the
 -- members that a report tells are those of a card

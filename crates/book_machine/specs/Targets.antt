@@ -7,7 +7,8 @@ use Rattle.book_machine.specs.declared.asked.Asked.{Asked}
 use Rattle.book_machine.specs.declared.plans.Ready.{Ready as ReadyFound}
 use Rattle.book_machine.specs.declared.plans.Target.{Target as TargetFound}
 
--- the resource that a request asks for: where it is, what is mapped there, and whether something is mapped at the destination
+-- the resource that a request asks for: where it is, what is mapped there with no number told, and whether something is
+-- mapped at the destination
 pub record Target : Type 0 where
   pub path : Path
   pub node : Option Node

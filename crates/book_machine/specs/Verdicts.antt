@@ -5,7 +5,7 @@ use Rattle.book_lists.specs.Circles.{CircleOf}
 use Rattle.book_lists.specs.declared.entries.Here.{Here}
 use Rattle.book_office.specs.Levels.{effective_at}
 use Rattle.book_values.specs.Paths.{parent_of, kind_of}
-use Rattle.book_office.specs.Resources.{node_at}
+use Rattle.book_office.specs.Resources.{node_at, unnumbered}
 use Rattle.book_office.specs.declared.nodes.EffectiveEntry.{EffectiveEntry}
 use Rattle.book_office.specs.declared.nodes.Node.{Node}
 use Rattle.book_values.specs.declared.offices.Office.{Office}
@@ -147,6 +147,6 @@ owner_in node = option_and_then (λ (n : Node). n.owner) node
 abbrev pub owned_by : Option (List ℕ) → Option Node → Option Node
 owned_by owner node = option_map (λ (n : Node). record n { owner = owner }) node
 
--- the target's node is what is mapped there
+-- the target's node is what is mapped there, with no number told
 abbrev pub IsTarget : Office → Target → Type 0
-IsTarget o target = target.node ≡ node_at o target.path
+IsTarget o target = target.node ≡ option_map unnumbered (node_at o target.path)

@@ -1,7 +1,8 @@
 //! The machine: from a request to its reply (RFC 3744, section 6; RFC 4918).
 //!
 //! It stands on `book_office` and the crates below, on `book_listings` for what PROPFIND tells, and for reports on
-//! `book_sync`, `book_members` and `book_rulings`. The crate above uses
+//! `book_sync`, `book_members` and `book_rulings`. What a request asks for is found without its number, which PROPFIND
+//! alone tells: it finds the resource once more, with it. The crate above uses
 //! that `Machine::serve` answers as the machine's step says, or that the store is unavailable with the Office as it was;
 //! that `serve_all` is a run of such steps; and that `Machine::adopt` leaves the Office that adopts the policy, or tells
 //! why it does not.

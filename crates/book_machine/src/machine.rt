@@ -172,7 +172,7 @@ impl<K: Keeper> Machine<K> {
         }
     }
 
-    /// The path: what the request asks for.
+    /// The path: what the request asks for. Its number is not looked up.
     fn target<'r>(&mut self, alloc: Global, request: &'r Request) -> Result<Target<'r>, Refusal>
         ensures { StageAsks K.standing self.old self.new result
             (λ o r. MeetsSeen target_seen r (target_of o request.now.method request.now.path)) }
@@ -180,7 +180,7 @@ impl<K: Keeper> Machine<K> {
         let Some(path) = &request.path else {
             return Err(Refusal::NotFound);
         };
-        let node = self.keeper.find(alloc, path)?;
+        let node = self.keeper.find_unnumbered(alloc, path)?;
         self.target_at(alloc, request.method, path, node)
     }
 
@@ -603,21 +603,22 @@ impl<K: Keeper> Machine<K> {
         }
     }
 
-    /// What a PROPFIND tells: a listing of what is mapped at the target.
+    /// What a PROPFIND tells: a listing of what is mapped at a path. A book's sync token has its number, so that the resource
+    /// is asked for with it.
     fn listed(
         &mut self,
         alloc: Global,
         circle: &Circle,
-        target: &Target<'_>,
+        path: &Path,
         find: &Find,
     ) -> Result<Plan, Refusal>
-        ensures { StageAsks K.standing self.old self.new result (λ o r. IsTarget o (target_seen target.now)
-            → MeetsAny (IsListed o circle.now find.now target.now.path.now target.now.node) r) }
+        ensures { StageAsks K.standing self.old self.new result
+            (λ o r. MeetsAny (IsListed o circle.now find.now path.now (node_at o path.now)) r) }
     {
-        let Some(node) = &target.node else {
+        let Some(node) = self.keeper.find(alloc, path)? else {
             return Err(Refusal::NotFound);
         };
-        let responses = listing(alloc, &mut self.keeper, circle, target.path, node, find)?;
+        let responses = listing(alloc, &mut self.keeper, circle, path, &node, find)?;
         Ok(replied(207, Content::Listing(responses), None))
     }
 
@@ -635,7 +636,7 @@ impl<K: Keeper> Machine<K> {
             Asked::Get | Asked::Head => card_plan(target.node),
             Asked::Options => allow_plan(target.path),
             Asked::Put(text) => put_plan(caller, text, target),
-            Asked::Propfind(find) => self.listed(alloc, circle, &target, &find),
+            Asked::Propfind(find) => self.listed(alloc, circle, target.path, &find),
             Asked::Proppatch(patch) => patch_plan(alloc, target.path, patch),
             Asked::Acl(list) => acl_plan(alloc, target.path, list),
             Asked::Copy(to) => copy_plan(caller, to, target),

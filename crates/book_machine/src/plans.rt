@@ -10,7 +10,7 @@ use book_office::{Edit, Node, Path};
 pub struct Target<'r> {
     /// Where it is, as the request tells it.
     pub path: &'r Path,
-    /// What is mapped there, if anything is.
+    /// What is mapped there, if anything is. Its number is 0: no stage asks for it.
     pub node: Option<Node>,
     /// Whether something is mapped at the destination of a COPY or MOVE.
     pub replaces: bool,

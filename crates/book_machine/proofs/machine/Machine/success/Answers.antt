@@ -1,8 +1,8 @@
 use Rattle.std.proofs.Common.{◌≡◌, sym, subst}
-use Rattle.book_machine.proofs.Planning.{meets_any}
+use Rattle.book_machine.proofs.Planning.{listed_at_target, meets_any}
 use Rattle.book_machine.proofs.StagesInTurn.{asks_nothing}
 use Rattle.book_machine.specs.Asking.{Asks, MeetsAny}
-use Rattle.book_machine.specs.Stages.{IsReportOf, IsSuccessOf, allow_plan, delete_plan, mkcol_plan}
+use Rattle.book_machine.specs.Stages.{IsListed, IsReportOf, IsSuccessOf, allow_plan, delete_plan, mkcol_plan}
 use Rattle.book_machine.specs.Verdicts.{IsTarget}
 use Rattle.book_machine.specs.Targets.{ready_seen}
 use Rattle.book_machine.proofs.machine.Machine.success.Goals as goal
@@ -13,8 +13,18 @@ returns-in-Propfind g c =
     let new = g.K.Keeper.standing c.listed.new.self.keeper in
     let ready = ready_seen c.args.ready in
     let circle = c.args.circle.now in
-    subst (λ what. Asks old new c.listed.result (λ o r. IsTarget o ready.target → MeetsAny (λ x. IsSuccessOf o circle what ready.caller ready.target x) r))
-    (sym c.in-Propfind.is) c.listed.ensures
+    let find = c.in-Propfind.find in
+    let r = c.listed.result in
+    let asked = c.listed.ensures in
+    let row : Asks old new r (λ o x. IsTarget o ready.target → MeetsAny (IsListed o circle find ready.target.path ready.target.node) x) =
+    record {
+      was_honest = asked.was_honest;
+      tells = λ h o stands there. listed_at_target o circle find ready.target r there (asked.tells h o stands);
+      kept = asked.kept;
+      left = asked.left;
+      counted = asked.counted;
+    } in
+    subst (λ what. Asks old new r (λ o x. IsTarget o ready.target → MeetsAny (λ y. IsSuccessOf o circle what ready.caller ready.target y) x)) (sym c.in-Propfind.is) row
 
 pub returns-in-Options : goal.returns-in-Options
 returns-in-Options g c =
