@@ -1,7 +1,7 @@
 -- Heads that the parser found in the front of what is unread.
-use Rattle.std.proofs.Common.{◌≡◌, ℕ, ◌+◌, ◌-◌, ◌<◌, ◌≤◌, List, [], ◌∷◌, ◌++◌, map, length, take, drop, sym, ap, ◌∙◌, append_assoc, arith, refl}
-use Rattle.std.proofs.lemmas.List.{take-append-drop, drop_at, length-take, length-drop, length-map}
-use Rattle.httparse.specs.Grammar.{RequestHead, Field, print_request, ReadsRequest}
+use Rattle.std.proofs.Common.{◌≡◌, ℕ, ◌-◌, ◌<◌, ◌≤◌, List, ◌++◌, map, length, take, drop, sym, ap, ◌∙◌, append_assoc, arith, refl}
+use Rattle.std.proofs.lemmas.List.{take-append-drop, drop_at, length-take, length-map}
+use Rattle.httparse.specs.Grammar.{RequestHead}
 use Rattle.httparse.specs.Spans.{IsRequestAt, IsRequestWithin, header_bytes, span_bytes, name_and_value}
 use Rattle.httparse.specs.declared.spans.HeaderSpan.{HeaderSpan}
 use Rattle.httparse.specs.declared.spans.RequestSpans.{RequestSpans}

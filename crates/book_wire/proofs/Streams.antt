@@ -1,5 +1,5 @@
 -- Streams, an exchange at a time.
-use Rattle.std.proofs.Common.{◌≡◌, ◌≢◌, ℕ, ◌+◌, ◌-◌, ◌^◌, ◌<◌, ◌≤◌, ◌⊎◌, min, Bool, true, false, List, [], ◌∷◌, ◌++◌, map, length, Option, Some, None, refl, sym, ap, subst, ◌∙◌, inl, inr, append_assoc, append-nil, length-append, arith}
+use Rattle.std.proofs.Common.{◌≡◌, ◌≢◌, ℕ, ◌+◌, ◌<◌, ◌≤◌, ◌⊎◌, Bool, true, false, List, [], ◌∷◌, ◌++◌, map, length, Option, Some, None, refl, sym, ap, subst, ◌∙◌, inl, inr, append_assoc, append-nil, length-append, arith}
 use Rattle.std.proofs.lemmas.List.{map-append}
 use Rattle.std.proofs.lemmas.List.Concat.{flat_map-append}
 use Rattle.std.specs.List.{flat_map, AllByRecursion}
@@ -18,7 +18,7 @@ use Rattle.book_wire.specs.declared.stream.Ended.TheVariants.{Clean, Cut, Closed
 use Rattle.book_wire.specs.Requests.{caller_name}
 use Rattle.book_wire.specs.Serving.{Answered, Runs, Stays}
 use Rattle.book_wire.specs.Spelling.{refusal_text}
-use Rattle.book_wire.specs.Stream.{Exchange, IsExchange, IsOpen, IsLast, Answers, SoFar, IsServed, Ends, EndsOpen, IsPartial, IsPartOfBodyOf, IsInput, Waits, WaitsFor, Refuses, FrontRefuses, text_of, reply_text, answered_of}
+use Rattle.book_wire.specs.Stream.{Exchange, IsOpen, IsLast, Answers, SoFar, IsServed, Ends, EndsOpen, IsPartial, IsPartOfBodyOf, IsInput, Waits, WaitsFor, Refuses, FrontRefuses, text_of, reply_text, answered_of}
 use Rattle.book_wire.specs.Turn.{Takes, IsPending, IsProgress, StopsAt, StopsWriting}
 use Rattle.book_wire.specs.Head.{Asked, Fields, ◌>>=◌, lone, values_of, length_of, implemented, within, asked_of}
 use Rattle.book_wire.proofs.Servings.{stays, runs_none, runs_one, runs_then, runs_stay}

@@ -1,5 +1,5 @@
 -- What the head of a request asks for (RFC 9112, sections 2 and 6): the fields that are read, and no others.
-use Rattle.std.specs.Prelude.{◌≡◌, ℕ, ◌+◌, ◌-◌, ◌*◌, Bool, true, false, ◌&&◌, ◌||◌, if◌then◌else◌, ◌==◌, nat_lt, nat_le, List, [], ◌∷◌, map, length, codes, Option, Some, None, Result, Ok, Err}
+use Rattle.std.specs.Prelude.{ℕ, ◌+◌, ◌-◌, ◌*◌, Bool, ◌&&◌, ◌||◌, if◌then◌else◌, ◌==◌, nat_lt, nat_le, List, [], ◌∷◌, map, length, codes, Option, Some, None, Result, Ok, Err}
 use Rattle.std.specs.List.{list_all, list_any}
 use Rattle.std.specs.Char.{is_ascii_digit}
 use Rattle.std.specs.Str.{bytes_eq}
@@ -14,7 +14,7 @@ use Rattle.book_machine.specs.declared.messages.Depth.TheVariants as depth
 use Rattle.book_targets.specs.Targets.{method_named}
 use Rattle.book_wire.specs.Members.{same_name, has_close}
 use Rattle.book_wire.specs.declared.head.WireRefusal.{WireRefusal}
-use Rattle.book_wire.specs.declared.head.WireRefusal.TheVariants.{BadHead, HeadTooLarge, BodyTooLarge, NotImplemented}
+use Rattle.book_wire.specs.declared.head.WireRefusal.TheVariants.{BadHead, BodyTooLarge, NotImplemented}
 
 -- names and values
 abbrev pub Fields : Type 0

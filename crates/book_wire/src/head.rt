@@ -12,7 +12,7 @@ use book_limits::{MAX_BODY, MAX_FIELDS, MAX_HEAD};
 use book_machine::{Depth, Flag};
 use book_rights::Method;
 use book_targets::method_named;
-use httparse::spans::{EMPTY_HEADER_SPAN, HeaderSpan, RequestSpans, parse_request};
+use httparse::spans::{HeaderSpan, RequestSpans, parse_request};
 use httparse::{Error, Status};
 
 /// Why there is no request. The connection closes after each, and nothing changes.
@@ -262,13 +262,18 @@ fn refusal_of(error: Error) -> WireRefusal
     }
 }
 
+/// Room for where the fields of a head lie. What a head leaves in it no later one reads.
+pub(crate) type FieldSpans = [HeaderSpan; MAX_FIELDS];
+
 /// Reads the head at the front. Looks at no more than the most bytes of a head.
-pub(crate) fn read_head(unread: &[u8]) -> Reading<'_>
+pub(crate) fn read_head<'b>(unread: &'b [u8], headers: &mut FieldSpans) -> Reading<'b>
     ensures { IsReading unread.now result }
 {
+    if unread.is_empty() {
+        return Reading::Partial;
+    }
     let front = front_of(unread, MAX_HEAD);
-    let mut headers = [EMPTY_HEADER_SPAN; MAX_FIELDS];
-    match parse_request(front, &mut headers) {
+    match parse_request(front, headers) {
         Ok(Status::Complete(spans)) => match read_fields(front, &spans, &headers[..spans.headers]) {
             Ok(asked) => Reading::Whole(asked, spans.len),
             Err(refusal) => Reading::Refused(refusal, is_bare_head(spans.method.of(front))),

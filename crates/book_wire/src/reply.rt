@@ -139,31 +139,31 @@ fn push_length_line(text: &mut ReplyHead, status: u16, size: usize)
     }
 }
 
-/// The head of a reply whose body has that length. It takes no memory.
+/// Pushes the head of a reply whose body has that length. It takes no memory.
 #[tactic(auto, unfolding(crate::specs::Spelling::head_text))]
-fn head(
+fn push_head(
+    text: &mut ReplyHead,
     status: u16,
     allowed: Option<AllowedMethods>,
     kind: &str,
     size: usize,
     closes: bool,
-) -> ReplyHead
-    requires { length kind.now ≤ 50 }
-    ensures { result.bytes ≡ head_text status (allowed_line allowed) kind.now size closes }
+)
+    requires empty { text.old.bytes ≡ [] }
+    requires short { length kind.now ≤ 50 }
+    ensures { text.new.bytes ≡ head_text status (allowed_line allowed) kind.now size closes }
 {
-    let mut text = ArrayString::new();
     let mut digits = Buffer::new();
     text.push_str("HTTP/1.1 ");
     text.push_str(digits.format(status));
     text.push_str(" ");
     text.push_str(phrase(status));
     text.push_str("\r\n");
-    push_allow_line(&mut text, allowed);
+    push_allow_line(text, allowed);
     text.push_str(kind);
-    push_length_line(&mut text, status, size);
+    push_length_line(text, status, size);
     text.push_str(close_line_of(closes));
     text.push_str("\r\n");
-    text
 }
 
 /// The text of a body that is made for the reply; none where the reply has its text already, or no body. An error is
@@ -247,7 +247,9 @@ fn write_reply<W: Write>(
         × Appends (W.contents writer.old) (W.contents writer.new) front)) }
 {
     let body = bytes_of(&reply.content, made);
-    let text = head(
+    let mut text = ArrayString::new();
+    push_head(
+        &mut text,
         reply.status,
         allowed(&reply.content),
         type_line_of(&reply.content, bare),
@@ -280,7 +282,8 @@ pub(crate) fn write_unavailable<W: Write>(
         × Appends (W.contents writer.old) (W.contents writer.new) front)) }
 {
     let body = unavailable_text();
-    let text = head(503, None, json_line_of(bare), body.len(), closes);
+    let mut text = ArrayString::new();
+    push_head(&mut text, 503, None, json_line_of(bare), body.len(), closes);
     put_joined(writer, out, text.as_bytes(), sent_body(body, bare))
 }
 
@@ -321,7 +324,9 @@ pub(crate) fn refuse<W: Write>(
         × (refusal_text refusal bare ≡ front ++ left) × Appends (W.contents writer.old) (W.contents writer.new) front)) }
 {
     let body = text_of(refusal);
-    let text = head(
+    let mut text = ArrayString::new();
+    push_head(
+        &mut text,
         status_of(refusal),
         None,
         json_line_of(bare),

@@ -8,10 +8,13 @@ ghost use Rattle.book_wire.specs.Stream.{IsStream, IsInput};
 ghost use Rattle.book_wire.specs.Turn.{IsProgress, StopsReading, StopsWriting};
 
 use crate::buffer::Buffer;
+use crate::head::FieldSpans;
 use crate::turns::{Turn, answer_one};
+use book_limits::MAX_FIELDS;
 use book_machine::Machine;
 use book_office::Keeper;
 use book_targets::{Home, homes};
+use httparse::spans::EMPTY_HEADER_SPAN;
 use matchit::Router;
 use std::alloc::Global;
 use std::io::{Read, Write};
@@ -69,6 +72,7 @@ fn answer_all<K: Keeper, W: Write>(
     router: &Router<Home>,
     writer: &mut W,
     out: &mut [u8],
+    headers: &mut FieldSpans,
     buffer: &mut Buffer,
     before: u64,
 ) -> Result<Progress, StreamFault>
@@ -82,7 +86,7 @@ fn answer_all<K: Keeper, W: Write>(
 {
     let mut requests = before;
     loop {
-        match answer_one(alloc, machine, router, writer, out, buffer) {
+        match answer_one(alloc, machine, router, writer, out, headers, buffer) {
             Ok(turn) => match turn {
                 Turn::Wait(wanted) => return Ok(Progress {
                     requests,
@@ -201,6 +205,7 @@ fn serve_from<K: Keeper, R: Read, W: Write>(
         × Appends (W.contents writer.old) (W.contents writer.new) written
         × StopsWriting (K.standing machine.old.keeper) input written (K.standing machine.new.keeper) }
 {
+    let mut headers = [EMPTY_HEADER_SPAN; MAX_FIELDS];
     let mut requests = 0;
     let mut wanted = 0;
     for _ in 0..u64::MAX {
@@ -215,7 +220,16 @@ fn serve_from<K: Keeper, R: Read, W: Write>(
         if buffer.unread().len() < wanted {
             continue;
         }
-        match answer_all(alloc, machine, router, writer, out, buffer, requests) {
+        match answer_all(
+            alloc,
+            machine,
+            router,
+            writer,
+            out,
+            &mut headers,
+            buffer,
+            requests,
+        ) {
             Ok(progress) => {
                 requests = progress.requests;
                 wanted = progress.wanted;

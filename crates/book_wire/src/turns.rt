@@ -14,7 +14,7 @@ ghost use Rattle.book_wire.specs.Stream.{IsAskedBy, is_head_method};
 ghost use Rattle.book_wire.specs.Turn.{IsTurn, IsPending};
 
 use crate::buffer::Buffer;
-use crate::head::{Asked, Reading, read_head};
+use crate::head::{Asked, FieldSpans, Reading, read_head};
 use crate::reply::{refuse, send, write_unavailable};
 use crate::requests::{caller_name, request_of};
 use crate::stream::StreamFault;
@@ -130,6 +130,7 @@ pub(crate) fn answer_one<K: Keeper, W: Write>(
     router: &Router<Home>,
     writer: &mut W,
     out: &mut [u8],
+    headers: &mut FieldSpans,
     buffer: &mut Buffer,
 ) -> Result<Turn, StreamFault>
     requires { HasHomes router.now }
@@ -141,7 +142,7 @@ pub(crate) fn answer_one<K: Keeper, W: Write>(
     ensures kept { OnErr result (buffer.new ≡ buffer.old) }
 {
     let unread = buffer.unread();
-    match read_head(unread) {
+    match read_head(unread, headers) {
         Reading::Partial => Ok(Turn::Wait(unread.len() + 1)),
         Reading::Refused(refusal, bare) => match refuse(writer, out, refusal, bare) {
             Ok(()) => Ok(Turn::Refused),

@@ -1,12 +1,20 @@
-use Rattle.std.proofs.Common.{◌≡◌, ℕ, List, ◌++◌, ◌≤◌, ◌<◌, length, take, drop, sym, ap, ◌∙◌, inl, inr, Err, false, refl, subst, arith}
-use Rattle.std.proofs.lemmas.List.{length-take, take-append-drop, take_all}
+use Rattle.std.proofs.Common.{◌≡◌, ℕ, List, [], ◌++◌, ◌≤◌, ◌<◌, length, drop, sym, ap, ◌∙◌, inl, inr, Err, false, refl, subst, arith}
+use Rattle.std.proofs.lemmas.Bool.{eqb-true}
+use Rattle.std.proofs.lemmas.List.{length-take, nil_from_length, take-append-drop, take_all}
 use Rattle.httparse.specs.Grammar.{print_request, HasNoRequest, NeverHasRequest, MayBecomeRequest}
-use Rattle.httparse.specs.Spans.{IsRequestOf, IsRequestWithin, RequestExceeds, span_bytes}
+use Rattle.httparse.specs.Spans.{IsRequestOf, IsRequestWithin, RequestExceeds}
 use Rattle.book_wire.specs.declared.head.WireRefusal.{WireRefusal}
 use Rattle.book_wire.specs.Head.{is_bare_head}
-use Rattle.book_wire.specs.Stream.{Refuses}
+use Rattle.book_wire.specs.Stream.{IsPartOfHead, Refuses}
+use Rattle.book_wire.proofs.NothingUnread.{nothing_is_part}
 use Rattle.book_wire.proofs.Heads.{whole_from_front, is_head, is_not_empty, asked_at}
 use Rattle.book_wire.proofs.head.read_head.Goals as goal
+
+pub returns-then-is_empty : goal.returns-then-is_empty
+returns-then-is_empty c =
+    let none : c.args.unread.now ≡ [] = nil_from_length _ (eqb-true (length c.args.unread.now) 0 (sym c.is_empty.ensures ∙ c.if-is_empty.true)) in
+    let P : List ℕ → Type 0 = λ t. IsPartOfHead t in
+    subst P (sym none) nothing_is_part
 
 pub returns-in-Ok : goal.returns-in-Ok
 returns-in-Ok c =
@@ -22,7 +30,7 @@ returns-in-Ok c =
     let whole : unread ≡ print_request h ++ drop (length (print_request h)) unread =
     whole_from_front 16384 unread (print_request h) (drop r.len front) (sym c.front_of-front.ensures ∙ at.reads.1) in (
       h,
-      is_head front headers r h small c.parse_request.auto.headers within at,
+      is_head front headers r h small (c.parse_request.auto.headers ∙ c.told-headers) within at,
       whole ∙ ap (λ (n : ℕ). print_request h ++ drop n unread) (sym at.len),
       at.len,
       is_not_empty front headers r h within at,
@@ -44,7 +52,7 @@ returns-in-Err-read_fields c =
     inr (
       h,
       drop (length (print_request h)) unread,
-      is_head front headers r h small c.parse_request.auto.headers within at,
+      is_head front headers r h small (c.parse_request.auto.headers ∙ c.told-headers) within at,
       whole_from_front 16384 unread (print_request h) (drop r.len front) (sym c.front_of-front.ensures ∙ at.reads.1),
       asked_at front headers r h _ at c.in-Err-read_fields.ensures,
       c.is_bare_head.ensures ∙ ap is_bare_head (c.of.ensures ∙ at.method),
@@ -85,7 +93,7 @@ returns-in-Err c =
     let P : WireRefusal → Type 0 = λ r. Refuses unread r false in
     elim c.refusal_of.ensures [
       | inl x ↦
-          let too_many : RequestExceeds 64 front = c.in-Err.ensures.too_many (ap Err x.0) in
+          let too_many : RequestExceeds 64 front = subst (λ n. RequestExceeds n front) c.told-headers (c.in-Err.ensures.too_many (ap Err x.0)) in
           subst P (sym x.1) (inl ((front, drop 16384 unread, split, small, inr too_many), refl))
       | inr x ↦
           let never : NeverHasRequest front = c.in-Err.ensures.invalid x.0 in
