@@ -180,6 +180,7 @@ fn check_circle(
     for path in [
         "/people/ann",
         "/people/bob",
+        "/people/cid",
         "/groups/crew",
         "/groups/guests",
         "/groups/house",
@@ -205,6 +206,8 @@ fn callers_belong_by_chains_and_cycles(rt: HostRuntime) {
     check_circle(&rt, alloc, &pairs, Some("/people/ann"), ann.as_slice());
     let bob = ["/people/bob", "/groups/guests"];
     check_circle(&rt, alloc, &pairs, Some("/people/bob"), bob.as_slice());
+    let cid = ["/people/cid"];
+    check_circle(&rt, alloc, &pairs, Some("/people/cid"), cid.as_slice());
     check_circle(&rt, alloc, &pairs, None, [].as_slice());
 }
 
