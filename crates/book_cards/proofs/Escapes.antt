@@ -1,8 +1,6 @@
 -- Unescaping, an escape at a time.
-use Rattle.std.proofs.Common.{◌≡◌, ◌≢◌, ℕ, ◌<◌, false, cond, Some, None, List, [], ◌∷◌, ◌++◌, length, get_or, refl, ap, ◌∙◌, arith}
-use lib.Dec.{eqb}
-use Rattle.book_cards.specs.Escaping.{escaped, unescaped, or_kept}
-use Rattle.std.specs.List.{slice_get}
+use Rattle.book_cards.proofs.Common.{◌≡◌, ◌≢◌, ℕ, ◌<◌, false, cond, Some, None, List, [], ◌∷◌, ◌++◌, length, get_or, refl, ap, ◌∙◌, arith, eqb, unescaped, slice_get}
+use Rattle.book_cards.specs.Escaping.{escaped, or_kept}
 use Rattle.book_cards.proofs.Folds.{Lacks, lacks_from_reads}
 
 keep : (a : ℕ) (rest : List ℕ) → eqb a 92 ≡ false → unescaped (a ∷ rest) ≡ a ∷ unescaped rest

@@ -1,7 +1,7 @@
 -- A step of unfolding, from what the calls on a text ensure.
-use Rattle.std.proofs.Common.{◌≡◌, ◌≢◌, ℕ, ◌<◌, true, false, Option, Some, None, MatchOption, unwrap_or, List, [], ◌∷◌, ◌++◌, length, get_or, refl, ap, sym, ◌∙◌, subst, arith, append_assoc}
+use Rattle.book_cards.proofs.Common.{◌≡◌, ◌≢◌, ℕ, ◌<◌, true, false, Option, Some, None, unwrap_or, List, [], ◌∷◌, ◌++◌, length, get_or, refl, ap, sym, ◌∙◌, subst, arith, append_assoc, is_blank, unfolded}
+use Rattle.std.proofs.Common.{MatchOption}
 use denote.Ref.{Bor}
-use Rattle.book_cards.specs.Folding.{is_blank, unfolded}
 use Rattle.book_cards.proofs.Folds.{Lacks, Unblank, crlf_fold, lf_fold, no_fold, no_feed, lacks_from_reads, lacks_front}
 
 -- bytes go out, and what is left gives the rest

@@ -1,7 +1,7 @@
 -- Unfolding, a line at a time.
-use Rattle.std.proofs.Common.{◌≡◌, ◌≢◌, ℕ, suc, ◌<◌, Bool, true, false, ◌&&◌, ◌||◌, cond, List, [], ◌∷◌, ◌++◌, length, get_or, refl, ap, ◌∙◌, arith}
-use lib.Dec.{eqb}
-use Rattle.book_cards.specs.Folding.{is_blank, is_fold, is_crlf_fold, unfolded}
+use Rattle.book_cards.proofs.Common.{◌≡◌, ◌≢◌, ℕ, suc, ◌<◌, Bool, true, false, ◌||◌, cond, List, [], ◌∷◌, ◌++◌, length, get_or, refl, ap, ◌∙◌, arith, eqb, is_blank, unfolded}
+use Rattle.std.proofs.lemmas.Bool.{or_parts, and_left, and_right}
+use Rattle.book_cards.specs.Folding.{is_fold, is_crlf_fold}
 
 -- no byte of the text is c
 abbrev pub Lacks : ℕ → List ℕ → Type 0
@@ -14,38 +14,26 @@ begins_fold (a ∷ []) = false
 begins_fold (a ∷ b ∷ []) = is_fold a b
 begins_fold (a ∷ b ∷ c ∷ rest) = is_crlf_fold a b c || is_fold a b
 
-or_false : (p q : Bool) → (p || q) ≡ false → (p ≡ false) × (q ≡ false)
-or_false true q e = cc
-or_false false q e = (refl, e)
-
 -- a byte at which no fold begins stays
 pub keep : (a : ℕ) (rest : List ℕ) → begins_fold (a ∷ rest) ≡ false → unfolded (a ∷ rest) ≡ a ∷ unfolded rest
 keep a [] e = refl
 keep a (b ∷ []) e = ap (λ t. cond t [] (a ∷ (b ∷ []))) e
 keep a (b ∷ c ∷ rest) e =
-    let parts = or_false (is_crlf_fold a b c) (is_fold a b) e in
+    let parts = or_parts (is_crlf_fold a b c) (is_fold a b) e in
     ap (λ t. cond t (unfolded rest) (cond (is_fold a b) (unfolded (c ∷ rest)) (a ∷ unfolded (b ∷ c ∷ rest)))) parts.0
     ∙ ap (λ t. cond t (unfolded (c ∷ rest)) (a ∷ unfolded (b ∷ c ∷ rest))) parts.1
 
--- and false on the left
-and_false : (p q : Bool) → p ≡ false → (p && q) ≡ false
-and_false p q e = ap (λ t. t && q) e
-
-and_false_right : (p q : Bool) → q ≡ false → (p && q) ≡ false
-and_false_right true q e = e
-and_false_right false q e = refl
-
 -- two bytes that are no line feeds begin no fold
 apart : (a b : ℕ) (rest : List ℕ) → eqb a 10 ≡ false → eqb b 10 ≡ false → begins_fold (a ∷ b ∷ rest) ≡ false
-apart a b [] e h = and_false (eqb a 10) (is_blank b) e
+apart a b [] e h = and_left (eqb a 10) (is_blank b) e
 apart a b (c ∷ rest) e h =
-    rw (and_false_right (eqb a 13) (is_fold b c) (and_false (eqb b 10) (is_blank c) h), and_false (eqb a 10) (is_blank b) e) refl
+    rw (and_right (eqb a 13) (is_fold b c) (and_left (eqb b 10) (is_blank c) h), and_left (eqb a 10) (is_blank b) e) refl
 
 -- nor does a byte that is neither a carriage return nor a line feed
 plain : (a : ℕ) (rest : List ℕ) → eqb a 10 ≡ false → eqb a 13 ≡ false → begins_fold (a ∷ rest) ≡ false
 plain a [] e h = refl
-plain a (b ∷ []) e h = and_false (eqb a 10) (is_blank b) e
-plain a (b ∷ c ∷ rest) e h = rw (and_false (eqb a 13) (is_fold b c) h, and_false (eqb a 10) (is_blank b) e) refl
+plain a (b ∷ []) e h = and_left (eqb a 10) (is_blank b) e
+plain a (b ∷ c ∷ rest) e h = rw (and_left (eqb a 13) (is_fold b c) h, and_left (eqb a 10) (is_blank b) e) refl
 
 -- what doesn't begin with a blank
 abbrev pub Unblank : List ℕ → Type 0
@@ -53,8 +41,8 @@ Unblank [] = Unit {0}
 Unblank (b ∷ bs) = is_blank b ≡ false
 
 before_feed : (a : ℕ) (y : List ℕ) → eqb a 10 ≡ false → Unblank y → begins_fold (a ∷ 10 ∷ y) ≡ false
-before_feed a [] e u = and_false (eqb a 10) (is_blank 10) e
-before_feed a (b ∷ y) e u = rw (and_false_right (eqb a 13) (is_blank b) u, and_false (eqb a 10) (is_blank 10) e) refl
+before_feed a [] e u = and_left (eqb a 10) (is_blank 10) e
+before_feed a (b ∷ y) e u = rw (and_right (eqb a 13) (is_blank b) u, and_left (eqb a 10) (is_blank 10) e) refl
 
 at_feed : (y : List ℕ) → Unblank y → begins_fold (10 ∷ y) ≡ false
 at_feed [] u = refl

@@ -1,13 +1,14 @@
 -- The fields that are read are those of the grammar, and no others.
-use Rattle.std.proofs.Common.{◌≡◌, ◌≢◌, ℕ, suc, ◌+◌, ◌<◌, Bool, true, false, not, ◌&&◌, cond, Option, Some, None, List, [], ◌∷◌, ◌++◌, length, take, drop, get_or, refl, ap, sym, ◌∙◌, subst, arith, append_assoc, add-one, take-append-drop, drop-drop, drop-cons, inl, inr}
+use Rattle.book_cards.proofs.Common.{◌≡◌, ◌≢◌, ℕ, suc, ◌+◌, ◌<◌, Bool, true, false, cond, Option, Some, None, List, [], ◌∷◌, ◌++◌, length, take, drop, get_or, refl, ap, sym, ◌∙◌, subst, arith, append_assoc, eqb, option_map, option_and_then, AllByRecursion, Start, Fields, is_name_byte, colon_from, name_length, fields_of}
+use mathlib.Core.Bool.{not-not}
+use Rattle.std.proofs.Common.{◌&&◌, add-one, take-append-drop, drop-drop, drop-cons, inl, inr}
 use Rattle.std.specs.Prelude.{◌⊎◌, IfSome}
-use lib.Dec.{eqb}
-use Rattle.std.specs.Option.{option_map, option_and_then}
-use Rattle.std.specs.List.{AllByRecursion, join_with_byte, concat}
+use Rattle.std.specs.List.{join_with_byte, concat}
+use Rattle.std.proofs.lemmas.Option.{same_Some}
 use Rattle.book_cards.specs.declared.line.Position.{Position}
-use Rattle.book_cards.specs.declared.line.Position.TheVariants.{Start, NameStart, Name, ValueStart, Bare, Quoted, AfterQuote}
-use Rattle.book_cards.specs.ContentLine.{Fields, is_name_byte, is_bare_byte, IsName, IsBareValue, IsQuotedValue, AreValues, IsParam, AreParams, group_text, IsContentLine}
-use Rattle.book_cards.specs.Reading.{may_end, after_value, next, colon_from, name_length, name_at, after_name, is_empty, with_value, fields_with, grouped, fields_of}
+use Rattle.book_cards.specs.declared.line.Position.TheVariants.{NameStart, Name, ValueStart, Bare, Quoted, AfterQuote}
+use Rattle.book_cards.specs.ContentLine.{is_bare_byte, IsName, IsBareValue, IsQuotedValue, AreValues, IsParam, AreParams, group_text, IsContentLine}
+use Rattle.book_cards.specs.Reading.{may_end, after_value, next, name_at, after_name, is_empty, with_value, fields_with, grouped}
 use Rattle.book_cards.proofs.Folds.{eqb_is}
 use Rattle.book_cards.proofs.Names.{at_colon}
 
@@ -92,11 +93,8 @@ then_param b t (((p ∷ ps)), ((name, values, is, are, spelled), all), e) =
 abbrev Leads : Position → ℕ → List ℕ → Type 0
 Leads position b t = (q : Position) × (next position b ≡ Some q) × Tail q t
 
-some_is : {A : Type 0} (x y : A) → Some x ≡ Some y → x ≡ y
-some_is x y e = cc
-
 to_tail : (q p : Position) (t : List ℕ) → Some p ≡ Some q → Tail q t → Tail p t
-to_tail q p t e h = subst (λ (r : Position). Tail r t) (sym (some_is p q e)) h
+to_tail q p t e h = subst (λ (r : Position). Tail r t) (sym (same_Some p q e)) h
 
 -- after a value
 value_back : (b : ℕ) (q : Position) (t : List ℕ) (other : Option Position) → after_value b other ≡ Some q → Tail q t
@@ -331,19 +329,15 @@ abbrev NoName : List ℕ → Type 0
 NoName [] = Unit {0}
 NoName (b ∷ r) = is_name_byte b ≡ false
 
-not_not : (b : Bool) → not (not b) ≡ b
-not_not true = refl
-not_not false = refl
-
-one_more : (k : ℕ) → 1 + k ≡ suc k
+pub one_more : (k : ℕ) → 1 + k ≡ suc k
 one_more k = omega arith
 
 name_len_cons : (b : ℕ) (bs : List ℕ) → is_name_byte b ≡ true → name_length (b ∷ bs) ≡ suc (name_length bs)
-name_len_cons b bs e = ap (λ t. cond t (1 + name_length bs) 0) (not_not (is_name_byte b) ∙ e) ∙ one_more (name_length bs)
+name_len_cons b bs e = ap (λ t. cond t (1 + name_length bs) 0) (not-not (is_name_byte b) ∙ e) ∙ one_more (name_length bs)
 
 name_len_stop : (r : List ℕ) → NoName r → name_length r ≡ 0
 name_len_stop [] h = refl
-name_len_stop (b ∷ r) h = ap (λ t. cond t (1 + name_length r) 0) (not_not (is_name_byte b) ∙ h)
+name_len_stop (b ∷ r) h = ap (λ t. cond t (1 + name_length r) 0) (not-not (is_name_byte b) ∙ h)
 
 take_front : (n r : List ℕ) → take (length n) (n ++ r) ≡ n
 take_front [] r = refl
@@ -396,7 +390,7 @@ with_sound group name rest f e = empty (is_empty name) refl e
     colon (Some k) is n h =
         let position = at_colon Start rest k is in
         subst (λ (g : Fields). (0 < length name) × (group ≡ g.group) × (name ≡ g.name) × AreParams g.params × (rest ≡ g.params ++ 58 ∷ g.value))
-        (some_is (record { group = group; name = name; params = take k rest; value = drop (k + 1) rest }) f h)
+        (same_Some (record { group = group; name = name; params = take k rest; value = drop (k + 1) rest }) f h)
         (not_empty name n, refl, refl, sound Start rest k is, at_cut rest k position.0 position.1)
 
     empty : (t : Bool) → is_empty name ≡ t → cond t None (with_value group name rest (colon_from Start rest)) ≡ Some f

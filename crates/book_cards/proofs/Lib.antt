@@ -1,3 +1,4 @@
+pub mod Common
 pub mod Folds
 pub mod FoldSteps
 pub mod Escapes

@@ -1,13 +1,11 @@
 -- Where a content line may be cut.
-use Rattle.std.proofs.Common.{◌≡◌, ◌≢◌, ℕ, zero, suc, ◌+◌, ◌<◌, Bool, true, false, not, ◌&&◌, cond, Option, Some, None, List, [], ◌∷◌, length, drop, get_or, refl, ap, sym, ◌∙◌, subst, arith}
-use lib.Dec.{eqb}
-use Rattle.std.specs.Option.{option_map, option_and_then}
+use Rattle.book_cards.proofs.Common.{◌≡◌, ◌≢◌, ℕ, zero, suc, ◌+◌, ◌<◌, Bool, true, false, cond, Option, Some, None, List, [], ◌∷◌, length, drop, get_or, refl, ap, sym, ◌∙◌, subst, arith, eqb, option_map, option_and_then, IsCharBoundary-after_ascii, Fields, is_name_byte, name_length, colon_from, fields_of}
+use Rattle.std.proofs.Common.{not, ◌&&◌}
 use Rattle.std.specs.Str.{IsUtf8, IsCharBoundary}
-use Rattle.std.proofs.lemmas.Str.{IsCharBoundary-start, IsCharBoundary-after_ascii}
+use Rattle.std.proofs.lemmas.Str.{IsCharBoundary-start}
 use Rattle.std.proofs.lemmas.List.Sums.{fails_before_first}
 use Rattle.book_cards.specs.declared.line.Position.{Position}
-use Rattle.book_cards.specs.ContentLine.{Fields, is_name_byte}
-use Rattle.book_cards.specs.Reading.{name_length, name_at, after_name, may_end, next, colon_from, grouped, fields_with, fields_of}
+use Rattle.book_cards.specs.Reading.{name_at, after_name, may_end, next, grouped, fields_with}
 use Rattle.book_cards.proofs.Folds.{eqb_is}
 
 small_name : (b : ℕ) → not (is_name_byte b) ≡ false → b < 128

@@ -1,25 +1,18 @@
 -- Each line of a card, up to its end, has fields.
-use Rattle.std.proofs.Common.{◌≡◌, ℕ, zero, suc, ◌<◌, Bool, true, false, ◌&&◌, Option, Some, None, List, [], ◌∷◌, ◌++◌, length, take, drop, map, refl, ap, sym, ◌∙◌, subst, arith, append_assoc, take-append-drop, length-append, append-nil}
-use Rattle.std.specs.Prelude.{codes}
-use lib.Dec.{eqb}
-use Rattle.std.specs.Option.{option_map, option_and_then, IsSome}
-use Rattle.std.specs.List.{slice_get, AllByRecursion, filter_map, cons_option}
+use Rattle.book_cards.proofs.Common.{◌≡◌, ℕ, zero, suc, ◌<◌, Bool, true, false, Option, Some, None, List, [], ◌∷◌, ◌++◌, length, take, drop, refl, ap, sym, ◌∙◌, subst, arith, append_assoc, length-append, codes, eqb, option_map, option_and_then, slice_get, AllByRecursion, str_eq_ignore_ascii_case, lines, Fields, is_name_byte, fields_of, is_end, lines_fault, fields_in}
+use Rattle.std.proofs.Common.{map, take-append-drop, append-nil}
+use Rattle.std.specs.Option.{IsSome}
+use Rattle.std.specs.List.{filter_map, cons_option}
 use Rattle.std.proofs.lemmas.List.Elements.{filter_map-append}
 use Rattle.std.specs.Char.{to_ascii_lowercase}
-use Rattle.std.specs.Str.{str_eq_ignore_ascii_case, bytes_eq, str_to_ascii_lowercase}
-use Rattle.std.specs.Str.Lines.{lines}
-use Rattle.book_cards.specs.ContentLine.{Fields, is_name_byte}
-use Rattle.book_cards.specs.Reading.{fields_of}
-use Rattle.book_cards.specs.CardText.{is_end, up_to_end, lines_fault, card_lines, fields_in}
+use Rattle.std.specs.Str.{bytes_eq, str_to_ascii_lowercase}
+use Rattle.std.proofs.lemmas.Bool.{and_parts}
+use Rattle.book_cards.specs.CardText.{up_to_end, card_lines}
 use Rattle.book_cards.specs.Valid.{IsContent, AreCardLines}
 use Rattle.book_cards.proofs.Folds.{eqb_is}
 use Rattle.book_cards.proofs.Scans.{up_to_end_at, up_to_end_later}
 use Rattle.book_cards.proofs.ValidLaws.{lines_sound}
 use Rattle.book_cards.proofs.Grammar.{AllNames, params_nil, fields_complete}
-
-and_true : (p q : Bool) → (p && q) ≡ true → (p ≡ true) × (q ≡ true)
-and_true true q e = (refl, e)
-and_true false q e = cc
 
 lowered : (w : ℕ) → is_name_byte w ≡ true → is_name_byte (to_ascii_lowercase w) ≡ true
 lowered w h = grind arith
@@ -40,10 +33,10 @@ word_and_colon : (text word more : List ℕ) → AllNames word → str_eq_ignore
 word_and_colon [] [] more all e = cc
 word_and_colon [] (w ∷ word) more all e = cc
 word_and_colon (a ∷ text) [] more all e =
-    let parts = and_true (eqb (to_ascii_lowercase a) (to_ascii_lowercase 58)) (bytes_eq (str_to_ascii_lowercase text) (str_to_ascii_lowercase more)) e in
+    let parts = and_parts (eqb (to_ascii_lowercase a) (to_ascii_lowercase 58)) (bytes_eq (str_to_ascii_lowercase text) (str_to_ascii_lowercase more)) e in
     ([], text, tt, refl, ap (λ c. c ∷ text) (is_colon a parts.0))
 word_and_colon (a ∷ text) (w ∷ word) more all e =
-    let parts = and_true (eqb (to_ascii_lowercase a) (to_ascii_lowercase w)) (bytes_eq (str_to_ascii_lowercase text) (str_to_ascii_lowercase (word ++ 58 ∷ more))) e in
+    let parts = and_parts (eqb (to_ascii_lowercase a) (to_ascii_lowercase w)) (bytes_eq (str_to_ascii_lowercase text) (str_to_ascii_lowercase (word ++ 58 ∷ more))) e in
     let rest = word_and_colon text word more all.1 parts.1 in
     (a ∷ rest.0, rest.1, (same_byte a w parts.0 all.0, rest.2), ap (λ (n : ℕ). suc n) rest.3, ap (λ t. a ∷ t) rest.4)
 
@@ -98,7 +91,7 @@ same_bytes_length : (a b : List ℕ) → bytes_eq a b ≡ true → length a ≡ 
 same_bytes_length [] [] e = refl
 same_bytes_length [] (y ∷ b) e = cc
 same_bytes_length (x ∷ a) [] e = cc
-same_bytes_length (x ∷ a) (y ∷ b) e = ap (λ (n : ℕ). suc n) (same_bytes_length a b (and_true (eqb x y) (bytes_eq a b) e).1)
+same_bytes_length (x ∷ a) (y ∷ b) e = ap (λ (n : ℕ). suc n) (same_bytes_length a b (and_parts (eqb x y) (bytes_eq a b) e).1)
 
 lower_length : (a : List ℕ) → length (str_to_ascii_lowercase a) ≡ length a
 lower_length [] = refl

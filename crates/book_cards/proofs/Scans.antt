@@ -1,21 +1,21 @@
 -- What one pass over the content lines finds is their first fault.
-use Rattle.std.proofs.Common.{◌≡◌, ℕ, suc, ◌+◌, Bool, true, false, not, ◌||◌, cond, Option, Some, None, unwrap_or, List, [], ◌∷◌, ◌++◌, length, take, drop, refl, ap, sym, ◌∙◌, arith, append_assoc, length-append, zero-add}
-use Rattle.std.specs.Prelude.{codes, nat_lt}
-use Rattle.std.specs.Option.{option_map, option_or, option_map_or, is_some, ok_or}
-use Rattle.std.specs.List.{list_any, before_first, after_first, position_or_len}
-use Rattle.std.specs.Str.{str_eq_ignore_ascii_case}
+use Rattle.book_cards.proofs.Common.{◌≡◌, ℕ, suc, ◌+◌, Bool, true, false, ◌||◌, cond, Option, Some, None, unwrap_or, List, [], ◌∷◌, ◌++◌, length, take, drop, refl, ap, sym, ◌∙◌, arith, append_assoc, length-append, codes, option_map, str_eq_ignore_ascii_case, Fields, fields_of, is_end, after_end_fault}
+use mathlib.Core.Bool.{or-true, or-false, or_assoc}
+use Rattle.std.proofs.Common.{not, zero-add}
+use Rattle.std.specs.Prelude.{nat_lt}
+use Rattle.std.specs.Option.{option_or, option_map_or, is_some, ok_or}
+use Rattle.std.specs.List.{list_any, before_first, position_or_len}
 use Rattle.std.proofs.lemmas.List.{append-nil}
 use Rattle.book_cards.specs.declared.property.Property.{Property}
 use Rattle.book_cards.specs.declared.property.Property.TheVariants.{Begin, End, Version, FormattedName, Uid, Kind, Member, Other}
 use Rattle.book_cards.specs.declared.fault.CardFault.{CardFault}
 use Rattle.book_cards.specs.declared.fault.CardFaultKind.TheVariants.{NoFormattedName, Twice, MemberWithoutGroup, NoEnd}
 use Rattle.book_cards.specs.declared.check.Seen.{Seen}
-use Rattle.book_cards.specs.ContentLine.{Fields}
-use Rattle.book_cards.specs.Reading.{fields_of}
 use Rattle.book_cards.specs.Properties.{property_of, property_at, has, value_if, first_value, first_line, is_formatted_name, is_uid, is_kind, is_member}
 use Rattle.book_cards.specs.Content.{may_have, with_its_value, is_control, content_of}
-use Rattle.book_cards.specs.CardText.{at, repeats, fault_of_content, line_fault, is_end, up_to_end, after_end_fault, end_fault, name_fault, member_fault, content_fault}
+use Rattle.book_cards.specs.CardText.{at, repeats, fault_of_content, line_fault, up_to_end, end_fault, name_fault, member_fault, content_fault}
 use Rattle.book_cards.specs.Scanning.{seen_in, seen_with, is_known_group, seen_fault, pass_content, or_go_on, scan}
+use Rattle.book_cards.proofs.Grammar.{one_more}
 
 -- Options
 
@@ -27,22 +27,10 @@ option_or_assoc : {A : Type 0} (x y z : Option A) → option_or (option_or x y) 
 option_or_assoc None y z = refl
 option_or_assoc (Some x) y z = refl
 
-or_true : (b : Bool) → (b || true) ≡ true
-or_true true = refl
-or_true false = refl
-
-or_none : (b : Bool) → (b || false) ≡ b
-or_none true = refl
-or_none false = refl
-
-or_assoc : (a b c : Bool) → ((a || b) || c) ≡ (a || (b || c))
-or_assoc true b c = refl
-or_assoc false b c = refl
-
 -- One more line
 
 pub has_more : (q : Property → Bool) (lines : List (List ℕ)) (line : List ℕ) → has q (lines ++ line ∷ []) ≡ (has q lines || q (property_at line))
-has_more q [] line = or_none (q (property_at line))
+has_more q [] line = or-false (q (property_at line))
 has_more q (l ∷ lines) line = ap (λ t. q (property_at l) || t) (has_more q lines line) ∙ sym (or_assoc (q (property_at l)) (has q lines) (q (property_at line)))
 
 first_value_more : (q : Property → Bool) (lines : List (List ℕ)) (line : List ℕ) → first_value q (lines ++ line ∷ []) ≡ option_or (first_value q lines) (value_if q (fields_of line))
@@ -139,46 +127,46 @@ step_goes_on before Kind value n e =
     (is_some_map (λ v. str_eq_ignore_ascii_case v (codes "group")) (first_value is_kind before) ∙ none)
     ∙ λ i. Some (record {
       group = option_map (λ v. str_eq_ignore_ascii_case v (codes "group")) (sym (first_of_none (first_value is_kind before) value none) i);
-      uid = sym (or_none (has is_uid before)) i;
-      formatted_name = sym (or_none (has is_formatted_name before)) i;
+      uid = sym (or-false (has is_uid before)) i;
+      formatted_name = sym (or-false (has is_formatted_name before)) i;
       member = sym (option_or_none (first_line is_member 3 before)) i;
     })
 step_goes_on before Uid value n e =
     ap (λ t. cond t None (Some (record (seen_in before) { uid = true }))) e
     ∙ λ i. Some (record {
       group = option_map (λ v. str_eq_ignore_ascii_case v (codes "group")) (sym (option_or_none (first_value is_kind before)) i);
-      uid = sym (or_true (has is_uid before)) i;
-      formatted_name = sym (or_none (has is_formatted_name before)) i;
+      uid = sym (or-true (has is_uid before)) i;
+      formatted_name = sym (or-false (has is_formatted_name before)) i;
       member = sym (option_or_none (first_line is_member 3 before)) i;
     })
 step_goes_on before FormattedName value n e = λ i. Some (record {
   group = option_map (λ v. str_eq_ignore_ascii_case v (codes "group")) (sym (option_or_none (first_value is_kind before)) i);
-  uid = sym (or_none (has is_uid before)) i;
-  formatted_name = sym (or_true (has is_formatted_name before)) i;
+  uid = sym (or-false (has is_uid before)) i;
+  formatted_name = sym (or-true (has is_formatted_name before)) i;
   member = sym (option_or_none (first_line is_member 3 before)) i;
 })
 step_goes_on before Member value n e = λ i. Some (record {
   group = option_map (λ v. str_eq_ignore_ascii_case v (codes "group")) (sym (option_or_none (first_value is_kind before)) i);
-  uid = sym (or_none (has is_uid before)) i;
-  formatted_name = sym (or_none (has is_formatted_name before)) i;
+  uid = sym (or-false (has is_uid before)) i;
+  formatted_name = sym (or-false (has is_formatted_name before)) i;
   member = option_or (first_line is_member 3 before) (Some n);
 })
 step_goes_on before Begin value n e = λ i. Some (record {
   group = option_map (λ v. str_eq_ignore_ascii_case v (codes "group")) (sym (option_or_none (first_value is_kind before)) i);
-  uid = sym (or_none (has is_uid before)) i;
-  formatted_name = sym (or_none (has is_formatted_name before)) i;
+  uid = sym (or-false (has is_uid before)) i;
+  formatted_name = sym (or-false (has is_formatted_name before)) i;
   member = sym (option_or_none (first_line is_member 3 before)) i;
 })
 step_goes_on before End value n e = λ i. Some (record {
   group = option_map (λ v. str_eq_ignore_ascii_case v (codes "group")) (sym (option_or_none (first_value is_kind before)) i);
-  uid = sym (or_none (has is_uid before)) i;
-  formatted_name = sym (or_none (has is_formatted_name before)) i;
+  uid = sym (or-false (has is_uid before)) i;
+  formatted_name = sym (or-false (has is_formatted_name before)) i;
   member = sym (option_or_none (first_line is_member 3 before)) i;
 })
 step_goes_on before Other value n e = λ i. Some (record {
   group = option_map (λ v. str_eq_ignore_ascii_case v (codes "group")) (sym (option_or_none (first_value is_kind before)) i);
-  uid = sym (or_none (has is_uid before)) i;
-  formatted_name = sym (or_none (has is_formatted_name before)) i;
+  uid = sym (or-false (has is_uid before)) i;
+  formatted_name = sym (or-false (has is_formatted_name before)) i;
   member = sym (option_or_none (first_line is_member 3 before)) i;
 })
 
@@ -200,9 +188,6 @@ at_end before n = here (has is_formatted_name before) (first_value is_kind befor
 
 pub content_nil : (line : List ℕ) (rest : List (List ℕ)) → is_end line ≡ true → before_first is_end (line ∷ rest) ≡ []
 content_nil line rest e = ap (λ t. take (cond (not t) (1 + position_or_len is_end rest) 0) (line ∷ rest)) e
-
-one_more : (n : ℕ) → 1 + n ≡ suc n
-one_more n = omega arith
 
 pub content_cons : (line : List ℕ) (rest : List (List ℕ)) → is_end line ≡ false → before_first is_end (line ∷ rest) ≡ line ∷ before_first is_end rest
 content_cons line rest e =

@@ -1,22 +1,19 @@
 -- The unfolded text is the one that the relation gives.
-use Rattle.std.proofs.Common.{◌≡◌, ℕ, Bool, true, false, ◌&&◌, ◌||◌, cond, List, [], ◌∷◌, ◌++◌, refl, ap, sym, ◌∙◌, inl, inr}
-use lib.Dec.{eqb}
-use Rattle.book_cards.specs.Folding.{is_blank, is_fold, is_crlf_fold, unfolded, IsFold, BeginsNoFold, Unfolds, ended, left_out, kept}
+use Rattle.book_cards.proofs.Common.{◌≡◌, ℕ, Bool, true, false, ◌||◌, cond, List, [], ◌∷◌, ◌++◌, refl, ap, sym, ◌∙◌, eqb, is_blank, unfolded}
+use Rattle.std.proofs.Common.{inl, inr}
+use Rattle.std.proofs.lemmas.Bool.{and_parts, or_from}
+use Rattle.book_cards.specs.Folding.{is_fold, is_crlf_fold, IsFold, BeginsNoFold, Unfolds, ended, left_out, kept}
 use Rattle.book_cards.proofs.Folds.{begins_fold, keep, crlf_fold, feed_fold, eqb_is}
-
-and_true : (p q : Bool) → (p && q) ≡ true → (p ≡ true) × (q ≡ true)
-and_true true q e = (refl, e)
-and_true false q e = cc
 
 -- two bytes, or three, that are a fold
 lf_is_fold : (a b : ℕ) → is_fold a b ≡ true → IsFold (a ∷ b ∷ [])
 lf_is_fold a b e =
-    let parts = and_true (eqb a 10) (is_blank b) e in (b, parts.1, inr (ap (λ (x : ℕ). x ∷ b ∷ []) (eqb_is a 10 parts.0)))
+    let parts = and_parts (eqb a 10) (is_blank b) e in (b, parts.1, inr (ap (λ (x : ℕ). x ∷ b ∷ []) (eqb_is a 10 parts.0)))
 
 crlf_is_fold : (a b c : ℕ) → is_crlf_fold a b c ≡ true → IsFold (a ∷ b ∷ c ∷ [])
 crlf_is_fold a b c e =
-    let parts = and_true (eqb a 13) (is_fold b c) e in
-    let more = and_true (eqb b 10) (is_blank c) parts.1 in
+    let parts = and_parts (eqb a 13) (is_fold b c) e in
+    let more = and_parts (eqb b 10) (is_blank c) parts.1 in
     (c, more.1, inl (ap (λ (x : ℕ). x ∷ b ∷ c ∷ []) (eqb_is a 13 parts.0) ∙ ap (λ (x : ℕ). 13 ∷ x ∷ c ∷ []) (eqb_is b 10 more.0)))
 
 -- a fold that stands at the front is seen there
@@ -30,9 +27,6 @@ seen text fold rest (b, blank, inr is) e = ap begins_fold (e ∙ ap (λ f. f ++ 
 
 none_begins : (text : List ℕ) → begins_fold text ≡ false → BeginsNoFold text
 none_begins text e fold rest is at = let yes = seen text fold rest is at in cc
-
-or_false : (p q : Bool) → p ≡ false → q ≡ false → (p || q) ≡ false
-or_false p q e h = ap (λ x. x || q) e ∙ h
 
 pub relates : (text : List ℕ) → Unfolds text (unfolded text)
 relates [] = ended
@@ -49,7 +43,7 @@ relates (a ∷ b ∷ c ∷ rest) = here (is_crlf_fold a b c) refl (is_fold a b) 
     here true e t h r1 r2 r3 = left_out (a ∷ b ∷ c ∷ []) rest (unfolded rest) (crlf_is_fold a b c e) r1
     here false e true h r1 r2 r3 = left_out (a ∷ b ∷ []) (c ∷ rest) (unfolded (c ∷ rest)) (lf_is_fold a b h) r2
     here false e false h r1 r2 r3 =
-        kept a (b ∷ c ∷ rest) (unfolded (b ∷ c ∷ rest)) (none_begins (a ∷ b ∷ c ∷ rest) (or_false (is_crlf_fold a b c) (is_fold a b) e h)) r3
+        kept a (b ∷ c ∷ rest) (unfolded (b ∷ c ∷ rest)) (none_begins (a ∷ b ∷ c ∷ rest) (or_from (is_crlf_fold a b c) (is_fold a b) e h)) r3
 
 -- without a fold at the front, none is seen
 unseen : (text : List ℕ) → BeginsNoFold text → begins_fold text ≡ false
@@ -65,7 +59,7 @@ unseen (a ∷ b ∷ c ∷ rest) h = here (is_crlf_fold a b c) refl (is_fold a b)
     here : (s : Bool) → is_crlf_fold a b c ≡ s → (t : Bool) → is_fold a b ≡ t → (is_crlf_fold a b c || is_fold a b) ≡ false
     here true e t k = absurd (h (a ∷ b ∷ c ∷ []) rest (crlf_is_fold a b c e) refl)
     here false e true k = absurd (h (a ∷ b ∷ []) (c ∷ rest) (lf_is_fold a b k) refl)
-    here false e false k = or_false (is_crlf_fold a b c) (is_fold a b) e k
+    here false e false k = or_from (is_crlf_fold a b c) (is_fold a b) e k
 
 skipped : (fold text : List ℕ) → IsFold fold → unfolded (fold ++ text) ≡ unfolded text
 skipped fold text (b, blank, inl is) = ap (λ f. unfolded (f ++ text)) is ∙ crlf_fold [] text b tt blank

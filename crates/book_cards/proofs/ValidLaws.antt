@@ -1,20 +1,18 @@
 -- A text without a fault is a card, and a card has no fault.
-use Rattle.std.proofs.Common.{◌≡◌, ℕ, suc, ◌+◌, ◌≤◌, Bool, true, false, ◌||◌, cond, Option, Some, None, List, [], ◌∷◌, ◌++◌, length, take, drop, refl, ap, sym, ◌∙◌, subst, arith}
-use Rattle.std.specs.Prelude.{codes, nat_lt}
-use Rattle.std.specs.Option.{option_map, option_or, option_and_then, option_map_or}
-use Rattle.std.specs.List.{list_any, before_first, AllByRecursion}
-use Rattle.std.specs.Str.{str_eq_ignore_ascii_case, bytes_eq}
-use Rattle.std.specs.Str.Lines.{lines}
+use Rattle.book_cards.proofs.Common.{◌≡◌, ℕ, suc, ◌+◌, ◌≤◌, Bool, true, false, ◌||◌, cond, Option, Some, None, List, [], ◌∷◌, ◌++◌, length, take, drop, refl, ap, sym, ◌∙◌, subst, arith, codes, option_map, option_and_then, AllByRecursion, str_eq_ignore_ascii_case, lines, unfolded, Fields, fields_of, is_end, after_end_fault, lines_fault}
+use Rattle.std.specs.Prelude.{nat_lt}
+use Rattle.std.specs.Option.{option_or, option_map_or}
+use Rattle.std.specs.List.{list_any, before_first}
+use Rattle.std.specs.Str.{bytes_eq}
+use Rattle.std.proofs.lemmas.Bool.{or_parts}
 use Rattle.book_cards.specs.declared.property.Property.{Property}
 use Rattle.book_cards.specs.declared.property.Property.TheVariants.{Begin, End, Version, FormattedName, Uid, Kind, Member, Other}
 use Rattle.book_cards.specs.declared.fault.CardFault.{CardFault}
 use Rattle.book_cards.specs.declared.fault.CardFaultKind.TheVariants.{NoFormattedName, Twice, MemberWithoutGroup, NoEnd, AfterEnd, NoVersion, OtherVersion, NoBegin, TooLong}
-use Rattle.book_cards.specs.Folding.{unfolded}
-use Rattle.book_cards.specs.ContentLine.{Fields}
-use Rattle.book_cards.specs.Reading.{fields_of, is_empty}
+use Rattle.book_cards.specs.Reading.{is_empty}
 use Rattle.book_cards.specs.Properties.{property_of, property_at, has, first_line, is_group, is_formatted_name, is_uid, is_kind, is_member, is_version, count_of}
 use Rattle.book_cards.specs.Content.{may_have, with_its_value, is_control, content_of}
-use Rattle.book_cards.specs.CardText.{at, repeats, fault_of_content, line_fault, is_end, after_end_fault, end_fault, name_fault, member_fault, content_fault, version_fault, fault_after_begin, lines_fault, card_fault}
+use Rattle.book_cards.specs.CardText.{at, repeats, fault_of_content, line_fault, end_fault, name_fault, member_fault, content_fault, version_fault, fault_after_begin, card_fault}
 use Rattle.book_cards.specs.Valid.{IsContent, AreCardLines, IsCard}
 use Rattle.book_cards.proofs.Scans.{has_more, content_nil, content_cons, end_at, end_later, fields_passed}
 use Rattle.book_cards.proofs.Grammar.{fields_sound, fields_complete}
@@ -36,10 +34,6 @@ then_none false a x e = (refl, e)
 else_none : {A : Type 0} (t : Bool) (a : A) (x : Option A) → cond t x (Some a) ≡ None → (t ≡ true) × (x ≡ None)
 else_none true a x e = (refl, e)
 else_none false a x e = cc
-
-or_false : (a b : Bool) → (a || b) ≡ false → (a ≡ false) × (b ≡ false)
-or_false true b e = cc
-or_false false b e = (refl, e)
 
 -- Content lines
 
@@ -173,7 +167,7 @@ content_complete before n (line ∷ rest) each kinds uids version =
     let property : property_at line ≡ property_of f.name = property_is line f (fields_complete line f is.grammar) in
     let kind = once_back is_kind before line rest kinds in
     let uid = once_back is_uid before line rest uids in
-    let versions = or_false (is_version (property_at line)) (has is_version rest) version in
+    let versions = or_parts (is_version (property_at line)) (has is_version rest) version in
     let new : repeats (property_of f.name) before ≡ false =
     repeats_not (property_of f.name) before (λ k. kind.0 (ap is_kind property ∙ k)) (λ k. uid.0 (ap is_uid property ∙ k)) (ap is_version (sym property) ∙ versions.0) in
     ap (λ o. option_or (option_map (at n) (fault_of_content before o)) (line_fault (before ++ line ∷ []) (n + 1) rest)) (passes line is)
@@ -239,7 +233,7 @@ no_first q n (line ∷ rest) e =
 first_none : (q : Property → Bool) (n : ℕ) (lines : List (List ℕ)) → has q lines ≡ false → first_line q n lines ≡ None
 first_none q n [] e = refl
 first_none q n (line ∷ rest) e =
-    let parts = or_false (q (property_at line)) (has q rest) e in
+    let parts = or_parts (q (property_at line)) (has q rest) e in
     ap (λ t. cond t (Some n) (first_line q (n + 1) rest)) parts.0 ∙ first_none q (n + 1) rest parts.1
 
 member_sound : (content : List (List ℕ)) → member_fault content ≡ None → has is_member content ≡ true → is_group content ≡ true

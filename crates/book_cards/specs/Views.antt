@@ -3,7 +3,7 @@ use Rattle.std.specs.Prelude.{ℕ, List}
 use Rattle.std.specs.Option.{option_copied}
 use Rattle.book_cards.specs.declared.line.Line.{Line}
 use Rattle.book_cards.specs.declared.card.Lines.{Lines}
-use Rattle.book_cards.specs.declared.card.Members.{Members}
+use Rattle.book_cards.specs.declared.card.MemberValues.{MemberValues}
 use Rattle.book_cards.specs.ContentLine.{Fields}
 use Rattle.book_cards.specs.CardText.{fields_in, members_in}
 
@@ -19,5 +19,5 @@ view line = record {
 abbrev pub lines_left : Lines → List Fields
 lines_left lines = fields_in lines.rest.now
 
-abbrev pub members_left : Members → List (List ℕ)
+abbrev pub members_left : MemberValues → List (List ℕ)
 members_left members = members_in members.rest.now

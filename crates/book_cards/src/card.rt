@@ -164,11 +164,11 @@ impl Card {
     }
 
     /// The values of the MEMBER lines as written, in order (RFC 6350, section 6.6.5); a group alone has any.
-    pub fn members(&self) -> Members<'_>
+    pub fn members(&self) -> MemberValues<'_>
         ensures { members_left result ≡ members_in self.now }
     {
         let rest = self.text.as_str();
-        Members { rest }
+        MemberValues { rest }
     }
 }
 
@@ -198,11 +198,11 @@ impl<'a> Iterator for Lines<'a> {
 
 /// The members of a card that are still to come. A contract sees their values.
 #[derive(Clone, Copy, Debug)]
-pub struct Members<'a> {
+pub struct MemberValues<'a> {
     rest: &'a str,
 }
 
-impl<'a> Iterator for Members<'a> {
+impl<'a> Iterator for MemberValues<'a> {
     type Item = &'a str;
 
     ghost next_gives = { YieldsFirstRef members_left };

@@ -42,9 +42,9 @@ pub enum CardFaultKind {
 
 impl fmt::Display for CardFaultKind {
     ghost use Rattle.std.specs.Prelude.{Some};
-    ghost use Rattle.book_cards.specs.FaultTexts.{fault_name};
+    ghost use Rattle.book_cards.specs.FaultTexts.{card_fault_name};
 
-    ghost output = { λ kind. Some (fault_name kind) };
+    ghost output = { λ kind. Some (card_fault_name kind) };
 
     fn fmt<W: fmt::Write>(&self, f: &mut fmt::Formatter<W>) -> fmt::Result {
         match self {
@@ -77,9 +77,9 @@ pub struct CardFault {
 
 impl fmt::Display for CardFault {
     ghost use Rattle.std.specs.Prelude.{Some};
-    ghost use Rattle.book_cards.specs.FaultTexts.{fault_text};
+    ghost use Rattle.book_cards.specs.FaultTexts.{card_fault_text};
 
-    ghost output = { λ fault. Some (fault_text fault) };
+    ghost output = { λ fault. Some (card_fault_text fault) };
 
     fn fmt<W: fmt::Write>(&self, f: &mut fmt::Formatter<W>) -> fmt::Result {
         let kind = self.kind;

@@ -19,7 +19,7 @@ mod line;
 mod property;
 mod text;
 
-pub use card::{Card, Lines, Members, read_card};
+pub use card::{Card, Lines, MemberValues, read_card};
 pub use fault::{CardFault, CardFaultKind};
 pub use laws::{
     faultless_texts_are_the_cards, fields_are_of_the_grammar, lines_make_up_the_text,

@@ -1,13 +1,16 @@
 //! The files that the words name: the policy's and the store's.
 
-use book_files::open_files as open_store;
-use book_texts::InputFault;
-use book_work::{Failure, StoreFailure};
+use book_desk_app::{Failure, InputFault, StoreFailure, read_short_text};
+use book_limits::MAX_POLICY_BYTES;
+use book_tables_files::open_store_files;
+use book_tables_schema::is_empty;
 use sqlite::{Connection, Error, ErrorCode, File as DiskFile, FileStore, Unknown};
 use sqlite_std_file::OpenError;
-use std::fs::{File, Files};
+use std::alloc::Global;
+use std::fs::{self, File, Files, OpenOptions};
 use std::hash::{BuildHasher, RandomState};
-use std::io::{self, Read};
+use std::io::{self, BufReader};
+use std::os::unix::fs::OpenOptionsExt;
 
 /// A connection to the file of a store.
 pub type FileConnection = Connection<FileStore<DiskFile>>;
@@ -15,20 +18,66 @@ pub type FileConnection = Connection<FileStore<DiskFile>>;
 /// How many bytes of a store's pages are kept in memory.
 const KEPT_IN_MEMORY: usize = 8_192_000;
 
+/// Who may read and write the file of a new store: its owner alone.
+const PRIVATE: u32 = 0o600;
+
+/// What stood where a store's file is named, before it was opened. The log beside it counts with it.
+#[derive(Clone, Copy, Debug, PartialEq, Eq)]
+pub enum Before {
+    /// No file, and no log with a byte.
+    Missing,
+    /// A file without a byte, and no log with one.
+    Empty,
+    /// A file or a log with bytes, or what can't be looked at.
+    Filled,
+}
+
 /// What the words name, read and opened.
 pub struct Opened {
     /// The store; none is one in memory.
     pub store: Option<FileConnection>,
     /// The bytes of the policy's file.
     pub policy: Option<Vec<u8>>,
+    /// What stood in the place of the store.
+    pub before: Before,
 }
 
-/// All that the file of that name has.
-fn read_file(rt: &(impl Files + AllocGlobal), name: &str) -> io::Result<Vec<u8>> {
-    let mut bytes = Vec::new(rt.alloc());
-    let mut file = File::open(rt, name)?;
-    file.read_to_end(&mut bytes)?;
+/// A policy of one byte more than a policy may have: what a longer file is read as, since its text is not kept.
+fn longer_text(alloc: Global) -> Result<Vec<u8>, InputFault> {
+    let mut bytes = Vec::new(alloc);
+    for _ in 0..=MAX_POLICY_BYTES {
+        if bytes.push(b' ').is_err() {
+            return Err(InputFault::Read);
+        }
+    }
     Ok(bytes)
+}
+
+/// A byte that is no text: what a file that is not UTF-8 is read as.
+fn no_text(alloc: Global) -> Result<Vec<u8>, InputFault> {
+    let mut bytes = Vec::new(alloc);
+    match bytes.push(0xff) {
+        Ok(()) => Ok(bytes),
+        Err(_) => Err(InputFault::Read),
+    }
+}
+
+/// The bytes of that file, as far as a policy may have: no more than that is kept, and the rest is read to its end, since a
+/// file that is not UTF-8 is told before one that is too long.
+fn read_file(rt: &(impl Files + AllocGlobal), name: &str) -> Result<Vec<u8>, InputFault> {
+    let alloc = rt.alloc();
+    let Ok(file) = File::open(rt, name) else {
+        return Err(InputFault::Read);
+    };
+    let Ok(reader) = BufReader::new(alloc, file) else {
+        return Err(InputFault::Read);
+    };
+    match read_short_text(alloc, MAX_POLICY_BYTES, reader) {
+        Ok(Some(text)) => Ok(text.into_bytes()),
+        Ok(None) => longer_text(alloc),
+        Err(InputFault::NotUtf8) => no_text(alloc),
+        Err(InputFault::Read) => Err(InputFault::Read),
+    }
 }
 
 /// The bytes of the policy's file, if one is named.
@@ -41,7 +90,7 @@ fn read_policy_file(
     };
     match read_file(rt, name.as_str()) {
         Ok(bytes) => Ok(Some(bytes)),
-        Err(_) => Err(Failure::Input(InputFault::Read)),
+        Err(fault) => Err(Failure::Input(fault)),
     }
 }
 
@@ -78,7 +127,7 @@ fn is_no_path(name: &str) -> bool {
 /// Opens the database at a path and its log, which are made where they are missing.
 fn open_at(rt: &HostRuntime, name: &str, seed: u64) -> Result<FileConnection, Failure> {
     match sqlite_std_file::open(rt, name, Unknown) {
-        Ok(files) => match open_store(rt.alloc(), files, seed, KEPT_IN_MEMORY) {
+        Ok(files) => match open_store_files(rt.alloc(), files, seed, KEPT_IN_MEMORY) {
             Ok(connection) => Ok(connection),
             Err((error, _left)) => Err(open_failure(error)),
         },
@@ -86,39 +135,128 @@ fn open_at(rt: &HostRuntime, name: &str, seed: u64) -> Result<FileConnection, Fa
     }
 }
 
-/// Opens the store's file, if one is named. It is made where it is missing.
+/// The name of the log beside a store's file.
+fn log_name(alloc: Global, name: &str) -> Result<String, Failure> {
+    match format!(in alloc; "{name}-wal") {
+        Ok(log) => Ok(log),
+        Err(_) => Err(Failure::Store(StoreFailure::Memory)),
+    }
+}
+
+/// How long a file is; none where there is none. One that can't be looked at counts as long.
+fn length_of(files: &impl Files, name: &str) -> Option<u64> {
+    match fs::metadata(files, name) {
+        Ok(found) => Some(found.len()),
+        Err(error) if error.kind() == io::ErrorKind::NotFound => None,
+        Err(_) => Some(u64::MAX),
+    }
+}
+
+/// What stands where a store's file is named.
+fn before_opening(rt: &HostRuntime, name: &str) -> Result<Before, Failure> {
+    let log = log_name(rt.alloc(), name)?;
+    if length_of(rt, log.as_str()).unwrap_or(0) > 0 {
+        return Ok(Before::Filled);
+    }
+    match length_of(rt, name) {
+        None => Ok(Before::Missing),
+        Some(0) => Ok(Before::Empty),
+        Some(_) => Ok(Before::Filled),
+    }
+}
+
+/// Makes the file of a new store, which its owner alone may read and write. Where it can't be made, opening it tells why.
+fn make_private(rt: &HostRuntime, name: &str) {
+    let _ = OpenOptions::new()
+        .write(true)
+        .create_new(true)
+        .mode(PRIVATE)
+        .open(rt, name);
+}
+
+/// Opens the store's file, if one is named, and tells what stood there. It is made where it is missing, but where the store
+/// has to be there already.
 fn open_store_file(
     rt: &HostRuntime,
     name: &Option<String>,
-) -> Result<Option<FileConnection>, Failure> {
+    existing: bool,
+) -> Result<(Option<FileConnection>, Before), Failure> {
     let Some(name) = name else {
-        return Ok(None);
+        return Ok((None, Before::Filled));
     };
     if is_no_path(name.as_str()) {
         return Err(Failure::Store(StoreFailure::Store));
     }
-    Ok(Some(open_at(rt, name.as_str(), seed(rt)?)?))
+    let before = before_opening(rt, name.as_str())?;
+    if existing && (before != Before::Filled || length_of(rt, name.as_str()).is_none()) {
+        return Err(Failure::Store(StoreFailure::NoStore));
+    }
+    if before == Before::Missing {
+        make_private(rt, name.as_str());
+    }
+    let connection = open_at(rt, name.as_str(), seed(rt)?)?;
+    Ok((Some(connection), before))
 }
 
 /// Reads the policy's file, and then opens the store's file, where they are named.
 ///
 /// # Errors
 ///
-/// `Input` where the policy's file can't be read, and `Store` where the store's can't be opened.
-pub fn open_files(
+/// `Input` where the policy's file can't be read, and `Store` where the store's can't be opened, or has to be there
+/// already and is missing or empty.
+pub fn open_inputs(
     rt: &HostRuntime,
     store: &Option<String>,
     policy: &Option<String>,
+    existing: bool,
 ) -> Result<Opened, Failure> {
     let policy = read_policy_file(rt, policy)?;
-    let store = open_store_file(rt, store)?;
-    Ok(Opened { store, policy })
+    let (store, before) = open_store_file(rt, store, existing)?;
+    Ok(Opened {
+        store,
+        policy,
+        before,
+    })
 }
 
-/// Closes the store's file, if there is one. What was done stands already, in the file or in the log beside it, so that
-/// a failure here changes nothing of it.
-pub fn close(connection: Option<FileConnection>) {
-    if let Some(connection) = connection {
-        let _ = connection.close();
+/// Takes back what opening a store began where it was missing or empty.
+fn take_back(rt: &HostRuntime, name: &str, before: Before) {
+    let Ok(log) = log_name(rt.alloc(), name) else {
+        return;
+    };
+    match before {
+        Before::Filled => {}
+        Before::Missing => {
+            let _ = fs::remove_file(rt, name);
+            let _ = fs::remove_file(rt, log.as_str());
+        }
+        Before::Empty => {
+            let _ = OpenOptions::new().write(true).truncate(true).open(rt, name);
+            let _ = fs::remove_file(rt, log.as_str());
+        }
+    }
+}
+
+/// Closes the store's file, if there is one; there is none where its tables could not be had. What was done stands
+/// already, in the file or in the log beside it, so that a failure here changes nothing of it. Where no table was made in
+/// a store that was missing or empty, it is so again.
+pub fn close(
+    rt: &HostRuntime,
+    name: &Option<String>,
+    before: Before,
+    connection: Option<FileConnection>,
+) {
+    let is_unmade = match connection {
+        Some(connection) => {
+            let is_unmade = is_empty(&connection);
+            let _ = connection.close();
+            is_unmade
+        }
+        None => true,
+    };
+    if let Some(name) = name {
+        if is_unmade {
+            take_back(rt, name.as_str(), before);
+        }
     }
 }

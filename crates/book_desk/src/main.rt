@@ -1,23 +1,24 @@
-//! The program `book_desk` of the shared contact books. Its words are read by `book_words`. What `explain`, `card` and
-//! help do is done by `run` of `book_texts`, what `import`, `audit` and `pipe` do by `run` of `book_runs`, and what
-//! `serve` does by `serve` of `book_work`, over any store, reader and writers: their contracts say what is written where
+//! The program `book_desk` of the shared contact books. Its words are read by `book_desk_words`. What `explain`, `card` and
+//! help do is done by `run_text` of `book_desk_app`, what `import`, `audit` and `pipe` do by its `run`, and what `serve`
+//! does by its `serve`, over any store, reader and writers: their contracts say what is written where
 //! these tell their bytes. Nothing stands above it: `main` joins them to the process, to the files (`files`) and to the
 //! port.
 #![tactic(auto)]
 
 ghost use Rattle.std.specs.Prelude.{◌≡◌};
-ghost use Rattle.book_words.specs.WordsFaults.{words_status};
+ghost use Rattle.book_desk_words.specs.WordsFaults.{words_status};
 
 mod files;
 
-use book_cache::Cached;
+use book_desk_app::{
+    Failure, InputFault, TextCommand, Work, adopt_given, given_policy, open_store, run, run_text,
+    serve, tell,
+};
+use book_desk_words::{Command, WordsFault, command_of, words_not_text};
 use book_machine::Machine;
 use book_office::{Keeper, MemoryKeeper, Policy};
-use book_runs::{open_store, run};
-use book_texts::{InputFault, TextCommand};
-use book_words::{Command, WordsFault, command_of, words_not_text};
-use book_work::{Failure, Work, adopt_given, given_policy, serve, tell};
-use files::{Opened, close, open_files};
+use book_office_cache::Cached;
+use files::{Opened, close, open_inputs};
 use sqlite::{Alter, Connection};
 use std::env;
 use std::io::{self, BufReader, Write};
@@ -53,27 +54,41 @@ fn print<W: Write, E: Write>(
     errors: &mut E,
 ) -> u8 {
     match BufReader::new(rt.alloc(), rt.reader()) {
-        Ok(reader) => book_texts::run(rt.alloc(), command, reader, writer, errors),
+        Ok(reader) => run_text(rt.alloc(), command, reader, writer, errors),
         Err(_) => tell(errors, &Failure::Input(InputFault::Read)),
     }
+}
+
+/// The files that the words name.
+#[derive(Drop)]
+struct Named {
+    /// The file of the store.
+    store: Option<String>,
+    /// The file of the policy.
+    policy: Option<String>,
+    /// Whether the store has to be there already.
+    existing: bool,
 }
 
 /// The commands `import`, `audit` and `pipe`: the policy's file is read, the store's file is opened, and the work done.
 fn work<W: Write, E: Write>(
     rt: &HostRuntime,
     kind: Work,
-    store: &Option<String>,
-    policy: &Option<String>,
+    named: &Named,
     writer: &mut W,
     errors: &mut E,
 ) -> u8 {
-    let Opened { store, policy } = match open_files(rt, store, policy) {
+    let Opened {
+        store,
+        policy,
+        before,
+    } = match open_inputs(rt, &named.store, &named.policy, named.existing) {
         Ok(opened) => opened,
         Err(failure) => return tell(errors, &failure),
     };
     let mut reader = rt.reader();
     let (status, connection) = run(rt.alloc(), kind, store, policy, &mut reader, writer, errors);
-    close(connection);
+    close(rt, &named.store, before, connection);
     status
 }
 
@@ -184,18 +199,21 @@ fn serve_over<S: Alter + Drop, N: Net + AllocGlobal, W: Write, E: Write>(
 /// The command `serve`: the policy's file is read, the store's file is opened, and connections are served.
 fn serve_with<W: Write, E: Write>(
     rt: &HostRuntime,
-    store: &Option<String>,
-    policy: &Option<String>,
+    named: &Named,
     service: Service,
     writer: &mut W,
     errors: &mut E,
 ) -> u8 {
-    let Opened { store, policy } = match open_files(rt, store, policy) {
+    let Opened {
+        store,
+        policy,
+        before,
+    } = match open_inputs(rt, &named.store, &named.policy, named.existing) {
         Ok(opened) => opened,
         Err(failure) => return tell(errors, &failure),
     };
     let (status, store) = serve_over(rt, store, policy, service, writer, errors);
-    close(store);
+    close(rt, &named.store, before, store);
     status
 }
 
@@ -211,25 +229,43 @@ fn perform<W: Write, E: Write>(
         Command::Card => print(rt, &TextCommand::Card, writer, errors),
         Command::Help(text) => print(rt, &TextCommand::Help(text), writer, errors),
         Command::Import { store, policy } => {
-            work(
-                rt,
-                Work::Import,
-                &Some(store),
-                &Some(policy),
-                writer,
-                errors,
-            )
+            let named = Named {
+                store: Some(store),
+                policy: Some(policy),
+                existing: false,
+            };
+            work(rt, Work::Import, &named, writer, errors)
         }
-        Command::Audit { store } => work(rt, Work::Audit, &Some(store), &None, writer, errors),
-        Command::Pipe { store, policy } => { work(rt, Work::Pipe, &store, &policy, writer, errors) }
+        Command::Audit { store, existing } => {
+            let named = Named {
+                store: Some(store),
+                policy: None,
+                existing,
+            };
+            work(rt, Work::Audit, &named, writer, errors)
+        }
+        Command::Pipe { store, policy } => {
+            let named = Named {
+                store,
+                policy,
+                existing: false,
+            };
+            work(rt, Work::Pipe, &named, writer, errors)
+        }
         Command::Serve {
             port,
             connections,
             store,
             policy,
+            existing,
         } => {
+            let named = Named {
+                store,
+                policy,
+                existing,
+            };
             let service = Service { port, connections };
-            serve_with(rt, &store, &policy, service, writer, errors)
+            serve_with(rt, &named, service, writer, errors)
         }
     }
 }

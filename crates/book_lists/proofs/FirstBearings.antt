@@ -1,8 +1,5 @@
 -- What decides a leaf among things in order, and what it does among more of them.
-use Rattle.std.proofs.Common.{◌≡◌, ℕ, ◌<◌, ◌≤◌, ◌⊎◌, inl, inr, zero, suc, Bool, true, false, List, [], ◌∷◌, ◌++◌, length, slice_get, Option, Some, None, refl, subst, arith}
-use Rattle.std.proofs.lemmas.Bool.{both_ways}
-use Rattle.std.proofs.lemmas.Option.{slice_get_within}
-use Rattle.book_rights.specs.declared.privileges.Leaf.{Leaf}
+use Rattle.book_lists.proofs.Common.{◌≡◌, ℕ, ◌<◌, ◌≤◌, ◌⊎◌, inl, inr, zero, suc, Bool, true, false, List, [], ◌∷◌, ◌++◌, length, slice_get, Option, Some, None, refl, subst, arith, both_ways, cases_lt, slice_get_within, Leaf}
 use Rattle.book_lists.specs.Deciding.{DecidesBy, DeniesBy, GrantsBy, IsUndecidedBy, IsAllowedBy, IsDenialBy}
 
 -- ---- places in two lists
@@ -16,11 +13,6 @@ pub left_back : {A : Type 0} (xs ys : List A) (i : ℕ) (x : A) → slice_get (x
 left_back [] ys i x e lt = absurd (omega (arith, lt))
 left_back (y ∷ xs) ys zero x e lt = e
 left_back (y ∷ xs) ys (suc i) x e lt = left_back xs ys i x e (omega (arith, lt))
-
-pub within_or_past : (j n : ℕ) → (j < n) ⊎ (n ≤ j)
-within_or_past j zero = inr (omega arith)
-within_or_past zero (suc n) = inl (omega arith)
-within_or_past (suc j) (suc n) = elim (within_or_past j n) [ inl h ↦ inl (omega (arith, h)) | inr h ↦ inr (omega (arith, h)) ]
 
 pub last_at : {A : Type 0} (xs : List A) (x : A) → slice_get (xs ++ x ∷ []) (length xs) ≡ Some x
 last_at [] x = refl
@@ -90,7 +82,7 @@ module _ {X : Type 0} (bears : Leaf → X → Bool) (denying : X → Bool) where
     denial_more need leaf i d = (
       d.0,
       denies_more i leaf d.1,
-      λ j other wanted e. elim (within_or_past j (length xs)) [
+      λ j other wanted e. elim (cases_lt j (length xs)) [
         | inl lt ↦ d.2 j other wanted (e.0, decides_fewer j other e.0 e.1 lt, e.2)
         | inr past ↦ inl (let within = slice_get_within xs i d.1.0 d.1.1.there in omega (arith, within, past))
       ],

@@ -1,13 +1,10 @@
 -- The numbers that the first bytes of two names spell are in the order of the names.
-use Rattle.std.proofs.Common.{◌≡◌, ◌≢◌, ℕ, zero, suc, ◌+◌, ◌*◌, ◌^◌, ◌<◌, ◌≤◌, List, [], ◌∷◌, length, get_or, sym, ap, ◌∙◌, subst, refl, arith, IsTrue, inl, inr, Less, Greater, Equal, Ordering}
-use Rattle.std.specs.Prelude.{◌⊎◌}
-use Rattle.std.specs.Ordering.{nat_cmp, ordering_reverse, ordering_then}
+use Rattle.book_lists.proofs.Common.{◌≡◌, ℕ, zero, suc, ◌+◌, ◌^◌, ◌<◌, ◌≤◌, List, [], ◌∷◌, length, get_or, sym, ap, ◌∙◌, subst, refl, arith, IsTrue, inl, inr, ◌⊎◌, nat_cmp, slice_cmp, cases_lt, nat_list_cmp_total}
+use Rattle.std.proofs.Common.{◌≢◌, ◌*◌, Less, Greater, Equal, Ordering}
+use Rattle.std.specs.Ordering.{ordering_reverse, ordering_then}
 use Rattle.std.specs.Cmp.{nat_cmp_is}
-use Rattle.std.specs.Cmp.Lexicographic.{slice_cmp}
-use Rattle.std.proofs.lemmas.Bool.{cases_lt}
 use Rattle.std.proofs.Math.Nat.{eq-or-lt_of_le}
 use Rattle.std.proofs.Math.ListN.{get_or-eq_default}
-use Rattle.std.proofs.lemmas.Cmp.{nat_list_cmp_total}
 use Rattle.book_lists.specs.Names.{IsName, IsFronted, is_name_byte, front}
 
 -- the number that the first k bytes spell, missing ones being 0

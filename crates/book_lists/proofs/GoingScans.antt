@@ -1,15 +1,14 @@
 -- What a scan knows of the leaves that it left open, and of those that it closed.
-use Rattle.std.proofs.Common.{◌≡◌, ℕ, suc, ◌+◌, ◌-◌, ◌<◌, ◌≤◌, ◌^◌, min, Bool, true, false, not, ◌&&◌, List, [], ◌∷◌, ◌++◌, length, take, Option, Some, None, is_some, IsTrue, ◌⊎◌, inl, inr, ◌↔◌, refl, sym, ap, ◌∙◌, subst, arith, append_assoc, append-nil, length-append}
-use Rattle.std.proofs.lemmas.Bool.{cases_Bool, and_parts, and_from, and_left, and_right, or_cases, or_left, or_right, not-true, both_ways, false_from_ne_true, iff_false}
+use Rattle.book_lists.proofs.Common.{◌≡◌, ℕ, suc, ◌+◌, ◌-◌, ◌<◌, ◌≤◌, ◌^◌, Bool, true, false, not, ◌&&◌, List, [], ◌∷◌, ◌++◌, length, take, Option, Some, None, IsTrue, ◌⊎◌, inl, inr, ◌↔◌, refl, sym, ap, ◌∙◌, subst, arith, append-nil, length-append, and_parts, both_ways, cases_lt, slice_get_within, Leaf, difference, Reading, IsScan, IsGrantScan}
+use Rattle.std.proofs.Common.{min, is_some, append_assoc}
+use Rattle.std.proofs.lemmas.Bool.{cases_Bool, and_from, and_left, and_right, or_cases, or_left, or_right, not-true, false_from_ne_true, iff_false}
 use Rattle.std.proofs.lemmas.List.{take-append-le, take_at}
-use Rattle.std.proofs.lemmas.Option.{slice_get_within}
-use Rattle.book_rights.specs.declared.privileges.Leaf.{Leaf}
-use Rattle.book_rights.specs.Leaves.{place_of, difference, union, IsLeast, Meets}
+use Rattle.book_rights.specs.Leaves.{place_of, union, IsLeast, Meets}
 use Rattle.book_lists.specs.Entries.{applies}
-use Rattle.book_lists.specs.Scans.{Reading, bears_read, denying_read, DeniesRead, GrantsRead, IsAllowedRead, IsDenialRead, IsGrantedRead, Settles, IsLooked, LeavesOpen, IsGoing, IsAt, IsScan, IsGrantScan}
+use Rattle.book_lists.specs.Scans.{bears_read, denying_read, DeniesRead, GrantsRead, IsAllowedRead, IsDenialRead, IsGrantedRead, Settles, IsLooked, LeavesOpen, IsGoing, IsAt}
 use Rattle.book_lists.specs.declared.scans.Scan.{Scan}
 use Rattle.book_lists.specs.declared.scans.GrantScan.{GrantScan}
-use Rattle.book_lists.proofs.FirstBearings.{denied_or_granted, denied_or_allowed, decides_more, denies_more, allowed_more, denial_more, left_undecided, last_decides, none_bears_more, split_last, within_or_past}
+use Rattle.book_lists.proofs.FirstBearings.{denied_or_granted, denied_or_allowed, decides_more, denies_more, allowed_more, denial_more, left_undecided, last_decides, none_bears_more, split_last}
 
 -- the leaves of both sets
 abbrev pub IsShared : (Leaf → Bool) → (Leaf → Bool) → (Leaf → Bool) → Type 0
@@ -188,7 +187,7 @@ module _ (need : Leaf → Bool) (readings : List Reading) (scan : Scan) (s : IsS
         unseen = [];
         parts = ap (λ xs. xs ++ r ∷ []) whole ∙ sym (append-nil (s.seen ++ r ∷ []));
         looked = let was = s.looked in omega (arith, looked, was, long);
-        least = λ k below settled. elim (within_or_past k (length s.seen)) [
+        least = λ k below settled. elim (cases_lt k (length s.seen)) [
           | inl lt ↦ s.least k lt (subst (λ xs. Settles xs need) (take-append-le k s.seen (r ∷ []) (omega (arith, lt))) settled)
           | inr past ↦ none (subst (λ xs. Settles xs need) (take_at s.seen (r ∷ []) k (omega (arith, below, past, long))) settled)
         ];

@@ -1,23 +1,15 @@
 -- Memberships by member: which pairs they are, and one pair more.
-use Rattle.std.proofs.Common.{◌≡◌, ℕ, Bool, true, false, cond, ◌&&◌, ◌||◌, List, [], ◌∷◌, ◌++◌, map, unwrap_or, Some, None, refl, sym, ap, ◌∙◌}
-use Rattle.std.specs.BTreeMap.{is_at}
+use Rattle.book_lists.proofs.Common.{◌≡◌, ℕ, Bool, true, false, cond, ◌&&◌, ◌||◌, List, [], ◌∷◌, ◌++◌, map, unwrap_or, Some, None, refl, sym, ap, ◌∙◌, is_at, flat_map, list_any, lookup, is_eq, eq_by_cmp, bytes_eq, Less, nat_list_cmp_total, nat_list_eq_equiv, is_eq-slice_cmp, and_parts, pairs_of, pairs_in, groups_at, membership_cmp, set_of, path_cmp}
 use Rattle.std.specs.FinSet as set
-use Rattle.std.specs.List.{flat_map, list_any, AllByRecursion}
+use Rattle.std.specs.List.{AllByRecursion}
 use Rattle.std.specs.List.Sorted.{IsStrictlySortedBy}
-use Rattle.std.specs.Map.{lookup, keys_of}
-use Rattle.std.specs.Ordering.{is_eq, eq_by_cmp}
-use Rattle.std.specs.Str.{bytes_eq}
-use Rattle.std.specs.declared.cmp.Ordering.TheVariants.{Less}
-use Rattle.std.proofs.lemmas.Cmp.{nat_list_cmp_total, nat_list_eq_equiv}
+use Rattle.std.specs.Map.{keys_of}
 use Rattle.std.proofs.lemmas.List.Folds.{list_any-append}
 use Rattle.std.proofs.lemmas.Map.{lookup-none, NonePasses}
 use Rattle.std.proofs.lemmas.Map.Keys.{sorted_head, sorted_tail}
-use Rattle.std.proofs.lemmas.Map.Text.{is_eq-slice_cmp}
 use Rattle.book_lists.specs.declared.memberships.Membership.{Membership}
-use Rattle.book_lists.specs.GroupEntries.{GroupEntries, memberships_in, pairs_of, pairs_in, groups_at}
-use Rattle.book_lists.specs.Memberships.{membership_cmp, set_of}
-use Rattle.book_lists.specs.Principals.{path_cmp}
-use Rattle.book_lists.proofs.Pairing.{memberships_total, memberships_exact, same_membership, same_path, both_true}
+use Rattle.book_lists.specs.GroupEntries.{GroupEntries, memberships_in}
+use Rattle.book_lists.proofs.Pairing.{memberships_total, memberships_exact, same_membership, same_path}
 
 -- a path that ties with another is that path
 tied : (a b : List ℕ) → is_at (path_cmp a) b ≡ true → a ≡ b
@@ -135,7 +127,7 @@ inserted_again pairs e there = set.same_set memberships_total memberships_exact 
   where
     go : (q : Membership) (b : Bool) → eq_by_cmp membership_cmp q e ≡ b → set.contains pairs q ≡ (b || set.contains pairs q)
     go q true tie =
-        let both = both_true (bytes_eq e.group q.group) (bytes_eq e.member q.member) (sym (same_membership e q) ∙ tie) in
+        let both = and_parts (bytes_eq e.group q.group) (bytes_eq e.member q.member) (sym (same_membership e q) ∙ tie) in
         let same : e ≡ q = λ i. record { group = same_path e.group q.group both.0 i; member = same_path e.member q.member both.1 i } in
         ap (set.contains pairs) (sym same) ∙ there
     go q false tie = refl

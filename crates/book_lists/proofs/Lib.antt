@@ -1,3 +1,4 @@
+pub mod Common
 pub mod PathSets
 pub mod Passed
 pub mod FirstBearings

@@ -1,10 +1,6 @@
 -- What decides one leaf is one entry.
-use Rattle.std.proofs.Common.{◌≡◌, ℕ, Bool, List, Option}
-use Rattle.book_rights.specs.declared.privileges.Leaf.{Leaf}
-use Rattle.book_lists.specs.declared.entries.Entry.{Entry}
-use Rattle.book_lists.specs.declared.entries.Here.{Here}
-use Rattle.book_lists.specs.Circles.{CircleOf}
-use Rattle.book_lists.specs.Decisions.{bears, denying, Decides, Denies, Grants, IsAllowed, IsDenial}
+use Rattle.book_lists.proofs.Common.{◌≡◌, ℕ, Bool, List, Option, Leaf, Entry, Here, CircleOf, IsAllowed, IsDenial}
+use Rattle.book_lists.specs.Decisions.{bears, denying, Decides, Denies, Grants}
 use Rattle.book_lists.proofs.FirstBearings.{one_place, one_decider, denied_or_granted, denied_or_allowed}
 
 module _ (entries : List Entry) (circle : CircleOf) (here : Here) where

@@ -1,20 +1,14 @@
 -- A caller has one circle, and a list of entries one outcome and one set that it grants.
-use Rattle.std.proofs.Common.{◌≡◌, ℕ, ◌<◌, ◌≤◌, ◌⊎◌, ◌↔◌, Bool, List, [], ◌∷◌, get_or, Option, Some, None, inl, inr, refl, sym, ap, ◌∙◌, arith}
-use Rattle.std.specs.FinSet.{contains, same_set, slice_cmp-IsAntisymmetric, nat_cmp-IsAntisymmetric}
-use Rattle.std.proofs.lemmas.Bool.{false≢true}
-use Rattle.std.proofs.lemmas.Cmp.{nat_list_cmp_total}
-use Rattle.book_rights.specs.declared.privileges.Leaf.{Leaf}
+use Rattle.book_lists.proofs.Common.{◌≡◌, ℕ, ◌<◌, ◌≤◌, ◌⊎◌, ◌↔◌, Bool, List, [], ◌∷◌, get_or, Option, Some, None, inl, inr, refl, sym, ap, ◌∙◌, arith, same_set, false≢true, nat_list_cmp_total, Leaf, Entry, Here, CircleOf, IsAllowed, IsDenial}
+use Rattle.std.specs.FinSet.{contains, slice_cmp-IsAntisymmetric, nat_cmp-IsAntisymmetric}
 use Rattle.book_rights.specs.declared.privileges.Leaf.TheVariants.{Read, WriteContent, WriteProperties, Bind, Unbind, ReadAcl, WriteAcl, ReadCurrentUserPrivilegeSet}
 use Rattle.book_rights.specs.Leaves.{place_of, each_leaf}
 use Rattle.book_rights.specs.Leaves as leaves
 use Rattle.book_lists.specs.declared.circles.Caller.{Caller}
-use Rattle.book_lists.specs.declared.entries.Entry.{Entry}
-use Rattle.book_lists.specs.declared.entries.Here.{Here}
 use Rattle.book_lists.specs.declared.decisions.Outcome.{Outcome}
 use Rattle.book_lists.specs.declared.decisions.Outcome.TheVariants.{Allowed, Denied}
 use Rattle.book_lists.specs.Callers.{IsCircle}
-use Rattle.book_lists.specs.Circles.{CircleOf}
-use Rattle.book_lists.specs.Decisions.{IsAllowed, IsDenial, IsGrantedSet, IfDenied}
+use Rattle.book_lists.specs.Decisions.{IsGrantedSet, IfDenied}
 use Rattle.book_lists.specs.Memberships.{Memberships}
 use Rattle.book_rights.proofs.Masks.{same_test}
 

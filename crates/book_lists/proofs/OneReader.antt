@@ -1,16 +1,13 @@
 -- Entries that are all read by one circle at one resource: the list of their readings, and what it decides.
-use Rattle.std.proofs.Common.{◌≡◌, ℕ, zero, suc, ◌+◌, ◌<◌, ◌≤◌, ◌↔◌, Bool, true, false, List, [], ◌∷◌, ◌++◌, length, map, take, drop, get_or, slice_get, Option, Some, None, option_map, refl, sym, ap, ◌∙◌, subst, append_assoc}
-use Rattle.std.proofs.lemmas.List.{map-append, take_all, take_more, take-append-drop}
+use Rattle.book_lists.proofs.Common.{◌≡◌, ℕ, zero, suc, ◌+◌, ◌<◌, ◌≤◌, ◌↔◌, Bool, true, false, List, [], ◌∷◌, ◌++◌, length, map, take, get_or, slice_get, Option, Some, None, refl, sym, ap, ◌∙◌, subst, map-append, Leaf, CircleOf, IsAllowed, IsDenial, Reading, read_by, Entry, Here}
+use Rattle.std.proofs.Common.{drop, option_map, append_assoc}
+use Rattle.std.proofs.lemmas.List.{take_all, take_more, take-append-drop}
 use Rattle.std.proofs.lemmas.Option.{slice_get-map}
-use Rattle.book_rights.specs.declared.privileges.Leaf.{Leaf}
-use Rattle.book_lists.specs.Circles.{CircleOf}
 use Rattle.book_lists.specs.Deciding.{DecidesBy, IsUndecidedBy}
-use Rattle.book_lists.specs.Decisions.{Decides, Denies, Grants, IsUndecided, IsAllowed, IsDenial, IsGrantedSet, IfDenied}
-use Rattle.book_lists.specs.Scans.{Reading, read_by, bears_read, denying_read, DeniesRead, GrantsRead, IsAllowedRead, IsDenialRead, IsGrantedRead}
+use Rattle.book_lists.specs.Decisions.{Decides, Denies, Grants, IsUndecided, IsGrantedSet, IfDenied}
+use Rattle.book_lists.specs.Scans.{bears_read, denying_read, DeniesRead, GrantsRead, IsAllowedRead, IsDenialRead, IsGrantedRead}
 use Rattle.book_lists.specs.declared.decisions.Outcome.{Outcome}
 use Rattle.book_lists.specs.declared.decisions.Outcome.TheVariants.{Allowed, Denied}
-use Rattle.book_lists.specs.declared.entries.Entry.{Entry}
-use Rattle.book_lists.specs.declared.entries.Here.{Here}
 
 module _ (circle : CircleOf) (here : Here) where
   pub read_append : (xs ys : List Entry) → read_by circle here (xs ++ ys) ≡ read_by circle here xs ++ read_by circle here ys

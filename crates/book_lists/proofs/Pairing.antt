@@ -1,19 +1,14 @@
 -- Memberships as the keys of a set, and their paths.
-use Rattle.std.proofs.Common.{◌≡◌, ℕ, Bool, true, false, ◌&&◌, List, [], ◌∷◌, ◌++◌, Vec, Result, Ok, Err, IfOk, refl, sym, ap, ◌∙◌}
+use Rattle.book_lists.proofs.Common.{◌≡◌, ℕ, true, ◌&&◌, List, [], ◌∷◌, ◌++◌, Ok, refl, sym, ap, ◌∙◌, same_set, list_any, nat_cmp, is_eq, eq_by_cmp, bytes_eq, Less, slice_cmp, and_parts, nat_list_cmp_total, nat_list_eq_equiv, is_eq-slice_cmp, membership_cmp, set_of}
+use Rattle.std.proofs.Common.{Vec, Result, Err, IfOk}
 use Rattle.std.specs.Cmp.{IsTotalOrder}
-use Rattle.std.specs.FinSet.{insert, contains-from_list, from_list_push, same_set, IsAntisymmetric}
-use Rattle.std.specs.List.{list_any}
-use Rattle.std.specs.Ordering.{nat_cmp, is_eq, eq_by_cmp, ordering_then}
-use Rattle.std.specs.Str.{bytes_eq}
+use Rattle.std.specs.FinSet.{insert, contains-from_list, from_list_push, IsAntisymmetric}
+use Rattle.std.specs.Ordering.{ordering_then}
 use Rattle.std.specs.declared.cmp.Ordering.{Ordering}
-use Rattle.std.specs.declared.cmp.Ordering.TheVariants.{Less, Equal, Greater}
-use Rattle.std.specs.Cmp.Lexicographic.{slice_cmp}
-use Rattle.std.proofs.lemmas.Bool.{false≢true}
-use Rattle.std.proofs.lemmas.Cmp.{nat_list_cmp_total, nat_list_eq_equiv, then_total, on_total}
-use Rattle.std.proofs.lemmas.Map.Text.{is_eq-slice_cmp}
+use Rattle.std.specs.declared.cmp.Ordering.TheVariants.{Equal, Greater}
+use Rattle.std.proofs.lemmas.Cmp.{then_total, on_total}
 use Rattle.std.proofs.lemmas.Slice.Eq.{bytes_eq-Decides}
 use Rattle.book_lists.specs.declared.memberships.Membership.{Membership}
-use Rattle.book_lists.specs.Memberships.{membership_cmp, set_of}
 
 pub memberships_total : IsTotalOrder membership_cmp
 memberships_total = then_total (on_total (λ e. e.group) nat_list_cmp_total) (on_total (λ e. e.member) nat_list_cmp_total)
@@ -25,12 +20,8 @@ same_path xs ys h = (bytes_eq-Decides xs ys).0 h
 pub path_itself : (xs : List ℕ) → bytes_eq xs xs ≡ true
 path_itself xs = (bytes_eq-Decides xs xs).1 refl
 
-pub both_true : (a b : Bool) → (a && b) ≡ true → (a ≡ true) × (b ≡ true)
-both_true true b h = (refl, h)
-both_true false b h = absurd (false≢true h)
-
 -- ---- memberships
-is_eq-then : (a b : Ordering) → is_eq (ordering_then a b) ≡ (is_eq a && is_eq b)
+pub is_eq-then : (a b : Ordering) → is_eq (ordering_then a b) ≡ (is_eq a && is_eq b)
 is_eq-then Less b = refl
 is_eq-then Equal b = refl
 is_eq-then Greater b = refl
@@ -44,7 +35,7 @@ same_membership e q =
 -- memberships that compare alike are one
 pub memberships_exact : IsAntisymmetric membership_cmp
 memberships_exact x y e =
-    let both = both_true _ _ (sym (same_membership y x) ∙ ap is_eq e) in
+    let both = and_parts _ _ (sym (same_membership y x) ∙ ap is_eq e) in
     let g : y.group ≡ x.group = same_path _ _ both.0 in
     let m : y.member ≡ x.member = same_path _ _ both.1 in
     λ i. record { group = sym g i; member = sym m i }

@@ -1,5 +1,6 @@
 -- What a scan has passed over.
-use Rattle.std.proofs.Common.{◌≡◌, ℕ, ◌+◌, ◌<◌, Bool, false, List, Some, slice_get, below_more, subst}
+use Rattle.book_lists.proofs.Common.{◌≡◌, ℕ, ◌+◌, ◌<◌, Bool, false, List, Some, slice_get, subst}
+use Rattle.std.proofs.Common.{below_more}
 
 -- one more element of which the fact holds
 pub each_passed : {X : Type 0} (xs : List X) (P : X → Type 0) (i : ℕ) (x : X)

@@ -1,6 +1,6 @@
 -- The paths of principals have no slash at their end.
-use Rattle.std.proofs.Common.{◌≡◌, ℕ, ◌+◌, ◌-◌, ◌<◌, List, [], ◌∷◌, ◌++◌, length, get_or, sym, ap, ◌∙◌, subst, arith, length-append, codes, inl, inr, IsTrue}
-use Rattle.std.proofs.lemmas.Bool.{false≢true}
+use Rattle.book_lists.proofs.Common.{◌≡◌, ℕ, ◌+◌, ◌-◌, ◌<◌, List, [], ◌∷◌, ◌++◌, length, get_or, sym, ap, ◌∙◌, subst, arith, length-append, inl, inr, IsTrue, false≢true}
+use Rattle.std.proofs.Common.{codes}
 use Rattle.std.proofs.lemmas.List.{get_or-append-add}
 use Rattle.std.proofs.Math.Seq.{get_or-append_seam}
 use Rattle.book_lists.specs.Names.{IsName, is_name_byte}

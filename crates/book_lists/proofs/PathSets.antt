@@ -1,18 +1,10 @@
 -- Sets of paths.
-use Rattle.std.proofs.Common.{◌≡◌, ℕ, Bool, true, false, cond, List, [], ◌∷◌, ◌||◌, ◌∙◌, refl, sym, ap, ◌+◌, length, arith}
-use Rattle.std.specs.FinSet.{contains, insert, from_list, contains-empty, contains-insert, contains-from_list, same_set, len, len-empty, len-insert, IsAntisymmetric, slice_cmp-IsAntisymmetric, nat_cmp-IsAntisymmetric}
-use Rattle.std.specs.List.{list_any, AllByRecursion}
+use Rattle.book_lists.proofs.Common.{◌≡◌, ℕ, Bool, true, false, cond, List, [], ◌∷◌, ◌||◌, ◌∙◌, refl, sym, ap, ◌+◌, length, arith, same_set, list_any, Less, is_at, path_cmp, nat_cmp, is_eq, eq_by_cmp, slice_cmp, nat_list_cmp_total, nat_list_eq_equiv, is_eq-slice_cmp, has_path}
+use Rattle.std.specs.FinSet.{contains, insert, from_list, contains-empty, contains-insert, contains-from_list, len, len-empty, len-insert, IsAntisymmetric, slice_cmp-IsAntisymmetric, nat_cmp-IsAntisymmetric}
+use Rattle.std.specs.List.{AllByRecursion}
 use Rattle.std.specs.List.Sorted.{IsStrictlySortedBy}
-use Rattle.std.specs.declared.cmp.Ordering.TheVariants.{Less}
 use Rattle.std.proofs.lemmas.Map.Keys.{sorted_head, sorted_tail}
-use Rattle.std.specs.BTreeMap.{is_at}
 use Rattle.std.specs.Cmp.{eq_by_cmp_equiv}
-use Rattle.book_lists.specs.Principals.{path_cmp}
-use Rattle.std.specs.Ordering.{nat_cmp, is_eq, eq_by_cmp}
-use Rattle.std.specs.Cmp.Lexicographic.{slice_cmp}
-use Rattle.std.proofs.lemmas.Cmp.{nat_list_cmp_total, nat_list_eq_equiv}
-use Rattle.std.proofs.lemmas.Map.Text.{is_eq-slice_cmp}
-use Rattle.book_lists.specs.Circles.{has_path}
 
 -- a path is in the set of the list's paths exactly where one of the list equals it
 pub contains-from_paths : (ps : List (List ℕ)) (q : List ℕ) → contains {R = slice_cmp nat_cmp} (from_list ps) q ≡ has_path ps q

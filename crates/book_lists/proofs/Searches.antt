@@ -1,30 +1,15 @@
 -- The search for what chains of pairs lead to from some starts: groups from their members.
-use Rattle.std.proofs.Common.{◌≡◌, ℕ, ◌+◌, ◌≤◌, Bool, true, false, cond, ◌||◌, List, [], ◌∷◌, ◌++◌, ◌⊎◌, inl, inr, ◌↔◌, refl, sym, ap, ◌∙◌, arith, unwrap_or, Some}
-use Rattle.std.specs.BTreeMap.{is_at}
+use Rattle.book_lists.proofs.Common.{◌≡◌, ℕ, ◌+◌, ◌≤◌, Bool, true, false, cond, ◌||◌, List, [], ◌∷◌, ◌++◌, ◌⊎◌, inl, inr, ◌↔◌, refl, sym, ap, ◌∙◌, arith, unwrap_or, Some, is_at, lookup, bytes_eq, false≢true, nat_list_cmp_total, nat_list_eq_equiv, is_eq-slice_cmp, has_path, groups_at, path_cmp}
 use Rattle.std.specs.FinSet as set
-use Rattle.std.specs.Map.{lookup}
-use Rattle.std.specs.Str.{bytes_eq}
-use Rattle.std.proofs.lemmas.Bool.{or_cases, false≢true}
-use Rattle.std.proofs.lemmas.Cmp.{nat_list_cmp_total, nat_list_eq_equiv}
+use Rattle.std.proofs.lemmas.Bool.{or_cases, or_left, or_right}
 use Rattle.std.proofs.lemmas.List.Folds.{list_any-append}
-use Rattle.std.proofs.lemmas.Map.Text.{is_eq-slice_cmp}
-use Rattle.book_lists.specs.Circles.{has_path}
-use Rattle.book_lists.specs.GroupEntries.{GroupEntries, groups_at}
+use Rattle.book_lists.specs.GroupEntries.{GroupEntries}
 use Rattle.book_lists.specs.Memberships.{Memberships, IsDirect, Descends, Belongs}
-use Rattle.book_lists.specs.Principals.{path_cmp}
 use Rattle.book_lists.proofs.Pairing.{same_path, path_itself}
 
 -- ---- what is found, with one text more
 found_more : (found : set.FinSet path_cmp) (p q : List ℕ) → set.contains (set.insert found p) q ≡ (bytes_eq p q || set.contains found q)
 found_more found p q = set.contains-insert nat_list_cmp_total found p q ∙ ap (λ b. b || set.contains found q) (is_eq-slice_cmp q p ∙ nat_list_eq_equiv.symm q p)
-
-or_left : (a b : Bool) → a ≡ true → (a || b) ≡ true
-or_left true b h = refl
-or_left false b h = absurd (false≢true h)
-
-or_right : (a b : Bool) → b ≡ true → (a || b) ≡ true
-or_right true b h = refl
-or_right false b h = h
 
 -- one of the starts belongs to it
 abbrev pub FromStarts : Memberships → List (List ℕ) → List ℕ → Type 0

@@ -1,23 +1,13 @@
 -- Offices that agree for a caller tell the same in listings.
-use Rattle.std.proofs.Common.{◌≡◌, ℕ, List, [], ◌∷◌, map, Option, Some, None, is_some, option_map, unwrap_or, refl, sym, ap, ◌∙◌, subst}
-use Rattle.std.specs.FinMap.{get, entries}
-use Rattle.book_lists.specs.Callers.{IsCircle}
-use Rattle.book_lists.specs.Circles.{CircleOf}
-use Rattle.book_lists.specs.declared.circles.Caller.{Caller}
-use Rattle.book_values.specs.Paths.{levels}
-use Rattle.book_values.specs.declared.offices.Book.{Book}
-use Rattle.book_values.specs.declared.offices.Office.{Office}
-use Rattle.book_values.specs.declared.offices.StoredCard.{StoredCard}
-use Rattle.book_values.specs.declared.paths.Kind.TheVariants as kind
-use Rattle.book_values.specs.declared.paths.Path.{Path}
-use Rattle.book_values.specs.declared.paths.Path.TheVariants as path
-use Rattle.book_office.specs.Resources.{Resource, listed_books, listed_cards, listed_in, listed_principals, resource_at}
+use Rattle.book_machine.proofs.Common.{◌≡◌, ℕ, List, [], ◌∷◌, map, Option, Some, None, is_some, option_map, unwrap_or, refl, sym, ap, ◌∙◌, subst, get, entries, IsCircle, CircleOf, Caller, levels, Book, Office, StoredCard, Path, Resource, resource_at, MayRead, outline, outline_of_book, outline_of_card, Agree}
+use Rattle.book_office_values.specs.declared.paths.Kind.TheVariants as kind
+use Rattle.book_office_values.specs.declared.paths.Path.TheVariants as path
+use Rattle.book_office.specs.Resources.{listed_books, listed_cards, listed_of_book, listed_principals}
 use Rattle.book_office.specs.declared.nodes.Listed.{Listed}
-use Rattle.book_listings.specs.Laws.{AreAlike}
-use Rattle.book_listings.specs.Listings.{child_path, children_paths, subject_at}
+use Rattle.book_office_listings.specs.Laws.{AreAlike}
+use Rattle.book_office_listings.specs.Listings.{child_path, children_paths, subject_at}
 use Rattle.book_machine.proofs.MappedEntries.{entries_mapped}
 use Rattle.book_machine.proofs.Outlines.{there_mapped, told, outline_of_resource, books_alike, resource_same, resources_alike, level_same, here_same}
-use Rattle.book_machine.specs.Agreement.{MayRead, outline, outline_of_book, outline_of_card, Agree}
 
 -- ---- the paths of children, which rest on names alone
 abbrev path_in : Path → Listed → Path
@@ -40,7 +30,7 @@ cards_named b (e ∷ cards) = ap (λ qs. path.Card b e.0 ∷ qs) (cards_named b 
 abbrev paths_in_book : List ℕ → Book → List Path
 paths_in_book b book = paths_of_cards b (entries book.cards)
 
-listed_named : (b : List ℕ) (book : Book) (cards : List (List ℕ × StoredCard)) → map (path_in (path.Book b)) (listed_in book cards) ≡ paths_of_cards b cards
+listed_named : (b : List ℕ) (book : Book) (cards : List (List ℕ × StoredCard)) → map (path_in (path.Book b)) (listed_of_book book cards) ≡ paths_of_cards b cards
 listed_named b book [] = refl
 listed_named b book (e ∷ cards) = ap (λ qs. path.Card b e.0 ∷ qs) (listed_named b book cards)
 

@@ -1,62 +1,27 @@
 -- From agreeing Offices a request has one plan.
-use Rattle.std.proofs.Common.{◌≡◌, inl, inr, ℕ, List, [], ◌∷◌, Bool, true, false, Option, Some, None, is_some, option_map, ◌&&◌, ◌||◌, Result, Ok, Err, refl, sym, ap, ◌∙◌, subst, nat_lt}
-use Rattle.std.specs.Prelude.{if◌then◌else◌, map}
-use Rattle.std.specs.FinMap.{get}
-use Rattle.std.specs.List.{AllZip, flat_map}
-use Rattle.std.specs.Str.{bytes_eq}
-use Rattle.book_lists.specs.Callers.{IsCircle}
-use Rattle.book_lists.specs.Circles.{CircleOf}
-use Rattle.book_lists.specs.Principals.{person_path}
-use Rattle.book_lists.specs.declared.circles.Caller.{Caller}
-use Rattle.book_lists.specs.declared.circles.Caller.TheVariants.{Nobody, Known}
-use Rattle.book_lists.specs.declared.submitted.Submitted.{Submitted}
-use Rattle.book_office.specs.Levels.{protected_entries, effective_at}
-use Rattle.book_office.specs.declared.nodes.EffectiveEntry.{EffectiveEntry}
-use Rattle.book_office.specs.Resources.{node_at, unnumbered}
-use Rattle.book_office.specs.Sound.{IsMapped}
-use Rattle.book_office.specs.declared.nodes.Node.{Node}
-use Rattle.book_rights.specs.Needs.{only, read_and, needs_of}
-use Rattle.book_rights.specs.declared.methods.Method.{Method}
-use Rattle.book_rights.specs.declared.methods.Method.TheVariants.{Get, Head, Options, Put, Propfind, Proppatch, Acl, Copy, Move, Delete, Mkcol, Report}
+use Rattle.book_machine.proofs.Common.{◌≡◌, inl, inr, ℕ, List, [], ◌∷◌, Bool, true, false, Option, Some, None, is_some, option_map, ◌&&◌, ◌||◌, Result, Ok, Err, refl, sym, ap, ◌∙◌, subst, nat_lt, if◌then◌else◌, map, get, AllZip, flat_map, bytes_eq, IsCircle, CircleOf, person_path, Caller, Nobody, Known, Submitted, effective_at, EffectiveEntry, node_at, unnumbered, IsMapped, Node, only, Method, Get, Head, Options, Put, Propfind, Proppatch, Acl, Copy, Move, Delete, Mkcol, Need, Leaf, Read, Office, MAX_CARDS, MAX_BOOKS, LAST_NUMBER, Path, kind_of, levels, Find, named, MayRead, outline, Agree, goes_on, asked_of, method_of, destination_in, destination_path, ◌>>=◌, check, caller_of, at_unmapped, at_node, target_of, suits_target, ready_of, IsMembersAnswer, IsChecked, protected_entries_at, IsAclAnswer, IsBodyAnswer, can_change, label_limits, limits_of, report_plan, sync_plan, body_then_limits, AreMembersTold, IsReportOf, IsListed, IsSuccessOf, IsDone, IsGrantedPlan, put_edit, replied, replaceable, destination_of, can_change_twice, move_limits, copy_edit, move_edit, IsDecided, IsPlannedFrom, IsPlan, IsGrantedAt, here_of, AreGranted, IsGranted, IsDenied, needs_at, place_path, Asked, Destination, ReportKind, Request, SyncFrom, Plan, Ready, Target, Denial, Refusal, UnknownCaller, Full, NotAllowed, NoParent}
+use Rattle.book_office.specs.Levels.{protected_entries}
+use Rattle.book_rights.specs.Needs.{read_and, needs_of}
+use Rattle.book_rights.specs.declared.methods.Method.TheVariants.{Report}
 use Rattle.book_rights.specs.declared.methods.Shape.{Shape}
-use Rattle.book_rights.specs.declared.places.Need.{Need}
-use Rattle.book_rights.specs.declared.privileges.Leaf.{Leaf}
-use Rattle.book_rights.specs.declared.privileges.Leaf.TheVariants.{Read, WriteContent, WriteProperties, Bind, Unbind, ReadAcl, WriteAcl, ReadCurrentUserPrivilegeSet}
-use Rattle.book_values.specs.declared.offices.Office.{Office}
-use Rattle.book_limits.specs.declared.TheConstants.{MAX_CARDS, MAX_BOOKS, LAST_NUMBER}
-use Rattle.book_values.specs.declared.paths.Path.{Path}
-use Rattle.book_values.specs.declared.paths.Path.TheVariants as path
-use Rattle.book_values.specs.Paths.{kind_of, levels}
+use Rattle.book_rights.specs.declared.privileges.Leaf.TheVariants.{WriteContent, WriteProperties, Bind, Unbind, ReadAcl, WriteAcl, ReadCurrentUserPrivilegeSet}
+use Rattle.book_office_values.specs.declared.paths.Path.TheVariants as path
 use Rattle.book_machine.proofs.AlikeOffices.{alike_of}
 use Rattle.book_machine.proofs.AlikeReports.{AreReportedAlike, members_alike, reports_alike, rulings_told_alike}
 use Rattle.book_machine.proofs.FittingPlans.{IsShaped, bind_ok, ready_is_target, ready_shaped}
 use Rattle.book_machine.proofs.Outlines.{there_mapped, outline_of_node, book_there, count_same, nodes_alike, targets_alike, node_same, level_same, effective_same, here_same}
-use Rattle.book_listings.proofs.AlikeListings.{unread_unseen}
-use Rattle.book_listings.specs.Laws.{AreAlike}
-use Rattle.book_listings.specs.declared.messages.Find.{Find}
-use Rattle.book_listings.specs.declared.messages.Property.TheVariants as property
-use Rattle.book_machine.specs.Agreement.{named, MayRead, outline, Agree}
-use Rattle.book_machine.specs.AllowedMethods.{allowed_of, goes_on}
-use Rattle.book_machine.specs.Asked.{asked_of, method_of, destination_in, destination_path}
-use Rattle.book_machine.specs.Stages.{◌>>=◌, check, caller_of, at_unmapped, at_node, target_of, suits_target, ready_of, IsMembersAnswer, IsChecked, IsListAnswer, protected_entries_at, IsAclAnswer, IsReportAnswer, IsBodyAnswer, can_change, put_limits, delete_limits, label_limits, keeps_limits, limits_of, card_plan, allow_plan, put_plan, patch_plan, acl_plan, delete_plan, mkcol_plan, report_plan, sync_plan, body_then_limits, AreMembersTold, IsReportOf, IsListed, IsSuccessOf, IsDone, IsGrantedPlan, put_status, put_edit, replied, replaceable, destination_of, can_change_twice, move_limits, copy_plan, move_plan, copy_edit, move_edit}
-use Rattle.book_machine.specs.Steps.{IsDecided, IsPlannedFrom, IsPlan}
-use Rattle.book_listings.specs.Verdicts.{IsGrantedBy, IsDeniedBy, IsGrantedAt, IsDeniedAt, here_of}
-use Rattle.book_machine.specs.Verdicts.{AreGranted, IsFirstDenial, IsGranted, IsDenied, asks_effective, asks_for, is_book, needs_at, shape_at, place_path}
+use Rattle.book_office_listings.proofs.AlikeListings.{unread_unseen}
+use Rattle.book_office_listings.specs.Laws.{AreAlike}
+use Rattle.book_office_listings.specs.declared.messages.Property.TheVariants as property
+use Rattle.book_machine.specs.AllowedMethods.{allowed_of}
+use Rattle.book_machine.specs.Stages.{IsListAnswer, IsReportAnswer, put_limits, delete_limits, keeps_limits, card_plan, allow_plan, put_plan, patch_plan, acl_plan, delete_plan, mkcol_plan, put_status, copy_plan, move_plan}
+use Rattle.book_office_listings.specs.Verdicts.{IsGrantedBy, IsDeniedBy, IsDeniedAt}
+use Rattle.book_machine.specs.Verdicts.{IsFirstDenial, asks_effective, asks_for, is_book, shape_at}
 use Rattle.book_machine.specs.declared.allowed_methods.AllowedMethods.TheVariants.{OfNewCard}
-use Rattle.book_machine.specs.declared.asked.Asked.{Asked}
 use Rattle.book_machine.specs.declared.asked.Asked.TheVariants as asked
-use Rattle.book_machine.specs.declared.asked.Destination.{Destination}
 use Rattle.book_machine.specs.declared.messages.Content.TheVariants as content
 use Rattle.book_machine.specs.declared.messages.Patch.TheVariants as patch
-use Rattle.book_machine.specs.declared.messages.ReportKind.{ReportKind}
 use Rattle.book_machine.specs.declared.messages.ReportKind.TheVariants as report
-use Rattle.book_machine.specs.declared.messages.Request.{Request}
-use Rattle.book_machine.specs.declared.messages.SyncFrom.{SyncFrom}
-use Rattle.book_machine.specs.declared.plans.Plan.{Plan}
-use Rattle.book_machine.specs.Targets.{Ready, Target}
-use Rattle.book_listings.specs.declared.messages.Denial.{Denial}
-use Rattle.book_machine.specs.declared.refusals.Refusal.{Refusal}
-use Rattle.book_machine.specs.declared.refusals.Refusal.TheVariants.{UnknownCaller, Full, NotAllowed, NoParent}
 
 -- ---- results of stages
 abbrev told_of : {A B : Type 0} → (A → B) → Result A Refusal → Result B Refusal

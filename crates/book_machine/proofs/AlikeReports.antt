@@ -1,45 +1,24 @@
 -- Offices that agree for a caller tell the same in reports.
-use Rattle.std.proofs.Common.{◌≡◌, ℕ, true, false, List, map, filter, Option, Some, None, Result, is_some, option_map, option_and_then, unwrap_or, refl, sym, ap, ◌∙◌, subst}
-use Rattle.std.specs.Prelude.{if◌then◌else◌}
-use Rattle.std.specs.FinMap.{get}
+use Rattle.book_machine.proofs.Common.{◌≡◌, ℕ, true, false, List, map, Option, Some, None, Result, is_some, option_map, option_and_then, unwrap_or, refl, sym, ap, ◌∙◌, subst, if◌then◌else◌, get, same_Some, only, Read, IsCircle, CircleOf, Caller, some_apart, Book, Office, StoredCard, Path, effective_at, Resource, card_at, card_in, card_resource, number_of, resource_at, EffectiveEntry, here_of, AreRulingsAt, Ruling, Report, MayRead, outline, outline_of_book, outline_of_card, Agree, report_from, SyncFrom, Plan, Refusal}
+use Rattle.std.proofs.Common.{filter}
 use Rattle.book_rights.specs.Leaves.{each_leaf}
-use Rattle.book_rights.specs.Needs.{only}
-use Rattle.book_rights.specs.declared.privileges.Leaf.TheVariants.{Read}
-use Rattle.book_lists.specs.Callers.{IsCircle}
-use Rattle.book_lists.specs.Circles.{CircleOf}
 use Rattle.book_lists.specs.Decisions.{Grants}
-use Rattle.book_lists.specs.declared.circles.Caller.{Caller}
-use Rattle.book_links.specs.declared.members.Members.{Members}
-use Rattle.book_members.specs.Members.{AreMembersAt}
-use Rattle.book_values.proofs.OneName.{some_apart, same_some}
-use Rattle.book_values.specs.Changes.{Change, changes_after}
-use Rattle.book_values.specs.declared.collections.changes.Numbers.{Numbers}
-use Rattle.book_values.specs.declared.offices.Book.{Book}
-use Rattle.book_values.specs.declared.offices.Office.{Office}
-use Rattle.book_values.specs.declared.offices.StoredCard.{StoredCard}
-use Rattle.book_values.specs.declared.paths.Path.{Path}
-use Rattle.book_values.specs.declared.paths.Path.TheVariants as path
-use Rattle.book_office.specs.Levels.{effective_at}
+use Rattle.book_office_members.specs.declared.members.Members.{Members}
+use Rattle.book_office_members.specs.Members.{AreMembersAt}
+use Rattle.book_office_values.specs.Changes.{Change, changes_after}
+use Rattle.book_office_values.specs.declared.collections.changes.Numbers.{Numbers}
+use Rattle.book_office_values.specs.declared.paths.Path.TheVariants as path
 use Rattle.book_office.specs.OwnLists.{entries_in_force}
-use Rattle.book_office.specs.Resources.{Resource, card_at, card_in, card_resource, number_of, resource_at}
-use Rattle.book_office.specs.declared.nodes.EffectiveEntry.{EffectiveEntry}
-use Rattle.book_listings.specs.Verdicts.{here_of}
-use Rattle.book_rulings.specs.Rulings.{AreRulings, AreRulingsAt}
-use Rattle.book_rulings.specs.declared.messages.Ruling.{Ruling}
-use Rattle.book_sync.specs.Copies.{grants, here_of_card, can_read, shown, seen_in, seen, found_of, first_of, last_number, is_cut, start_of, sync_of, sync}
-use Rattle.book_sync.specs.Reading.{names_place}
-use Rattle.book_sync.specs.declared.messages.Item.{Item}
-use Rattle.book_sync.specs.declared.messages.Report.{Report}
-use Rattle.book_sync.specs.declared.messages.Seen.{Seen}
-use Rattle.book_sync.specs.declared.messages.Token.{Token}
+use Rattle.book_office_listings.specs.Rulings.{AreRulings}
+use Rattle.book_office_sync.specs.Copies.{grants, here_of_card, can_read, shown, seen_in, seen, found_of, first_of, last_number, is_cut, start_of, sync_of, sync}
+use Rattle.book_office_sync.specs.Reading.{names_place}
+use Rattle.book_office_sync.specs.declared.messages.Item.{Item}
+use Rattle.book_office_sync.specs.declared.messages.Seen.{Seen}
+use Rattle.book_office_sync.specs.declared.messages.Token.{Token}
 use Rattle.book_machine.proofs.Outlines.{books_alike, cards_alike, effective_same, here_same, outline_of_resource, resources_alike, there_mapped}
-use Rattle.book_machine.specs.Agreement.{MayRead, outline, outline_of_book, outline_of_card, Agree}
-use Rattle.book_machine.specs.Stages.{report_from, AreRulingsTold}
-use Rattle.book_machine.specs.declared.messages.SyncFrom.{SyncFrom}
+use Rattle.book_machine.specs.Stages.{AreRulingsTold}
 use Rattle.book_machine.specs.declared.messages.SyncFrom.TheVariants.{Start, After, Unknown}
-use Rattle.book_machine.specs.declared.plans.Plan.{Plan}
-use Rattle.book_machine.specs.declared.refusals.Refusal.{Refusal}
-use Rattle.book_listings.proofs.ToldValues.{told_granted}
+use Rattle.book_office_listings.proofs.ToldValues.{told_granted}
 
 -- two Offices tell the same in each report, to who has this circle: in sync reports, in what is seen of each name of a
 -- book, and in what rests on outlines
@@ -83,7 +62,7 @@ module _ (o p : Office) (caller : Caller) (agree : Agree o p caller) (circle : C
     card_seen m n s t number alike at_o at_p =
         elim (can_read o circle b c s) as (λ r. can_read o circle b c s ≡ r → (if r then Some (shown m s) else None) ≡ (if can_read p circle b c t then Some (shown n t) else None)) [
           | true ↦ λ reads.
-              let card : s ≡ t = same_some s t (sym at_o ∙ agree.readable b c (may_read s at_o reads) ∙ at_p) in
+              let card : s ≡ t = same_Some s t (sym at_o ∙ agree.readable b c (may_read s at_o reads) ∙ at_p) in
               let both : true ≡ can_read p circle b c t = sym reads ∙ reads_same s t alike in
               λ i. if both i then Some (shown (number i) (card i)) else None
           | false ↦ λ reads.
@@ -97,7 +76,7 @@ module _ (o p : Office) (caller : Caller) (agree : Agree o p caller) (circle : C
     cards_seen m n None None number alike at_o at_p = refl
     cards_seen m n None (Some t) number alike at_o at_p = some_apart (sym alike)
     cards_seen m n (Some s) None number alike at_o at_p = some_apart alike
-    cards_seen m n (Some s) (Some t) number alike at_o at_p = card_seen m n s t number (same_some (outline_of_card s) (outline_of_card t) alike) at_o at_p
+    cards_seen m n (Some s) (Some t) number alike at_o at_p = card_seen m n s t number (same_Some (outline_of_card s) (outline_of_card t) alike) at_o at_p
 
     books_seen : (r s : Option Book) → option_map outline_of_book r ≡ option_map outline_of_book s → get o.books b ≡ r → get p.books b ≡ s
         → option_and_then (seen_in o circle b c) r ≡ option_and_then (seen_in p circle b c) s
@@ -105,7 +84,7 @@ module _ (o p : Office) (caller : Caller) (agree : Agree o p caller) (circle : C
     books_seen None (Some y) alike at_o at_p = some_apart (sym alike)
     books_seen (Some x) None alike at_o at_p = some_apart alike
     books_seen (Some x) (Some y) alike at_o at_p =
-        let changes : x.changes ≡ y.changes = ap (λ (book : Book). book.changes) (same_some (outline_of_book x) (outline_of_book y) alike) in
+        let changes : x.changes ≡ y.changes = ap (λ (book : Book). book.changes) (same_Some (outline_of_book x) (outline_of_book y) alike) in
         let card_o : card_at o b c ≡ get x.cards c = ap (option_and_then (λ (book : Book). get book.cards c)) at_o in
         let card_p : card_at p b c ≡ get y.cards c = ap (option_and_then (λ (book : Book). get book.cards c)) at_p in
         let cards : option_map outline_of_card (get x.cards c) ≡ option_map outline_of_card (get y.cards c) =
@@ -144,7 +123,7 @@ module _ (o p : Office) (caller : Caller) (agree : Agree o p caller) (circle : C
   books_synced token limit None (Some y) alike = some_apart (sym alike)
   books_synced token limit (Some x) None alike = some_apart alike
   books_synced token limit (Some x) (Some y) alike =
-      let changes : x.changes ≡ y.changes = ap (λ (book : Book). book.changes) (same_some (outline_of_book x) (outline_of_book y) alike) in
+      let changes : x.changes ≡ y.changes = ap (λ (book : Book). book.changes) (same_Some (outline_of_book x) (outline_of_book y) alike) in
       let epoch : o.epoch ≡ p.epoch = ap (λ (q : Office). q.epoch) agree.outlines in
       let same : sync_by (λ c. seen o circle b c) o.epoch x.changes token limit ≡ sync_by (λ c. seen p circle b c) p.epoch y.changes token limit =
       λ i. sync_by (λ c. seen_same c i) (epoch i) (changes i) token limit in

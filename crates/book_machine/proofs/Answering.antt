@@ -1,22 +1,11 @@
 -- A request is answered by its plan, and then by the edit of it.
-use Rattle.std.proofs.Common.{◌≡◌, ◌⊎◌, inl, inr, ℕ, List, Option, Some, None, Ok, Err, refl, sym, ap, ◌∙◌}
-use Rattle.book_office.specs.declared.edits.Edit.{Edit}
+use Rattle.book_machine.proofs.Common.{◌≡◌, ◌⊎◌, inl, inr, ℕ, List, Option, Some, None, Ok, Err, refl, sym, ap, ◌∙◌, Edit, Office, apply, Standing, one_more, Fits, Request, Plan, Refusal, Unavailable, Asks, MeetsPlan, HasPaths, ServePromise, refused, apply_any, settled}
 use Rattle.book_office.specs.declared.keepers.StoreFault.{StoreFault}
 use Rattle.book_office.specs.declared.keepers.StoreFault.TheVariants.{Memory, Store}
-use Rattle.book_values.specs.declared.offices.Office.{Office}
-use Rattle.book_office.specs.Edits.{apply}
-use Rattle.book_office.specs.Keeping.{Standing, Edits, whole, one_more, failures_after_fault}
-use Rattle.book_office.specs.Sound.{Fits}
+use Rattle.book_office.specs.Keeping.{Edits, whole, failures_after_fault}
 use Rattle.book_machine.proofs.FittingPlans.{plan_fits}
 use Rattle.book_machine.proofs.OnePlan.{one_plan}
-use Rattle.book_machine.specs.declared.messages.Request.{Request}
-use Rattle.book_machine.specs.declared.plans.Plan.{Plan}
-use Rattle.book_machine.specs.declared.refusals.Refusal.{Refusal}
-use Rattle.book_machine.specs.declared.refusals.Refusal.TheVariants.{Unavailable}
-use Rattle.book_machine.specs.Asking.{Asks, MeetsPlan, HasPaths, IsPlanned}
-use Rattle.book_machine.specs.Promises.{ServePromise}
-use Rattle.book_machine.specs.Refusals.{refused}
-use Rattle.book_machine.specs.Steps.{apply_any, settled}
+use Rattle.book_machine.specs.Asking.{IsPlanned}
 
 -- an edit that the keeper gave up failed once, or not at all
 pub failed_once : (fault : StoreFault) (before after : ℕ) → after ≡ failures_after_fault fault before → (after ≡ before) ⊎ (after ≡ one_more before)

@@ -1,20 +1,16 @@
 -- Adopting a policy is answered by what it would do, and then by the edit.
-use Rattle.std.proofs.Common.{◌≡◌, ◌≢◌, ◌⊎◌, ◌↔◌, inl, inr, ℕ, ◌+◌, ◌<◌, ◌≤◌, Bool, true, false, not, ◌&&◌, cond, nat_lt, IsTrue, Option, Some, None, Result, Ok, Err, IsErrAnd, refl, sym, ap, ◌∙◌, subst, arith}
-use Rattle.std.proofs.lemmas.Bool.{false≢true, lt-ltb, le-leb, ltb-true, leb-true}
-use Rattle.std.specs.FinMap.{len}
-use Rattle.std.specs.Prelude.{if◌then◌else◌, nat_le}
-use Rattle.book_policies.specs.Policies.{IsPolicy}
-use Rattle.book_policies.specs.declared.parts.PolicyTables.{PolicyTables}
-use Rattle.book_adopting.proofs.Samenesses.{same_office_is}
+use Rattle.book_machine.proofs.Common.{◌≡◌, ◌≢◌, ◌⊎◌, ◌↔◌, inl, inr, ℕ, ◌+◌, ◌<◌, ◌≤◌, Bool, true, false, ◌&&◌, cond, nat_lt, IsTrue, Option, Some, None, Result, Ok, Err, IsErrAnd, refl, sym, ap, ◌∙◌, subst, arith, lt-ltb, len, if◌then◌else◌, nat_le, Standing, one_more, IsSound, Fits, Office, MAX_BOOKS, LAST_NUMBER}
+use Rattle.std.proofs.Common.{not}
+use Rattle.std.proofs.lemmas.Bool.{false≢true, le-leb, ltb-true, leb-true}
+use Rattle.book_policy_values.specs.Policies.{IsPolicy}
+use Rattle.book_policy_values.specs.declared.parts.PolicyTables.{PolicyTables}
+use Rattle.book_office_adopting.proofs.Samenesses.{same_office_is}
 use Rattle.book_office.proofs.SoundAdoptions.{adopt_fits}
-use Rattle.book_adopting.specs.Adopting.{adopt, adoption_of, taken_over}
-use Rattle.book_office.specs.Keeping.{Standing, Reads, Edits, one_more, failures_after}
-use Rattle.book_adopting.specs.Sameness.{same_office}
-use Rattle.book_office.specs.Sound.{IsSound, Fits}
+use Rattle.book_office_adopting.specs.Adopting.{adopt, adoption_of, taken_over}
+use Rattle.book_office.specs.Keeping.{Reads, Edits, failures_after}
+use Rattle.book_office_adopting.specs.Sameness.{same_office}
 use Rattle.book_office.specs.declared.edits.Edit.TheVariants.{Adopt}
 use Rattle.book_office.specs.declared.keepers.StoreFault.{StoreFault}
-use Rattle.book_values.specs.declared.offices.Office.{Office}
-use Rattle.book_limits.specs.declared.TheConstants.{MAX_BOOKS, LAST_NUMBER}
 use Rattle.book_machine.proofs.Answering.{failed_once}
 use Rattle.book_machine.specs.Adoptions.{Adopts, HasRoomFor, adopted_by, epoch_after}
 use Rattle.book_machine.specs.Promises.{AdoptPromise}

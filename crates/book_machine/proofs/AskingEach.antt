@@ -1,10 +1,7 @@
 -- One question to the keeper after the other, and what the answers so far tell.
-use Rattle.std.proofs.Common.{◌≡◌, ℕ, Result, Ok, Err, IsErrAnd, sym, subst}
-use Rattle.book_office.specs.Keeping.{Standing, Reads}
-use Rattle.book_values.specs.declared.offices.Office.{Office}
+use Rattle.book_machine.proofs.Common.{◌≡◌, ℕ, Result, Ok, Err, IsErrAnd, sym, subst, Standing, Office, Asks, Counted, Refusal}
+use Rattle.book_office.specs.Keeping.{Reads}
 use Rattle.book_machine.proofs.StagesInTurn.{asks_nothing}
-use Rattle.book_machine.specs.Asking.{Asks, Counted}
-use Rattle.book_machine.specs.declared.refusals.Refusal.{Refusal}
 
 -- the questions so far have been answered, and the answers tell this
 abbrev pub HasAsked : Standing → Standing → (Office → Type 0) → Type 0

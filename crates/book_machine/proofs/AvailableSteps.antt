@@ -1,50 +1,26 @@
 -- No stage refuses a request as unavailable.
-use Rattle.std.proofs.Common.{◌≡◌, ℕ, List, Bool, true, false, Option, Some, None, Result, Ok, Err, inl, inr, sym, ap, ◌∙◌, is_some, option_map}
-use Rattle.std.specs.Prelude.{if◌then◌else◌, nat_le, length}
-use Rattle.std.specs.FinMap.{get}
-use Rattle.book_lists.specs.Principals.{person_path}
-use Rattle.book_lists.specs.Circles.{CircleOf}
-use Rattle.book_lists.specs.declared.circles.Caller.{Caller}
-use Rattle.book_lists.specs.declared.circles.Caller.TheVariants.{Known}
-use Rattle.book_rights.specs.declared.methods.Method.{Method}
-use Rattle.book_rights.specs.declared.methods.Method.TheVariants.{Get, Head, Options, Put, Propfind, Proppatch, Acl, Copy, Move, Delete, Mkcol, Report}
+use Rattle.book_machine.proofs.Common.{◌≡◌, ℕ, List, Bool, true, false, Option, Some, None, Result, Ok, Err, inl, inr, sym, ap, ◌∙◌, is_some, option_map, if◌then◌else◌, nat_le, length, get, person_path, CircleOf, Caller, Known, Method, Get, Head, Options, Put, Propfind, Proppatch, Acl, Copy, Move, Delete, Mkcol, Find, kind_of, Path, node_at, unnumbered, Node, Office, is_late, refused, goes_on, asked_of, each_once, report_asked, destination_asked, copy_asked, move_asked, destination_in, destination_path, ◌>>=◌, check, caller_of, target_of, at_node, at_unmapped, suits_target, ready_of, text_of, put_edit, delete_edit, mkcol_edit, patch_edit, IsListed, IsSuccessOf, IsGrantedPlan, replaceable, destination_of, copy_edit, move_edit, IsPlannedFrom, IsPlan, settled, Asked, Destination, Patch, Reply, Request, Plan, Ready, Target, Refusal, BadRequest, BodyOnMkcol, UnknownCaller, NotAllowed, NoParent, Overwrite, Unavailable}
+use Rattle.book_rights.specs.declared.methods.Method.TheVariants.{Report}
 use Rattle.book_limits.specs.declared.TheConstants.{MAX_MEMBERS, MAX_LABEL_BYTES}
-use Rattle.book_listings.specs.declared.messages.Extent.{Extent}
-use Rattle.book_listings.specs.declared.messages.Extent.TheVariants.{Resource as Alone, Children}
-use Rattle.book_listings.specs.declared.messages.Find.{Find}
+use Rattle.book_office_listings.specs.declared.messages.Extent.{Extent}
+use Rattle.book_office_listings.specs.declared.messages.Extent.TheVariants.{Resource as Alone, Children}
 use Rattle.book_machine.specs.Finding.{may_be_asked}
-use Rattle.book_values.specs.Paths.{kind_of}
-use Rattle.book_values.specs.declared.paths.Path.{Path}
-use Rattle.book_values.specs.declared.paths.Path.TheVariants as path
-use Rattle.book_office.specs.Resources.{node_at, unnumbered}
-use Rattle.book_office.specs.declared.nodes.Node.{Node}
-use Rattle.book_values.specs.declared.offices.Office.{Office}
+use Rattle.book_office_values.specs.declared.paths.Path.TheVariants as path
 use Rattle.book_machine.proofs.ReportPlans.{reported_available}
 use Rattle.book_machine.proofs.StepLaws.{granted_answer, done, late, not_success, planned_succeeds, same_refusal}
-use Rattle.book_machine.specs.Laws.{is_late, StepsAreAvailable}
-use Rattle.book_machine.specs.Refusals.{refused}
-use Rattle.book_machine.specs.AllowedMethods.{allowed_of, goes_on}
-use Rattle.book_machine.specs.Asked.{asked_of, is_empty, put_asked, find_asked_to, find_asked, each_once, patch_asked, proppatch_asked, acl_asked, mkcol_asked, report_asked, is_card, destination_by, destination_asked, copy_asked, move_asked, destination_in, destination_path}
-use Rattle.book_machine.specs.Stages.{◌>>=◌, check, caller_of, target_of, at_node, at_unmapped, new_card, new_book_at, suits_target, ready_of, text_told, text_of, put_edit, delete_edit, mkcol_edit, members_edit, patch_edit, IsListed, IsSuccessOf, IsGrantedPlan, replaceable, destination_of, copy_edit, move_edit}
-use Rattle.book_machine.specs.Steps.{IsPlannedFrom, IsPlan, settled}
+use Rattle.book_machine.specs.Laws.{StepsAreAvailable}
+use Rattle.book_machine.specs.AllowedMethods.{allowed_of}
+use Rattle.book_machine.specs.Asked.{is_empty, put_asked, find_asked_to, find_asked, patch_asked, proppatch_asked, acl_asked, mkcol_asked, is_card, destination_by}
+use Rattle.book_machine.specs.Stages.{new_card, new_book_at, text_told, members_edit}
 use Rattle.book_machine.specs.declared.allowed_methods.AllowedMethods.TheVariants.{OfNewCard}
-use Rattle.book_machine.specs.declared.asked.Asked.{Asked}
 use Rattle.book_machine.specs.declared.asked.Asked.TheVariants as asked
-use Rattle.book_machine.specs.declared.asked.Destination.{Destination}
 use Rattle.book_machine.specs.declared.messages.Body.{Body}
 use Rattle.book_machine.specs.declared.messages.Body.TheVariants as body
 use Rattle.book_machine.specs.declared.messages.Depth.{Depth}
 use Rattle.book_machine.specs.declared.messages.Depth.TheVariants as depth
 use Rattle.book_machine.specs.declared.messages.Flag.{Flag}
 use Rattle.book_machine.specs.declared.messages.Flag.TheVariants as flag
-use Rattle.book_machine.specs.declared.messages.Patch.{Patch}
 use Rattle.book_machine.specs.declared.messages.Patch.TheVariants as patch
-use Rattle.book_machine.specs.declared.messages.Reply.{Reply}
-use Rattle.book_machine.specs.declared.messages.Request.{Request}
-use Rattle.book_machine.specs.declared.plans.Plan.{Plan}
-use Rattle.book_machine.specs.Targets.{Ready, Target}
-use Rattle.book_machine.specs.declared.refusals.Refusal.{Refusal}
-use Rattle.book_machine.specs.declared.refusals.Refusal.TheVariants.{BadRequest, BodyOnMkcol, UnknownCaller, NotAllowed, NoParent, Overwrite, Unavailable}
 
 -- a stage that tells some other refusal
 abbrev IsAvailable : {A : Type 0} → Result A Refusal → Type 0

@@ -1,31 +1,18 @@
 -- What the body stage answers: one answer, and a refusal of its own.
-use Rattle.std.proofs.Common.{◌≡◌, ◌⊎◌, inl, inr, ℕ, ◌<◌, ◌≤◌, suc, Bool, true, List, [], ◌∷◌, length, slice_get, Option, Some, None, Result, Ok, Err, refl, sym, ap, ◌∙◌, subst, arith}
-use Rattle.std.specs.List.{AllZip, AllByRecursion, cons_option}
+use Rattle.book_machine.proofs.Common.{◌≡◌, ◌⊎◌, inl, inr, ℕ, ◌<◌, ◌≤◌, Bool, true, List, [], ◌∷◌, length, Option, Some, None, Result, Ok, Err, refl, sym, ap, ◌∙◌, subst, arith, AllZip, same_Some, card_fault, CardFault, entries_of, Caller, Nobody, Known, Entry, Submitted, Leaf, Office, Path, is_late, bad_card, IsMembersAnswer, IsChecked, protected_entries_at, IsAclAnswer, IsBodyAnswer, Asked, ReportKind, Refusal}
+use Rattle.std.proofs.Common.{suc, slice_get}
+use Rattle.std.specs.List.{AllByRecursion, cons_option}
 use Rattle.std.proofs.lemmas.List.Elements.{All-from_recursion}
-use Rattle.book_cards.specs.CardText.{card_fault}
-use Rattle.book_cards.specs.declared.fault.CardFault.{CardFault}
-use Rattle.book_lists.specs.ListEdits.{IsFaultless, EntryFault, IsAccepted, IsRefused, entry_of, entries_of, entry_with}
-use Rattle.book_lists.specs.declared.circles.Caller.{Caller}
-use Rattle.book_lists.specs.declared.circles.Caller.TheVariants.{Nobody, Known}
-use Rattle.book_lists.specs.declared.entries.Entry.{Entry}
+use Rattle.book_lists.specs.ListEdits.{IsFaultless, EntryFault, IsAccepted, IsRefused, entry_of, entry_with}
 use Rattle.book_lists.specs.declared.entries.Who.{Who}
 use Rattle.book_lists.specs.declared.list_edits.EditFault.{EditFault}
 use Rattle.book_lists.specs.declared.list_edits.EditFault.TheVariants.{NoProtectedAceConflict, NoInheritedAceConflict, LimitedNumberOfAces, NotSupportedPrivilege, RecognizedPrincipal}
-use Rattle.book_lists.specs.declared.submitted.Submitted.{Submitted}
 use Rattle.book_office.specs.Sound.{IsKnownForm, IsSoundList}
-use Rattle.book_rights.specs.declared.privileges.Leaf.{Leaf}
-use Rattle.book_values.proofs.OneName.{same_some}
 use Rattle.book_limits.specs.declared.TheConstants.{MAX_ENTRIES}
-use Rattle.book_values.specs.declared.offices.Office.{Office}
-use Rattle.book_values.specs.declared.paths.Path.{Path}
-use Rattle.book_machine.specs.Laws.{is_late}
-use Rattle.book_machine.specs.Stages.{bad_card, IsMembersAnswer, IsKnownWho, IsChecked, list_refusal, IsListAnswer, protected_entries_at, IsAclAnswer, IsCallerAnswer, IsReportAnswer, IsBodyAnswer}
-use Rattle.book_machine.specs.declared.asked.Asked.{Asked}
+use Rattle.book_machine.specs.Stages.{IsKnownWho, list_refusal, IsListAnswer, IsCallerAnswer, IsReportAnswer}
 use Rattle.book_machine.specs.declared.asked.Asked.TheVariants as asked
 use Rattle.book_machine.specs.declared.messages.Patch.TheVariants as patch
-use Rattle.book_machine.specs.declared.messages.ReportKind.{ReportKind}
 use Rattle.book_machine.specs.declared.messages.ReportKind.TheVariants as report
-use Rattle.book_machine.specs.declared.refusals.Refusal.{Refusal}
 use Rattle.book_machine.specs.declared.refusals.Refusal.TheVariants as refusal
 
 abbrev Answer : Type 0
@@ -79,7 +66,7 @@ one_fault protected list a b (inr x) (inr y) = elim (order x.1.0 y.1.0) [
   | inl before ↦ absurd (faultless_not_faulty protected x.1.1 a (y.1.4 x.1.0 x.1.1 before x.1.2) x.1.3)
   | inr later ↦ elim later [
     | inl same ↦
-        let entry : x.1.1 ≡ y.1.1 = same_some _ _ (sym x.1.2 ∙ ap (slice_get list) same ∙ y.1.2) in
+        let entry : x.1.1 ≡ y.1.1 = same_Some _ _ (sym x.1.2 ∙ ap (slice_get list) same ∙ y.1.2) in
         one_entry_fault protected y.1.1 a b (subst (λ s. EntryFault protected s a) entry x.1.3) y.1.3
     | inr after ↦ absurd (faultless_not_faulty protected y.1.1 b (x.1.4 y.1.0 y.1.1 after y.1.2) y.1.3)
   ]

@@ -1,43 +1,19 @@
 -- What sync reports tell in runs of the machine.
-use Rattle.std.proofs.Common.{◌≡◌, inl, inr, ℕ, List, [], ◌∷◌, false, Option, Some, None, option_map, Result, Ok, Err, refl, sym, ap, ◌∙◌, subst, arith}
-use Rattle.book_lists.specs.Circles.{CircleOf}
-use Rattle.book_lists.specs.Callers.{IsCircle}
-use Rattle.book_lists.proofs.OneOutcome.{one_circle}
-use Rattle.book_values.specs.declared.offices.Office.{Office}
-use Rattle.book_values.specs.declared.paths.Path.{Path}
-use Rattle.book_values.specs.declared.paths.Path.TheVariants as path
-use Rattle.book_office.specs.Keeping.{Standing}
-use Rattle.book_office.specs.Resources.{node_at, unnumbered}
-use Rattle.book_office.specs.Sound.{IsSound}
-use Rattle.book_office.specs.declared.nodes.Node.{Node}
-use Rattle.book_rights.specs.declared.methods.Method.{Method}
-use Rattle.book_sync.proofs.SyncedRuns.{told as told_report, valid_epoch, copies_follow, copies_begin}
-use Rattle.book_sync.specs.Copies.{sync}
-use Rattle.book_sync.specs.SyncedRuns.{AreCalls, AreSteps}
-use Rattle.book_sync.specs.declared.messages.Report.{Report}
-use Rattle.book_sync.specs.declared.messages.Token.{Token}
+use Rattle.book_machine.proofs.Common.{◌≡◌, inl, inr, ℕ, List, [], ◌∷◌, false, Option, Some, None, option_map, Result, Ok, Err, refl, sym, ap, ◌∙◌, subst, arith, CircleOf, IsCircle, one_circle, Office, Path, Standing, node_at, unnumbered, IsSound, Node, Method, Report, named, asked_of, destination_in, report_asked, HavePaths, refused, Call, caller_of, at_node, at_unmapped, target_of, suits_target, destination_of, ready_of, report_plan, IsBodyAnswer, limits_of, IsSuccessOf, IsDone, IsPlan, IsPlannedFrom, settled, Serves, IsGranted, Reply, Request, Plan, Ready, Target, Refusal, NeedPrivileges, Unavailable, ValidSyncToken}
+use Rattle.book_office_values.specs.declared.paths.Path.TheVariants as path
+use Rattle.book_office_sync.proofs.SyncedRuns.{told as told_report, valid_epoch, copies_follow, copies_begin}
+use Rattle.book_office_sync.specs.Copies.{sync}
+use Rattle.book_office_sync.specs.SyncedRuns.{AreCalls, AreSteps}
+use Rattle.book_office_sync.specs.declared.messages.Token.{Token}
 use Rattle.book_machine.proofs.AlikePlans.{ready_named}
 use Rattle.book_machine.proofs.FittingPlans.{answered, bind_ok, same_Ok}
 use Rattle.book_machine.proofs.LeadingRuns.{steps_lead_on}
 use Rattle.book_machine.proofs.Limits.{accepted_done, granted_as}
 use Rattle.book_machine.proofs.StepLaws.{decided}
-use Rattle.book_machine.specs.Agreement.{named}
-use Rattle.book_machine.specs.Asked.{asked_of, destination_in, report_asked}
-use Rattle.book_machine.specs.LeadingRuns.{HavePaths}
-use Rattle.book_machine.specs.Refusals.{refused}
-use Rattle.book_machine.specs.Runs.{Call}
-use Rattle.book_machine.specs.Stages.{caller_of, at_node, at_unmapped, target_of, suits_target, destination_of, ready_of, report_plan, IsBodyAnswer, limits_of, IsSuccessOf, IsDone}
-use Rattle.book_machine.specs.Steps.{IsPlan, IsPlannedFrom, settled, Steps as IsStep, Serves}
-use Rattle.book_machine.specs.SyncedCopies.{from_of, AsksReport, told, GrantedReportsAreTold, machine_steps, IsToldAt, ReportsFollow, ReportsBegin, ReportsAreWhole, TokensAreEnded, Synced}
-use Rattle.book_machine.specs.Verdicts.{IsGranted}
+use Rattle.book_machine.specs.Steps.{Steps as IsStep}
+use Rattle.book_machine.specs.SyncedCopies.{from_of, AsksReport, sync_reply, GrantedReportsAreTold, machine_steps, IsToldAt, ReportsFollow, ReportsBegin, ReportsAreWhole, TokensAreEnded, Synced}
 use Rattle.book_machine.specs.declared.asked.Asked.TheVariants as asked
-use Rattle.book_machine.specs.declared.messages.Reply.{Reply}
 use Rattle.book_machine.specs.declared.messages.ReportKind.TheVariants.{SyncCollection}
-use Rattle.book_machine.specs.declared.messages.Request.{Request}
-use Rattle.book_machine.specs.declared.plans.Plan.{Plan}
-use Rattle.book_machine.specs.Targets.{Ready, Target}
-use Rattle.book_machine.specs.declared.refusals.Refusal.{Refusal}
-use Rattle.book_machine.specs.declared.refusals.Refusal.TheVariants.{NeedPrivileges, Unavailable, ValidSyncToken}
 
 -- ---- what is found out about a request for a report
 target_path : (o : Office) (m : Method) (p : Path) (node : Option Node) (t : Target) → at_node o m p node ≡ Ok t → t.path ≡ p
@@ -78,22 +54,22 @@ module _ (o : Office) (name : Option (List ℕ)) (request : Request) (b : List �
       by_token circle result None h = h
       by_token circle result (Some t) h = h
 
-settled_report : (o : Office) (found : Option Report) → settled o (report_plan found) ≡ (told found, o)
+settled_report : (o : Office) (found : Option Report) → settled o (report_plan found) ≡ (sync_reply found, o)
 settled_report o None = refl
 settled_report o (Some report) = refl
 
 pub granted_reports_are_told : GrantedReportsAreTold
 granted_reports_are_told o name request reply after b token ready asks is granted step =
     let planned = report_planned o name request b token asks ready is step.0 granted step.1 in
-    let settles : (reply, after) ≡ (told (sync o granted.circle b token None), o) =
+    let settles : (reply, after) ≡ (sync_reply (sync o granted.circle b token None), o) =
     step.2 ∙ sym (ap (settled o) planned) ∙ settled_report o (sync o granted.circle b token None) in
     (ap (λ (x : Reply × Office). x.0) settles, ap (λ (x : Reply × Office). x.1) settles)
 
 -- ---- a report that is told is that of the Office which the call finds
-not_told : {A : Type 0} (report : Report) (refusal : Refusal) → told (Some report) ≡ refused refusal → A
+not_told : {A : Type 0} (report : Report) (refusal : Refusal) → sync_reply (Some report) ≡ refused refusal → A
 not_told report refusal e = let contents = ap (λ (r : Reply). r.content) e in absurd (cc (contents))
 
-same_told : (found : Option Report) (report : Report) → told (Some report) ≡ told found → found ≡ Some report
+same_told : (found : Option Report) (report : Report) → sync_reply (Some report) ≡ sync_reply found → found ≡ Some report
 same_told None report e = not_told report ValidSyncToken e
 same_told (Some other) report e = let contents = ap (λ (r : Reply). r.content) e in let same : report ≡ other = cc (contents) in ap Some (sym same)
 
@@ -101,7 +77,7 @@ abbrev IsToldTo : Office → Option (List ℕ) → List ℕ → Option Token →
 IsToldTo o name b token report = (circle : CircleOf) × IsCircle o.pairs (named name) circle × (sync o circle b token None ≡ Some report)
 
 module _ (o after : Office) (name : Option (List ℕ)) (request : Request) (reply : Reply) (b : List ℕ) (token : Option Token) (report : Report)
-    (asks : AsksReport request b token) (is_told : reply ≡ told (Some report)) where
+    (asks : AsksReport request b token) (is_told : reply ≡ sync_reply (Some report)) where
   told_by_stages : (step : IsStep o name request reply after) (r : Result Ready Refusal) → ready_of o name request ≡ r → IsPlannedFrom o r step.0 → IsToldTo o name b token report
   told_by_stages step (Err e) is planned =
       not_told report e (sym is_told ∙ ap (λ (x : Reply × Office). x.0) (step.2 ∙ ap (settled o) planned))
@@ -164,7 +140,7 @@ module _ (o : Office) (calls : List Call) (replies : List Reply) (sound : IsSoun
         | inl step ↦
             let replied = granted_reports_are_told q call.0 call.1 reply at.after other (Some first.token) ready asks is granted step in
             let none = none_by q granted.circle other first.token (sync q granted.circle other (Some first.token) None) refl (λ same. absurd (omega (arith, risen, epoch, same))) in
-            inl (replied.0 ∙ ap told none)
+            inl (replied.0 ∙ ap sync_reply none)
         | inr unavailable ↦ inr unavailable.0
       ]
 

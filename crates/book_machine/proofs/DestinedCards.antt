@@ -1,22 +1,11 @@
 -- The destination of a COPY or MOVE, as the stages before the verdict let it through.
-use Rattle.std.proofs.Common.{◌≡◌, ◌≢◌, ℕ, List, Bool, true, false, ◌&&◌, Option, Some, None, is_some, Result, Ok, Err, refl, sym, ap, ◌∙◌, subst}
-use Rattle.std.proofs.lemmas.Slice.Eq.{bytes_eq-Decides}
-use Rattle.std.specs.FinMap.{get}
-use Rattle.std.specs.Prelude.{if◌then◌else◌}
-use Rattle.book_lists.specs.Names.{IsName}
-use Rattle.book_values.specs.declared.offices.Office.{Office}
-use Rattle.book_values.specs.declared.paths.Path.{Path}
-use Rattle.book_values.specs.declared.paths.Path.TheVariants as path
-use Rattle.book_office.specs.Resources.{node_at}
-use Rattle.book_machine.specs.Asked.{is_card, destination_by, destination_asked, destination_path, copy_asked, move_asked}
+use Rattle.book_machine.proofs.Common.{◌≡◌, ◌≢◌, ℕ, List, Bool, true, false, ◌&&◌, Option, Some, None, is_some, Result, Ok, Err, refl, sym, ap, ◌∙◌, subst, bytes_eq-Decides, get, if◌then◌else◌, IsName, Office, Path, node_at, destination_asked, destination_path, copy_asked, move_asked, ◌>>=◌, check, replaceable, destination_of, Destination, Refusal, BadRequest, NoParent, Overwrite}
+use Rattle.book_office_values.specs.declared.paths.Path.TheVariants as path
+use Rattle.book_machine.specs.Asked.{is_card, destination_by}
 use Rattle.book_machine.specs.Asking.{HasPath}
-use Rattle.book_machine.specs.Stages.{◌>>=◌, check, replaceable, destination_of}
 use Rattle.book_machine.specs.declared.asked.Asked.TheVariants as asked
-use Rattle.book_machine.specs.declared.asked.Destination.{Destination}
 use Rattle.book_machine.specs.declared.messages.Flag.{Flag}
 use Rattle.book_machine.specs.declared.messages.Flag.TheVariants as flag
-use Rattle.book_machine.specs.declared.refusals.Refusal.{Refusal}
-use Rattle.book_machine.specs.declared.refusals.Refusal.TheVariants.{BadRequest, NoParent, Overwrite}
 
 -- ---- stages
 -- where two stages answer a value, so does the first

@@ -1,84 +1,37 @@
 -- The edit of a plan fits the Office that it was made for.
-use Rattle.std.proofs.Common.{All, ◌≡◌, ◌≢◌, ◌⊎◌, ℕ, ◌+◌, ◌<◌, ◌≤◌, List, length, Bool, true, false, ◌&&◌, ◌||◌, nat_lt, Option, Some, None, is_some, Result, Ok, Err, inl, inr, refl, sym, ap, ◌∙◌, subst, option_map, option_and_then, unwrap_or, arith}
+use Rattle.book_machine.proofs.Common.{All, ◌≡◌, ◌≢◌, ℕ, ◌+◌, ◌<◌, ◌≤◌, List, length, Bool, true, false, ◌&&◌, ◌||◌, nat_lt, Option, Some, None, is_some, Result, Ok, Err, inl, inr, refl, sym, ap, ◌∙◌, subst, option_map, option_and_then, unwrap_or, arith, get, len, bytes_eq, bytes_eq-Decides, if◌then◌else◌, nat_le, same_Some, card_fault, CardFault, CircleOf, IsName, person_path, Caller, Nobody, Known, Kind, Path, kind_of, entries_of, group_path, Submitted, Edit, PutCard, RemoveCard, Node, Book, Office, MAX_CARDS, LAST_NUMBER, Resource, properties_resource, resource_at, node_of, node_at, unnumbered, count_at, book_resource, card_resource, card_in, number_of, IsMapped, IsSound, Fits, Find, Method, Get, Head, Options, Put, Propfind, Proppatch, Acl, Copy, Move, Delete, Mkcol, goes_on, asked_of, each_once, report_asked, method_of, destination_asked, copy_asked, move_asked, destination_in, destination_path, HasPaths, ◌>>=◌, check, caller_of, target_of, at_node, at_unmapped, suits_target, destination_of, ready_of, bad_card, IsBodyAnswer, can_change, can_change_twice, move_limits, label_limits, limits_of, replied, text_of, body_then_limits, IsListed, IsSuccess, IsDone, IsGrantedPlan, IsPlannedFrom, IsPlan, IsTarget, Asked, Destination, Content, Patch, Request, Plan, Ready, Target, Refusal, BadRequest, BodyOnMkcol, Full, UnknownCaller}
 use Rattle.std.proofs.lemmas.Bool.Decides.{nat_tests}
-use Rattle.std.specs.FinMap.{get, len}
-use Rattle.std.specs.Str.{bytes_eq}
-use Rattle.std.proofs.lemmas.Slice.Eq.{bytes_eq-Decides}
-use Rattle.std.specs.Prelude.{if◌then◌else◌, nat_le}
-use Rattle.book_cards.specs.CardText.{card_fault}
-use Rattle.book_cards.specs.declared.fault.CardFault.{CardFault}
-use Rattle.book_lists.specs.Circles.{CircleOf}
-use Rattle.book_lists.specs.Names.{IsName}
-use Rattle.book_lists.specs.Principals.{person_path}
-use Rattle.book_lists.specs.declared.circles.Caller.{Caller}
-use Rattle.book_lists.specs.declared.circles.Caller.TheVariants.{Nobody, Known}
-use Rattle.book_values.specs.declared.paths.Kind.{Kind}
-use Rattle.book_values.specs.declared.paths.Kind.TheVariants as kind
-use Rattle.book_values.specs.declared.paths.Path.{Path}
-use Rattle.book_values.specs.declared.paths.Path.TheVariants as path
-use Rattle.book_values.specs.Paths.{kind_of}
-use Rattle.book_lists.specs.ListEdits.{entries_of}
-use Rattle.book_lists.specs.Principals.{group_path}
-use Rattle.book_lists.specs.declared.submitted.Submitted.{Submitted}
+use Rattle.std.proofs.lemmas.Bool.{and_parts, or_cases}
+use Rattle.book_office_values.specs.declared.paths.Kind.TheVariants as kind
+use Rattle.book_office_values.specs.declared.paths.Path.TheVariants as path
 use Rattle.book_office.proofs.FittingEdits.{put_card_fits, remove_card_fits, copy_card_fits, move_across_fits, move_within_fits, add_book_fits, remove_book_fits}
 use Rattle.book_office.proofs.FittingSettings.{set_label_fits, set_list_fits, set_members_fits}
-use Rattle.book_office.specs.declared.edits.Edit.{Edit}
-use Rattle.book_office.specs.declared.edits.Edit.TheVariants.{PutCard, RemoveCard, CopyCard, MoveCard}
-use Rattle.book_office.specs.declared.nodes.Node.{Node}
-use Rattle.book_values.specs.declared.offices.Book.{Book}
-use Rattle.book_values.specs.declared.offices.Office.{Office}
-use Rattle.book_limits.specs.declared.TheConstants.{MAX_MEMBERS, MAX_LABEL_BYTES, MAX_CARD_BYTES, MAX_CARDS, LAST_NUMBER}
+use Rattle.book_office.specs.declared.edits.Edit.TheVariants.{CopyCard, MoveCard}
+use Rattle.book_limits.specs.declared.TheConstants.{MAX_MEMBERS, MAX_LABEL_BYTES, MAX_CARD_BYTES}
 use Rattle.book_office.specs.Fitting.{HasRoom, HasNumberFor}
-use Rattle.book_office.specs.Resources.{Resource, properties_resource, resource_at, node_of, node_at, unnumbered, count_at, book_resource, card_resource, card_in, number_of}
-use Rattle.book_office.specs.Sound.{IsMapped, IsSound, IsOwner, Fits}
-use Rattle.book_listings.specs.declared.messages.Extent.{Extent}
-use Rattle.book_listings.specs.declared.messages.Extent.TheVariants.{Resource as Alone, Children}
-use Rattle.book_listings.specs.declared.messages.Find.{Find}
-use Rattle.book_listings.specs.declared.messages.Property.{Property}
-use Rattle.book_rights.specs.declared.methods.Method.{Method}
-use Rattle.book_rights.specs.declared.methods.Method.TheVariants.{Get, Head, Options, Put, Propfind, Proppatch, Acl, Copy, Move, Delete, Mkcol, Report}
-use Rattle.book_machine.specs.AllowedMethods.{goes_on}
+use Rattle.book_office.specs.Sound.{IsOwner}
+use Rattle.book_office_listings.specs.declared.messages.Extent.{Extent}
+use Rattle.book_office_listings.specs.declared.messages.Extent.TheVariants.{Resource as Alone, Children}
+use Rattle.book_office_listings.specs.declared.messages.Property.{Property}
+use Rattle.book_rights.specs.declared.methods.Method.TheVariants.{Report}
 use Rattle.book_machine.proofs.BodyAnswers.{accepted_list}
 use Rattle.book_machine.proofs.Outlines.{there_mapped}
 use Rattle.book_machine.proofs.ReportPlans.{reported_told}
-use Rattle.book_machine.specs.Asked.{asked_of, put_asked, find_asked_to, find_asked, each_once, patch_asked, proppatch_asked, acl_asked, mkcol_asked, report_asked, is_empty, method_of, destination_asked, copy_asked, move_asked, destination_in, destination_path}
+use Rattle.book_machine.specs.Asked.{put_asked, find_asked_to, find_asked, patch_asked, proppatch_asked, acl_asked, mkcol_asked, is_empty}
 pub use Rattle.book_machine.proofs.DestinedCards.{IsDestined, answered, bind_ok, is_taken, same_Ok}
 use Rattle.book_machine.proofs.DestinedCards.{IsAskedTo, asked_to, check_true, copied_to, destination_told, destined_at, moved_to, some_not_none}
-use Rattle.book_machine.specs.Asking.{HasPath, HasPaths}
+use Rattle.book_machine.specs.Asking.{HasPath}
 use Rattle.book_machine.specs.Finding.{find_of, may_be_asked, needed_for}
-use Rattle.book_machine.specs.Stages.{◌>>=◌, check, caller_of, target_of, at_node, at_unmapped, suits, suits_target, destination_of, ready_of, bad_card, IsBodyAnswer, can_change, can_change_twice, copy_limits, move_limits, label_limits, limits_of, owner_of, replied, text_of, body_then_limits, IsListed, IsSuccess, IsDone, IsGrantedPlan}
-use Rattle.book_machine.specs.Steps.{IsPlannedFrom, IsPlan}
-use Rattle.book_machine.specs.Verdicts.{IsTarget}
-use Rattle.book_machine.specs.declared.asked.Asked.{Asked}
+use Rattle.book_machine.specs.Stages.{suits, copy_limits, owner_of}
 use Rattle.book_machine.specs.declared.asked.Asked.TheVariants as asked
-use Rattle.book_machine.specs.declared.asked.Destination.{Destination}
 use Rattle.book_machine.specs.declared.messages.Body.{Body}
 use Rattle.book_machine.specs.declared.messages.Body.TheVariants as body
-use Rattle.book_machine.specs.declared.messages.Content.{Content}
 use Rattle.book_machine.specs.declared.messages.Depth.{Depth}
 use Rattle.book_machine.specs.declared.messages.Depth.TheVariants as depth
-use Rattle.book_machine.specs.declared.messages.Patch.{Patch}
 use Rattle.book_machine.specs.declared.messages.Patch.TheVariants as patch
-use Rattle.book_machine.specs.declared.messages.Request.{Request}
-use Rattle.book_machine.specs.declared.plans.Plan.{Plan}
-use Rattle.book_machine.specs.Targets.{Ready, Target}
-use Rattle.book_machine.specs.declared.refusals.Refusal.{Refusal}
-use Rattle.book_machine.specs.declared.refusals.Refusal.TheVariants.{BadRequest, BodyOnMkcol, Full, UnknownCaller}
+use Rattle.book_office_sync.proofs.ChangesAfter.{below}
 
 -- ---- truth values
-both_true : (a b : Bool) → (a && b) ≡ true → (a ≡ true) × (b ≡ true)
-both_true true b e = (refl, e)
-both_true false b e = absurd cc
-
-either_true : (a b : Bool) → (a || b) ≡ true → (a ≡ true) ⊎ (b ≡ true)
-either_true true b e = inl refl
-either_true false b e = inr e
-
-below : (a b : ℕ) → nat_lt a b ≡ true → a < b
-below a b e = grind (arith, nat_tests)
-
-pub same_Some : {A : Type 0} (x y : A) → Some x ≡ Some y → x ≡ y
-same_Some x y e = cc
 
 -- ---- the caller
 caller_is_owner : (o : Office) (name : Option (List ℕ)) (caller : Caller) → caller_of o name ≡ Ok caller → IsOwner o (owner_of caller)
@@ -145,9 +98,9 @@ room_at : (o : Office) (b c : List ℕ)
     → (can_change (node_at o (path.Book b)) && (is_some (node_at o (path.Card b c)) || nat_lt (count_at o (path.Book b)) MAX_CARDS)) ≡ true
     → (book : Book) × (get o.books b ≡ Some book) × (book.changes.number < LAST_NUMBER) × HasRoom book c
 room_at o b c limits =
-    let both = both_true _ _ limits in
+    let both = and_parts _ _ limits in
     let changes = book_changes (get o.books b) both.0 in
-    let free : HasRoom changes.0 c = elim (either_true (is_some (node_at o (path.Card b c))) _ both.1) [
+    let free : HasRoom changes.0 c = elim (or_cases (is_some (node_at o (path.Card b c))) _ both.1) [
       | inl there ↦ inl (mapped_card o b c changes.0 changes.1 there)
       | inr few ↦ inr (subst (λ n. n < MAX_CARDS) (count_of_book o b changes.0 changes.1) (below _ _ few))
     ] in
@@ -191,7 +144,7 @@ module _ (o : Office) (sound : IsSound o) where
             subst (λ x. Fits o (MoveCard b c x to.card)) one
             (move_within_fits o b c to.card changes.0 sound apart changes.1 (mapped_card o b c changes.0 changes.1 there) destined.0 changes.2)
         | false ↦ λ is h.
-            let both = both_true _ _ h in
+            let both = and_parts _ _ h in
             let source = book_changes (get o.books b) both.0 in
             let room = room_at o to.book to.card both.1 in
             let apart : b ≢ to.book = λ same. let yes = (bytes_eq-Decides b to.book).1 same in absurd (cc (sym is ∙ yes)) in

@@ -1,17 +1,10 @@
 -- A principal is there exactly where its path is mapped.
-use Rattle.std.proofs.Common.{◌≡◌, ◌≢◌, ◌↔◌, inl, inr, ℕ, List, IsTrue, drop, get_or, Option, Some, None, is_some, option_map, refl, sym, ap, subst}
+use Rattle.book_machine.proofs.Common.{◌≡◌, ◌≢◌, ◌↔◌, inl, inr, ℕ, List, IsTrue, Option, Some, None, is_some, option_map, refl, sym, ap, subst, get, person_path, group_path, node_of, node_at, properties_resource, IsMapped, Office, Properties, Kind, Path}
+use Rattle.std.proofs.Common.{drop, get_or}
 use Rattle.std.proofs.lemmas.Bool.{eqb-false}
-use Rattle.std.specs.FinMap.{get}
-use Rattle.book_lists.specs.Principals.{person_path, group_path}
-use Rattle.book_office.specs.Resources.{node_of, node_at, properties_resource}
-use Rattle.book_office.specs.Sound.{IsMapped}
-use Rattle.book_values.specs.declared.offices.Office.{Office}
-use Rattle.book_values.specs.declared.offices.Properties.{Properties}
-use Rattle.book_values.specs.declared.paths.Kind.{Kind}
-use Rattle.book_values.specs.declared.paths.Kind.TheVariants as kind
-use Rattle.book_values.specs.declared.paths.Path.{Path}
-use Rattle.book_values.specs.declared.paths.Path.TheVariants as path
-use Rattle.book_listings.specs.Verdicts.{principal_of}
+use Rattle.book_office_values.specs.declared.paths.Kind.TheVariants as kind
+use Rattle.book_office_values.specs.declared.paths.Path.TheVariants as path
+use Rattle.book_office_listings.specs.Verdicts.{principal_of}
 
 same_person : (n m : List ℕ) → person_path n ≡ person_path m → n ≡ m
 same_person n m e = ap (drop 8) e

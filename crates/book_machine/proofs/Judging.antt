@@ -1,27 +1,13 @@
 -- The verdict, need by need.
-use Rattle.std.proofs.Common.{◌≡◌, List, ◌∷◌, [], ◌++◌, Bool, true, false, Option, Some, None, Result, Ok, Err, inl, inr, refl, sym, subst, ap, ◌∙◌, option_map, option_and_then}
-use Rattle.std.specs.List.{flat_map}
+use Rattle.book_machine.proofs.Common.{◌≡◌, List, ◌∷◌, [], ◌++◌, Bool, true, false, Option, Some, None, Result, Ok, Err, inl, inr, refl, sym, subst, ap, ◌∙◌, option_map, option_and_then, flat_map, Leaf, Need, CircleOf, Path, effective_at, effective_of, Level, Resource, resource_at, node_of, unnumbered, EffectiveEntry, Node, Office, IsGrantedAt, bare_entries, here_of, owner_at, place_path, JudgesNeed, JudgesNeeds, IsTarget, Destination, Target, Refusal}
 use Rattle.std.proofs.lemmas.List.{map-append}
-use Rattle.book_rights.specs.declared.privileges.Leaf.{Leaf}
-use Rattle.book_rights.specs.declared.places.Need.{Need}
-use Rattle.book_lists.specs.Circles.{CircleOf}
 use Rattle.book_lists.specs.Decisions.{IsAllowed}
 use Rattle.book_lists.specs.declared.entries.Here.{Here}
-use Rattle.book_values.specs.declared.paths.Path.{Path}
 use Rattle.book_office.specs.InForce.{in_force, in_force_at, list_in, lists_in}
-use Rattle.book_office.specs.Levels.{effective_at, effective_of, lists_at}
-use Rattle.book_office.specs.declared.nodes.Level.{Level}
-use Rattle.book_office.specs.Resources.{Resource, resource_at, node_of, unnumbered}
-use Rattle.book_office.specs.declared.nodes.EffectiveEntry.{EffectiveEntry}
-use Rattle.book_office.specs.declared.nodes.Node.{Node}
-use Rattle.book_values.specs.declared.offices.Office.{Office}
-use Rattle.book_listings.specs.Scanning.{standing_in}
-use Rattle.book_listings.specs.Verdicts.{IsGrantedAt, entries_of, here_of, owner_at}
-use Rattle.book_listings.proofs.InTurn.{entries_standing}
-use Rattle.book_machine.specs.Verdicts.{place_path, Judges, JudgesNeed, JudgesNeeds, IsTarget, owned_by, owner_in}
-use Rattle.book_machine.specs.declared.asked.Destination.{Destination}
-use Rattle.book_machine.specs.Targets.{Target}
-use Rattle.book_machine.specs.declared.refusals.Refusal.{Refusal}
+use Rattle.book_office.specs.Levels.{lists_at}
+use Rattle.book_office_listings.specs.Scanning.{standing_in}
+use Rattle.book_office_listings.proofs.InTurn.{entries_standing}
+use Rattle.book_machine.specs.Verdicts.{Judges, owned_by, owner_in}
 
 -- a decision by the list and the owner that are those of the resource
 pub judged_at : (o : Office) (circle : CircleOf) (p : Path) (set : Leaf → Bool) (r : Result (Unit {0}) Refusal) (list : List EffectiveEntry) (here : Here)
@@ -54,13 +40,13 @@ module _ (o : Office) (circle : CircleOf) (to : Option Destination) (target : Pa
 
 -- ---- the entries in force, with and without where they stand
 
-entries_of_lists : (b : Bool) (levels : List Level) → entries_of (flat_map (standing_in b) levels) ≡ lists_in b levels
+entries_of_lists : (b : Bool) (levels : List Level) → bare_entries (flat_map (standing_in b) levels) ≡ lists_in b levels
 entries_of_lists b [] = refl
 entries_of_lists b (level ∷ levels) =
     map-append (λ (e : EffectiveEntry). e.entry) (standing_in b level) (flat_map (standing_in b) levels)
     ∙ (λ i. entries_standing level.path b (list_in b level) i ++ entries_of_lists b levels i)
 
-entries_in_force : (levels : List Level) → entries_of (effective_of levels) ≡ in_force levels
+entries_in_force : (levels : List Level) → bare_entries (effective_of levels) ≡ in_force levels
 entries_in_force levels =
     map-append (λ (e : EffectiveEntry). e.entry) (flat_map (standing_in true) levels) (flat_map (standing_in false) levels)
     ∙ (λ i. entries_of_lists true levels i ++ entries_of_lists false levels i)
@@ -68,5 +54,5 @@ entries_in_force levels =
 -- a set that the entries in force grant is granted
 pub granted_at : (o : Office) (circle : CircleOf) (p : Path) (set : Leaf → Bool) (here : Here) → here ≡ here_of o p → IsAllowed (in_force_at o p) circle here set → IsGrantedAt o circle p set
 granted_at o circle p set here same_here granted =
-    subst (λ h. IsAllowed (entries_of (effective_at o p)) circle h set) same_here
+    subst (λ h. IsAllowed (bare_entries (effective_at o p)) circle h set) same_here
     (subst (λ list. IsAllowed list circle here set) (sym (entries_in_force (lists_at o p).levels)) granted)

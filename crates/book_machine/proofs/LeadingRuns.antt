@@ -1,19 +1,11 @@
 -- Where runs of the machine lead.
-use Rattle.std.proofs.Common.{◌≡◌, inl, inr, ℕ, List, [], ◌∷◌, ◌++◌, String, Option, Some, None, Result, Ok, Err, refl, sym, ap, subst}
+use Rattle.book_machine.proofs.Common.{◌≡◌, inl, inr, ℕ, List, [], ◌∷◌, ◌++◌, Option, Some, None, Result, Ok, Err, refl, sym, ap, subst, Office, IsSound, Edit, HasPaths, HavePaths, Call, calls_of, last_office, IsPlan, apply_any, settled, Reply, Request, Plan, Refusal}
+use Rattle.std.proofs.Common.{String}
 use Rattle.std.specs.declared.alloc.Global.{Global}
-use Rattle.book_values.specs.declared.offices.Office.{Office}
-use Rattle.book_office.specs.Sound.{IsSound}
-use Rattle.book_office.specs.declared.edits.Edit.{Edit}
-use Rattle.book_sync.specs.Copies.{Later}
-use Rattle.book_sync.proofs.CopiesKept.{later_refl, later_trans, apply_later}
-use Rattle.book_machine.specs.Asking.{HasPaths}
-use Rattle.book_machine.specs.LeadingRuns.{HavePaths, StepsLeadOn, RunsLeadOn}
-use Rattle.book_machine.specs.Runs.{Call, call_of, calls_of, last_office}
-use Rattle.book_machine.specs.Steps.{IsPlan, apply_any, settled}
-use Rattle.book_machine.specs.declared.messages.Reply.{Reply}
-use Rattle.book_machine.specs.declared.messages.Request.{Request}
-use Rattle.book_machine.specs.declared.plans.Plan.{Plan}
-use Rattle.book_machine.specs.declared.refusals.Refusal.{Refusal}
+use Rattle.book_office_sync.specs.Copies.{Later}
+use Rattle.book_office_sync.proofs.CopiesKept.{later_refl, later_trans, apply_later}
+use Rattle.book_machine.specs.LeadingRuns.{StepsLeadOn, RunsLeadOn}
+use Rattle.book_machine.specs.Runs.{call_of}
 use Rattle.book_machine.proofs.FittingPlans.{plan_fits}
 
 stays : (o p : Office) → p ≡ o → IsSound o → IsSound p × Later o p

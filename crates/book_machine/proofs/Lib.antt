@@ -1,3 +1,4 @@
+pub mod Common
 pub mod AlikeOffices
 pub mod AlikePlans
 pub mod AlikeReports

@@ -1,55 +1,25 @@
 -- A request is refused as full exactly where its edit would leave an Office beyond a limit.
-use Rattle.std.proofs.Common.{◌≡◌, ◌≢◌, inl, inr, ℕ, ◌+◌, ◌<◌, ◌≤◌, List, Bool, true, false, ◌&&◌, ◌||◌, cond, nat_lt, Option, Some, None, is_some, option_map, option_and_then, Result, Ok, Err, refl, sym, ap, ◌∙◌, subst, arith}
-use Rattle.std.proofs.lemmas.Bool.{lt-ltb}
-use Rattle.std.specs.Cmp.Lexicographic.{nat_list_cmp_total}
-use Rattle.std.specs.FinMap.{get, insert, len, len-insert}
-use Rattle.std.specs.Prelude.{if◌then◌else◌}
-use Rattle.std.specs.Str.{bytes_eq}
-use Rattle.std.proofs.lemmas.Slice.Eq.{bytes_eq-Decides}
-use Rattle.book_values.proofs.OneName.{by_option, changed_here, changed_elsewhere, where_some}
-use Rattle.book_values.specs.Fresh.{new_book}
-use Rattle.book_values.specs.Names.{NamesTo, changed_at}
-use Rattle.book_lists.specs.Circles.{CircleOf}
-use Rattle.book_lists.specs.declared.circles.Caller.{Caller}
-use Rattle.book_values.specs.declared.offices.Book.{Book}
-use Rattle.book_values.specs.declared.offices.StoredCard.{StoredCard}
-use Rattle.book_values.specs.declared.offices.Office.{Office}
-use Rattle.book_limits.specs.declared.TheConstants.{MAX_CARDS, MAX_BOOKS, LAST_NUMBER}
-use Rattle.book_values.specs.declared.paths.Path.{Path}
-use Rattle.book_values.specs.declared.paths.Path.TheVariants as path
-use Rattle.book_lists.specs.ListEdits.{entries_of}
-use Rattle.book_lists.specs.Principals.{group_path}
-use Rattle.book_lists.specs.declared.entries.Entry.{Entry}
-use Rattle.book_office.specs.Edits.{apply, place_card, put_card, card_put, copy_from, card_copied, move_to, remove_card, label_card}
-use Rattle.book_office.specs.Resources.{node_of, node_at, unnumbered, count_at, book_resource, card_at, card_in, card_resource, number_of}
-use Rattle.book_office.specs.Sound.{IsSound, IsSoundBook}
-use Rattle.book_office.specs.declared.edits.Edit.{Edit}
-use Rattle.book_office.specs.declared.edits.Edit.TheVariants.{PutCard, RemoveCard, CopyCard, MoveCard, AddBook, RemoveBook, SetLabel, SetList, SetMembers}
-use Rattle.book_office.specs.declared.nodes.Node.{Node}
-use Rattle.book_rights.specs.declared.methods.Method.TheVariants.{Put, Proppatch, Copy, Move, Delete, Mkcol}
+use Rattle.book_machine.proofs.Common.{◌≡◌, ◌≢◌, inl, inr, ℕ, ◌+◌, ◌<◌, ◌≤◌, List, Bool, true, false, ◌&&◌, ◌||◌, cond, nat_lt, Option, Some, None, is_some, option_map, option_and_then, Result, Ok, Err, refl, sym, ap, ◌∙◌, subst, arith, lt-ltb, nat_list_cmp_total, get, insert, len, if◌then◌else◌, bytes_eq, bytes_eq-Decides, same_Some, NamesTo, CircleOf, Caller, Book, StoredCard, Office, MAX_CARDS, MAX_BOOKS, LAST_NUMBER, Path, entries_of, group_path, Entry, apply, place_card, node_of, node_at, unnumbered, count_at, book_resource, card_at, card_in, card_resource, number_of, IsSound, Edit, PutCard, RemoveCard, Node, Put, Proppatch, Copy, Move, Delete, Mkcol, one_circle, goes_on, destination_in, method_of, destination_path, check, at_unmapped, can_change, can_change_twice, move_limits, label_limits, limits_of, replied, body_then_limits, IsBodyAnswer, IsSuccess, IsDone, IsGrantedPlan, IsDecided, settled, IsGranted, Asked, Destination, Content, Reply, Plan, Ready, Refusal, Full, NoParent}
+use Rattle.std.proofs.lemmas.Bool.{and_from, or_right}
+use Rattle.std.specs.FinMap.{len-insert}
+use Rattle.book_office_values.proofs.OneName.{by_option, changed_here, changed_elsewhere, where_some}
+use Rattle.book_office_values.specs.Fresh.{new_book}
+use Rattle.book_office_values.specs.Names.{changed_at}
+use Rattle.book_office_values.specs.declared.paths.Path.TheVariants as path
+use Rattle.book_office.specs.Edits.{put_card, card_put, copy_from, card_copied, move_to, remove_card, label_card}
+use Rattle.book_office.specs.Sound.{IsSoundBook}
+use Rattle.book_office.specs.declared.edits.Edit.TheVariants.{CopyCard, MoveCard, AddBook, RemoveBook, SetLabel, SetList, SetMembers}
 use Rattle.book_machine.proofs.BodyAnswers.{one_body_answer}
-use Rattle.book_machine.proofs.FittingPlans.{answered, passed, edit_told, IsDestined, no_mkcol_at, success_fits, ready_at, count_of_book, node_of_card, no_book, is_free, same_Some}
-use Rattle.book_lists.proofs.OneOutcome.{one_circle}
+use Rattle.book_machine.proofs.FittingPlans.{answered, passed, edit_told, IsDestined, no_mkcol_at, success_fits, ready_at, count_of_book, node_of_card, no_book, is_free}
 use Rattle.book_machine.proofs.OnePlan.{one_success, verdicts_exclude}
 use Rattle.book_machine.proofs.Outlines.{there_mapped}
 use Rattle.book_machine.proofs.ServedPlans.{success_low}
 use Rattle.book_machine.proofs.StepLaws.{decided, limits_answers, not_success}
 use Rattle.book_machine.specs.Laws.{RequestsAreFullAtLimits}
-use Rattle.book_machine.specs.AllowedMethods.{goes_on}
-use Rattle.book_machine.specs.Asked.{destination_in, method_of, destination_path}
-use Rattle.book_machine.specs.Stages.{check, at_unmapped, can_change, can_change_twice, put_limits, copy_limits, move_limits, delete_limits, label_limits, limits_of, owner_of, replied, body_then_limits, IsBodyAnswer, IsSuccess, IsDone, IsGrantedPlan}
-use Rattle.book_machine.specs.Steps.{IsDecided, settled}
-use Rattle.book_machine.specs.Verdicts.{IsGranted}
-use Rattle.book_machine.specs.declared.asked.Asked.{Asked}
+use Rattle.book_machine.specs.Stages.{put_limits, copy_limits, delete_limits, owner_of}
 use Rattle.book_machine.specs.declared.asked.Asked.TheVariants as asked
-use Rattle.book_machine.specs.declared.asked.Destination.{Destination}
-use Rattle.book_machine.specs.declared.messages.Content.{Content}
 use Rattle.book_machine.specs.declared.messages.Patch.TheVariants as patch
-use Rattle.book_machine.specs.declared.messages.Reply.{Reply}
-use Rattle.book_machine.specs.declared.plans.Plan.{Plan}
-use Rattle.book_machine.specs.Targets.{Ready}
-use Rattle.book_machine.specs.declared.refusals.Refusal.{Refusal}
-use Rattle.book_machine.specs.declared.refusals.Refusal.TheVariants.{Full, NoParent, NotFound}
+use Rattle.book_machine.specs.declared.refusals.Refusal.TheVariants.{NotFound}
 
 -- ---- what an Office within the limits tells of the one before
 
@@ -71,16 +41,9 @@ changes_twice_of (Some old) book is low =
     let same : old ≡ book = same_Some _ _ is in
     lt-ltb _ _ (subst (λ (k : Book). k.changes.number + 1 < LAST_NUMBER) (sym same) low)
 
-both : (a b : Bool) → a ≡ true → b ≡ true → (a && b) ≡ true
-both a b x y = λ i. x i && y i
-
 -- a map with one more name
 longer : {V : Type 0} (m : NamesTo V) (k : List ℕ) (v : V) → get m k ≡ None → len (insert m k v) ≡ len m + 1
 longer m k v none = len-insert nat_list_cmp_total m k v ∙ ap (λ r. cond (is_some r) (len m) (len m + 1)) none
-
-or_true : (a b : Bool) → b ≡ true → (a || b) ≡ true
-or_true true b e = refl
-or_true false b e = e
 
 -- whether a card is there, by what its book has
 abbrev card_node : List ℕ → Option Book → Option Node
@@ -105,11 +68,11 @@ module _ (o : Office) where
       → book.changes.number + 1 ≤ LAST_NUMBER → len (insert book.cards c card) ≤ MAX_CARDS → put_limits o (path.Card b c) (is_some (node_at o (path.Card b c))) ≡ true
   room_from b c book card is last few =
       let count : count_at o (path.Book b) ≡ len book.cards = count_of_book o b book is in
-      both _ _ (changes_of (get o.books b) book is (omega (arith, last)))
+      and_from _ _ (changes_of (get o.books b) book is (omega (arith, last)))
       (by_option (get book.cards c)
       (λ none.
       let more = longer book.cards c card none in
-      or_true (is_some (node_at o (path.Card b c))) _ (lt-ltb (count_at o (path.Book b)) MAX_CARDS (omega (arith, few, more, count))))
+      or_right (is_some (node_at o (path.Card b c))) _ (lt-ltb (count_at o (path.Book b)) MAX_CARDS (omega (arith, few, more, count))))
       (λ card some. ap (λ x. x || nat_lt (count_at o (path.Book b)) MAX_CARDS) (ap is_some (node_of_card o b c book is) ∙ ap (is_mapped book c) some)))
 
   put_room : (b c : List ℕ) (owner : Option (List ℕ)) (text : List ℕ) (book : Book) → get o.books b ≡ Some book
@@ -193,7 +156,7 @@ module _ (o : Office) where
       let last : target.changes.number + 1 ≤ LAST_NUMBER = there.last in
       let few : len (insert target.cards to.card card) ≤ MAX_CARDS = there.few in
       let low : source.changes.number + 1 ≤ LAST_NUMBER = behind.last in
-      both _ _ (changes_of (get o.books fb) source is (omega (arith, low))) (room_from to.book to.card target card at last few)
+      and_from _ _ (changes_of (get o.books fb) source is (omega (arith, low))) (room_from to.book to.card target card at last few)
 
   move_room : (fb fc : List ℕ) (to : Destination) (source : Book) (card : StoredCard) (target : Book)
       → get o.books fb ≡ Some source → get source.cards fc ≡ Some card → get o.books to.book ≡ Some target

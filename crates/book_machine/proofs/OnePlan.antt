@@ -1,47 +1,15 @@
 -- A request has one plan at most.
-use Rattle.std.proofs.Common.{◌≡◌, ℕ, List, [], ◌∷◌, Bool, Option, Some, None, Result, Ok, Err, inl, inr, sym, ap, ◌∙◌, subst}
-use Rattle.book_rights.specs.declared.privileges.Leaf.{Leaf}
-use Rattle.book_rights.specs.declared.places.Need.{Need}
-use Rattle.book_lists.specs.declared.entries.Entry.{Entry}
-use Rattle.book_lists.specs.declared.entries.Here.{Here}
+use Rattle.book_machine.proofs.Common.{◌≡◌, ℕ, List, [], ◌∷◌, Bool, Option, Some, None, Result, Ok, Err, inl, inr, sym, ap, ◌∙◌, subst, Leaf, Need, CircleOf, one_circle, effective_at, Office, Path, Caller, Find, Node, Asked, Destination, Request, Plan, Ready, Target, Denial, Refusal, NeedPrivileges, destination_in, ready_of, body_then_limits, IsListed, IsSuccessOf, IsDone, IsGrantedPlan, IsDecided, IsPlannedFrom, IsPlan, bare_entries, here_of, IsGrantedAt, place_path, needs_at, AreGranted, IsGranted, IsDenied}
 use Rattle.book_lists.specs.declared.decisions.Outcome.{Outcome}
 use Rattle.book_lists.specs.declared.decisions.Outcome.TheVariants.{Allowed, Denied}
-use Rattle.book_lists.specs.Circles.{CircleOf}
-use Rattle.book_lists.specs.Decisions.{IsAllowed, IsDenial}
-use Rattle.book_lists.proofs.OneOutcome.{one_circle, one_outcome}
-use Rattle.book_lists.proofs.OneLeaf.{denied_not_granted}
-use Rattle.book_office.specs.Levels.{effective_at}
-use Rattle.book_values.specs.declared.offices.Office.{Office}
-use Rattle.book_values.specs.declared.paths.Path.{Path}
-use Rattle.book_lists.specs.declared.circles.Caller.{Caller}
-use Rattle.book_listings.proofs.OneListing.{one_listing}
-use Rattle.book_listings.specs.declared.messages.Find.{Find}
-use Rattle.book_office.specs.declared.nodes.Node.{Node}
-use Rattle.book_machine.specs.declared.asked.Asked.{Asked}
+use Rattle.book_lists.proofs.OneOutcome.{one_outcome}
+use Rattle.book_office_listings.proofs.OneListing.{one_listing, allowed_not_denied}
 use Rattle.book_machine.specs.declared.asked.Asked.TheVariants as asked
-use Rattle.book_machine.specs.declared.asked.Destination.{Destination}
-use Rattle.book_machine.specs.declared.messages.Request.{Request}
-use Rattle.book_machine.specs.declared.plans.Plan.{Plan}
-use Rattle.book_machine.specs.Targets.{Ready, Target}
-use Rattle.book_listings.specs.declared.messages.Denial.{Denial}
-use Rattle.book_machine.specs.declared.refusals.Refusal.{Refusal}
-use Rattle.book_machine.specs.declared.refusals.Refusal.TheVariants.{NeedPrivileges}
 use Rattle.book_machine.proofs.BodyAnswers.{one_body_answer}
 use Rattle.book_machine.proofs.ReportPlans.{one_report}
-use Rattle.book_machine.specs.Asked.{destination_in}
-use Rattle.book_machine.specs.Stages.{ready_of, body_then_limits, listed_plan, IsListed, IsSuccessOf, IsDone, IsGrantedPlan}
-use Rattle.book_machine.specs.Steps.{IsDecided, IsPlannedFrom, IsPlan}
-use Rattle.book_listings.specs.Verdicts.{entries_of, paths_of, here_of, deciding_entry, IsGrantedAt, IsDeniedAt}
-use Rattle.book_machine.specs.Verdicts.{place_path, needs_at, AreGranted, IsFirstDenial, IsGranted, IsDenied}
-
--- a set that is allowed is not denied
-allowed_not_denied : (entries : List Entry) (circle : CircleOf) (here : Here) (set : Leaf → Bool) (leaf : Leaf) (index : Option ℕ)
-    → IsAllowed entries circle here set → IsDenial entries circle here set leaf index → ⊥
-allowed_not_denied entries circle here set leaf None allowed denial =
-    let grant = allowed leaf denial.0 in
-    denial.1 grant.0 grant.1 grant.2
-allowed_not_denied entries circle here set leaf (Some i) allowed denial =
-    denied_not_granted entries circle here leaf i denial.1 (allowed leaf denial.0)
+use Rattle.book_machine.specs.Stages.{listed_plan}
+use Rattle.book_office_listings.specs.Verdicts.{paths_of, deciding_entry, IsDeniedAt}
+use Rattle.book_machine.specs.Verdicts.{IsFirstDenial}
 
 abbrev leaf_or : Leaf → Outcome → Leaf
 leaf_or other Allowed = other
@@ -54,12 +22,12 @@ index_or_none (Denied leaf index) = index
 module _ (o : Office) (circle : CircleOf) where
   granted_not_denied : (p : Path) (set : Leaf → Bool) (denial : Denial) → IsGrantedAt o circle p set → IsDeniedAt o circle p set denial → ⊥
   granted_not_denied p set denial granted denied =
-      allowed_not_denied (entries_of (effective_at o p)) circle (here_of o p) set denial.privilege denied.index granted denied.decided
+      allowed_not_denied (bare_entries (effective_at o p)) circle (here_of o p) set denial.privilege denied.index granted denied.decided
 
   one_denial_at : (p : Path) (set : Leaf → Bool) (a b : Denial) → IsDeniedAt o circle p set a → IsDeniedAt o circle p set b → a ≡ b
   one_denial_at p set a b x y =
       let same : Denied a.privilege x.index ≡ Denied b.privilege y.index =
-      one_outcome (entries_of (effective_at o p)) circle (here_of o p) set (Denied a.privilege x.index) (Denied b.privilege y.index)
+      one_outcome (bare_entries (effective_at o p)) circle (here_of o p) set (Denied a.privilege x.index) (Denied b.privilege y.index)
       ((λ e. absurd cc), (λ allowed. absurd (granted_not_denied p set a allowed x))) x.decided
       ((λ e. absurd cc), (λ allowed. absurd (granted_not_denied p set b allowed y))) y.decided in
       let resource : a.resource ≡ b.resource = x.resource ∙ sym y.resource in

@@ -1,21 +1,9 @@
 -- What Offices with one outline have in common.
-use Rattle.std.proofs.Common.{◌≡◌, ℕ, List, [], map, Option, Some, None, is_some, option_map, option_and_then, unwrap_or, refl, sym, ap, ◌∙◌}
-use Rattle.std.specs.FinMap.{get, len}
-use Rattle.book_adopting.proofs.Merges.{get_mapped}
-use Rattle.book_office.specs.declared.nodes.Node.{Node}
-use Rattle.book_office.specs.Levels.{protected_at, own_at, level_at, effective_of, effective_at}
-use Rattle.book_office.specs.Resources.{Resource, properties_resource, book_resource, card_resource, number_of, card_at, card_in, resource_at, count_at, node_of, node_at, unnumbered}
-use Rattle.book_values.proofs.OneName.{some_apart, same_some}
-use Rattle.book_values.specs.Paths.{levels}
-use Rattle.book_values.specs.declared.offices.Book.{Book}
-use Rattle.book_values.specs.declared.offices.StoredCard.{StoredCard}
-use Rattle.book_values.specs.declared.offices.Office.{Office}
-use Rattle.book_values.specs.declared.paths.Kind.TheVariants as kind
-use Rattle.book_values.specs.declared.paths.Path.{Path}
-use Rattle.book_values.specs.declared.paths.Path.TheVariants as path
+use Rattle.book_machine.proofs.Common.{◌≡◌, ℕ, List, [], map, Option, Some, None, is_some, option_map, option_and_then, unwrap_or, refl, sym, ap, ◌∙◌, get, len, same_Some, get_mapped, Node, protected_at, own_at, level_at, effective_of, effective_at, Resource, properties_resource, book_resource, card_resource, number_of, card_at, card_in, resource_at, count_at, node_of, node_at, unnumbered, some_apart, levels, Book, StoredCard, Office, Path, outline_of_card, outline_of_book, outline, owner_at, here_of}
+use Rattle.book_office_values.specs.declared.paths.Kind.TheVariants as kind
+use Rattle.book_office_values.specs.declared.paths.Path.TheVariants as path
 use Rattle.book_machine.proofs.MappedEntries.{len_mapped}
-use Rattle.book_machine.specs.Agreement.{outline_of_card, outline_of_book, outline}
-use Rattle.book_listings.specs.Verdicts.{owner_at, here_of, principal_of}
+use Rattle.book_office_listings.specs.Verdicts.{principal_of}
 
 -- ---- values that may be there
 pub fused : {A B C : Type 0} (f : B → C) (g : A → B) (r : Option A) → option_map f (option_map g r) ≡ option_map (λ x. f (g x)) r
@@ -84,7 +72,7 @@ same_resource c None None e same = refl
 same_resource c None (Some y) e same = some_apart (sym e)
 same_resource c (Some x) None e same = some_apart e
 same_resource c (Some x) (Some y) e same =
-    let changes : x.changes ≡ y.changes = ap (λ (book : Book). book.changes) (same_some (outline_of_book x) (outline_of_book y) e) in
+    let changes : x.changes ≡ y.changes = ap (λ (book : Book). book.changes) (same_Some (outline_of_book x) (outline_of_book y) e) in
     λ i. option_map (card_resource (unwrap_or (get (changes i).last c) 0)) (same i)
 
 module _ (o p : Office) (same : outline o ≡ outline p) where

@@ -1,30 +1,9 @@
 -- A plan, from what its stages tell.
-use Rattle.std.proofs.Common.{◌≡◌, ℕ, List, Bool, Option, Some, None, Result, Ok, Err, inl, inr, refl, sym, subst, ap, ◌∙◌, option_map}
-use Rattle.std.specs.FinMap.{get}
-use Rattle.book_lists.specs.Callers.{IsCircle}
-use Rattle.book_lists.specs.Circles.{CircleOf}
-use Rattle.book_lists.specs.Names.{IsName}
-use Rattle.book_values.specs.declared.offices.Office.{Office}
-use Rattle.book_office.specs.Resources.{node_at, unnumbered}
-use Rattle.book_office.specs.Sound.{IsSound}
-use Rattle.book_office.specs.declared.nodes.Node.{Node}
-use Rattle.book_values.specs.declared.paths.Path.{Path}
-use Rattle.book_listings.specs.Listings.{AreResponses}
-use Rattle.book_listings.specs.declared.messages.Find.{Find}
-use Rattle.book_listings.specs.declared.messages.Response.{Response}
+use Rattle.book_machine.proofs.Common.{◌≡◌, ℕ, List, Bool, Option, Some, None, Result, Ok, Err, inl, inr, refl, sym, subst, ap, ◌∙◌, option_map, get, IsCircle, CircleOf, IsName, Office, node_at, unnumbered, IsSound, Node, Path, Find, Caller, asked_of, destination_in, Asked, Meets, MeetsAny, MeetsPlan, ◌>>=◌, caller_of, target_of, suits_target, destination_of, ready_of, limits_of, IsBodyAnswer, IsListed, IsSuccess, IsDone, IsGrantedPlan, IsDecided, IsPlannedFrom, IsPlan, needs_at, JudgesNeeds, IsTarget, Request, Plan, Ready, Target, Refusal, UnknownCaller}
+use Rattle.book_office_listings.specs.Listings.{AreResponses}
+use Rattle.book_office_listings.specs.declared.messages.Response.{Response}
 use Rattle.book_machine.proofs.FittingPlans.{ready_is_target}
-use Rattle.book_lists.specs.declared.circles.Caller.{Caller}
-use Rattle.book_machine.specs.Asked.{asked_of, destination_in}
-use Rattle.book_machine.specs.declared.asked.Asked.{Asked}
-use Rattle.book_machine.specs.Asking.{Meets, MeetsAny, MeetsPlan}
-use Rattle.book_machine.specs.Stages.{◌>>=◌, caller_of, target_of, suits_target, destination_of, ready_of, limits_of, listed_plan, IsBodyAnswer, IsListed, IsSuccess, IsDone, IsGrantedPlan}
-use Rattle.book_machine.specs.Steps.{IsDecided, IsPlannedFrom, IsPlan}
-use Rattle.book_machine.specs.Verdicts.{needs_at, JudgesNeeds, IsTarget}
-use Rattle.book_machine.specs.declared.messages.Request.{Request}
-use Rattle.book_machine.specs.declared.plans.Plan.{Plan}
-use Rattle.book_machine.specs.Targets.{Ready, Target}
-use Rattle.book_machine.specs.declared.refusals.Refusal.{Refusal}
-use Rattle.book_machine.specs.declared.refusals.Refusal.TheVariants.{UnknownCaller}
+use Rattle.book_machine.specs.Stages.{listed_plan}
 
 -- a text that is no name is no person's
 pub strangers_are_unknown : (o : Office) (text : List ℕ) → IsSound o → (IsName text → ⊥) → caller_of o (Some text) ≡ Err UnknownCaller

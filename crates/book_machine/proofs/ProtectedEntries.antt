@@ -1,12 +1,7 @@
 -- The protected entries of levels, with and without the paths where they stand.
-use Rattle.std.proofs.Common.{◌≡◌, Bool, true, List, [], ◌∷◌, ◌++◌, map, refl, sym, ap, ◌∙◌}
+use Rattle.book_machine.proofs.Common.{◌≡◌, Bool, true, List, [], ◌∷◌, ◌++◌, map, refl, sym, ap, ◌∙◌, flat_map, Entry, EffectiveEntry, Level, Path}
 use Rattle.std.proofs.lemmas.List.{map-append}
-use Rattle.std.specs.List.{flat_map}
-use Rattle.book_lists.specs.declared.entries.Entry.{Entry}
 use Rattle.book_office.specs.Levels.{standing_at, protected_entries}
-use Rattle.book_office.specs.declared.nodes.EffectiveEntry.{EffectiveEntry}
-use Rattle.book_office.specs.declared.nodes.Level.{Level}
-use Rattle.book_values.specs.declared.paths.Path.{Path}
 
 entries_standing : (p : Path) (is_protected : Bool) (list : List Entry) → list ≡ map (λ (e : EffectiveEntry). e.entry) (map (standing_at p is_protected) list)
 entries_standing p is_protected [] = refl

@@ -1,33 +1,18 @@
 -- What a report answers, by the report that is asked.
-use Rattle.std.proofs.Common.{◌≡◌, ℕ, ◌<◌, Bool, not, List, [], ◌∷◌, Option, Some, None, is_some, Result, Ok, Err, refl, sym, ap, ◌∙◌, subst, arith}
-use Rattle.std.specs.List.{AllZip}
-use Rattle.book_explain.specs.ShortNames.{all_leaves}
+use Rattle.book_machine.proofs.Common.{◌≡◌, ℕ, ◌<◌, Bool, List, [], ◌∷◌, Option, Some, None, is_some, Result, Ok, Err, refl, sym, ap, ◌∙◌, subst, arith, AllZip, one_circle, CircleOf, Caller, Entry, bare_entries, here_of, effective_at, EffectiveEntry, Leaf, AreRulingsAt, Ruling, Office, Path, replied, AreMembersTold, IsReportOf, Content, ReportKind, Plan, Refusal, Unavailable}
+use Rattle.std.proofs.Common.{not}
+use Rattle.book_lists_explain.specs.ShortNames.{all_leaves}
 use Rattle.book_lists.proofs.FirstBearings.{one_decider, one_place}
-use Rattle.book_lists.proofs.OneOutcome.{one_circle}
-use Rattle.book_lists.specs.Circles.{CircleOf}
 use Rattle.book_lists.specs.Decisions.{bears, denying}
-use Rattle.book_lists.specs.declared.circles.Caller.{Caller}
-use Rattle.book_lists.specs.declared.entries.Entry.{Entry}
 use Rattle.book_lists.specs.declared.entries.Here.{Here}
-use Rattle.book_listings.specs.Verdicts.{deciding_entry, entries_of, here_of, paths_of}
-use Rattle.book_members.proofs.Views.{equal_views}
-use Rattle.book_office.specs.Levels.{effective_at}
-use Rattle.book_office.specs.declared.nodes.EffectiveEntry.{EffectiveEntry}
-use Rattle.book_rights.specs.declared.privileges.Leaf.{Leaf}
-use Rattle.book_rulings.specs.Rulings.{AreRulingsAt, IsDecidedBy, IsRuling}
-use Rattle.book_rulings.specs.declared.messages.Ruling.{Ruling}
-use Rattle.book_values.specs.declared.offices.Office.{Office}
-use Rattle.book_values.specs.declared.paths.Path.{Path}
-use Rattle.book_values.specs.declared.paths.Path.TheVariants as path
+use Rattle.book_office_listings.specs.Verdicts.{deciding_entry, paths_of}
+use Rattle.book_office_members.proofs.Views.{equal_views}
+use Rattle.book_office_listings.specs.Rulings.{IsDecidedBy, IsRuling}
+use Rattle.book_office_values.specs.declared.paths.Path.TheVariants as path
 use Rattle.book_machine.proofs.SyncPlans.{sync_available, sync_told}
-use Rattle.book_machine.specs.Stages.{replied, members_plan, rulings_plan, AreMembersTold, AreRulingsTold, IsReportOf}
-use Rattle.book_machine.specs.declared.messages.Content.{Content}
+use Rattle.book_machine.specs.Stages.{members_plan, rulings_plan, AreRulingsTold}
 use Rattle.book_machine.specs.declared.messages.Content.TheVariants as content
-use Rattle.book_machine.specs.declared.messages.ReportKind.{ReportKind}
 use Rattle.book_machine.specs.declared.messages.ReportKind.TheVariants as report
-use Rattle.book_machine.specs.declared.plans.Plan.{Plan}
-use Rattle.book_machine.specs.declared.refusals.Refusal.{Refusal}
-use Rattle.book_machine.specs.declared.refusals.Refusal.TheVariants.{Unavailable}
 
 -- a plan that tells a content, with no edit
 abbrev pub telling_of : ℕ → Content → Result Plan Refusal
@@ -99,8 +84,8 @@ module _ (list : List EffectiveEntry) (circle : CircleOf) (here : Here) where
   one_decision leaf None (Some j) g h x y = absurd (x.0 j y.0 y.1)
   one_decision leaf (Some i) None g h x y = absurd (y.0 i x.0 x.1)
   one_decision leaf (Some i) (Some j) g h x y =
-      let place : i ≡ j = one_place (bears circle here) denying (entries_of list) leaf i j x.0 y.0 x.1 y.1 in
-      let entry : x.0 ≡ y.0 = one_decider (bears circle here) denying (entries_of list) leaf i j x.0 y.0 x.1 y.1 in
+      let place : i ≡ j = one_place (bears circle here) denying (bare_entries list) leaf i j x.0 y.0 x.1 y.1 in
+      let entry : x.0 ≡ y.0 = one_decider (bears circle here) denying (bare_entries list) leaf i j x.0 y.0 x.1 y.1 in
       (ap Some place, x.2 ∙ ap (λ (e : Entry). not e.deny) entry ∙ sym y.2)
 
   one_ruling : (leaf : Leaf) (a b : Ruling) → IsRuling list circle here leaf a → IsRuling list circle here leaf b → a ≡ b

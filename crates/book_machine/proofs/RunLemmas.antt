@@ -1,12 +1,9 @@
 -- A run goes on by one step.
-use Rattle.std.proofs.Common.{◌≡◌, List, [], ◌∷◌, ◌++◌, refl, inl, inr}
-use Rattle.book_values.specs.declared.offices.Office.{Office}
-use Rattle.book_office.specs.Keeping.{Standing, Leftover}
+use Rattle.book_machine.proofs.Common.{◌≡◌, List, [], ◌∷◌, ◌++◌, refl, inl, inr, Office, Standing, Reply, ServePromise, Call, last_office, Serves}
+use Rattle.book_office.specs.Keeping.{Leftover}
 use Rattle.book_machine.proofs.UnseenRuns.{runs_alike}
-use Rattle.book_machine.specs.declared.messages.Reply.{Reply}
-use Rattle.book_machine.specs.Promises.{ServePromise, ServeAllPromise}
-use Rattle.book_machine.specs.Runs.{Call, Run, last_office, MayLeave, MayLeaveAfter}
-use Rattle.book_machine.specs.Steps.{Serves}
+use Rattle.book_machine.specs.Promises.{ServeAllPromise}
+use Rattle.book_machine.specs.Runs.{Run, MayLeave, MayLeaveAfter}
 
 run_more : (o after : Office) (calls : List Call) (replies : List Reply) (offices : List Office) (call : Call) (reply : Reply)
     → Run o calls replies offices → Serves (last_office o offices) call.0 call.1 reply after → Run o (calls ++ call ∷ []) (replies ++ reply ∷ []) (offices ++ after ∷ [])

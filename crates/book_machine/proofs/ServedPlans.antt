@@ -1,46 +1,15 @@
 -- What the path stage lets through is served: a granted request with an accepted body within the limits has a plan.
-use Rattle.std.proofs.Common.{◌≡◌, ◌⊎◌, ℕ, ◌<◌, List, Bool, true, false, Option, Some, None, is_some, option_map, option_and_then, Result, Ok, Err, inl, inr, refl, sym, ap, ◌∙◌, subst, arith}
-use Rattle.std.specs.FinMap.{get}
-use Rattle.book_values.specs.Paths.{kind_of}
-use Rattle.book_values.specs.declared.offices.Book.{Book}
-use Rattle.book_values.specs.declared.offices.Office.{Office}
-use Rattle.book_values.specs.declared.offices.Properties.{Properties}
-use Rattle.book_values.specs.declared.offices.StoredCard.{StoredCard}
-use Rattle.book_values.specs.declared.paths.Kind.{Kind}
-use Rattle.book_values.specs.declared.paths.Kind.TheVariants as kind
-use Rattle.book_values.specs.declared.paths.Path.{Path}
-use Rattle.book_values.specs.declared.paths.Path.TheVariants as path
-use Rattle.book_lists.specs.Circles.{CircleOf}
-use Rattle.book_lists.specs.declared.circles.Caller.{Caller}
-use Rattle.book_rulings.specs.Rulings.{AreRulingsAt}
-use Rattle.book_rulings.specs.declared.messages.Ruling.{Ruling}
-use Rattle.book_listings.specs.declared.messages.Find.{Find}
-use Rattle.book_office.specs.Resources.{node_of, node_at, unnumbered, properties_resource, card_resource, card_in, number_of}
-use Rattle.book_office.specs.declared.edits.Edit.{Edit}
-use Rattle.book_office.specs.declared.nodes.Node.{Node}
-use Rattle.book_rights.specs.declared.methods.Method.{Method}
-use Rattle.book_sync.specs.declared.messages.Report.{Report}
-use Rattle.book_machine.proofs.FittingPlans.{Passed, answered, bind_ok, book_kind, is_taken, ready_at, same_Ok, same_Some}
+use Rattle.book_machine.proofs.Common.{◌≡◌, ◌⊎◌, ℕ, ◌<◌, List, Bool, true, false, Option, Some, None, is_some, option_map, option_and_then, Result, Ok, Err, inl, inr, refl, sym, ap, ◌∙◌, subst, arith, get, same_Some, kind_of, Book, Office, Properties, StoredCard, Kind, Path, CircleOf, Caller, AreRulingsAt, Ruling, Find, node_of, node_at, unnumbered, properties_resource, card_resource, card_in, number_of, Edit, Node, Method, Report, goes_on, method_of, is_late, ◌>>=◌, at_unmapped, replied, text_of, put_edit, delete_edit, mkcol_edit, patch_edit, report_from, report_plan, sync_plan, AreMembersTold, IsListed, IsReportOf, IsSuccess, IsSuccessOf, copy_edit, move_edit, Asked, Destination, Content, ReportKind, Request, SyncFrom, Plan, Ready, Refusal, ValidSyncToken}
+use Rattle.book_office_values.specs.declared.paths.Kind.TheVariants as kind
+use Rattle.book_office_values.specs.declared.paths.Path.TheVariants as path
+use Rattle.book_machine.proofs.FittingPlans.{Passed, answered, bind_ok, book_kind, is_taken, ready_at, same_Ok}
 use Rattle.book_machine.proofs.ReportPlans.{reported_told}
-use Rattle.book_machine.specs.AllowedMethods.{goes_on}
-use Rattle.book_machine.specs.Asked.{method_of}
-use Rattle.book_machine.specs.Laws.{is_late}
 use Rattle.book_machine.specs.Verdicts.{is_book}
-use Rattle.book_machine.specs.Stages.{◌>>=◌, at_unmapped, suits, replied, text_of, put_status, put_edit, delete_edit, mkcol_edit, patch_edit, report_from, report_plan, report_suits, rulings_plan, sync_plan, is_card_kind, AreMembersTold, IsListed, IsReportOf, IsSuccess, IsSuccessOf, copy_edit, move_edit}
-use Rattle.book_machine.specs.declared.asked.Asked.{Asked}
+use Rattle.book_machine.specs.Stages.{suits, put_status, report_suits, rulings_plan, is_card_kind}
 use Rattle.book_machine.specs.declared.asked.Asked.TheVariants as asked
-use Rattle.book_machine.specs.declared.asked.Destination.{Destination}
-use Rattle.book_machine.specs.declared.messages.Content.{Content}
 use Rattle.book_machine.specs.declared.messages.Content.TheVariants as content
 use Rattle.book_machine.specs.declared.messages.Patch.TheVariants as patch
-use Rattle.book_machine.specs.declared.messages.ReportKind.{ReportKind}
 use Rattle.book_machine.specs.declared.messages.ReportKind.TheVariants as report
-use Rattle.book_machine.specs.declared.messages.Request.{Request}
-use Rattle.book_machine.specs.declared.messages.SyncFrom.{SyncFrom}
-use Rattle.book_machine.specs.declared.plans.Plan.{Plan}
-use Rattle.book_machine.specs.Targets.{Ready}
-use Rattle.book_machine.specs.declared.refusals.Refusal.{Refusal}
-use Rattle.book_machine.specs.declared.refusals.Refusal.TheVariants.{ValidSyncToken}
 
 -- ---- the kind of what is mapped
 of_properties : (k : Kind) (found : Option Properties) (n : Node) → option_map node_of (option_map (properties_resource k 0) found) ≡ Some n → n.kind ≡ k

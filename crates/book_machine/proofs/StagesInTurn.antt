@@ -1,10 +1,5 @@
 -- Stages one after the other.
-use Rattle.std.proofs.Common.{◌≡◌, ℕ, Result, Ok, Err, IsErrAnd, inl, inr, refl, sym, subst}
-use Rattle.book_office.specs.Keeping.{Standing}
-use Rattle.book_values.specs.declared.offices.Office.{Office}
-use Rattle.book_machine.specs.Asking.{Asks, Meets, Counted}
-use Rattle.book_machine.specs.Stages.{◌>>=◌}
-use Rattle.book_machine.specs.declared.refusals.Refusal.{Refusal}
+use Rattle.book_machine.proofs.Common.{◌≡◌, ℕ, Result, Ok, Err, IsErrAnd, inl, inr, refl, sym, subst, Standing, Office, Asks, Meets, Counted, ◌>>=◌, Refusal}
 
 -- a result that is the stage's
 pub meets_same : {A : Type 0} (r stage : Result A Refusal) → r ≡ stage → Meets r stage

@@ -1,32 +1,16 @@
 -- What a step tells of the verdict.
-use Rattle.std.proofs.Common.{◌≡◌, ◌⊎◌, ℕ, ◌<◌, ◌≤◌, List, Bool, true, false, Option, Some, None, Result, Ok, Err, inl, inr, refl, sym, ap, ◌∙◌, subst, is_some, arith}
-use Rattle.book_lists.specs.Circles.{CircleOf}
-use Rattle.book_office.specs.declared.edits.Edit.{Edit}
-use Rattle.book_listings.specs.declared.messages.Find.{Find}
-use Rattle.book_office.specs.declared.nodes.Node.{Node}
-use Rattle.book_values.specs.declared.offices.Office.{Office}
-use Rattle.book_values.specs.declared.paths.Path.{Path}
+use Rattle.book_machine.proofs.Common.{◌≡◌, ◌⊎◌, ℕ, ◌<◌, ◌≤◌, List, Bool, true, false, Option, Some, None, Result, Ok, Err, inl, inr, refl, sym, ap, ◌∙◌, subst, is_some, arith, CircleOf, Edit, Find, Node, Office, Path, is_late, refused, ◌>>=◌, check, ready_of, limits_of, replied, text_of, put_edit, copy_edit, move_edit, delete_edit, mkcol_edit, patch_edit, body_then_limits, IsListed, IsSuccess, IsSuccessOf, IsDone, IsGrantedPlan, IsDecided, IsPlannedFrom, IsPlan, apply_any, settled, IsDenied, Asked, Content, Reply, Request, Plan, Ready, Target, Denial, Refusal, BadRequest, UnknownCaller, NeedPrivileges, ValidSyncToken, NotAllowed, NoParent, Overwrite, BodyOnMkcol, Full, Unavailable}
 use Rattle.book_machine.proofs.BodyAnswers.{body_answered}
 use Rattle.book_machine.proofs.FittingPlans.{answered, bind_ok, passed, same_Ok}
 use Rattle.book_machine.proofs.ServedPlans.{IsServed, Served, served, success_low}
 use Rattle.book_machine.proofs.ReportPlans.{reported_told}
 use Rattle.book_machine.proofs.OnePlan.{one_plan, one_denial, verdicts_exclude}
-use Rattle.book_machine.specs.Laws.{is_late, RequestsHaveOneStep, IsPastVerdict, RequestsActWhereGranted, DenialsAreTold, RefusalsChangeNothing, TellingRepliesChangeNothing}
-use Rattle.book_machine.specs.Refusals.{refused, status_of}
-use Rattle.book_machine.specs.Stages.{◌>>=◌, check, ready_of, keeps_limits, limits_of, replied, text_of, put_edit, copy_edit, move_edit, delete_edit, mkcol_edit, patch_edit, body_then_limits, IsListed, IsSuccess, IsSuccessOf, IsDone, IsGrantedPlan}
-use Rattle.book_machine.specs.Steps.{IsDecided, IsPlannedFrom, IsPlan, apply_any, settled}
-use Rattle.book_machine.specs.Verdicts.{IsDenied}
-use Rattle.book_machine.specs.declared.asked.Asked.{Asked}
+use Rattle.book_machine.specs.Laws.{RequestsHaveOneStep, IsPastVerdict, RequestsActWhereGranted, DenialsAreTold, RefusalsChangeNothing, TellingRepliesChangeNothing}
+use Rattle.book_machine.specs.Refusals.{status_of}
+use Rattle.book_machine.specs.Stages.{keeps_limits}
 use Rattle.book_machine.specs.declared.asked.Asked.TheVariants as asked
-use Rattle.book_machine.specs.declared.messages.Content.{Content}
 use Rattle.book_machine.specs.declared.messages.Content.TheVariants as content
-use Rattle.book_machine.specs.declared.messages.Reply.{Reply}
-use Rattle.book_machine.specs.declared.messages.Request.{Request}
-use Rattle.book_machine.specs.declared.plans.Plan.{Plan}
-use Rattle.book_machine.specs.Targets.{Ready, Target}
-use Rattle.book_listings.specs.declared.messages.Denial.{Denial}
-use Rattle.book_machine.specs.declared.refusals.Refusal.{Refusal}
-use Rattle.book_machine.specs.declared.refusals.Refusal.TheVariants.{BadRequest, UnknownCaller, BadCard, NeedPrivileges, NoProtectedAceConflict, NoInheritedAceConflict, LimitedNumberOfAces, NotSupportedPrivilege, RecognizedPrincipal, ValidSyncToken, NotFound, NotAllowed, NoParent, Overwrite, BodyOnMkcol, Full, Unavailable}
+use Rattle.book_machine.specs.declared.refusals.Refusal.TheVariants.{BadCard, NoProtectedAceConflict, NoInheritedAceConflict, LimitedNumberOfAces, NotSupportedPrivilege, RecognizedPrincipal, NotFound}
 
 -- ---- the stages after the verdict
 check_answers : (b : Bool) → (check b Full ≡ Ok tt) ⊎ (check b Full ≡ Err Full)

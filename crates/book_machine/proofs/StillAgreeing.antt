@@ -1,30 +1,14 @@
 -- Offices that agree for a caller go on to agree after an edit.
-use Rattle.std.proofs.Common.{◌≡◌, ◌≢◌, ◌⊎◌, inl, inr, ℕ, List, [], ◌∷◌, Option, Some, None, option_map, option_and_then, unwrap_or, refl, sym, ap, ◌∙◌, subst}
-use Rattle.std.specs.Cmp.Lexicographic.{nat_list_cmp_total}
-use Rattle.std.specs.FinMap.{get, insert, remove, same_map}
-use Rattle.book_adopting.specs.Adopting.{mapped}
-use Rattle.book_adopting.proofs.Merges.{get_mapped}
-use Rattle.book_lists.specs.declared.circles.Caller.{Caller}
-use Rattle.book_lists.specs.declared.entries.Entry.{Entry}
-use Rattle.book_office.specs.Edits.{with_book, place_card, card_put, put_card, remove_card, card_copied, copy_from, copy_card, label_card, set_label, new_book, apply}
-use Rattle.book_office.specs.Levels.{protected_at, own_at, level_at, effective_of, effective_at}
-use Rattle.book_office.specs.Resources.{Resource, book_resource, card_resource, card_in, number_of, card_at}
-use Rattle.book_office.specs.declared.edits.Edit.TheVariants.{PutCard, RemoveCard, AddBook}
-use Rattle.book_rights.specs.Needs.{only}
-use Rattle.book_rights.specs.declared.privileges.Leaf.TheVariants.{Read}
-use Rattle.book_values.proofs.NameMapLaws.{names_apart}
-use Rattle.book_values.proofs.OneName.{some_apart, same_some, by_put, by_removed, by_changed}
-use Rattle.book_values.specs.Changes.{touched}
-use Rattle.book_values.specs.Names.{NamesTo, changed_at}
-use Rattle.book_values.specs.declared.offices.Book.{Book}
-use Rattle.book_values.specs.declared.offices.StoredCard.{StoredCard}
-use Rattle.book_values.specs.declared.offices.Office.{Office}
-use Rattle.book_values.specs.declared.offices.Properties.{Properties}
-use Rattle.book_values.specs.declared.paths.Path.{Path}
-use Rattle.book_values.specs.declared.paths.Path.TheVariants as path
+use Rattle.book_machine.proofs.Common.{◌≡◌, ◌≢◌, ◌⊎◌, inl, inr, ℕ, List, [], ◌∷◌, Option, Some, None, option_map, option_and_then, unwrap_or, refl, sym, ap, ◌∙◌, subst, nat_list_cmp_total, get, insert, same_Some, mapped, get_mapped, Caller, Entry, place_card, apply, protected_at, own_at, level_at, effective_of, effective_at, Resource, book_resource, card_resource, card_in, number_of, card_at, PutCard, RemoveCard, only, Read, names_apart, some_apart, NamesTo, Book, StoredCard, Office, Properties, Path, MayRead, outline_of_card, outline_of_book, Agree, here_of, owner_at}
+use Rattle.std.specs.FinMap.{remove, same_map}
+use Rattle.book_office.specs.Edits.{with_book, card_put, put_card, remove_card, card_copied, copy_from, copy_card, label_card, set_label, new_book}
+use Rattle.book_office.specs.declared.edits.Edit.TheVariants.{AddBook}
+use Rattle.book_office_values.proofs.OneName.{by_put, by_removed, by_changed}
+use Rattle.book_office_values.specs.Changes.{touched}
+use Rattle.book_office_values.specs.Names.{changed_at}
+use Rattle.book_office_values.specs.declared.paths.Path.TheVariants as path
 use Rattle.book_machine.proofs.Outlines.{told, told_then, fused, then_fused, books_alike}
-use Rattle.book_machine.specs.Agreement.{MayRead, outline_of_card, outline_of_book, Agree}
-use Rattle.book_listings.specs.Verdicts.{IsGrantedBy, here_of, owner_at}
+use Rattle.book_office_listings.specs.Verdicts.{IsGrantedBy}
 
 -- ---- what makes a card readable: the lists from the root to it, and its owner
 pub own_of_card : (c : List ℕ) (r : Option Book)
@@ -181,7 +165,7 @@ module _ (c : List ℕ) (owner : Option (List ℕ)) where
     put_outline None None e = refl
     put_outline None (Some y) e = some_apart (sym e)
     put_outline (Some x) None e = some_apart e
-    put_outline (Some x) (Some y) e = same_some _ _ e
+    put_outline (Some x) (Some y) e = same_Some _ _ e
 
     -- PUT
     pub puts_alike : ChangesAlike (put_card c owner text) (put_card c owner text)
@@ -197,7 +181,7 @@ module _ (c : List ℕ) (owner : Option (List ℕ)) where
     copied_same None (Some y) e = some_apart (sym e)
     copied_same (Some x) None e = some_apart e
     copied_same (Some x) (Some y) e =
-        let same : outline_of_card x ≡ outline_of_card y = same_some _ _ e in
+        let same : outline_of_card x ≡ outline_of_card y = same_Some _ _ e in
         λ i. record (same i) { label = source.label; text = source.text }
 
   -- COPY of one card
@@ -244,7 +228,7 @@ module _ (c : List ℕ) where
     label_outline x y e None None same = e
     label_outline x y e None (Some l) same = some_apart (sym same)
     label_outline x y e (Some k) None same = some_apart same
-    label_outline x y e (Some k) (Some l) same = place_outline x y c _ _ e (same_some _ _ same)
+    label_outline x y e (Some k) (Some l) same = place_outline x y c _ _ e (same_Some _ _ same)
 
     label_lists : (x : Book) (r : Option StoredCard) → lists_of (label_card c label r x) ≡ lists_of x
     label_lists x None = refl
@@ -259,7 +243,7 @@ module _ (c : List ℕ) where
     labelled_card x y (Some k) None r_is s_is same q = some_apart same
     labelled_card x y (Some k) (Some l) r_is s_is same q = placed_card x y c _ _ (inr (
       ap (option_map outline_of_card) (sym r_is),
-      λ is. let cards : k ≡ l = same_some _ _ (sym r_is ∙ is ∙ s_is) in ap (λ (z : StoredCard). record z { label = label }) cards,
+      λ is. let cards : k ≡ l = same_Some _ _ (sym r_is ∙ is ∙ s_is) in ap (λ (z : StoredCard). record z { label = label }) cards,
     )) q
 
     -- PROPPATCH of a card's displayname
@@ -314,7 +298,7 @@ module _ (o p : Office) (caller : Caller) (agree : Agree o p caller) where
     made_alike None None e = refl
     made_alike None (Some y) e = some_apart (sym e)
     made_alike (Some x) None e = some_apart e
-    made_alike (Some x) (Some y) e = ap Some (change.outlines x y (same_some _ _ e))
+    made_alike (Some x) (Some y) e = ap Some (change.outlines x y (same_Some _ _ e))
 
     -- the card of a changed book, by what the book was
     card_made : (m n : NamesTo Book) (q c : List ℕ) (r s : Option Book) → get o.books q ≡ r → get p.books q ≡ s
@@ -328,7 +312,7 @@ module _ (o p : Office) (caller : Caller) (agree : Agree o p caller) where
         let in_n : card_in_books n q c ≡ get (g y).cards c = ap (option_and_then (λ (book : Book). get book.cards c)) n_is in
         let in_o : card_at o q c ≡ get x.cards c = ap (option_and_then (λ (book : Book). get book.cards c)) r_is in
         let in_p : card_at p q c ≡ get y.cards c = ap (option_and_then (λ (book : Book). get book.cards c)) s_is in
-        elim (change.cards x y (same_some _ _ e) c) [
+        elim (change.cards x y (same_Some _ _ e) c) [
           | inl same ↦ inl (in_m ∙ same ∙ sym in_n)
           | inr kept ↦ inr (record {
             lists = ap (option_map lists_of) m_is ∙ ap Some (change.lists x) ∙ sym (ap (option_map lists_of) r_is);

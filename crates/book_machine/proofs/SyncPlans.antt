@@ -1,16 +1,7 @@
 -- What a sync report answers.
-use Rattle.std.proofs.Common.{◌≡◌, Option, Some, None, Result, Ok, Err}
-use Rattle.book_lists.specs.Circles.{CircleOf}
-use Rattle.book_sync.specs.declared.messages.Report.{Report}
-use Rattle.book_values.specs.declared.offices.Office.{Office}
-use Rattle.book_values.specs.declared.paths.Path.{Path}
-use Rattle.book_values.specs.declared.paths.Path.TheVariants as path
-use Rattle.book_machine.specs.Stages.{replied, report_from, report_plan, sync_plan}
+use Rattle.book_machine.proofs.Common.{◌≡◌, Option, Some, None, Result, Ok, Err, CircleOf, Report, Office, Path, replied, report_from, report_plan, sync_plan, SyncFrom, Plan, Refusal, Unavailable}
+use Rattle.book_office_values.specs.declared.paths.Path.TheVariants as path
 use Rattle.book_machine.specs.declared.messages.Content.TheVariants as content
-use Rattle.book_machine.specs.declared.messages.SyncFrom.{SyncFrom}
-use Rattle.book_machine.specs.declared.plans.Plan.{Plan}
-use Rattle.book_machine.specs.declared.refusals.Refusal.{Refusal}
-use Rattle.book_machine.specs.declared.refusals.Refusal.TheVariants.{Unavailable}
 
 -- the plan that tells a report
 abbrev pub telling : Report → Result Plan Refusal

@@ -1,32 +1,15 @@
 -- The first response to a PROPFIND tells the resource that was asked for.
-use Rattle.std.proofs.Common.{◌≡◌, ℕ, Bool, List, Option, Some, None, Result, Ok, Err, inl, inr, refl, sym, ap, ◌∙◌, subst}
-use Rattle.book_lists.specs.Circles.{CircleOf}
-use Rattle.book_listings.proofs.ToldResources.{granted_told}
-use Rattle.book_listings.specs.Laws.{TellsFirst}
-use Rattle.book_listings.specs.Verdicts.{IsGrantedAt}
-use Rattle.book_listings.specs.declared.messages.Find.{Find}
-use Rattle.book_listings.specs.declared.messages.Response.{Response}
-use Rattle.book_office.specs.declared.nodes.Node.{Node}
+use Rattle.book_machine.proofs.Common.{◌≡◌, ℕ, Bool, List, Option, Some, None, Result, Ok, Err, inl, inr, refl, sym, ap, ◌∙◌, subst, CircleOf, IsGrantedAt, Find, Node, Leaf, Office, Path, destination_in, method_of, ready_of, IsListed, IsSuccessOf, IsPlan, IsPlannedFrom, settled, AreGranted, needs_at, Asked, Reply, Request, Plan, Ready, Refusal}
+use Rattle.book_office_listings.proofs.ToldResources.{granted_told}
+use Rattle.book_office_listings.specs.Laws.{TellsFirst}
+use Rattle.book_office_listings.specs.declared.messages.Response.{Response}
 use Rattle.book_rights.specs.declared.methods.Method.TheVariants as method
-use Rattle.book_rights.specs.declared.privileges.Leaf.{Leaf}
-use Rattle.book_values.specs.declared.offices.Office.{Office}
-use Rattle.book_values.specs.declared.paths.Path.{Path}
 use Rattle.book_machine.proofs.FittingPlans.{IsShaped, asked_by_request, ready_path, ready_shaped, same_Ok}
 use Rattle.book_machine.proofs.StepLaws.{plan_of_success}
-use Rattle.book_machine.specs.Asked.{destination_in, method_of}
 use Rattle.book_machine.specs.Finding.{needed_for}
 use Rattle.book_machine.specs.Laws.{ListingsTellTheResource}
-use Rattle.book_machine.specs.Stages.{ready_of, IsListed, IsSuccessOf}
-use Rattle.book_machine.specs.Steps.{IsPlan, IsPlannedFrom, settled}
-use Rattle.book_machine.specs.Verdicts.{AreGranted, needs_at}
-use Rattle.book_machine.specs.declared.asked.Asked.{Asked}
 use Rattle.book_machine.specs.declared.asked.Asked.TheVariants as asked
 use Rattle.book_machine.specs.declared.messages.Content.TheVariants as content
-use Rattle.book_machine.specs.declared.messages.Reply.{Reply}
-use Rattle.book_machine.specs.declared.messages.Request.{Request}
-use Rattle.book_machine.specs.declared.plans.Plan.{Plan}
-use Rattle.book_machine.specs.Targets.{Ready}
-use Rattle.book_machine.specs.declared.refusals.Refusal.{Refusal}
 
 -- what a PROPFIND asks
 record IsFind (what : Asked) : Type 0 where

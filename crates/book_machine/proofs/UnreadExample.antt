@@ -1,27 +1,12 @@
 -- Two Offices that agree for everybody and differ in the text of a card, which nobody may read.
-use Rattle.std.proofs.Common.{◌≡◌, inl, inr, ℕ, List, [], ◌∷◌, Some, None, option_map, option_and_then, unwrap_or, slice_get, refl, sym, ap, ◌∙◌}
-use Rattle.std.specs.Cmp.Lexicographic.{nat_list_cmp_total}
-use Rattle.std.specs.FinMap.{get, insert, empty, get-empty, same_map}
-use Rattle.book_adopting.specs.Adopting.{mapped}
-use Rattle.book_adopting.proofs.Merges.{get_mapped}
-use Rattle.book_lists.specs.Names.{name_cmp}
-use Rattle.book_lists.specs.declared.circles.Caller.{Caller}
-use Rattle.book_lists.specs.declared.entries.Entry.{Entry}
-use Rattle.book_office.specs.Edits.{empty_office, new_book, place_card}
-use Rattle.book_office.specs.Levels.{protected_at, own_at, level_at, effective_of, effective_at}
-use Rattle.book_office.specs.Resources.{Resource, book_resource, card_at}
-use Rattle.book_rights.specs.declared.privileges.Leaf.TheVariants.{Read}
-use Rattle.book_values.proofs.NameMapLaws.{names_apart}
-use Rattle.book_values.proofs.OneName.{by_put, put_here}
-use Rattle.book_values.specs.Names.{NamesTo}
-use Rattle.book_values.specs.declared.offices.Book.{Book}
-use Rattle.book_values.specs.declared.offices.StoredCard.{StoredCard}
-use Rattle.book_values.specs.declared.offices.Office.{Office}
-use Rattle.book_values.specs.declared.paths.Path.TheVariants as path
+use Rattle.book_machine.proofs.Common.{◌≡◌, inl, inr, ℕ, List, [], ◌∷◌, Some, None, option_map, option_and_then, unwrap_or, refl, sym, ap, ◌∙◌, nat_list_cmp_total, get, insert, mapped, get_mapped, name_cmp, Caller, Entry, place_card, protected_at, own_at, level_at, effective_of, effective_at, Resource, book_resource, card_at, Read, names_apart, NamesTo, Book, StoredCard, Office, MayRead, outline_of_book, outline, bare_entries}
+use Rattle.std.proofs.Common.{slice_get}
+use Rattle.std.specs.FinMap.{empty, get-empty, same_map}
+use Rattle.book_office.specs.Edits.{empty_office, new_book}
+use Rattle.book_office_values.proofs.OneName.{by_put, put_here}
+use Rattle.book_office_values.specs.declared.paths.Path.TheVariants as path
 use Rattle.book_machine.proofs.StillAgreeing.{own_of_card, protected_of_card, place_outline, put_cases}
-use Rattle.book_machine.specs.Agreement.{MayRead, outline_of_book, outline}
 use Rattle.book_machine.specs.Unseen.{AgreeingOfficesMayDiffer}
-use Rattle.book_listings.specs.Verdicts.{entries_of}
 
 none_grants : (entries : List Entry) (i : ℕ) (entry : Entry) → entries ≡ [] → slice_get entries i ≡ Some entry → ⊥
 none_grants [] i entry e there = absurd cc
@@ -31,7 +16,7 @@ none_grants (x ∷ xs) i entry e there = absurd cc
 no_entries : (o : Office) (caller : Caller) (b c : List ℕ) → effective_at o (path.Card b c) ≡ [] → MayRead o caller (path.Card b c) → ⊥
 no_entries o caller b c none may =
     let grant = may.granted Read refl in
-    none_grants (entries_of (effective_at o (path.Card b c))) grant.0 grant.1 (ap entries_of none) grant.2.there
+    none_grants (bare_entries (effective_at o (path.Card b c))) grant.0 grant.1 (ap bare_entries none) grant.2.there
 
 abbrev unread : List ℕ → StoredCard
 unread text = record { owner = None; label = []; own = []; text = text }

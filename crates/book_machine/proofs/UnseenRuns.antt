@@ -1,41 +1,20 @@
 -- Steps and runs from agreeing Offices.
-use Rattle.std.proofs.Common.{◌≡◌, ◌≢◌, inl, inr, ℕ, ◌+◌, ◌≤◌, List, [], ◌∷◌, Option, Some, None, Result, Ok, Err, cond, true, false, Bool, refl, sym, ap, ◌∙◌, subst, arith, le_trans}
+use Rattle.book_machine.proofs.Common.{◌≡◌, ◌≢◌, inl, inr, ℕ, ◌+◌, ◌≤◌, List, [], ◌∷◌, Option, Some, None, Result, Ok, Err, cond, true, false, Bool, refl, sym, ap, ◌∙◌, subst, arith, CircleOf, Caller, Standing, Edit, Node, Find, Move, Office, Path, named, MayRead, Agree, ServePromise, Call, last_office, method_of, ready_of, replied, text_of, IsListed, IsSuccessOf, IsGrantedPlan, put_edit, copy_edit, delete_edit, mkcol_edit, patch_edit, IsPlannedFrom, apply_any, settled, Serves, Asked, Destination, Content, Patch, Reply, Request, Plan, Ready, Target, Refusal}
+use Rattle.std.proofs.Common.{le_trans}
 use Rattle.std.proofs.lemmas.List.Elements.{All-head, All-tail}
-use Rattle.book_lists.specs.Circles.{CircleOf}
-use Rattle.book_lists.specs.declared.circles.Caller.{Caller}
 use Rattle.book_office.specs.Edits.{raises_epoch}
-use Rattle.book_office.specs.Keeping.{Standing}
 use Rattle.book_office.proofs.Epochs.{epoch_after}
-use Rattle.book_office.specs.declared.edits.Edit.{Edit}
-use Rattle.book_office.specs.declared.nodes.Node.{Node}
-use Rattle.book_listings.specs.declared.messages.Find.{Find}
-use Rattle.book_rights.specs.declared.methods.Method.TheVariants.{Move}
-use Rattle.book_values.specs.declared.offices.Office.{Office}
-use Rattle.book_values.specs.declared.paths.Path.{Path}
-use Rattle.book_values.specs.declared.paths.Path.TheVariants as path
+use Rattle.book_office_values.specs.declared.paths.Path.TheVariants as path
 use Rattle.book_machine.proofs.AlikePlans.{plan_same, may_read_same, ready_named, reads_target, reads}
 use Rattle.book_machine.proofs.FittingPlans.{answered, asked_by_request, bind_ok, same_Ok}
 use Rattle.book_machine.proofs.StepLaws.{plan_of_success}
 use Rattle.book_machine.proofs.ReportPlans.{reported_told}
 use Rattle.book_machine.proofs.StillAgreeing.{put_agrees, removal_agrees, addition_agrees, label_agrees, copy_agrees}
-use Rattle.book_machine.specs.Agreement.{named, MayRead, Agree}
-use Rattle.book_machine.specs.Promises.{ServePromise, ServeHidesUnread}
-use Rattle.book_machine.specs.Runs.{Call, last_office}
-use Rattle.book_machine.specs.Asked.{method_of}
-use Rattle.book_machine.specs.Stages.{ready_of, replied, text_of, IsListed, IsSuccessOf, IsGrantedPlan, put_edit, copy_edit, delete_edit, mkcol_edit, patch_edit, members_edit}
-use Rattle.book_machine.specs.Steps.{IsPlannedFrom, apply_any, settled, Serves}
+use Rattle.book_machine.specs.Promises.{ServeHidesUnread}
+use Rattle.book_machine.specs.Stages.{members_edit}
 use Rattle.book_machine.specs.Unseen.{AgreementIsAnEquivalence, AgreeingOfficesStepAlike, EpochsNeverFall, RunsNeverLowerTheEpoch, AreByOne, AgreeingOfficesRunAlike}
-use Rattle.book_machine.specs.declared.asked.Asked.{Asked}
 use Rattle.book_machine.specs.declared.asked.Asked.TheVariants as asked
-use Rattle.book_machine.specs.declared.asked.Destination.{Destination}
-use Rattle.book_machine.specs.declared.messages.Content.{Content}
-use Rattle.book_machine.specs.declared.messages.Patch.{Patch}
 use Rattle.book_machine.specs.declared.messages.Patch.TheVariants as patch
-use Rattle.book_machine.specs.declared.messages.Reply.{Reply}
-use Rattle.book_machine.specs.declared.messages.Request.{Request}
-use Rattle.book_machine.specs.declared.plans.Plan.{Plan}
-use Rattle.book_machine.specs.Targets.{Ready, Target}
-use Rattle.book_machine.specs.declared.refusals.Refusal.{Refusal}
 
 -- ---- agreement is an equivalence
 pub agreement : AgreementIsAnEquivalence

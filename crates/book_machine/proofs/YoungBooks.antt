@@ -1,30 +1,21 @@
 -- A book that has had fewer changes than it may have cards has fewer cards: each took a number of its own.
-use Rattle.std.proofs.Common.{◌≡◌, ◌≢◌, ◌||◌, inl, inr, ℕ, ◌-◌, ◌<◌, ◌≤◌, true, false, T, List, [], ◌∷◌, map, Option, Some, None, option_map, unwrap_or, refl, sym, ap, ◌∙◌, subst, nat_lt, arith}
+use Rattle.book_machine.proofs.Common.{◌≡◌, ◌≢◌, ◌||◌, inl, inr, ℕ, ◌<◌, ◌≤◌, true, false, List, [], ◌∷◌, map, Option, Some, None, option_map, unwrap_or, refl, sym, ap, ◌∙◌, subst, nat_lt, arith, lt-ltb, get, len, entries, MAX_CARDS, name_cmp, NamesTo, Book, Office, StoredCard, book_resource, count_at, node_at, node_of, IsSound, Node}
+use Rattle.std.proofs.Common.{◌-◌, T}
 use Rattle.std.proofs.Math.Dec.{eqb}
-use Rattle.std.proofs.lemmas.Bool.{lt-ltb}
 use Rattle.std.proofs.lemmas.Bool.Decides.{eqb_tells}
 use Rattle.std.proofs.lemmas.Cmp.{nat_list_cmp_total}
 use Rattle.std.proofs.lemmas.List.{length-map}
 use Rattle.std.proofs.lemmas.Map.Keys.{IsDistinct-cons}
 use Rattle.std.proofs.lemmas.Map.Steps.{length-le_from_distinct_below}
 use Rattle.std.specs.List.{AllByRecursion, IsDistinct, list_any}
-use Rattle.std.specs.FinMap.{get, len, entries, entries_sorted, is_sorted, len-entries}
+use Rattle.std.specs.FinMap.{entries_sorted, is_sorted, len-entries}
 use Rattle.std.specs.FinMap.Entries.{below_all}
 use Rattle.std.specs.Ordering.{ordering_reverse}
 use Rattle.std.specs.Prelude.{IsSomeAnd}
 use Rattle.std.specs.declared.cmp.Ordering.TheVariants.{Less, Greater}
-use Rattle.book_limits.specs.declared.TheConstants.{MAX_CARDS}
-use Rattle.book_lists.specs.Names.{name_cmp}
-use Rattle.book_values.specs.Names.{NamesTo}
-use Rattle.book_values.specs.declared.offices.Book.{Book}
-use Rattle.book_values.specs.declared.offices.Office.{Office}
-use Rattle.book_values.specs.declared.offices.StoredCard.{StoredCard}
-use Rattle.book_values.specs.declared.paths.Path.TheVariants as path
-use Rattle.book_values.proofs.Members.{Mem, first, less, mem_get, second}
+use Rattle.book_office_values.specs.declared.paths.Path.TheVariants as path
+use Rattle.book_office_values.proofs.Members.{Mem, first, less, mem_get, second}
 use Rattle.std.specs.FinMap.{slice_cmp-IsAntisymmetric, nat_cmp-IsAntisymmetric}
-use Rattle.book_office.specs.Resources.{book_resource, count_at, node_at, node_of}
-use Rattle.book_office.specs.Sound.{IsSound}
-use Rattle.book_office.specs.declared.nodes.Node.{Node}
 use Rattle.book_machine.proofs.FittingPlans.{count_of_book}
 
 some_of : (found : Option ℕ) → found ≢ None → (n : ℕ) × (found ≡ Some n)

@@ -1,10 +1,10 @@
 -- What the machine does to adopt a policy.
 use Rattle.std.specs.Prelude.{◌≡◌, ◌≢◌, ◌↔◌, ℕ, ◌+◌, ◌<◌, Bool, ◌&&◌, nat_lt, nat_le, if◌then◌else◌, cond, IsTrue, Option, Some, None, Result, Ok, Err}
-use Rattle.book_policies.specs.declared.parts.PolicyTables.{PolicyTables}
-use Rattle.book_adopting.specs.Adopting.{adopt}
+use Rattle.book_policy_values.specs.declared.parts.PolicyTables.{PolicyTables}
+use Rattle.book_office_adopting.specs.Adopting.{adopt}
 use Rattle.book_office.specs.Sound.{IsSound}
-use Rattle.book_adopting.specs.declared.adopting.Adoption.{Adoption}
-use Rattle.book_values.specs.declared.offices.Office.{Office}
+use Rattle.book_office_adopting.specs.declared.adopting.Adoption.{Adoption}
+use Rattle.book_office_values.specs.declared.offices.Office.{Office}
 use Rattle.book_limits.specs.declared.TheConstants.{MAX_BOOKS, LAST_NUMBER}
 use Rattle.book_machine.specs.declared.adoptions.AdoptFault.{AdoptFault}
 use Rattle.book_machine.specs.declared.adoptions.AdoptFault.TheVariants.{Full, Unavailable}

@@ -7,14 +7,14 @@ use Rattle.book_lists.specs.Circles.{CircleOf}
 use Rattle.book_lists.specs.Principals.{person_path}
 use Rattle.book_lists.specs.declared.circles.Caller.{Caller}
 use Rattle.book_lists.specs.declared.circles.Caller.TheVariants.{Nobody, Known}
-use Rattle.book_adopting.specs.Adopting.{mapped}
-use Rattle.book_values.specs.declared.offices.Book.{Book}
-use Rattle.book_values.specs.declared.offices.StoredCard.{StoredCard}
-use Rattle.book_values.specs.declared.offices.Office.{Office}
-use Rattle.book_values.specs.declared.paths.Path.{Path}
-use Rattle.book_values.specs.declared.paths.Path.TheVariants as path
+use Rattle.book_office_adopting.specs.Adopting.{mapped}
+use Rattle.book_office_values.specs.declared.offices.Book.{Book}
+use Rattle.book_office_values.specs.declared.offices.StoredCard.{StoredCard}
+use Rattle.book_office_values.specs.declared.offices.Office.{Office}
+use Rattle.book_office_values.specs.declared.paths.Path.{Path}
+use Rattle.book_office_values.specs.declared.paths.Path.TheVariants as path
 use Rattle.book_office.specs.Resources.{card_at}
-use Rattle.book_listings.specs.Verdicts.{IsGrantedAt}
+use Rattle.book_office_listings.specs.Verdicts.{IsGrantedAt}
 
 -- the caller that a request names
 abbrev pub named : Option (List ℕ) → Caller

@@ -2,8 +2,8 @@
 use Rattle.std.specs.Prelude.{ℕ, Bool, false, ◌||◌, ◌==◌, List, [], ◌∷◌, ◌++◌, codes}
 use Rattle.book_rights.specs.declared.methods.Method.{Method}
 use Rattle.book_rights.specs.declared.methods.Method.TheVariants.{Get, Head, Options, Put, Propfind, Proppatch, Acl, Copy, Move, Delete, Mkcol, Report}
-use Rattle.book_values.specs.declared.paths.Kind.{Kind}
-use Rattle.book_values.specs.declared.paths.Kind.TheVariants as kind
+use Rattle.book_office_values.specs.declared.paths.Kind.{Kind}
+use Rattle.book_office_values.specs.declared.paths.Kind.TheVariants as kind
 use Rattle.book_machine.specs.declared.allowed_methods.AllowedMethods.{AllowedMethods}
 use Rattle.book_machine.specs.declared.allowed_methods.AllowedMethods.TheVariants.{OfCollection, OfPrincipal, OfBook, OfCard, OfNewBook, OfNewCard}
 

@@ -4,13 +4,13 @@ use Rattle.std.specs.BTreeSet.{insert_key}
 use Rattle.std.specs.Str.{bytes_eq}
 use Rattle.book_lists.specs.Principals.{path_cmp}
 use Rattle.book_limits.specs.declared.TheConstants.{MAX_MEMBERS, MAX_LABEL_BYTES}
-use Rattle.book_listings.specs.declared.messages.Extent.{Extent}
-use Rattle.book_listings.specs.declared.messages.Extent.TheVariants.{Resource as Alone, Children}
-use Rattle.book_listings.specs.declared.messages.Property.{Property}
+use Rattle.book_office_listings.specs.declared.messages.Extent.{Extent}
+use Rattle.book_office_listings.specs.declared.messages.Extent.TheVariants.{Resource as Alone, Children}
+use Rattle.book_office_listings.specs.declared.messages.Property.{Property}
 use Rattle.book_rights.specs.declared.methods.Method.{Method}
 use Rattle.book_rights.specs.declared.methods.Method.TheVariants as method
-use Rattle.book_values.specs.declared.paths.Path.{Path}
-use Rattle.book_values.specs.declared.paths.Path.TheVariants as path
+use Rattle.book_office_values.specs.declared.paths.Path.{Path}
+use Rattle.book_office_values.specs.declared.paths.Path.TheVariants as path
 use Rattle.book_machine.specs.Finding.{find_of, may_be_asked, usual_properties}
 use Rattle.book_machine.specs.declared.asked.Asked.{Asked}
 use Rattle.book_machine.specs.declared.asked.Asked.TheVariants as asked

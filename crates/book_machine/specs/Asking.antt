@@ -6,12 +6,12 @@ use Rattle.std.specs.declared.alloc.Global.{Global}
 use Rattle.book_lists.specs.declared.submitted.Submitted.{Submitted}
 use Rattle.book_office.specs.Keeping.{Leftover, Standing, one_more}
 use Rattle.book_office.specs.declared.edits.Edit.{Edit}
-use Rattle.book_values.specs.declared.offices.Office.{Office}
-use Rattle.book_values.specs.declared.paths.Path.{Path}
-use Rattle.book_values.specs.Paths.{IsPath}
+use Rattle.book_office_values.specs.declared.offices.Office.{Office}
+use Rattle.book_office_values.specs.declared.paths.Path.{Path}
+use Rattle.book_office_values.specs.Paths.{IsPath}
 use Rattle.book_machine.specs.Stages.{IsChecked}
 use Rattle.book_machine.specs.Steps.{IsPlan}
-use Rattle.book_listings.specs.Verdicts.{principal_of}
+use Rattle.book_office_listings.specs.Verdicts.{principal_of}
 use Rattle.book_machine.specs.declared.machine.Machine.{Machine}
 use Rattle.book_machine.specs.declared.messages.Request.{Request}
 use Rattle.book_machine.specs.declared.plans.Plan.{Plan}

@@ -3,11 +3,11 @@ use Rattle.std.specs.Prelude.{Bool, true, not, ◌&&◌, List, [], ◌∷◌, le
 use Rattle.book_limits.specs.declared.TheConstants.{MAX_PROPERTIES}
 use Rattle.book_rights.specs.Needs.{read_and}
 use Rattle.book_rights.specs.declared.privileges.Leaf.{Leaf}
-use Rattle.book_listings.specs.Properties.{is_asked}
-use Rattle.book_listings.specs.declared.messages.Extent.{Extent}
-use Rattle.book_listings.specs.declared.messages.Find.{Find}
-use Rattle.book_listings.specs.declared.messages.Property.{Property}
-use Rattle.book_listings.specs.declared.messages.Property.TheVariants.{DisplayName, ResourceType, Owner, Acl, CurrentUserPrivilegeSet}
+use Rattle.book_office_listings.specs.Properties.{is_asked}
+use Rattle.book_office_listings.specs.declared.messages.Extent.{Extent}
+use Rattle.book_office_listings.specs.declared.messages.Find.{Find}
+use Rattle.book_office_listings.specs.declared.messages.Property.{Property}
+use Rattle.book_office_listings.specs.declared.messages.Property.TheVariants.{DisplayName, ResourceType, Owner, Acl, CurrentUserPrivilegeSet}
 
 -- whether no property is asked for twice
 abbrev pub are_different : List Property → Bool

@@ -1,13 +1,13 @@
 -- What the definition of a step implies, in words of its own.
 use Rattle.std.specs.Prelude.{Bool, true, false, ◌≡◌, ◌≢◌, ◌⊎◌, ◌↔◌, ℕ, ◌<◌, List, Option, Some, Ok}
-use Rattle.book_values.specs.declared.offices.Office.{Office}
+use Rattle.book_office_values.specs.declared.offices.Office.{Office}
 use Rattle.book_office.specs.Edits.{apply}
 use Rattle.book_office.specs.Sound.{IsSound}
 use Rattle.book_office.specs.declared.edits.Edit.{Edit}
-use Rattle.book_listings.specs.Laws.{TellsFirst}
-use Rattle.book_listings.specs.declared.messages.Response.{Response}
+use Rattle.book_office_listings.specs.Laws.{TellsFirst}
+use Rattle.book_office_listings.specs.declared.messages.Response.{Response}
 use Rattle.book_rights.specs.declared.methods.Method.TheVariants as method
-use Rattle.book_values.specs.declared.paths.Path.{Path}
+use Rattle.book_office_values.specs.declared.paths.Path.{Path}
 use Rattle.book_machine.specs.Asking.{HasPaths}
 use Rattle.book_machine.specs.Refusals.{refused}
 use Rattle.book_machine.specs.Stages.{ready_of, IsBodyAnswer, IsSuccess}
@@ -18,7 +18,7 @@ use Rattle.book_machine.specs.declared.messages.Reply.{Reply}
 use Rattle.book_machine.specs.declared.messages.Request.{Request}
 use Rattle.book_machine.specs.declared.plans.Plan.{Plan}
 use Rattle.book_machine.specs.Targets.{Ready}
-use Rattle.book_listings.specs.declared.messages.Denial.{Denial}
+use Rattle.book_office_listings.specs.declared.messages.Denial.{Denial}
 use Rattle.book_machine.specs.declared.refusals.Refusal.{Refusal}
 use Rattle.book_machine.specs.declared.refusals.Refusal.TheVariants.{BadRequest, UnknownCaller, BadCard, NeedPrivileges, NoProtectedAceConflict, NoInheritedAceConflict, LimitedNumberOfAces, NotSupportedPrivilege, RecognizedPrincipal, ValidSyncToken, NotFound, NotAllowed, NoParent, Overwrite, BodyOnMkcol, Full, Unavailable}
 

@@ -1,8 +1,8 @@
 -- Where runs of the machine lead.
 use Rattle.std.specs.Prelude.{ℕ, List, [], ◌∷◌, Option}
-use Rattle.book_values.specs.declared.offices.Office.{Office}
+use Rattle.book_office_values.specs.declared.offices.Office.{Office}
 use Rattle.book_office.specs.Sound.{IsSound}
-use Rattle.book_sync.specs.Copies.{Later}
+use Rattle.book_office_sync.specs.Copies.{Later}
 use Rattle.book_machine.specs.Asking.{HasPaths}
 use Rattle.book_machine.specs.Runs.{Call, Run, last_office}
 use Rattle.book_machine.specs.Steps.{Serves}

@@ -1,9 +1,9 @@
 -- What the machine's three calls promise, over any keeper: `serve`, `serve_all` and `adopt`.
 use Rattle.std.specs.Prelude.{◌≡◌, ◌≢◌, ◌⊎◌, ℕ, List, Option, Result, Err, OnOk}
-use Rattle.book_policies.specs.declared.parts.PolicyTables.{PolicyTables}
-use Rattle.book_adopting.specs.Adopting.{adopt}
+use Rattle.book_policy_values.specs.declared.parts.PolicyTables.{PolicyTables}
+use Rattle.book_office_adopting.specs.Adopting.{adopt}
 use Rattle.book_office.specs.Keeping.{Leftover, whole, Standing, one_more}
-use Rattle.book_values.specs.declared.offices.Office.{Office}
+use Rattle.book_office_values.specs.declared.offices.Office.{Office}
 use Rattle.book_machine.specs.Adoptions.{Adopts, HasRoomFor}
 use Rattle.book_machine.specs.Agreement.{named, Agree}
 use Rattle.book_machine.specs.Refusals.{refused}

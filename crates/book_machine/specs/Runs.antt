@@ -5,7 +5,7 @@ use Rattle.std.specs.declared.alloc.Global.{Global}
 use Rattle.book_office.specs.Edits.{apply}
 use Rattle.book_office.specs.Keeping.{Leftover, whole}
 use Rattle.book_office.specs.declared.edits.Edit.{Edit}
-use Rattle.book_values.specs.declared.offices.Office.{Office}
+use Rattle.book_office_values.specs.declared.offices.Office.{Office}
 use Rattle.book_machine.specs.Asking.{IsPlanned}
 use Rattle.book_machine.specs.Refusals.{refused}
 use Rattle.book_machine.specs.Steps.{Serves}

@@ -5,7 +5,7 @@ use Rattle.std.specs.List.{AllZip}
 use Rattle.std.specs.Str.{bytes_eq}
 use Rattle.book_cards.specs.CardText.{card_fault}
 use Rattle.book_cards.specs.declared.fault.CardFault.{CardFault}
-use Rattle.book_links.specs.declared.members.Members.{Members}
+use Rattle.book_office_members.specs.declared.members.Members.{Members}
 use Rattle.book_lists.specs.Callers.{IsCircle}
 use Rattle.book_lists.specs.Circles.{CircleOf}
 use Rattle.book_lists.specs.declared.circles.Caller.{Caller}
@@ -22,25 +22,25 @@ use Rattle.book_office.specs.declared.edits.Edit.TheVariants.{PutCard, RemoveCar
 use Rattle.book_office.specs.declared.nodes.EffectiveEntry.{EffectiveEntry}
 use Rattle.book_office.specs.declared.nodes.Node.{Node}
 use Rattle.book_limits.specs.declared.TheConstants.{MAX_ENTRIES, MAX_CARDS, MAX_BOOKS, LAST_NUMBER}
-use Rattle.book_values.specs.declared.offices.Office.{Office}
-use Rattle.book_values.specs.declared.paths.Kind.{Kind}
-use Rattle.book_values.specs.declared.paths.Kind.TheVariants as kind
-use Rattle.book_values.specs.declared.paths.Path.{Path}
-use Rattle.book_values.specs.declared.paths.Path.TheVariants as path
-use Rattle.book_values.specs.Paths.{kind_of}
-use Rattle.book_members.specs.Members.{AreMembersAt}
+use Rattle.book_office_values.specs.declared.offices.Office.{Office}
+use Rattle.book_office_values.specs.declared.paths.Kind.{Kind}
+use Rattle.book_office_values.specs.declared.paths.Kind.TheVariants as kind
+use Rattle.book_office_values.specs.declared.paths.Path.{Path}
+use Rattle.book_office_values.specs.declared.paths.Path.TheVariants as path
+use Rattle.book_office_values.specs.Paths.{kind_of}
+use Rattle.book_office_members.specs.Members.{AreMembersAt}
 use Rattle.book_office.specs.OwnLists.{protected_in_force}
 use Rattle.book_office.specs.Resources.{node_at, count_at, unnumbered}
 use Rattle.book_office.specs.Sound.{IsMapped, IsKnownForm}
-use Rattle.book_listings.specs.Listings.{AreResponses}
-use Rattle.book_listings.specs.declared.messages.Find.{Find}
-use Rattle.book_listings.specs.declared.messages.Response.{Response}
+use Rattle.book_office_listings.specs.Listings.{AreResponses}
+use Rattle.book_office_listings.specs.declared.messages.Find.{Find}
+use Rattle.book_office_listings.specs.declared.messages.Response.{Response}
 use Rattle.book_rights.specs.declared.methods.Method.{Method}
 use Rattle.book_rights.specs.declared.methods.Method.TheVariants as method
-use Rattle.book_rulings.specs.Rulings.{AreRulingsAt}
-use Rattle.book_rulings.specs.declared.messages.Ruling.{Ruling}
-use Rattle.book_sync.specs.Copies.{sync}
-use Rattle.book_sync.specs.declared.messages.Report.{Report}
+use Rattle.book_office_listings.specs.Rulings.{AreRulingsAt}
+use Rattle.book_office_listings.specs.declared.messages.Ruling.{Ruling}
+use Rattle.book_office_sync.specs.Copies.{sync}
+use Rattle.book_office_sync.specs.declared.messages.Report.{Report}
 use Rattle.book_machine.specs.AllowedMethods.{allowed_of, goes_on}
 use Rattle.book_machine.specs.Asked.{asked_of, destination_in, destination_path}
 use Rattle.book_machine.specs.declared.allowed_methods.AllowedMethods.TheVariants.{OfNewBook, OfNewCard}

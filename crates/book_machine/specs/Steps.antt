@@ -2,7 +2,7 @@
 use Rattle.std.specs.Prelude.{◌≡◌, ◌⊎◌, ℕ, List, Option, Some, None, Result, Ok, Err}
 use Rattle.book_office.specs.Edits.{apply}
 use Rattle.book_office.specs.declared.edits.Edit.{Edit}
-use Rattle.book_values.specs.declared.offices.Office.{Office}
+use Rattle.book_office_values.specs.declared.offices.Office.{Office}
 use Rattle.book_machine.specs.Refusals.{refused}
 use Rattle.book_machine.specs.Stages.{ready_of, IsGrantedPlan}
 use Rattle.book_machine.specs.Verdicts.{IsGranted, IsDenied}
@@ -10,7 +10,7 @@ use Rattle.book_machine.specs.declared.messages.Reply.{Reply}
 use Rattle.book_machine.specs.declared.messages.Request.{Request}
 use Rattle.book_machine.specs.declared.plans.Plan.{Plan}
 use Rattle.book_machine.specs.Targets.{Ready}
-use Rattle.book_listings.specs.declared.messages.Denial.{Denial}
+use Rattle.book_office_listings.specs.declared.messages.Denial.{Denial}
 use Rattle.book_machine.specs.declared.refusals.Refusal.{Refusal}
 use Rattle.book_machine.specs.declared.refusals.Refusal.TheVariants.{NeedPrivileges, Unavailable}
 

@@ -5,15 +5,15 @@ use Rattle.std.specs.FinMap.{empty}
 use Rattle.book_rights.specs.declared.methods.Method.TheVariants.{Report as ReportMethod}
 use Rattle.book_lists.specs.Callers.{IsCircle}
 use Rattle.book_lists.specs.Circles.{CircleOf}
-use Rattle.book_values.specs.Names.{NamesTo}
-use Rattle.book_values.specs.declared.offices.Office.{Office}
-use Rattle.book_values.specs.declared.paths.Path.TheVariants as path
+use Rattle.book_office_values.specs.Names.{NamesTo}
+use Rattle.book_office_values.specs.declared.offices.Office.{Office}
+use Rattle.book_office_values.specs.declared.paths.Path.TheVariants as path
 use Rattle.book_office.specs.Keeping.{Standing}
-use Rattle.book_sync.specs.Copies.{Right, IsView, sync, patch}
-use Rattle.book_sync.specs.SyncedRuns.{Steps, Finds, IsReportAt}
-use Rattle.book_sync.specs.declared.messages.Report.{Report}
-use Rattle.book_sync.specs.declared.messages.Seen.{Seen}
-use Rattle.book_sync.specs.declared.messages.Token.{Token}
+use Rattle.book_office_sync.specs.Copies.{Right, IsView, sync, patch}
+use Rattle.book_office_sync.specs.SyncedRuns.{CopySteps, Finds, IsReportAt}
+use Rattle.book_office_sync.specs.declared.messages.Report.{Report}
+use Rattle.book_office_sync.specs.declared.messages.Seen.{Seen}
+use Rattle.book_office_sync.specs.declared.messages.Token.{Token}
 use Rattle.book_machine.specs.Agreement.{named}
 use Rattle.book_machine.specs.Asking.{HasPaths}
 use Rattle.book_machine.specs.Refusals.{refused}
@@ -42,25 +42,25 @@ pub record AsksReport (request : Request) (b : List ℕ) (token : Option Token) 
   pub of_changes : request.body ≡ body.Report (SyncCollection (from_of token))
 
 -- the reply to such a request whose needs are granted: the report, where the token is valid
-abbrev pub told : Option Report → Reply
-told None = refused ValidSyncToken
-told (Some report) = record { status = 207; content = content.Synced report }
+abbrev pub sync_reply : Option Report → Reply
+sync_reply None = refused ValidSyncToken
+sync_reply (Some report) = record { status = 207; content = content.Synced report }
 
 -- a request for a report that is granted is told the report on the Office that it finds, or that its token is not valid,
 -- and changes nothing
 abbrev pub GrantedReportsAreTold : Type 0
 GrantedReportsAreTold = (o : Office) (name : Option (List ℕ)) (request : Request) (reply : Reply) (after : Office) (b : List ℕ) (token : Option Token) (ready : Ready)
     → AsksReport request b token → ready_of o name request ≡ Ok ready → (granted : IsGranted o ready) → IsStep o name request reply after
-    → (reply ≡ told (sync o granted.circle b token None)) × (after ≡ o)
+    → (reply ≡ sync_reply (sync o granted.circle b token None)) × (after ≡ o)
 
 -- a call for the report on a book by a token, or from the start, and its reply with this report of all that changed
 pub record IsReported (call : Call) (reply : Reply) (b : List ℕ) (token : Option Token) (limit : Option ℕ) (report : Report) : Type 0 where
   pub asked : AsksReport call.1 b token
   pub all : limit ≡ None
-  pub is_told : reply ≡ told (Some report)
+  pub is_told : reply ≡ sync_reply (Some report)
 
 -- the steps of the machine, as far as copies ask
-abbrev pub machine_steps : Steps
+abbrev pub machine_steps : CopySteps
 machine_steps = record {
   Call = Call;
   Reply = Reply;

@@ -2,7 +2,7 @@
 use Rattle.std.specs.Prelude.{Bool, Option}
 use Rattle.book_lists.specs.declared.circles.Caller.{Caller}
 use Rattle.book_office.specs.declared.nodes.Node.{Node}
-use Rattle.book_values.specs.declared.paths.Path.{Path}
+use Rattle.book_office_values.specs.declared.paths.Path.{Path}
 use Rattle.book_machine.specs.declared.asked.Asked.{Asked}
 use Rattle.book_machine.specs.declared.plans.Ready.{Ready as ReadyFound}
 use Rattle.book_machine.specs.declared.plans.Target.{Target as TargetFound}

@@ -3,8 +3,8 @@ use Rattle.std.specs.Prelude.{◌≡◌, ◌≢◌, ℕ, ◌≤◌, List, Option
 use Rattle.book_rights.specs.declared.methods.Method.TheVariants.{Move}
 use Rattle.book_lists.specs.declared.circles.Caller.{Caller}
 use Rattle.book_office.specs.Resources.{card_at}
-use Rattle.book_values.specs.declared.offices.StoredCard.{StoredCard}
-use Rattle.book_values.specs.declared.offices.Office.{Office}
+use Rattle.book_office_values.specs.declared.offices.StoredCard.{StoredCard}
+use Rattle.book_office_values.specs.declared.offices.Office.{Office}
 use Rattle.book_machine.specs.Agreement.{named, Agree}
 use Rattle.book_machine.specs.Runs.{Call, Run, last_office}
 use Rattle.book_machine.specs.Steps.{Steps}

@@ -4,25 +4,25 @@ use Rattle.book_lists.specs.Callers.{IsCircle}
 use Rattle.book_lists.specs.Circles.{CircleOf}
 use Rattle.book_lists.specs.declared.entries.Here.{Here}
 use Rattle.book_office.specs.Levels.{effective_at}
-use Rattle.book_values.specs.Paths.{parent_of, kind_of}
+use Rattle.book_office_values.specs.Paths.{parent_of, kind_of}
 use Rattle.book_office.specs.Resources.{node_at, unnumbered}
 use Rattle.book_office.specs.declared.nodes.EffectiveEntry.{EffectiveEntry}
 use Rattle.book_office.specs.declared.nodes.Node.{Node}
-use Rattle.book_values.specs.declared.offices.Office.{Office}
-use Rattle.book_values.specs.declared.paths.Kind.{Kind}
-use Rattle.book_values.specs.declared.paths.Kind.TheVariants as kind
-use Rattle.book_values.specs.declared.paths.Path.{Path}
+use Rattle.book_office_values.specs.declared.offices.Office.{Office}
+use Rattle.book_office_values.specs.declared.paths.Kind.{Kind}
+use Rattle.book_office_values.specs.declared.paths.Kind.TheVariants as kind
+use Rattle.book_office_values.specs.declared.paths.Path.{Path}
 use Rattle.book_rights.specs.Needs.{needs_of}
 use Rattle.book_rights.specs.declared.methods.Shape.{Shape}
 use Rattle.book_rights.specs.declared.privileges.Leaf.{Leaf}
 use Rattle.book_rights.specs.declared.places.Need.{Need}
 use Rattle.book_rights.specs.declared.places.Place.{Place}
 use Rattle.book_rights.specs.declared.places.Place.TheVariants as at
-use Rattle.book_listings.specs.Properties.{is_asked}
-use Rattle.book_listings.specs.Verdicts.{here_of, IsGrantedBy, IsDeniedBy, IsGrantedAt, IsDeniedAt}
-use Rattle.book_listings.specs.declared.messages.Denial.{Denial}
-use Rattle.book_listings.specs.declared.messages.Property.{Property}
-use Rattle.book_listings.specs.declared.messages.Property.TheVariants.{Acl, CurrentUserPrivilegeSet}
+use Rattle.book_office_listings.specs.Properties.{is_asked}
+use Rattle.book_office_listings.specs.Verdicts.{here_of, IsGrantedBy, IsDeniedBy, IsGrantedAt, IsDeniedAt}
+use Rattle.book_office_listings.specs.declared.messages.Denial.{Denial}
+use Rattle.book_office_listings.specs.declared.messages.Property.{Property}
+use Rattle.book_office_listings.specs.declared.messages.Property.TheVariants.{Acl, CurrentUserPrivilegeSet}
 use Rattle.book_machine.specs.Asked.{destination_in, destination_path, method_of}
 use Rattle.book_machine.specs.declared.asked.Asked.{Asked}
 use Rattle.book_machine.specs.declared.asked.Asked.TheVariants as asked

@@ -1,7 +1,7 @@
 //! Adopting a policy.
 
 ghost use Rattle.std.specs.Prelude.{◌≡◌};
-ghost use Rattle.book_adopting.specs.Adopting.{adoption_of};
+ghost use Rattle.book_office_adopting.specs.Adopting.{adoption_of};
 ghost use Rattle.book_office.specs.Keeping.{Reads};
 ghost use Rattle.book_machine.specs.Adoptions.{adopted_by};
 ghost use Rattle.book_machine.specs.Promises.{AdoptPromise};

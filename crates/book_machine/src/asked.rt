@@ -8,11 +8,11 @@ use crate::finding::{find_of, may_be_asked, usual_find};
 use crate::messages::{Body, Depth, Flag, Patch, ReportKind, Request, SyncFrom};
 use crate::refusals::Refusal;
 use book_limits::{MAX_LABEL_BYTES, MAX_MEMBERS};
-use book_listings::{Extent, Find, Property};
 use book_lists::{Name, Principal, Submitted};
 use book_office::{Items, Path, Text};
+use book_office_listings::{Extent, Find, Property};
+use book_office_sync::Token;
 use book_rights::Method;
-use book_sync::Token;
 use std::alloc::{AllocError, Global};
 use std::collections::BTreeSet;
 

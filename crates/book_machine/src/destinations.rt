@@ -2,7 +2,7 @@
 
 ghost use Rattle.std.specs.Prelude.{◌≡◌, Ok, Some};
 ghost use Rattle.book_office.specs.Resources.{node_at};
-ghost use Rattle.book_values.specs.declared.paths.Path.TheVariants as path;
+ghost use Rattle.book_office_values.specs.declared.paths.Path.TheVariants as path;
 ghost use Rattle.book_machine.specs.Asking.{Meets, StageAsks};
 ghost use Rattle.book_machine.specs.Asked.{destination_in};
 ghost use Rattle.book_machine.specs.Stages.{can_change_twice, copy_limits, destination_of, move_limits};

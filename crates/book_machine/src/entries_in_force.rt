@@ -7,9 +7,9 @@ ghost use Rattle.book_office.specs.declared.nodes.Level.{Level};
 ghost use Rattle.book_machine.specs.Verdicts.{Judges};
 
 use crate::refusals::{BoxedDenial, Refusal};
-use book_listings::verdict;
 use book_lists::{Circle, Entry, Here};
 use book_office::{Level, Lists, Path};
+use book_office_listings::verdict;
 use book_rights::LeafSet;
 use std::alloc::{AllocError, Global};
 

@@ -4,9 +4,9 @@ ghost use Rattle.std.specs.Prelude.{◌≡◌, IfOk};
 ghost use Rattle.book_machine.specs.Finding.{are_different, find_of, may_be_asked, needed_for, usual_properties};
 
 use book_limits::MAX_PROPERTIES;
-use book_listings::{Extent, Find, Property, is_asked};
+use book_office_listings::{Extent, Find, Property, is_asked};
+use book_office_values::Items;
 use book_rights::{LeafSet, Method, Needs, Shape, needs};
-use book_values::Items;
 use std::alloc::{AllocError, Global};
 
 /// Whether no property is asked for twice.

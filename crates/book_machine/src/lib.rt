@@ -1,7 +1,7 @@
 //! The machine: from a request to its reply (RFC 3744, section 6; RFC 4918).
 //!
-//! It stands on `book_office` and the crates below, on `book_listings` for what PROPFIND tells, and for reports on
-//! `book_sync`, `book_members` and `book_rulings`. What a request asks for is found without its number, which PROPFIND
+//! It stands on `book_office` and the crates below, on `book_office_listings` for what PROPFIND tells, and for reports on
+//! `book_office_sync`, `book_office_members` and `book_office_listings`. What a request asks for is found without its number, which PROPFIND
 //! alone tells: it finds the resource once more, with it. The crate above uses
 //! that `Machine::serve` answers as the machine's step says, or that the store is unavailable with the Office as it was;
 //! that `serve_all` is a run of such steps; and that `Machine::adopt` leaves the Office that adopts the policy, or tells
@@ -30,12 +30,11 @@ mod syncing;
 pub use adoptions::{AdoptFault, Adopted};
 pub use allowed_methods::AllowedMethods;
 pub use asked::{Asked, Destination};
-pub use book_listings::{
-    AclEntry, DecidingEntry, Denial, Extent, Find, Property, PropertyValue, Response,
+pub use book_office_listings::{
+    AclEntry, DecidingEntry, Denial, Extent, Find, Property, PropertyValue, Response, Ruling,
 };
-pub use book_members::{MemberLine, Members};
-pub use book_rulings::Ruling;
-pub use book_sync::{Found, Item, Report, Token};
+pub use book_office_members::{MemberLine, Members};
+pub use book_office_sync::{Found, Item, Report, Token};
 pub use laws::{
     granted_reports_are_told, listings_tell_the_resource, refusals_change_nothing,
     requests_act_where_granted, requests_are_full_at_limits, requests_have_one_step,

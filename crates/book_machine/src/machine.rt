@@ -3,10 +3,10 @@
 ghost use Rattle.std.specs.Prelude.{◌≡◌, [], Ok, IfOk, OnOk, OnErr, None, is_some, nat_lt};
 ghost use Rattle.std.specs.FinMap.{get};
 ghost use Rattle.std.specs.Option.{option_copied};
-ghost use Rattle.book_rights.specs.Needs.{listed, listed_others, listed_too};
+ghost use Rattle.book_rights.specs.Needs.{need_list, listed_others, listed_too};
 ghost use Rattle.book_office.specs.Resources.{count_at, node_at};
 ghost use Rattle.book_office.specs.Sound.{IsMapped};
-ghost use Rattle.book_values.specs.declared.paths.Path.TheVariants as path;
+ghost use Rattle.book_office_values.specs.declared.paths.Path.TheVariants as path;
 ghost use Rattle.book_machine.specs.Asked.{destination_in};
 ghost use Rattle.book_machine.specs.Asking.{HasPath, HasPaths, Meets, MeetsAny, MeetsItems, MeetsPlan, MeetsSeen, StageAsks, TellsChecked, TellsCheckedEntry, TellsWhether};
 ghost use Rattle.book_machine.specs.LeadingRuns.{HavePaths};
@@ -15,7 +15,7 @@ ghost use Rattle.book_machine.specs.Runs.{calls_of, name_of};
 ghost use Rattle.book_machine.specs.SyncedCopies.{Synced};
 ghost use Rattle.book_machine.specs.Stages.{at_node, at_unmapped, can_change, caller_of, delete_limits, keeps_limits, label_limits, limits_of, new_book_at, new_card, patch_limits, put_limits, ready_of, target_of, IsAclAnswer, IsBodyAnswer, IsGrantedPlan, IsKnownWho, IsListed, IsMembersAnswer, IsPatchAnswer, IsSuccess, protected_entries_at};
 ghost use Rattle.book_machine.specs.Targets.{ready_seen, target_seen};
-ghost use Rattle.book_listings.specs.Verdicts.{here_of, owner_at};
+ghost use Rattle.book_office_listings.specs.Verdicts.{here_of, owner_at};
 ghost use Rattle.book_machine.specs.Verdicts.{IsTarget, JudgesNeed, JudgesNeeds, needs_at, owned_by, owner_in, place_path};
 
 use crate::allowed_methods::AllowedMethods;
@@ -30,9 +30,9 @@ use crate::stages::{
     principal_of, put_plan, replied, shape_at,
 };
 use book_limits::{LAST_NUMBER, MAX_BOOKS, MAX_CARDS, MAX_ENTRIES};
-use book_listings::{Find, listing};
 use book_lists::{Caller, Circle, Entry, Here, Name, Principal, Submitted, Who, check_edit};
 use book_office::{Items, Keeper, Node, Path};
+use book_office_listings::{Find, listing};
 use book_rights::{LeafSet, Method, Need, Needs, Place, needs};
 use std::alloc::{AllocError, Global};
 
@@ -303,7 +303,7 @@ impl<K: Keeper> Machine<K> {
         needs: Needs,
     ) -> Result<(), Refusal>
         ensures { StageAsks K.standing self.old self.new result
-            (λ o r. target.now ≡ here_of o ready.now.target.path.now → JudgesNeeds o circle.now (destination_in ready.now.asked) ready.now.target.path.now (listed needs) r) }
+            (λ o r. target.now ≡ here_of o ready.now.target.path.now → JudgesNeeds o circle.now (destination_in ready.now.asked) ready.now.target.path.now (need_list needs) r) }
     {
         let Needs { first, others } = needs;
         self.check_need(alloc, circle, ready, target, first)?;

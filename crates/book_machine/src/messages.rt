@@ -2,13 +2,12 @@
 
 use crate::allowed_methods::AllowedMethods;
 use crate::refusals::Refusal;
-use book_listings::{Property, Response};
 use book_lists::{Caller, Name, Principal, Submitted};
-use book_members::Members;
 use book_office::{Items, Path, Text};
+use book_office_listings::{Property, Response, Ruling};
+use book_office_members::Members;
+use book_office_sync::{Report, Token};
 use book_rights::Method;
-use book_rulings::Ruling;
-use book_sync::{Report, Token};
 
 /// The field Overwrite (RFC 4918, section 10.6), as it was read.
 #[derive(Clone, Copy, Debug, PartialEq, Eq)]

@@ -7,8 +7,8 @@ ghost use Rattle.book_machine.specs.declared.refusals.Refusal.TheVariants.{Unava
 use crate::allowed_methods::AllowedMethods;
 use crate::messages::{Content, Reply};
 use book_cards::CardFault;
-use book_listings::Denial;
 use book_office::StoreFault;
+use book_office_listings::Denial;
 use std::alloc::{AllocError, Global};
 use std::marker::Model;
 
@@ -19,8 +19,8 @@ pub struct BoxedDenial {
 }
 
 impl Model for BoxedDenial {
-    ghost use Rattle.book_listings.specs.declared.messages.Denial.{Denial};
-    ghost use Rattle.book_listings.specs.contracts.messages.Denial as denial_type;
+    ghost use Rattle.book_office_listings.specs.declared.messages.Denial.{Denial};
+    ghost use Rattle.book_office_listings.specs.contracts.messages.Denial as denial_type;
 
     ghost Value = { Denial };
 

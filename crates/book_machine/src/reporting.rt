@@ -1,7 +1,7 @@
 //! What a REPORT tells, by the report that is asked.
 
 ghost use Rattle.book_lists.specs.declared.circles.Caller.TheVariants.{Known};
-ghost use Rattle.book_values.specs.declared.paths.Path.TheVariants as path;
+ghost use Rattle.book_office_values.specs.declared.paths.Path.TheVariants as path;
 ghost use Rattle.book_machine.specs.Asking.{MeetsAny, StageAsks};
 ghost use Rattle.book_machine.specs.Stages.{AreMembersTold, AreRulingsFor, AreRulingsTold, IsCallerAnswer, IsReportAnswer, IsReportOf};
 
@@ -11,9 +11,9 @@ use crate::plans::Plan;
 use crate::refusals::Refusal;
 use crate::stages::replied;
 use book_lists::{Caller, Circle, Name, Principal};
-use book_members::group_members;
 use book_office::{Keeper, Path};
-use book_rulings::effective_rulings;
+use book_office_listings::effective_rulings;
+use book_office_members::group_members;
 use std::alloc::Global;
 
 impl<K: Keeper> Machine<K> {

@@ -3,7 +3,7 @@
 ghost use Rattle.std.specs.Prelude.{◌≡◌, ◌↔◌, ◌<◌, ◌⊎◌, IfOk, IsSomeAnd, IsTrue, option_and_then, option_map};
 ghost use Rattle.book_cards.specs.CardText.{card_fault};
 ghost use Rattle.book_cards.specs.declared.fault.CardFaultKind.TheVariants.{Memory};
-ghost use Rattle.book_values.specs.Paths.{parent_of};
+ghost use Rattle.book_office_values.specs.Paths.{parent_of};
 ghost use Rattle.book_machine.specs.AllowedMethods.{allowed_of, goes_on};
 ghost use Rattle.book_machine.specs.Asked.{destination_in, destination_path};
 ghost use Rattle.book_machine.specs.Asking.{Meets, PathOf};
@@ -12,7 +12,7 @@ ghost use Rattle.book_machine.specs.Stages.{bad_card, can_change, can_change_twi
 ghost use Rattle.book_machine.specs.Stages.{acl_plan, allow_plan, card_plan, copy_plan, delete_plan, mkcol_plan, move_plan, patch_plan, put_plan};
 ghost use Rattle.book_machine.specs.declared.refusals.Refusal.TheVariants.{BadCard, NotAllowed, Unavailable};
 ghost use Rattle.book_machine.specs.Targets.{ready_seen, target_seen};
-ghost use Rattle.book_listings.specs.Verdicts.{principal_of};
+ghost use Rattle.book_office_listings.specs.Verdicts.{principal_of};
 ghost use Rattle.book_office.specs.declared.nodes.Node.{Node as NodeOf};
 ghost use Rattle.book_machine.specs.Verdicts.{asks_effective, asks_for, or_itself, place_path, shape_at};
 
@@ -23,9 +23,9 @@ use crate::plans::{Plan, Ready, Target};
 use crate::refusals::Refusal;
 use book_cards::{CardFault, CardFaultKind, read_card};
 use book_limits::{LAST_NUMBER, MAX_CARDS};
-use book_listings::{Property, is_asked};
 use book_lists::{Caller, EditFault, Entry, Principal, Submitted};
 use book_office::{Edit, Items, Kind, Node, Path, Text};
+use book_office_listings::{Property, is_asked};
 use book_rights::{Method, Place, Shape};
 use std::alloc::{AllocError, Global};
 

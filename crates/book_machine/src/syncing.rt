@@ -2,7 +2,7 @@
 
 ghost use Rattle.std.specs.Prelude.{None};
 ghost use Rattle.std.specs.Option.{option_copied};
-ghost use Rattle.book_sync.specs.Copies.{sync};
+ghost use Rattle.book_office_sync.specs.Copies.{sync};
 ghost use Rattle.book_machine.specs.Asking.{Meets, StageAsks};
 ghost use Rattle.book_machine.specs.Stages.{report_from, report_plan, sync_plan};
 
@@ -13,7 +13,7 @@ use crate::refusals::Refusal;
 use crate::stages::replied;
 use book_lists::{Circle, Name};
 use book_office::{Keeper, Path};
-use book_sync::{Token, sync_report};
+use book_office_sync::{Token, sync_report};
 use std::alloc::Global;
 
 impl<K: Keeper> Machine<K> {

@@ -1,13 +1,9 @@
 -- Which edits raise the epoch.
-use Rattle.std.proofs.Common.{◌≡◌, ℕ, ◌+◌, List, true, false, not, cond, refl}
+use Rattle.book_office.proofs.Common.{◌≡◌, ℕ, ◌+◌, List, true, false, not, cond, refl, Office, Path, taken_over, same_office}
 use Rattle.book_office.specs.declared.edits.Edit.{Edit}
 use Rattle.book_office.specs.declared.edits.Edit.TheVariants.{PutCard, RemoveCard, CopyCard, MoveCard, AddBook, RemoveBook, SetLabel, SetList, SetMembers, Adopt}
-use Rattle.book_values.specs.declared.offices.Office.{Office}
-use Rattle.book_values.specs.declared.paths.Path.{Path}
-use Rattle.book_values.specs.declared.paths.Path.TheVariants as path
-use Rattle.book_adopting.specs.Adopting.{taken_over}
+use Rattle.book_office_values.specs.declared.paths.Path.TheVariants as path
 use Rattle.book_office.specs.Edits.{apply, raises_epoch, set_label}
-use Rattle.book_adopting.specs.Sameness.{same_office}
 
 pub label_leaves_epoch : (p : Path) (label : List ℕ) (o : Office) → (set_label p label o).epoch ≡ o.epoch
 label_leaves_epoch path.Root label o = refl

@@ -1,20 +1,14 @@
 -- An edit of a sound Office within the limits leaves a sound Office.
-use Rattle.std.proofs.Common.{◌≡◌, ◌≢◌, inr, ℕ, ◌+◌, ◌-◌, ◌<◌, ◌≤◌, List, length, Option, Some, None, refl, sym, ap, ◌∙◌, subst, option_map, option_and_then, le_trans, arith}
-use Rattle.std.specs.FinMap.{get, insert, remove, len}
-use Rattle.book_lists.specs.Names.{IsName}
-use Rattle.book_values.specs.declared.offices.Book.{Book}
-use Rattle.book_values.specs.declared.offices.StoredCard.{StoredCard}
-use Rattle.book_values.specs.declared.offices.Office.{Office}
-use Rattle.book_limits.specs.declared.TheConstants.{MAX_LABEL_BYTES, MAX_CARD_BYTES, MAX_CARDS, MAX_BOOKS, LAST_NUMBER}
-use Rattle.book_office.specs.Edits.{changed_at, with_book, card_put, put_card, remove_card, card_copied, copy_from, move_to, new_book}
+use Rattle.book_office.proofs.Common.{◌≡◌, ◌≢◌, inr, ℕ, ◌+◌, ◌<◌, ◌≤◌, List, length, Option, Some, None, refl, sym, ap, ◌∙◌, subst, option_map, option_and_then, le_trans, arith, get, insert, remove, same_Some, IsName, Book, StoredCard, Office, MAX_LABEL_BYTES, LAST_NUMBER, changed_at, with_book, put_card, remove_card, copy_from, move_to, new_book, card_at, NamesTo, IsMapped, IsOwner, IsSoundCard, IsSoundBook, IsSound, some_apart, where_some, is_there, by_put, by_removed, by_changed}
+use Rattle.std.proofs.Common.{◌-◌}
+use Rattle.std.specs.FinMap.{len}
+use Rattle.book_limits.specs.declared.TheConstants.{MAX_CARD_BYTES, MAX_CARDS, MAX_BOOKS}
+use Rattle.book_office.specs.Edits.{card_put, card_copied}
 use Rattle.book_office.specs.Fitting.{PutCardFits, RemoveCardFits, CopyCardFits, MoveAcrossFits, MoveWithinFits, AddBookFits, RemoveBookFits}
-use Rattle.book_office.specs.Resources.{card_at}
-use Rattle.book_values.specs.Names.{NamesTo}
 use Rattle.book_office.specs.Fitting.{HasRoom}
-use Rattle.book_office.specs.Sound.{IsMapped, IsOwner, IsSoundCard, IsSoundBook, IsSound}
 use Rattle.book_office.proofs.KnownPrincipals.{properties_known, card_known, book_known}
-use Rattle.book_values.proofs.NameMapLaws.{len_put, len_removed, len_removed_there}
-use Rattle.book_values.proofs.OneName.{some_apart, same_some, where_some, is_there, by_put, by_removed, by_changed, changed_here, changed_elsewhere, len_changed}
+use Rattle.book_office_values.proofs.NameMapLaws.{len_put, len_removed, len_removed_there}
+use Rattle.book_office_values.proofs.OneName.{changed_here, changed_elsewhere, len_changed}
 use Rattle.book_office.proofs.MovedCards.{card_there, card_is}
 use Rattle.book_office.proofs.SoundBooks.{placed_sound, removed_sound, card_named, new_book_sound}
 
@@ -47,7 +41,7 @@ with_book_sound o b change book sound at good = books_sound o (changed_at change
     (λ q k. by_changed o.books b change q (λ r. r ≡ Some k → IsName q × IsSoundBook o k)
     (λ is h.
     let here : get o.books q ≡ Some book = ap (get o.books) is ∙ at in
-    let new : change book ≡ k = same_some (change book) k (sym (ap (option_map change) here) ∙ h) in
+    let new : change book ≡ k = same_Some (change book) k (sym (ap (option_map change) here) ∙ h) in
     ((sound.books q book here).0, subst (IsSoundBook o) new good))
     (λ _. sound.books q k))
     (rw (len_changed o.books b change) sound.few)
@@ -146,7 +140,7 @@ add_book_fits o b owner sound none named known room = record {
   sound = books_sound o (insert o.books b (new_book owner)) o.epoch sound
       (λ q k. by_put o.books b (new_book owner) q (λ r. r ≡ Some k → IsName q × IsSoundBook o k)
       (λ is h.
-      let good : IsSoundBook o k = subst (IsSoundBook o) (same_some (new_book owner) k h) (new_book_sound o owner known) in
+      let good : IsSoundBook o k = subst (IsSoundBook o) (same_Some (new_book owner) k h) (new_book_sound o owner known) in
       (subst IsName (sym is) named, good))
       (λ _. sound.books q k))
       (len_put o.books b (new_book owner) MAX_BOOKS (inr room))

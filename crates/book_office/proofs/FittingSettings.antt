@@ -1,39 +1,27 @@
 -- A label, an own list or the members of a group, set in a sound Office within the limits, leave a sound Office.
-use Rattle.std.proofs.Common.{◌≡◌, ◌≢◌, inl, inr, ℕ, ◌+◌, ◌<◌, ◌≤◌, List, [], ◌∷◌, Bool, true, false, not, cond, ◌&&◌, ◌||◌, length, Option, Some, None, refl, sym, ap, ◌∙◌, subst, option_map, option_and_then, le_trans, arith}
-use Rattle.std.specs.List.{All, list_any}
-use Rattle.std.proofs.lemmas.Bool.{false≢true}
+use Rattle.book_office.proofs.Common.{◌≡◌, ◌≢◌, inl, inr, ℕ, ◌+◌, ◌<◌, ◌≤◌, List, [], ◌∷◌, Bool, true, false, not, cond, ◌&&◌, ◌||◌, length, Option, Some, None, refl, sym, ap, ◌∙◌, subst, option_map, option_and_then, le_trans, arith, list_any, false≢true, get, contains-retain, same_set, bytes_eq, same_Some, memberships_total, memberships_exact, Memberships, membership_cmp, members_of, IsName, Entry, Membership, NamesTo, MAX_LABEL_BYTES, LAST_NUMBER, Book, Office, Properties, Path, changed_at, card_labelled, label_card, label_set, list_set, listed_card, with_book_properties, with_cards, card_in, card_resource, number_of, IsMapped, IsSoundList, AreSoundProperties, IsSoundBook, IsSoundCard, IsSound, some_apart, by_option, where_some, by_changed}
+use Rattle.std.specs.List.{All}
 use Rattle.std.proofs.lemmas.List.{length-map}
 use Rattle.std.proofs.lemmas.List.Elements.{All-head, All-tail}
-use Rattle.std.specs.FinMap.{get}
 use Rattle.std.specs.FinSet as set
-use Rattle.std.specs.FinSet.{contains-from_list, contains-retain, contains-union, len-empty, len-insert, same_set}
+use Rattle.std.specs.FinSet.{contains-from_list, contains-union, len-empty, len-insert}
 use Rattle.std.specs.Ordering.{eq_by_cmp}
-use Rattle.std.specs.Str.{bytes_eq}
 use Rattle.std.proofs.lemmas.Cmp.{nat_list_eq_equiv}
-use Rattle.book_lists.proofs.Pairing.{memberships_total, memberships_exact, same_path, path_itself}
-use Rattle.book_lists.specs.Memberships.{Memberships, membership_cmp, members_of}
-use Rattle.book_lists.specs.Names.{IsName}
-use Rattle.book_lists.specs.declared.entries.Entry.{Entry}
-use Rattle.book_lists.specs.declared.memberships.Membership.{Membership}
-use Rattle.book_values.specs.Names.{NamesTo}
-use Rattle.book_limits.specs.declared.TheConstants.{MAX_MEMBERS, MAX_LABEL_BYTES, LAST_NUMBER}
-use Rattle.book_values.specs.declared.offices.Book.{Book}
-use Rattle.book_values.specs.declared.offices.Office.{Office}
-use Rattle.book_values.specs.declared.offices.Properties.{Properties}
-use Rattle.book_values.specs.declared.paths.Path.{Path}
-use Rattle.book_values.specs.declared.paths.Path.TheVariants as path
-use Rattle.book_office.specs.Edits.{changed_at, card_labelled, label_card, labelled, listed, listed_card, members_set, with_book_properties, with_cards, with_properties}
+use Rattle.book_lists.proofs.Pairing.{same_path, path_itself}
+use Rattle.book_limits.specs.declared.TheConstants.{MAX_MEMBERS}
+use Rattle.book_office_values.specs.declared.paths.Path.TheVariants as path
+use Rattle.book_office.specs.Edits.{members_set, with_properties}
 use Rattle.book_office.specs.Fitting.{SetLabelFits, SetListFits, SetMembersFits}
-use Rattle.book_office.specs.Resources.{card_in, card_resource, number_of, resource_at}
-use Rattle.book_office.specs.Sound.{IsMapped, IsMappedGroup, IsSoundList, AreSoundProperties, IsSoundBook, IsSoundCard, IsSoundPair, IsSound}
+use Rattle.book_office.specs.Resources.{resource_at}
+use Rattle.book_office.specs.Sound.{IsMappedGroup, IsSoundPair}
 use Rattle.book_office.proofs.FittingEdits.{books_sound, with_book_sound}
 use Rattle.book_office.proofs.GroupMembers.{pairs_of}
 use Rattle.book_office.proofs.KnownPrincipals.{properties_known, book_known}
 use Rattle.book_office.proofs.MovedCards.{card_there}
 use Rattle.book_office.proofs.OneGroup.{one_of, only_new, only_old, among}
 use Rattle.book_office.proofs.SoundBooks.{placed_sound, card_named}
-use Rattle.book_values.proofs.NameMapLaws.{tied}
-use Rattle.book_values.proofs.OneName.{some_apart, same_some, by_option, where_some, by_changed, len_changed}
+use Rattle.book_office_values.proofs.NameMapLaws.{tied}
+use Rattle.book_office_values.proofs.OneName.{len_changed}
 
 -- what holds of each value holds where one is changed, if the change keeps it
 changed_each : {V : Type 0} (m : NamesTo V) (n : List ℕ) (change : V → V) (P : List ℕ → V → Type 0) → ((q : List ℕ) (v : V) → P q v → P q (change v))
@@ -41,7 +29,7 @@ changed_each : {V : Type 0} (m : NamesTo V) (n : List ℕ) (change : V → V) (P
 changed_each m n change P keeps each q v = by_changed m n change q (λ r. r ≡ Some v → P q v)
     (λ _ after. by_option (get m q)
     (λ none. some_apart (sym after ∙ ap (option_map change) none))
-    (λ old at. subst (P q) (same_some (change old) v (sym (ap (option_map change) at) ∙ after)) (keeps q old (each q old at))))
+    (λ old at. subst (P q) (same_Some (change old) v (sym (ap (option_map change) at) ∙ after)) (keeps q old (each q old at))))
     (λ _. each q v)
 
 -- names that are there stay there where one value is changed
@@ -136,7 +124,7 @@ module _ (o : Office) (sound : IsSound o) (epoch : ℕ) (low : epoch ≤ LAST_NU
 
 -- ---- labels
 
-label_keeps : (o : Office) (label : List ℕ) → length label ≤ MAX_LABEL_BYTES → (x : Properties) → AreSoundProperties o x → AreSoundProperties o (labelled label x)
+label_keeps : (o : Office) (label : List ℕ) → length label ≤ MAX_LABEL_BYTES → (x : Properties) → AreSoundProperties o x → AreSoundProperties o (label_set label x)
 label_keeps o label short x h = record { owner = h.owner; label = short; protected = h.protected; own = h.own }
 
 -- a resource of a card is a card
@@ -157,18 +145,18 @@ card_label_sound o b c label sound there short low =
     (placed_sound o book c good (card_labelled label card) (card_named o book c good mapped) new (low book at) (inl mapped)))))
 
 pub set_label_fits : SetLabelFits
-set_label_fits o path.Root label sound there short low = record { possible = there; sound = properties_sound o sound o.epoch sound.epoch (labelled label) (label_keeps o label short) path.Root }
-set_label_fits o path.People label sound there short low = record { possible = there; sound = properties_sound o sound o.epoch sound.epoch (labelled label) (label_keeps o label short) path.People }
-set_label_fits o path.Groups label sound there short low = record { possible = there; sound = properties_sound o sound o.epoch sound.epoch (labelled label) (label_keeps o label short) path.Groups }
-set_label_fits o path.Books label sound there short low = record { possible = there; sound = properties_sound o sound o.epoch sound.epoch (labelled label) (label_keeps o label short) path.Books }
-set_label_fits o (path.Person n) label sound there short low = record { possible = there; sound = properties_sound o sound o.epoch sound.epoch (labelled label) (label_keeps o label short) (path.Person n) }
-set_label_fits o (path.Group n) label sound there short low = record { possible = there; sound = properties_sound o sound o.epoch sound.epoch (labelled label) (label_keeps o label short) (path.Group n) }
-set_label_fits o (path.Book b) label sound there short low = record { possible = there; sound = properties_sound o sound o.epoch sound.epoch (labelled label) (label_keeps o label short) (path.Book b) }
+set_label_fits o path.Root label sound there short low = record { possible = there; sound = properties_sound o sound o.epoch sound.epoch (label_set label) (label_keeps o label short) path.Root }
+set_label_fits o path.People label sound there short low = record { possible = there; sound = properties_sound o sound o.epoch sound.epoch (label_set label) (label_keeps o label short) path.People }
+set_label_fits o path.Groups label sound there short low = record { possible = there; sound = properties_sound o sound o.epoch sound.epoch (label_set label) (label_keeps o label short) path.Groups }
+set_label_fits o path.Books label sound there short low = record { possible = there; sound = properties_sound o sound o.epoch sound.epoch (label_set label) (label_keeps o label short) path.Books }
+set_label_fits o (path.Person n) label sound there short low = record { possible = there; sound = properties_sound o sound o.epoch sound.epoch (label_set label) (label_keeps o label short) (path.Person n) }
+set_label_fits o (path.Group n) label sound there short low = record { possible = there; sound = properties_sound o sound o.epoch sound.epoch (label_set label) (label_keeps o label short) (path.Group n) }
+set_label_fits o (path.Book b) label sound there short low = record { possible = there; sound = properties_sound o sound o.epoch sound.epoch (label_set label) (label_keeps o label short) (path.Book b) }
 set_label_fits o (path.Card b c) label sound there short low = record { possible = there; sound = card_label_sound o b c label sound there short low }
 
 -- ---- own lists
 
-list_keeps : (o : Office) (list : List Entry) → IsSoundList o list → (x : Properties) → AreSoundProperties o x → AreSoundProperties o (listed list x)
+list_keeps : (o : Office) (list : List Entry) → IsSoundList o list → (x : Properties) → AreSoundProperties o x → AreSoundProperties o (list_set list x)
 list_keeps o list good x h = record { owner = h.owner; label = h.label; protected = h.protected; own = good }
 
 card_list_keeps : (o : Office) (c : List ℕ) (list : List Entry) → IsSoundList o list → (x : Book) → IsSoundBook o x → IsSoundBook o (with_cards (λ cards. changed_at (listed_card list) cards c) x)
@@ -184,13 +172,13 @@ card_list_keeps o c list good x h = record {
 }
 
 pub set_list_fits : SetListFits
-set_list_fits o path.Root list sound there good low = record { possible = there; sound = properties_sound o sound (o.epoch + 1) (omega (arith, low)) (listed list) (list_keeps o list good) path.Root }
-set_list_fits o path.People list sound there good low = record { possible = there; sound = properties_sound o sound (o.epoch + 1) (omega (arith, low)) (listed list) (list_keeps o list good) path.People }
-set_list_fits o path.Groups list sound there good low = record { possible = there; sound = properties_sound o sound (o.epoch + 1) (omega (arith, low)) (listed list) (list_keeps o list good) path.Groups }
-set_list_fits o path.Books list sound there good low = record { possible = there; sound = properties_sound o sound (o.epoch + 1) (omega (arith, low)) (listed list) (list_keeps o list good) path.Books }
-set_list_fits o (path.Person n) list sound there good low = record { possible = there; sound = properties_sound o sound (o.epoch + 1) (omega (arith, low)) (listed list) (list_keeps o list good) (path.Person n) }
-set_list_fits o (path.Group n) list sound there good low = record { possible = there; sound = properties_sound o sound (o.epoch + 1) (omega (arith, low)) (listed list) (list_keeps o list good) (path.Group n) }
-set_list_fits o (path.Book b) list sound there good low = record { possible = there; sound = properties_sound o sound (o.epoch + 1) (omega (arith, low)) (listed list) (list_keeps o list good) (path.Book b) }
+set_list_fits o path.Root list sound there good low = record { possible = there; sound = properties_sound o sound (o.epoch + 1) (omega (arith, low)) (list_set list) (list_keeps o list good) path.Root }
+set_list_fits o path.People list sound there good low = record { possible = there; sound = properties_sound o sound (o.epoch + 1) (omega (arith, low)) (list_set list) (list_keeps o list good) path.People }
+set_list_fits o path.Groups list sound there good low = record { possible = there; sound = properties_sound o sound (o.epoch + 1) (omega (arith, low)) (list_set list) (list_keeps o list good) path.Groups }
+set_list_fits o path.Books list sound there good low = record { possible = there; sound = properties_sound o sound (o.epoch + 1) (omega (arith, low)) (list_set list) (list_keeps o list good) path.Books }
+set_list_fits o (path.Person n) list sound there good low = record { possible = there; sound = properties_sound o sound (o.epoch + 1) (omega (arith, low)) (list_set list) (list_keeps o list good) (path.Person n) }
+set_list_fits o (path.Group n) list sound there good low = record { possible = there; sound = properties_sound o sound (o.epoch + 1) (omega (arith, low)) (list_set list) (list_keeps o list good) (path.Group n) }
+set_list_fits o (path.Book b) list sound there good low = record { possible = there; sound = properties_sound o sound (o.epoch + 1) (omega (arith, low)) (list_set list) (list_keeps o list good) (path.Book b) }
 set_list_fits o (path.Card b c) list sound there good low = record {
   possible = there;
   sound = changed_book_sound o sound (o.epoch + 1) (omega (arith, low)) b (with_cards (λ cards. changed_at (listed_card list) cards c)) (card_list_keeps o c list good);

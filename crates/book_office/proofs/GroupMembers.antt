@@ -1,14 +1,10 @@
 -- The pairs of other groups, and the members of one group, put together one after the other.
-use Rattle.std.proofs.Common.{◌≡◌, ℕ, List, [], ◌∷◌, map, Bool, true, false, not, cond, ◌&&◌, ◌||◌, refl, sym, ap, ◌∙◌}
-use Rattle.std.specs.List.{list_any}
+use Rattle.book_office.proofs.Common.{◌≡◌, ℕ, List, [], ◌∷◌, map, Bool, true, false, not, cond, ◌&&◌, ◌||◌, refl, sym, ap, ◌∙◌, list_any, contains-retain, same_set, bytes_eq, memberships_total, memberships_exact, Memberships, membership_cmp, Membership}
 use Rattle.std.specs.FinSet as set
-use Rattle.std.specs.FinSet.{contains-empty, contains-insert, contains-from_list, contains-retain, contains-union, same_set}
+use Rattle.std.specs.FinSet.{contains-empty, contains-insert, contains-from_list, contains-union}
 use Rattle.std.specs.Ordering.{eq_by_cmp}
-use Rattle.std.specs.Str.{bytes_eq}
-use Rattle.book_lists.proofs.Pairing.{memberships_total, memberships_exact}
-use Rattle.book_lists.specs.Memberships.{Memberships, membership_cmp, set_of}
-use Rattle.book_lists.specs.declared.memberships.Membership.{Membership}
-use Rattle.book_values.proofs.NameMapLaws.{tied}
+use Rattle.book_lists.specs.Memberships.{set_of}
+use Rattle.book_office_values.proofs.NameMapLaws.{tied}
 
 abbrev pub pairs_of : List ℕ → List (List ℕ) → List Membership
 pairs_of group members = map (λ member. record { group = group; member = member }) members

@@ -1,13 +1,8 @@
 -- What is sound by the principals that are there stays so while they are.
-use Rattle.std.proofs.Common.{ℕ, List, Option, Some, None}
-use Rattle.book_lists.specs.declared.entries.Entry.{Entry}
+use Rattle.book_office.proofs.Common.{ℕ, List, Option, Some, None, Entry, Book, StoredCard, Office, Properties, IsMapped, IsOwner, IsSoundList, AreSoundProperties, IsSoundCard, IsSoundBook}
 use Rattle.book_lists.specs.declared.entries.Who.{Who}
 use Rattle.book_lists.specs.declared.entries.Who.TheVariants.{Href, Everyone, Authenticated, Unauthenticated, Owner, Own}
-use Rattle.book_values.specs.declared.offices.Book.{Book}
-use Rattle.book_values.specs.declared.offices.StoredCard.{StoredCard}
-use Rattle.book_values.specs.declared.offices.Office.{Office}
-use Rattle.book_values.specs.declared.offices.Properties.{Properties}
-use Rattle.book_office.specs.Sound.{IsMapped, IsOwner, IsKnownForm, IsSoundList, AreSoundProperties, IsSoundCard, IsSoundBook}
+use Rattle.book_office.specs.Sound.{IsKnownForm}
 
 module _ (o p : Office) (known : (principal : List ℕ) → IsMapped o principal → IsMapped p principal) where
   owner_known : (owner : Option (List ℕ)) → IsOwner o owner → IsOwner p owner

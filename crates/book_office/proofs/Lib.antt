@@ -1,3 +1,4 @@
+pub mod Common
 pub mod Epochs
 pub mod FittingEdits
 pub mod FittingSettings

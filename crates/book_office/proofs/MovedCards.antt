@@ -1,16 +1,13 @@
 -- Maps in which a card or a book is moved in place.
-use Rattle.std.proofs.Common.{◌≡◌, ◌≢◌, ℕ, List, not, cond, Option, Some, None, is_some, option_and_then, refl, sym, ap, ◌∙◌}
+use Rattle.book_office.proofs.Common.{◌≡◌, ◌≢◌, ℕ, List, not, cond, Option, Some, None, option_and_then, refl, sym, ap, ◌∙◌, get, insert, remove, NamesTo, Book, StoredCard, Office, with_book, remove_card, move_to, copy_from, card_at, unroomed, handed, same, insert_same, by_option}
+use Rattle.std.proofs.Common.{is_some}
 use Rattle.std.specs.Cmp.Lexicographic.{nat_list_cmp_total}
-use Rattle.std.specs.FinMap.{get, insert, remove, same_map}
-use Rattle.book_values.specs.Names.{NamesTo, changed_if, changed_at}
-use Rattle.book_values.specs.declared.offices.Book.{Book}
-use Rattle.book_values.specs.declared.offices.StoredCard.{StoredCard}
-use Rattle.book_values.specs.declared.offices.Office.{Office}
-use Rattle.book_office.specs.Edits.{with_book, remove_card, move_to, move_card, put_copy, copy_from}
-use Rattle.book_office.specs.Resources.{card_at}
-use Rattle.book_office.specs.Moving.{empty_card, roomed, unroomed, handed}
-use Rattle.book_values.proofs.NameMapLaws.{names_apart, same, by_names, put_at, removed_at, undone, insert_same}
-use Rattle.book_values.proofs.OneName.{by_option, put_here, put_elsewhere, removed_elsewhere}
+use Rattle.std.specs.FinMap.{same_map}
+use Rattle.book_office_values.specs.Names.{changed_if, changed_at}
+use Rattle.book_office.specs.Edits.{move_card, put_copy}
+use Rattle.book_office.specs.Moving.{empty_card, roomed}
+use Rattle.book_office_values.proofs.NameMapLaws.{names_apart, by_names, put_at, removed_at, undone}
+use Rattle.book_office_values.proofs.OneName.{put_here, put_elsewhere, removed_elsewhere}
 
 -- what is put twice at a name is what was put last
 pub put_twice : {V : Type 0} (m : NamesTo V) (k : List ℕ) (v w : V) → insert (insert m k v) k w ≡ insert m k w

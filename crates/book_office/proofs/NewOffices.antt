@@ -1,16 +1,9 @@
 -- The Office of a new keeper is sound.
-use Rattle.std.proofs.Common.{◌≡◌, Bool, true, ◌&&◌, None, sym, ap, ◌∙◌, arith}
+use Rattle.book_office.proofs.Common.{◌≡◌, Bool, true, ◌&&◌, None, sym, ap, ◌∙◌, arith, memberships_total, memberships_exact, membership_cmp, name_cmp, Membership, IsSound, AreSoundProperties, Book, Office}
 use Rattle.std.specs.FinMap.{empty, len-empty}
 use Rattle.std.specs.FinSet as set
-use Rattle.book_lists.proofs.Pairing.{memberships_total, memberships_exact}
-use Rattle.book_lists.specs.Memberships.{membership_cmp}
-use Rattle.book_lists.specs.Names.{name_cmp}
-use Rattle.book_lists.specs.declared.memberships.Membership.{Membership}
-use Rattle.book_values.proofs.OneName.{nothing_in}
+use Rattle.book_office_values.proofs.OneName.{nothing_in}
 use Rattle.book_office.specs.Edits.{empty_office, empty_properties}
-use Rattle.book_office.specs.Sound.{IsSound, AreSoundProperties}
-use Rattle.book_values.specs.declared.offices.Book.{Book}
-use Rattle.book_values.specs.declared.offices.Office.{Office}
 
 -- no pair is kept of none
 none_kept : (p : Membership → Bool) → set.retain (set.empty {R = membership_cmp}) p ≡ set.empty

@@ -1,11 +1,5 @@
 -- An edit of one book in place, against the Office with that book changed.
-use Rattle.std.proofs.Common.{◌≡◌, ℕ, List, Some, sym, ap, ◌∙◌}
-use Rattle.std.specs.FinMap.{get, insert}
-use Rattle.book_values.specs.Names.{NamesTo}
-use Rattle.book_values.specs.declared.offices.Book.{Book}
-use Rattle.book_values.specs.declared.offices.Office.{Office}
-use Rattle.book_office.specs.Edits.{changed_if, with_book}
-use Rattle.book_values.proofs.NameMapLaws.{insert_same}
+use Rattle.book_office.proofs.Common.{◌≡◌, ℕ, List, Some, sym, ap, ◌∙◌, get, insert, NamesTo, Book, Office, changed_if, with_book, insert_same}
 
 pub edited : (o : Office) (b : List ℕ) (change : Book → Book) (old new : Book) (books : NamesTo Book)
     → Some old ≡ get o.books b → books ≡ insert o.books b new → new ≡ change old

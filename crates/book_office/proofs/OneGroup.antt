@@ -1,12 +1,7 @@
 -- Which pairs stand for the members of one group, where pairs of some groups are replaced.
-use Rattle.std.proofs.Common.{◌≡◌, ◌⊎◌, inl, inr, ℕ, List, Bool, true, false, not, ◌&&◌, ◌||◌, refl, sym, ap, ◌∙◌}
-use Rattle.std.proofs.lemmas.Bool.{false≢true}
+use Rattle.book_office.proofs.Common.{◌≡◌, inl, inr, ℕ, List, Bool, true, false, not, ◌&&◌, ◌||◌, refl, sym, ap, ◌∙◌, false≢true, contains-retain, bytes_eq, memberships_exact, Memberships, members_of, Membership}
+use Rattle.std.proofs.Common.{◌⊎◌}
 use Rattle.std.specs.FinSet as set
-use Rattle.std.specs.FinSet.{contains-retain}
-use Rattle.std.specs.Str.{bytes_eq}
-use Rattle.book_lists.proofs.Pairing.{memberships_exact}
-use Rattle.book_lists.specs.Memberships.{Memberships, members_of}
-use Rattle.book_lists.specs.declared.memberships.Membership.{Membership}
 
 -- truths about one pair: whether it was there, whether its group is replaced, whether it is among the new ones, whether it is of the group
 pub one_of : (a g m : Bool) → ((a && g) || m) ≡ true → (a ≡ true) ⊎ (m ≡ true)

@@ -1,25 +1,15 @@
 -- Replacing an own list changes no protected list.
-use Rattle.std.proofs.Common.{◌≡◌, ℕ, ◌<◌, ◌≤◌, zero, suc, List, [], ◌∷◌, ◌++◌, length, map, flat_map, slice_get, Option, Some, None, option_map, option_and_then, unwrap_or, refl, sym, ap, ap₂, ◌∙◌, subst, arith}
-use Rattle.std.specs.FinMap.{get}
-use Rattle.book_rights.specs.declared.privileges.Leaf.{Leaf}
+use Rattle.book_office.proofs.Common.{◌≡◌, ℕ, ◌<◌, ◌≤◌, List, [], ◌∷◌, ◌++◌, length, map, Option, Some, None, option_map, option_and_then, unwrap_or, refl, sym, ap, ◌∙◌, subst, arith, get, Leaf, Entry, Book, StoredCard, Office, Properties, Path, changed_at, NamesTo, Resource, by_changed}
+use Rattle.std.proofs.Common.{zero, suc, flat_map, slice_get, ap₂}
 use Rattle.book_lists.specs.Circles.{CircleOf}
 use Rattle.book_lists.specs.Decisions.{Decides}
-use Rattle.book_lists.specs.declared.entries.Entry.{Entry}
 use Rattle.book_lists.specs.declared.entries.Here.{Here}
 use Rattle.book_office.specs.declared.nodes.EffectiveEntry.{EffectiveEntry}
-use Rattle.book_values.specs.declared.offices.Book.{Book}
-use Rattle.book_values.specs.declared.offices.StoredCard.{StoredCard}
-use Rattle.book_values.specs.declared.offices.Office.{Office}
-use Rattle.book_values.specs.declared.offices.Properties.{Properties}
-use Rattle.book_values.specs.declared.paths.Path.{Path}
-use Rattle.book_values.specs.declared.paths.Path.TheVariants as path
-use Rattle.book_office.specs.Edits.{changed_at, set_list}
+use Rattle.book_office_values.specs.declared.paths.Path.TheVariants as path
+use Rattle.book_office.specs.Edits.{set_list}
 use Rattle.book_office.specs.Levels.{protected_at, level_at, lists_at, protected_entries, own_entries}
-use Rattle.book_values.specs.Names.{NamesTo}
 use Rattle.book_office.specs.OwnLists.{ProtectedListsStay, ProtectedEntriesStay, ProtectedDecisionsStay, protected_in_force, entries_in_force}
-use Rattle.book_values.specs.Paths.{levels}
-use Rattle.book_office.specs.Resources.{Resource}
-use Rattle.book_values.proofs.OneName.{by_changed}
+use Rattle.book_office_values.specs.Paths.{levels}
 
 read_changed : {V R : Type 0} (f : V → V) (read : V → R) → ((v : V) → read (f v) ≡ read v) → (r : Option V) → option_map read (option_map f r) ≡ option_map read r
 read_changed f read keeps None = refl

@@ -1,21 +1,14 @@
 -- Lists that are read one after the other.
-use Rattle.std.proofs.Common.{◌≡◌, ℕ, ◌+◌, ◌<◌, ◌↔◌, Bool, true, false, List, [], ◌∷◌, ◌++◌, length, get_or, take, Option, Some, option_map, option_and_then, unwrap_or, sym, ap, ◌∙◌, append_assoc}
-use Rattle.std.specs.FinMap.{get}
-use Rattle.std.specs.List.{flat_map}
+use Rattle.book_office.proofs.Common.{◌≡◌, ℕ, ◌+◌, ◌<◌, ◌↔◌, Bool, true, false, List, [], ◌∷◌, ◌++◌, length, take, Option, Some, option_map, option_and_then, unwrap_or, sym, ap, ◌∙◌, get, flat_map, Leaf, IsAllowed, Reading, read_by, Entry, in_force, in_force_at, lists_in, Resource, card_in, Book, Office}
+use Rattle.std.proofs.Common.{get_or, append_assoc}
 use Rattle.std.proofs.lemmas.List.{take_more, flat_map_more}
-use Rattle.book_rights.specs.declared.privileges.Leaf.{Leaf}
 use Rattle.book_lists.specs.Circles.{CircleOf}
-use Rattle.book_lists.specs.Decisions.{IsAllowed}
-use Rattle.book_lists.specs.Scans.{IsAllowedRead, Reading, read_by}
-use Rattle.book_lists.specs.declared.entries.Entry.{Entry}
+use Rattle.book_lists.specs.Scans.{IsAllowedRead}
 use Rattle.book_lists.specs.declared.entries.Here.{Here}
 use Rattle.book_lists.proofs.OneReader.{allowed_one, read_append}
-use Rattle.book_office.specs.InForce.{in_force, in_force_at, lists_in}
-use Rattle.book_office.specs.Resources.{Resource, book_resource, card_in}
+use Rattle.book_office.specs.Resources.{book_resource}
 use Rattle.book_office.specs.declared.nodes.Level.{Level}
-use Rattle.book_values.specs.declared.offices.Book.{Book}
-use Rattle.book_values.specs.declared.offices.Office.{Office}
-use Rattle.book_values.specs.declared.paths.Path.TheVariants as path
+use Rattle.book_office_values.specs.declared.paths.Path.TheVariants as path
 
 module _ (circle : CircleOf) (here : Here) where
   -- one list, and another after it

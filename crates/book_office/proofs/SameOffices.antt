@@ -1,18 +1,13 @@
 -- Sound Offices that answer alike are equal.
-use Rattle.std.proofs.Common.{◌≡◌, ◌≢◌, ℕ, List, [], Option, Some, None, option_map, option_and_then, unwrap_or, refl, sym, ap, ◌∙◌}
+use Rattle.book_office.proofs.Common.{◌≡◌, ◌≢◌, ℕ, List, [], Option, Some, None, option_map, option_and_then, unwrap_or, refl, sym, ap, ◌∙◌, get, same_Some, Book, StoredCard, Properties, NamesTo, Resource, card_resource, number_of, some_apart, by_option, where_some}
 use Rattle.std.specs.Cmp.Lexicographic.{nat_list_cmp_total}
-use Rattle.std.specs.FinMap.{get, same_map}
-use Rattle.book_values.specs.declared.offices.Book.{Book}
-use Rattle.book_values.specs.declared.offices.StoredCard.{StoredCard}
-use Rattle.book_values.specs.declared.offices.Properties.{Properties}
-use Rattle.book_values.specs.declared.paths.Kind.{Kind}
-use Rattle.book_values.specs.declared.paths.Kind.TheVariants as kind
-use Rattle.book_values.specs.declared.paths.Path.TheVariants as path
+use Rattle.std.specs.FinMap.{same_map}
+use Rattle.book_office_values.specs.declared.paths.Kind.{Kind}
+use Rattle.book_office_values.specs.declared.paths.Kind.TheVariants as kind
+use Rattle.book_office_values.specs.declared.paths.Path.TheVariants as path
 use Rattle.book_office.specs.Laws.{OfficeIsItsResources}
-use Rattle.book_values.specs.Names.{NamesTo}
-use Rattle.book_office.specs.Resources.{Resource, properties_resource, card_resource, number_of, unless_mapped}
-use Rattle.book_values.proofs.NameMapLaws.{names_apart}
-use Rattle.book_values.proofs.OneName.{some_apart, same_some, by_option, where_some}
+use Rattle.book_office.specs.Resources.{properties_resource, unless_mapped}
+use Rattle.book_office_values.proofs.NameMapLaws.{names_apart}
 
 -- the properties or the card that a resource tells
 abbrev told_properties : Resource → Properties
@@ -55,7 +50,7 @@ module _ (k l : Book) (changed : HasChanges k) (changed' : HasChanges l) (names 
   number_same c card e =
       let is : option_map (card_resource (number_of k c)) (Some card) ≡ option_map (card_resource (number_of l c)) (Some card) =
       ap (option_map (card_resource (number_of k c))) (sym e) ∙ names c ∙ ap (option_map (card_resource (number_of l c))) (sym (card_same c) ∙ e) in
-      ap (λ (r : Resource). r.number) (same_some _ _ is)
+      ap (λ (r : Resource). r.number) (same_Some _ _ is)
 
   last_same : (c : List ℕ) → get k.changes.last c ≡ get l.changes.last c
   last_same c = by_option (get k.cards c)
@@ -80,14 +75,14 @@ book_at_same : (x y : Option Book) → ((book : Book) → x ≡ Some book → Ha
 book_at_same None None sx sy told names removed = refl
 book_at_same None (Some l) sx sy told names removed = some_apart (sym told)
 book_at_same (Some k) None sx sy told names removed = some_apart told
-book_at_same (Some k) (Some l) sx sy told names removed = ap Some (book_same k l (sx k refl) (sy l refl) names removed (same_some _ _ told))
+book_at_same (Some k) (Some l) sx sy told names removed = ap Some (book_same k l (sx k refl) (sy l refl) names removed (same_Some _ _ told))
 
 pub same_office : OfficeIsItsResources
 same_office o p sound sound' resources pairs removed epoch =
-    let root : o.root ≡ p.root = ap told_properties (same_some _ _ (resources path.Root)) in
-    let people : o.people ≡ p.people = ap told_properties (same_some _ _ (resources path.People)) in
-    let groups_home : o.groups_home ≡ p.groups_home = ap told_properties (same_some _ _ (resources path.Groups)) in
-    let books_home : o.books_home ≡ p.books_home = ap told_properties (same_some _ _ (resources path.Books)) in
+    let root : o.root ≡ p.root = ap told_properties (same_Some _ _ (resources path.Root)) in
+    let people : o.people ≡ p.people = ap told_properties (same_Some _ _ (resources path.People)) in
+    let groups_home : o.groups_home ≡ p.groups_home = ap told_properties (same_Some _ _ (resources path.Groups)) in
+    let books_home : o.books_home ≡ p.books_home = ap told_properties (same_Some _ _ (resources path.Books)) in
     let persons : o.persons ≡ p.persons = principals_same kind.Person o.persons p.persons (λ n. resources (path.Person n)) in
     let groups : o.groups ≡ p.groups = principals_same kind.Group o.groups p.groups (λ n. resources (path.Group n)) in
     let books : o.books ≡ p.books = same_map nat_list_cmp_total names_apart o.books p.books (λ b.

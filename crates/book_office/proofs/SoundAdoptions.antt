@@ -1,40 +1,28 @@
 -- A sound Office that adopts a policy stays sound.
-use Rattle.std.proofs.Common.{◌≡◌, ◌≢◌, inl, inr, ℕ, ◌+◌, ◌<◌, ◌≤◌, List, [], ◌∷◌, Bool, true, false, not, cond, ◌&&◌, ◌||◌, length, codes, map, filter, Option, Some, None, refl, sym, ap, ◌∙◌, subst, arith}
-use Rattle.std.specs.List.{All, list_any}
+use Rattle.book_office.proofs.Common.{◌≡◌, ◌≢◌, inl, inr, ℕ, ◌+◌, ◌<◌, ◌≤◌, List, [], ◌∷◌, Bool, true, false, not, cond, ◌&&◌, ◌||◌, length, map, Option, Some, None, refl, sym, ap, ◌∙◌, subst, arith, list_any, get, same_set, bytes_eq, same_Some, members_of, memberships_total, memberships_exact, IsName, Entry, Membership, MAX_LABEL_BYTES, LAST_NUMBER, Path, same, Book, Office, Properties, taken_over, new_book, same_office, IsMapped, IsOwner, IsSoundList, AreSoundProperties, IsSoundBook, IsSound, some_apart, is_there}
+use Rattle.std.proofs.Common.{codes, filter}
+use Rattle.std.specs.List.{All}
 use Rattle.std.proofs.lemmas.List.Elements.{All-nil, All-cons, All-head, All-tail}
-use Rattle.std.specs.FinMap.{get, len, keys, contains_key-keys}
+use Rattle.std.specs.FinMap.{len, keys, contains_key-keys}
 use Rattle.std.specs.FinSet as set
-use Rattle.std.specs.FinSet.{same_set}
-use Rattle.std.specs.Str.{bytes_eq}
-use Rattle.book_lists.specs.Memberships.{members_of}
-use Rattle.book_lists.proofs.Pairing.{memberships_total, memberships_exact, same_path, path_itself}
-use Rattle.book_lists.specs.Names.{IsName}
+use Rattle.book_lists.proofs.Pairing.{same_path, path_itself}
 use Rattle.book_lists.specs.Principals.{person_path, group_path}
-use Rattle.book_lists.specs.declared.entries.Entry.{Entry}
 use Rattle.book_lists.specs.declared.entries.Who.{Who}
 use Rattle.book_lists.specs.declared.entries.Who.TheVariants.{Href, Everyone, Authenticated, Unauthenticated, Owner, Own}
-use Rattle.book_lists.specs.declared.memberships.Membership.{Membership}
-use Rattle.book_values.specs.Paths.{path_text, book_path}
-use Rattle.book_policies.specs.Policies.{IsPolicy, IsKnown, IsKnownOwner, NamesForm, IsPrincipalOf, IsShort, entries_at, stands_at}
-use Rattle.book_limits.specs.declared.TheConstants.{MAX_MEMBERS, MAX_LABEL_BYTES, MAX_BOOKS, LAST_NUMBER}
-use Rattle.book_values.specs.declared.paths.Path.{Path}
-use Rattle.book_values.specs.declared.paths.Path.TheVariants as path
-use Rattle.book_policies.specs.declared.parts.PolicyBook.{PolicyBook}
-use Rattle.book_policies.specs.declared.parts.PolicyEntry.{PolicyEntry}
-use Rattle.book_policies.specs.declared.parts.PolicyTables.{PolicyTables}
-use Rattle.book_values.proofs.NameMapLaws.{same, is_same}
-use Rattle.book_values.specs.declared.offices.Book.{Book}
-use Rattle.book_values.specs.declared.offices.Office.{Office}
-use Rattle.book_values.specs.declared.offices.Properties.{Properties}
-use Rattle.book_adopting.specs.Adopting.{labelled, owned, or_else, is_group_of, taken_over, adopt}
+use Rattle.book_office_values.specs.Paths.{path_text, book_path}
+use Rattle.book_policy_values.specs.Policies.{IsPolicy, IsKnown, IsKnownOwner, NamesForm, IsPrincipalOf, IsShortLabel, entries_at, stands_at}
+use Rattle.book_limits.specs.declared.TheConstants.{MAX_MEMBERS, MAX_BOOKS}
+use Rattle.book_office_values.specs.declared.paths.Path.TheVariants as path
+use Rattle.book_policy_values.specs.declared.parts.PolicyBook.{PolicyBook}
+use Rattle.book_policy_values.specs.declared.parts.PolicyEntry.{PolicyEntry}
+use Rattle.book_policy_values.specs.declared.parts.PolicyTables.{PolicyTables}
+use Rattle.book_office_values.proofs.NameMapLaws.{is_same}
+use Rattle.book_office_adopting.specs.Adopting.{labelled_or_new, owned, or_else, is_group_of, adopt}
 use Rattle.book_office.specs.Fitting.{AdoptFits}
-use Rattle.book_office.specs.Edits.{new_book}
-use Rattle.book_adopting.specs.TakingOver.{listed, listed_book}
-use Rattle.book_adopting.specs.Sameness.{same_office}
-use Rattle.book_office.specs.Sound.{IsMapped, IsOwner, IsKnownForm, IsSoundList, AreSoundProperties, IsSoundBook, IsSoundPair, IsSound}
-use Rattle.book_adopting.proofs.Adoptions.{person_after, book_after, person_there, group_there, book_there, contains_adopted}
+use Rattle.book_office_adopting.specs.TakingOver.{with_lists_taken, listed_book}
+use Rattle.book_office.specs.Sound.{IsKnownForm, IsSoundPair}
+use Rattle.book_office_adopting.proofs.Adoptions.{person_after, book_after, person_there, group_there, book_there, contains_adopted}
 use Rattle.book_office.proofs.KnownPrincipals.{properties_known, book_known}
-use Rattle.book_values.proofs.OneName.{some_apart, same_some, is_there}
 use Rattle.book_office.proofs.OneGroup.{one_of, only_new, only_old, among}
 use Rattle.book_office.proofs.SoundBooks.{new_book_sound}
 
@@ -110,7 +98,7 @@ module _ (t : PolicyTables) where
     own_list [] old h k = k
     own_list (e ∷ es) old h k = h
 
-    listed_sound : (at : List ℕ) (properties : Properties) → IsOwner p properties.owner → length properties.label ≤ MAX_LABEL_BYTES → IsSoundList p properties.own → AreSoundProperties p (listed t at properties)
+    listed_sound : (at : List ℕ) (properties : Properties) → IsOwner p properties.owner → length properties.label ≤ MAX_LABEL_BYTES → IsSoundList p properties.own → AreSoundProperties p (with_lists_taken t at properties)
     listed_sound at properties owner label own = record {
       owner = owner;
       label = label;
@@ -118,7 +106,7 @@ module _ (t : PolicyTables) where
       own = own_list (entries_at false at t.entries) properties.own (policy_list false at) own;
     }
 
-    properties_sound : (at : List ℕ) (properties : Properties) → AreSoundProperties o properties → AreSoundProperties p (listed t at properties)
+    properties_sound : (at : List ℕ) (properties : Properties) → AreSoundProperties o properties → AreSoundProperties p (with_lists_taken t at properties)
     properties_sound at properties h = let k = properties_known o p known properties h in listed_sound at properties k.owner k.label k.own
 
     no_entries : IsSoundList p []
@@ -126,20 +114,20 @@ module _ (t : PolicyTables) where
 
     -- persons and groups
     person_sound : (at name : List ℕ) (label : Option (List ℕ)) (old : Option Properties)
-        → ((l : List ℕ) → label ≡ Some l → IsName name × IsShort l)
+        → ((l : List ℕ) → label ≡ Some l → IsName name × IsShortLabel l)
         → ((k : Properties) → old ≡ Some k → IsName name × AreSoundProperties o k)
         → (properties : Properties) → person_after t at label old ≡ Some properties → IsName name × AreSoundProperties p properties
     person_sound at name None None fresh before properties e = some_apart (sym e)
     person_sound at name None (Some k) fresh before properties e =
         let h = before k refl in
-        (h.0, subst (AreSoundProperties p) (same_some (listed t at k) properties e) (properties_sound at k h.1))
+        (h.0, subst (AreSoundProperties p) (same_Some (with_lists_taken t at k) properties e) (properties_sound at k h.1))
     person_sound at name (Some l) None fresh before properties e =
         let h = fresh l refl in
-        (h.0, subst (AreSoundProperties p) (same_some (listed t at (labelled l None)) properties e) (listed_sound at (labelled l None) tt h.1 no_entries))
+        (h.0, subst (AreSoundProperties p) (same_Some (with_lists_taken t at (labelled_or_new l None)) properties e) (listed_sound at (labelled_or_new l None) tt h.1 no_entries))
     person_sound at name (Some l) (Some k) fresh before properties e =
         let h = fresh l refl in
         let g = properties_known o p known k (before k refl).1 in
-        (h.0, subst (AreSoundProperties p) (same_some (listed t at (labelled l (Some k))) properties e) (listed_sound at (labelled l (Some k)) g.owner h.1 g.own))
+        (h.0, subst (AreSoundProperties p) (same_Some (with_lists_taken t at (labelled_or_new l (Some k))) properties e) (listed_sound at (labelled_or_new l (Some k)) g.owner h.1 g.own))
 
     -- a book with other properties
     replaced : (book : Book) (properties : Properties) → IsSoundBook p book → AreSoundProperties p properties → IsSoundBook p (record book { properties = properties })
@@ -154,29 +142,29 @@ module _ (t : PolicyTables) where
       last = h.last;
     }
 
-    owned_sound : (at : List ℕ) (named : PolicyBook) (book : Book) → IsShort named.label → IsKnownOwner t.persons t.groups named.owner → IsSoundBook p book
+    owned_sound : (at : List ℕ) (named : PolicyBook) (book : Book) → IsShortLabel named.label → IsKnownOwner t.persons t.groups named.owner → IsSoundBook p book
         → IsSoundBook p (listed_book t at (owned named (Some book)))
     owned_sound at named book short owner h =
-        replaced (owned named (Some book)) (listed t at (owned named (Some book)).properties)
+        replaced (owned named (Some book)) (with_lists_taken t at (owned named (Some book)).properties)
         (replaced book (record book.properties { owner = named.owner; label = named.label }) h
         (record { owner = listed_owner named.owner owner; label = short; protected = h.properties.protected; own = h.properties.own }))
         (listed_sound at (record book.properties { owner = named.owner; label = named.label }) (listed_owner named.owner owner) short h.properties.own)
 
     book_sound : (at name : List ℕ) (named : Option PolicyBook) (old : Option Book)
-        → ((n : PolicyBook) → named ≡ Some n → IsName name × IsShort n.label × IsKnownOwner t.persons t.groups n.owner)
+        → ((n : PolicyBook) → named ≡ Some n → IsName name × IsShortLabel n.label × IsKnownOwner t.persons t.groups n.owner)
         → ((k : Book) → old ≡ Some k → IsName name × IsSoundBook o k)
         → (book : Book) → book_after t at named old ≡ Some book → IsName name × IsSoundBook p book
     book_sound at name None None fresh before book e = some_apart (sym e)
     book_sound at name None (Some k) fresh before book e =
         let h = before k refl in
         let g = book_known o p known k h.1 in
-        (h.0, subst (IsSoundBook p) (same_some (listed_book t at k) book e) (replaced k (listed t at k.properties) g (listed_sound at k.properties g.properties.owner g.properties.label g.properties.own)))
+        (h.0, subst (IsSoundBook p) (same_Some (listed_book t at k) book e) (replaced k (with_lists_taken t at k.properties) g (listed_sound at k.properties g.properties.owner g.properties.label g.properties.own)))
     book_sound at name (Some n) None fresh before book e =
         let h = fresh n refl in
-        (h.0, subst (IsSoundBook p) (same_some (listed_book t at (owned n None)) book e) (owned_sound at n (new_book None) h.1 h.2 (new_book_sound p None tt)))
+        (h.0, subst (IsSoundBook p) (same_Some (listed_book t at (owned n None)) book e) (owned_sound at n (new_book None) h.1 h.2 (new_book_sound p None tt)))
     book_sound at name (Some n) (Some k) fresh before book e =
         let h = fresh n refl in
-        (h.0, subst (IsSoundBook p) (same_some (listed_book t at (owned n (Some k))) book e) (owned_sound at n k h.1 h.2 (book_known o p known k (before k refl).1)))
+        (h.0, subst (IsSoundBook p) (same_Some (listed_book t at (owned n (Some k))) book e) (owned_sound at n k h.1 h.2 (book_known o p known k (before k refl).1)))
 
     -- pairs
     pair_sound : (q : Membership) → set.contains p.pairs q ≡ true → IsSoundPair p q
@@ -225,10 +213,10 @@ module _ (t : PolicyTables) where
         let r : Office = record p { epoch = epoch } in
         let moved : (principal : List ℕ) → IsMapped p principal → IsMapped r principal = λ _ h. h in
         record {
-          root = properties_known p r moved (listed t (codes "/") o.root) (properties_sound (codes "/") o.root sound.root);
-          people = properties_known p r moved (listed t (codes "/people") o.people) (properties_sound (codes "/people") o.people sound.people);
-          groups_home = properties_known p r moved (listed t (codes "/groups") o.groups_home) (properties_sound (codes "/groups") o.groups_home sound.groups_home);
-          books_home = properties_known p r moved (listed t (codes "/books") o.books_home) (properties_sound (codes "/books") o.books_home sound.books_home);
+          root = properties_known p r moved (with_lists_taken t (codes "/") o.root) (properties_sound (codes "/") o.root sound.root);
+          people = properties_known p r moved (with_lists_taken t (codes "/people") o.people) (properties_sound (codes "/people") o.people sound.people);
+          groups_home = properties_known p r moved (with_lists_taken t (codes "/groups") o.groups_home) (properties_sound (codes "/groups") o.groups_home sound.groups_home);
+          books_home = properties_known p r moved (with_lists_taken t (codes "/books") o.books_home) (properties_sound (codes "/books") o.books_home sound.books_home);
           persons = λ name properties e.
               let h = person_sound (person_path name) name (get t.persons name) (get o.persons name) (pol.persons name) (sound.persons name) properties (sym (person_there t o name) ∙ e) in
               (h.0, properties_known p r moved properties h.1);

@@ -1,20 +1,14 @@
 -- A book stays sound when a name of it is touched.
-use Rattle.std.proofs.Common.{◌≡◌, ◌≢◌, inl, inr, ℕ, ◌+◌, ◌<◌, List, Option, Some, None, sym, subst, le_trans, arith}
-use Rattle.std.specs.FinMap.{get, len-empty}
-use Rattle.book_lists.specs.Names.{IsName}
-use Rattle.book_values.specs.Changes.{touched, AreNumbers}
-use Rattle.book_values.specs.declared.collections.changes.Numbers.{Numbers}
-use Rattle.book_values.specs.declared.offices.Book.{Book}
-use Rattle.book_values.specs.declared.offices.StoredCard.{StoredCard}
-use Rattle.book_values.specs.declared.offices.Office.{Office}
-use Rattle.book_limits.specs.declared.TheConstants.{MAX_CARDS, LAST_NUMBER}
-use Rattle.book_office.specs.Edits.{place_card, remove_card, new_book}
+use Rattle.book_office.proofs.Common.{◌≡◌, ◌≢◌, inl, inr, ℕ, ◌+◌, ◌<◌, List, Option, Some, None, sym, subst, le_trans, arith, get, same_Some, IsName, Book, StoredCard, Office, LAST_NUMBER, remove_card, new_book, name_cmp, IsOwner, IsSoundCard, IsSoundBook, some_apart, where_some, is_there, by_put, by_removed}
+use Rattle.std.specs.FinMap.{len-empty}
+use Rattle.book_office_values.specs.Changes.{touched, AreNumbers}
+use Rattle.book_office_values.specs.declared.collections.changes.Numbers.{Numbers}
+use Rattle.book_limits.specs.declared.TheConstants.{MAX_CARDS}
+use Rattle.book_office.specs.Edits.{place_card}
 use Rattle.book_office.specs.Fitting.{HasRoom}
-use Rattle.book_lists.specs.Names.{name_cmp}
-use Rattle.book_office.specs.Sound.{IsOwner, IsSoundCard, IsSoundBook}
-use Rattle.book_values.proofs.NameMapLaws.{len_put, len_removed}
-use Rattle.book_values.proofs.Touches.{touched_are}
-use Rattle.book_values.proofs.OneName.{some_apart, same_some, where_some, is_there, by_put, by_removed, nothing_in}
+use Rattle.book_office_values.proofs.NameMapLaws.{len_put, len_removed}
+use Rattle.book_office_values.proofs.Touches.{touched_are}
+use Rattle.book_office_values.proofs.OneName.{nothing_in}
 
 -- a book, sound before, whose name is touched
 module _ (o : Office) (book : Book) (name : List ℕ) (sound : IsSoundBook o book) where
@@ -43,7 +37,7 @@ module _ (o : Office) (book : Book) (name : List ℕ) (sound : IsSoundBook o boo
   placed_sound card named good low room = record {
     properties = sound.properties;
     cards = λ q k. by_put book.cards name card q (λ r. r ≡ Some k → IsSoundCard o k)
-        (λ _ h. subst (IsSoundCard o) (same_some card k h) good)
+        (λ _ h. subst (IsSoundCard o) (same_Some card k h) good)
         (λ _. sound.cards q k);
     few = len_put book.cards name card MAX_CARDS (elim room [ inl h ↦ inl (is_there _ h, sound.few) | inr h ↦ inr h ]);
     changed = λ q k. by_put book.cards name card q (λ r. r ≡ Some k → get after.last q ≢ None)

@@ -1,19 +1,11 @@
 -- What holds of the resources and numbers of a sound Office.
-use Rattle.std.proofs.Common.{◌≡◌, ◌≢◌, inl, inr, ℕ, ◌≤◌, List, Option, Some, None, option_map, option_and_then, unwrap_or, refl, sym, ap, ◌∙◌, subst}
-use Rattle.std.specs.FinMap.{get}
-use Rattle.book_values.specs.declared.offices.Book.{Book}
-use Rattle.book_values.specs.declared.offices.StoredCard.{StoredCard}
-use Rattle.book_values.specs.declared.offices.Office.{Office}
-use Rattle.book_values.specs.declared.offices.Properties.{Properties}
-use Rattle.book_values.specs.declared.paths.Kind.{Kind}
-use Rattle.book_values.specs.declared.paths.Kind.TheVariants as kind
-use Rattle.book_values.specs.declared.paths.Path.{Path}
-use Rattle.book_values.specs.declared.paths.Path.TheVariants as path
-use Rattle.book_values.specs.Paths.{IsPath, parent_of, kind_of}
+use Rattle.book_office.proofs.Common.{◌≡◌, ◌≢◌, inl, inr, ℕ, ◌≤◌, List, Option, Some, None, option_map, option_and_then, unwrap_or, refl, sym, ap, ◌∙◌, subst, get, same_Some, Book, StoredCard, Office, Properties, Path, Resource, card_resource, number_of, card_in, IsSound, some_apart, where_some}
+use Rattle.book_office_values.specs.declared.paths.Kind.{Kind}
+use Rattle.book_office_values.specs.declared.paths.Kind.TheVariants as kind
+use Rattle.book_office_values.specs.declared.paths.Path.TheVariants as path
+use Rattle.book_office_values.specs.Paths.{IsPath, parent_of, kind_of}
 use Rattle.book_office.specs.ResourceTree.{IsThere, HomesAreThere, StandsInPlace, ResourcesStandInPlace, RemovedNamesAreFree, HasNumber, NumbersAreFromOneToTheBooks, NumbersTellNames}
-use Rattle.book_office.specs.Resources.{Resource, properties_resource, book_resource, card_resource, number_of, card_in, unless_mapped, removed_at}
-use Rattle.book_office.specs.Sound.{IsSound}
-use Rattle.book_values.proofs.OneName.{some_apart, same_some, where_some}
+use Rattle.book_office.specs.Resources.{properties_resource, book_resource, unless_mapped, removed_at}
 use Rattle.book_office.proofs.SoundBooks.{card_named}
 
 pub homes_are_there : HomesAreThere
@@ -22,7 +14,7 @@ homes_are_there o = (λ e. some_apart e, λ e. some_apart e, λ e. some_apart e,
 -- what a value read from another was read from
 pub from_map : {A B P : Type 0} (f : A → B) (r : Option A) (y : B) → option_map f r ≡ Some y → ((x : A) → r ≡ Some x → f x ≡ y → P) → P
 from_map f None y e use_it = some_apart (sym e)
-from_map f (Some x) y e use_it = use_it x refl (same_some _ _ e)
+from_map f (Some x) y e use_it = use_it x refl (same_Some _ _ e)
 
 pub from_and_then : {A B P : Type 0} (f : A → Option B) (r : Option A) (y : B) → option_and_then f r ≡ Some y → ((x : A) → r ≡ Some x → f x ≡ Some y → P) → P
 from_and_then f None y e use_it = some_apart (sym e)
@@ -41,16 +33,16 @@ properties_in o p k n properties named is under apart number = record {
 }
 
 same_parent : (o : Office) (p : Path) → IsThere o p → (q : Path) → Some p ≡ Some q → IsThere o q
-same_parent o p there q e = subst (IsThere o) (same_some p q e) there
+same_parent o p there q e = subst (IsThere o) (same_Some p q e) there
 
 pub resources_stand_in_place : ResourcesStandInPlace
-resources_stand_in_place o sound path.Root r e = subst (StandsInPlace o path.Root) (same_some _ _ e)
+resources_stand_in_place o sound path.Root r e = subst (StandsInPlace o path.Root) (same_Some _ _ e)
     (properties_in o path.Root kind.Root 0 o.root tt refl (λ q h. some_apart (sym h)) (λ h. cc) (λ _. refl))
-resources_stand_in_place o sound path.People r e = subst (StandsInPlace o path.People) (same_some _ _ e)
+resources_stand_in_place o sound path.People r e = subst (StandsInPlace o path.People) (same_Some _ _ e)
     (properties_in o path.People kind.Home 0 o.people tt refl (same_parent o path.Root (homes_are_there o).0) (λ h. cc) (λ _. refl))
-resources_stand_in_place o sound path.Groups r e = subst (StandsInPlace o path.Groups) (same_some _ _ e)
+resources_stand_in_place o sound path.Groups r e = subst (StandsInPlace o path.Groups) (same_Some _ _ e)
     (properties_in o path.Groups kind.Home 0 o.groups_home tt refl (same_parent o path.Root (homes_are_there o).0) (λ h. cc) (λ _. refl))
-resources_stand_in_place o sound path.Books r e = subst (StandsInPlace o path.Books) (same_some _ _ e)
+resources_stand_in_place o sound path.Books r e = subst (StandsInPlace o path.Books) (same_Some _ _ e)
     (properties_in o path.Books kind.Home 0 o.books_home tt refl (same_parent o path.Root (homes_are_there o).0) (λ h. cc) (λ _. refl))
 resources_stand_in_place o sound (path.Person n) r e = from_map (properties_resource kind.Person 0) (get o.persons n) r e (λ properties at is.
     subst (StandsInPlace o (path.Person n)) is
@@ -94,13 +86,13 @@ removed_names_are_free o b name removed = where_some (removed_at o b name) remov
 last_of : (o : Office) → IsSound o → (b : List ℕ) (book : Book) → get o.books b ≡ Some book → (name : List ℕ) (n : ℕ) → HasNumber o b name n
     → get book.changes.last name ≡ Some n
 last_of o sound b book at name n (inl (r, e, numbered)) = from_and_then (λ (k : Book). card_in k name) (get o.books b) r e (λ k at' in_book.
-    let is : k ≡ book = same_some k book (sym at' ∙ at) in
+    let is : k ≡ book = same_Some k book (sym at' ∙ at) in
     subst (λ (x : Book). get x.changes.last name ≡ Some n) is
     (from_map (card_resource (number_of k name)) (get k.cards name) r in_book (λ card here told.
     where_some (get k.changes.last name) ((sound.books b k at').1.changed name card here) (λ m last.
     last ∙ ap Some (sym (ap (λ x. unwrap_or x 0) last) ∙ ap (λ (x : Resource). x.number) told ∙ numbered)))))
 last_of o sound b book at name n (inr removed) = in_removed o b name n removed (λ k at' none last.
-    subst (λ (x : Book). get x.changes.last name ≡ Some n) (same_some k book (sym at' ∙ at)) last)
+    subst (λ (x : Book). get x.changes.last name ≡ Some n) (same_Some k book (sym at' ∙ at)) last)
 
 pub numbers_are_within : NumbersAreFromOneToTheBooks
 numbers_are_within o sound b r e name n h = from_map book_resource (get o.books b) r e (λ book at is.

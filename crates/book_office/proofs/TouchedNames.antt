@@ -1,34 +1,25 @@
 -- Which names of a book get a new last change.
-use Rattle.std.proofs.Common.{◌≡◌, ◌≢◌, ◌⊎◌, inl, inr, ℕ, ◌+◌, zero, suc, List, [], ◌∷◌, true, false, cond, ◌||◌, fold, map, filter, Contains, Option, Some, None, is_some, option_and_then, option_map, bytes_eq, refl, sym, ap, ◌∙◌, subst, arith}
+use Rattle.book_office.proofs.Common.{◌≡◌, ◌≢◌, inl, inr, ℕ, ◌+◌, List, [], ◌∷◌, true, false, cond, ◌||◌, map, Option, Some, None, option_and_then, option_map, refl, sym, ap, ◌∙◌, subst, arith, false≢true, get, list_any, same_Some, NamesTo, taken_over, same_office, Book, StoredCard, Office, Entry, Path, changed_at, with_book, with_book_properties, with_cards, put_card, remove_card, copy_from, move_to, new_book, label_set, card_labelled, label_card, list_set, listed_card, name_cmp, card_at, card_in, card_resource, number_of, same, some_apart, where_some, by_put, by_removed, by_changed}
+use Rattle.std.proofs.Common.{◌⊎◌, zero, suc, fold, filter, Contains, is_some, bytes_eq}
 use Rattle.std.proofs.lemmas.Bool.{false_from_ne_true}
 use Rattle.std.proofs.lemmas.Slice.Eq.{bytes_eq-Decides}
-use Rattle.std.proofs.lemmas.Bool.{false≢true}
 use Rattle.std.proofs.lemmas.List.Elements.{Contains-append_left, Contains-append_right}
-use Rattle.std.specs.FinMap.{get, get-empty, keys, contains_key-keys}
-use Rattle.std.specs.List.{list_any}
-use Rattle.book_values.specs.Names.{NamesTo}
-use Rattle.book_values.specs.Paths.{book_path}
-use Rattle.book_policies.specs.declared.parts.PolicyBook.{PolicyBook}
-use Rattle.book_policies.specs.declared.parts.PolicyTables.{PolicyTables}
-use Rattle.book_adopting.specs.Adopting.{taken_over, adopt}
-use Rattle.book_adopting.specs.Sameness.{same_office}
-use Rattle.book_values.specs.Changes.{touched}
-use Rattle.book_values.specs.declared.collections.changes.Numbers.{Numbers}
+use Rattle.std.specs.FinMap.{get-empty, keys, contains_key-keys}
+use Rattle.book_office_values.specs.Paths.{book_path}
+use Rattle.book_policy_values.specs.declared.parts.PolicyBook.{PolicyBook}
+use Rattle.book_policy_values.specs.declared.parts.PolicyTables.{PolicyTables}
+use Rattle.book_office_adopting.specs.Adopting.{adopt}
+use Rattle.book_office_values.specs.Changes.{touched}
+use Rattle.book_office_values.specs.declared.collections.changes.Numbers.{Numbers}
 use Rattle.book_office.specs.declared.edits.Edit.TheVariants.{PutCard, RemoveCard, CopyCard, MoveCard, AddBook, RemoveBook, SetLabel, SetList, SetMembers, Adopt}
-use Rattle.book_values.specs.declared.offices.Book.{Book}
-use Rattle.book_values.specs.declared.offices.StoredCard.{StoredCard}
-use Rattle.book_values.specs.declared.offices.Office.{Office}
-use Rattle.book_lists.specs.declared.entries.Entry.{Entry}
-use Rattle.book_values.specs.declared.paths.Path.{Path}
-use Rattle.book_values.specs.declared.paths.Path.TheVariants as path
-use Rattle.book_office.specs.Edits.{changed_at, with_book, with_book_properties, with_cards, place_card, card_put, put_card, remove_card, card_copied, copy_from, move_to, new_book, labelled, card_labelled, label_card, set_label, listed, listed_card, set_list, touches, touches_label}
-use Rattle.book_lists.specs.Names.{name_cmp}
-use Rattle.book_office.specs.Resources.{card_at, card_in, card_resource, number_of, resource_at}
+use Rattle.book_office_values.specs.declared.paths.Path.TheVariants as path
+use Rattle.book_office.specs.Edits.{place_card, card_put, card_copied, set_label, set_list, touches, touches_label}
+use Rattle.book_office.specs.Resources.{resource_at}
 use Rattle.book_office.specs.Touches.{books_at, OtherBooksStay, names_in, NamesAreTouchedInTurn, Renumbers, TouchedNamesAloneChange, ChangesOneName, PutCardChangesOneName, RemoveCardChangesOneName, CopyCardChangesOneName, MoveAcrossChangesANameOfEach, MoveWithinChangesTwoNames, CardLabelChangesOneName, NewBookHasNoChanges, RemovedBookIsGone}
-use Rattle.book_values.proofs.NameMapLaws.{by_names, by_same, same}
-use Rattle.book_adopting.proofs.Adoptions.{book_after, book_there}
+use Rattle.book_office_values.proofs.NameMapLaws.{by_names, by_same}
+use Rattle.book_office_adopting.proofs.Adoptions.{book_after, book_there}
 use Rattle.book_office.proofs.MovedCards.{card_is}
-use Rattle.book_values.proofs.OneName.{some_apart, same_some, where_some, by_put, by_removed, by_changed, put_here, put_elsewhere, removed_here, removed_elsewhere, changed_here, changed_elsewhere}
+use Rattle.book_office_values.proofs.OneName.{put_here, put_elsewhere, removed_here, removed_elsewhere, changed_here, changed_elsewhere}
 
 -- the elements of a list
 contains_first : {A : Type 0} (x : A) (xs : List A) (y : A) → y ≡ x → Contains (x ∷ xs) y
@@ -62,8 +53,8 @@ book_adopted t o b = elim (same_office o (taken_over t o)) as (λ same.
     ≡ book_after t (book_path b) (get t.books b) (get o.books b)) [ true ↦ book_there t o b | false ↦ book_there t o b ]
 
 book_kept : (t : PolicyTables) (at : List ℕ) (named : Option PolicyBook) (old new : Book) → book_after t at named (Some old) ≡ Some new → new.changes ≡ old.changes
-book_kept t at None old new e = ap (λ (book : Book). book.changes) (sym (same_some _ _ e))
-book_kept t at (Some named) old new e = ap (λ (book : Book). book.changes) (sym (same_some _ _ e))
+book_kept t at None old new e = ap (λ (book : Book). book.changes) (sym (same_Some _ _ e))
+book_kept t at (Some named) old new e = ap (λ (book : Book). book.changes) (sym (same_Some _ _ e))
 
 -- a name with a value is a key
 any_there : (b : List ℕ) (ks : List (List ℕ)) → list_any (same b) ks ≡ true → Contains ks b
@@ -89,7 +80,7 @@ label_elsewhere path.Groups label o b h = refl
 label_elsewhere path.Books label o b h = refl
 label_elsewhere (path.Person n) label o b h = refl
 label_elsewhere (path.Group n) label o b h = refl
-label_elsewhere (path.Book b') label o b h = changed_elsewhere o.books b' (with_book_properties (labelled label)) b (apart_from_one b' b h)
+label_elsewhere (path.Book b') label o b h = changed_elsewhere o.books b' (with_book_properties (label_set label)) b (apart_from_one b' b h)
 label_elsewhere (path.Card b' c) label o b h = changed_elsewhere o.books b' (λ (book : Book). label_card c label (get book.cards c) book) b (apart_from_one b' b h)
 
 list_elsewhere : (p : Path) (list : List Entry) (o : Office) (b : List ℕ) → (Contains (books_at p) b → ⊥) → get (set_list p list o).books b ≡ get o.books b
@@ -99,7 +90,7 @@ list_elsewhere path.Groups list o b h = refl
 list_elsewhere path.Books list o b h = refl
 list_elsewhere (path.Person n) list o b h = refl
 list_elsewhere (path.Group n) list o b h = refl
-list_elsewhere (path.Book b') list o b h = changed_elsewhere o.books b' (with_book_properties (listed list)) b (apart_from_one b' b h)
+list_elsewhere (path.Book b') list o b h = changed_elsewhere o.books b' (with_book_properties (list_set list)) b (apart_from_one b' b h)
 list_elsewhere (path.Card b' c) list o b h = changed_elsewhere o.books b' (with_cards (λ cards. changed_at (listed_card list) cards c)) b (apart_from_one b' b h)
 
 pub other_books_stay : OtherBooksStay
@@ -132,10 +123,10 @@ one_touched : (o : Office) (change : Book → Book) (b' c : List ℕ) → ((book
     → new.changes ≡ fold touched old.changes (names_in b ((b', c) ∷ []))
 one_touched o change b' c h b old new before = by_changed o.books b' change b (λ r. r ≡ Some new → new.changes ≡ fold touched old.changes (names_in b ((b', c) ∷ [])))
     (λ is after.
-    let now : change old ≡ new = same_some _ _ (sym (ap (option_map change) before) ∙ after) in
+    let now : change old ≡ new = same_Some _ _ (sym (ap (option_map change) before) ∙ after) in
     ap (λ (book : Book). book.changes) (sym now) ∙ h old ∙ ap (fold touched old.changes) (sym (names_in_one b b' c is)))
     (λ apart after.
-    let now : old ≡ new = same_some _ _ (sym before ∙ after) in
+    let now : old ≡ new = same_Some _ _ (sym before ∙ after) in
     ap (λ (book : Book). book.changes) (sym now) ∙ ap (fold touched old.changes) (sym (names_in_other b b' c apart)))
 
 -- touches of one book, the first and the others
@@ -174,11 +165,11 @@ move_touches (Some card) c h book = refl
 none_touched : (o : Office) (change : Book → Book) (b' : List ℕ) → ((book : Book) → (change book).changes ≡ book.changes)
     → (b : List ℕ) (old new : Book) → get o.books b ≡ Some old → get (with_book change o b').books b ≡ Some new → new.changes ≡ old.changes
 none_touched o change b' h b old new before = by_changed o.books b' change b (λ r. r ≡ Some new → new.changes ≡ old.changes)
-    (λ _ after. ap (λ (book : Book). book.changes) (same_some _ _ (sym after ∙ ap (option_map change) before)) ∙ h old)
-    (λ _ after. ap (λ (book : Book). book.changes) (same_some _ _ (sym after ∙ before)))
+    (λ _ after. ap (λ (book : Book). book.changes) (same_Some _ _ (sym after ∙ ap (option_map change) before)) ∙ h old)
+    (λ _ after. ap (λ (book : Book). book.changes) (same_Some _ _ (sym after ∙ before)))
 
 same_numbers : (old new : Book) (found : Option Book) → found ≡ Some old → found ≡ Some new → new.changes ≡ old.changes
-same_numbers old new found before after = ap (λ (book : Book). book.changes) (same_some _ _ (sym after ∙ before))
+same_numbers old new found before after = ap (λ (book : Book). book.changes) (same_Some _ _ (sym after ∙ before))
 
 -- the card of a resource that is there
 label_touches : (card : Option StoredCard) (c label : List ℕ) → card ≢ None → (book : Book) → (label_card c label card book).changes ≡ touched book.changes c
@@ -193,10 +184,10 @@ label_touched o b' c label possible b old new before = by_changed o.books b' (λ
     (λ is after.
     let here : get o.books b' ≡ Some old = ap (get o.books) (sym is) ∙ before in
     let there : get old.cards c ≢ None = λ none. possible (ap (option_and_then (λ (book : Book). card_in book c)) here ∙ ap (option_map (card_resource (number_of old c))) none) in
-    let now : label_card c label (get old.cards c) old ≡ new = same_some _ _ (sym (ap (option_map (λ (book : Book). label_card c label (get book.cards c) book)) before) ∙ after) in
+    let now : label_card c label (get old.cards c) old ≡ new = same_Some _ _ (sym (ap (option_map (λ (book : Book). label_card c label (get book.cards c) book)) before) ∙ after) in
     ap (λ (book : Book). book.changes) (sym now) ∙ label_touches (get old.cards c) c label there old ∙ ap (fold touched old.changes) (sym (names_in_one b b' c is)))
     (λ apart after.
-    let now : old ≡ new = same_some _ _ (sym before ∙ after) in
+    let now : old ≡ new = same_Some _ _ (sym before ∙ after) in
     ap (λ (book : Book). book.changes) (sym now) ∙ ap (fold touched old.changes) (sym (names_in_other b b' c apart)))
 
 label_in_turn : (p : Path) (label : List ℕ) (o : Office) → resource_at o p ≢ None → (b : List ℕ) (old new : Book) → get o.books b ≡ Some old
@@ -207,7 +198,7 @@ label_in_turn path.Groups label o possible b old new before = same_numbers old n
 label_in_turn path.Books label o possible b old new before = same_numbers old new _ before
 label_in_turn (path.Person n) label o possible b old new before = same_numbers old new _ before
 label_in_turn (path.Group n) label o possible b old new before = same_numbers old new _ before
-label_in_turn (path.Book b') label o possible b old new before = none_touched o (with_book_properties (labelled label)) b' (λ _. refl) b old new before
+label_in_turn (path.Book b') label o possible b old new before = none_touched o (with_book_properties (label_set label)) b' (λ _. refl) b old new before
 label_in_turn (path.Card b' c) label o possible b old new before = label_touched o b' c label possible b old new before
 
 list_in_turn : (p : Path) (list : List Entry) (o : Office) (b : List ℕ) (old new : Book) → get o.books b ≡ Some old
@@ -218,7 +209,7 @@ list_in_turn path.Groups list o b old new before = same_numbers old new _ before
 list_in_turn path.Books list o b old new before = same_numbers old new _ before
 list_in_turn (path.Person n) list o b old new before = same_numbers old new _ before
 list_in_turn (path.Group n) list o b old new before = same_numbers old new _ before
-list_in_turn (path.Book b') list o b old new before = none_touched o (with_book_properties (listed list)) b' (λ _. refl) b old new before
+list_in_turn (path.Book b') list o b old new before = none_touched o (with_book_properties (list_set list)) b' (λ _. refl) b old new before
 list_in_turn (path.Card b' c) list o b old new before = none_touched o (with_cards (λ cards. changed_at (listed_card list) cards c)) b' (λ _. refl) b old new before
 
 pub names_touched_in_turn : NamesAreTouchedInTurn
@@ -230,10 +221,10 @@ names_touched_in_turn o (MoveCard fb fc tb tc) b old new possible before =
     then_touched o (remove_card fc) (move_to (card_at o fb fc) tc) fb fc tb tc (λ _. refl) (move_touches (card_at o fb fc) tc possible.0) b old new before
 names_touched_in_turn o (AddBook b' owner) b old new none before = by_put o.books b' (new_book owner) b (λ r. r ≡ Some new → new.changes ≡ old.changes)
     (λ is _. some_apart (sym before ∙ ap (get o.books) is ∙ none))
-    (λ _ after. ap (λ (book : Book). book.changes) (same_some _ _ (sym after ∙ before)))
+    (λ _ after. ap (λ (book : Book). book.changes) (same_Some _ _ (sym after ∙ before)))
 names_touched_in_turn o (RemoveBook b') b old new possible before = by_removed o.books b' b (λ r. r ≡ Some new → new.changes ≡ old.changes)
     (λ _ after. some_apart (sym after))
-    (λ _ after. ap (λ (book : Book). book.changes) (same_some _ _ (sym after ∙ before)))
+    (λ _ after. ap (λ (book : Book). book.changes) (same_Some _ _ (sym after ∙ before)))
 names_touched_in_turn o (SetLabel p label) b old new possible before = label_in_turn p label o possible b old new before
 names_touched_in_turn o (SetList p list) b old new possible before = list_in_turn p list o b old new before
 names_touched_in_turn o (SetMembers group members) b old new possible before = same_numbers old new _ before

@@ -8,18 +8,18 @@ use Rattle.book_lists.specs.declared.entries.Entry.{Entry}
 use Rattle.book_lists.specs.declared.memberships.Membership.{Membership}
 use Rattle.book_office.specs.declared.edits.Edit.{Edit}
 use Rattle.book_office.specs.declared.edits.Edit.TheVariants.{PutCard, RemoveCard, CopyCard, MoveCard, AddBook, RemoveBook, SetLabel, SetList, SetMembers, Adopt}
-use Rattle.book_values.specs.declared.offices.Book.{Book}
-use Rattle.book_values.specs.declared.offices.StoredCard.{StoredCard}
-use Rattle.book_values.specs.declared.offices.Office.{Office}
-use Rattle.book_values.specs.declared.offices.Properties.{Properties}
-use Rattle.book_values.specs.declared.paths.Path.{Path}
-use Rattle.book_values.specs.declared.paths.Path.TheVariants as path
-use Rattle.book_values.specs.Changes.{touched}
-use Rattle.book_adopting.specs.Adopting.{taken_over, adopt}
+use Rattle.book_office_values.specs.declared.offices.Book.{Book}
+use Rattle.book_office_values.specs.declared.offices.StoredCard.{StoredCard}
+use Rattle.book_office_values.specs.declared.offices.Office.{Office}
+use Rattle.book_office_values.specs.declared.offices.Properties.{Properties}
+use Rattle.book_office_values.specs.declared.paths.Path.{Path}
+use Rattle.book_office_values.specs.declared.paths.Path.TheVariants as path
+use Rattle.book_office_values.specs.Changes.{touched}
+use Rattle.book_office_adopting.specs.Adopting.{taken_over, adopt}
 use Rattle.book_office.specs.Resources.{card_at}
-use Rattle.book_adopting.specs.Sameness.{same_office}
-pub use Rattle.book_values.specs.Fresh.{empty_properties, new_book}
-pub use Rattle.book_values.specs.Names.{NamesTo, changed_if, changed_at}
+use Rattle.book_office_adopting.specs.Sameness.{same_office}
+pub use Rattle.book_office_values.specs.Fresh.{empty_properties, new_book}
+pub use Rattle.book_office_values.specs.Names.{NamesTo, changed_if, changed_at}
 
 abbrev pub with_book : (Book → Book) → Office → List ℕ → Office
 with_book change o b = record o { books = changed_at change o.books b }
@@ -93,14 +93,14 @@ with_properties change o (path.Card b c) = o
 abbrev pub with_card : (StoredCard → StoredCard) → Office → List ℕ → List ℕ → Office
 with_card change o b c = with_book (with_cards (λ cards. changed_at change cards c)) o b
 
-abbrev pub labelled : List ℕ → Properties → Properties
-labelled label properties = record properties { label = label }
+abbrev pub label_set : List ℕ → Properties → Properties
+label_set label properties = record properties { label = label }
 
 abbrev pub card_labelled : List ℕ → StoredCard → StoredCard
 card_labelled label card = record card { label = label }
 
-abbrev pub listed : List Entry → Properties → Properties
-listed list properties = record properties { own = list }
+abbrev pub list_set : List Entry → Properties → Properties
+list_set list properties = record properties { own = list }
 
 abbrev pub listed_card : List Entry → StoredCard → StoredCard
 listed_card list card = record card { own = list }
@@ -112,12 +112,12 @@ label_card c label (Some card) book = place_card book c (card_labelled label car
 
 abbrev pub set_label : Path → List ℕ → Office → Office
 set_label (path.Card b c) label o = with_book (λ book. label_card c label (get book.cards c) book) o b
-set_label p label o = with_properties (labelled label) o p
+set_label p label o = with_properties (label_set label) o p
 
 -- ACL (RFC 3744, section 8.1): the own list is replaced; no name is touched
 abbrev pub own_list_set : Path → List Entry → Office → Office
 own_list_set (path.Card b c) list o = with_card (listed_card list) o b c
-own_list_set p list o = with_properties (listed list) o p
+own_list_set p list o = with_properties (list_set list) o p
 
 abbrev pub set_list : Path → List Entry → Office → Office
 set_list p list o = record (own_list_set p list o) { epoch = o.epoch + 1 }

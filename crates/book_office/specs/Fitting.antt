@@ -3,15 +3,15 @@ use Rattle.std.specs.Prelude.{◌≡◌, ◌≢◌, ◌⊎◌, ℕ, ◌+◌, ◌
 use Rattle.std.specs.FinMap.{get, len}
 use Rattle.book_lists.specs.Names.{IsName}
 use Rattle.book_office.specs.declared.edits.Edit.TheVariants.{PutCard, RemoveCard, CopyCard, MoveCard, AddBook, RemoveBook, SetLabel, SetList, SetMembers, Adopt}
-use Rattle.book_values.specs.declared.offices.Book.{Book}
-use Rattle.book_values.specs.declared.offices.Office.{Office}
+use Rattle.book_office_values.specs.declared.offices.Book.{Book}
+use Rattle.book_office_values.specs.declared.offices.Office.{Office}
 use Rattle.book_limits.specs.declared.TheConstants.{MAX_MEMBERS, MAX_LABEL_BYTES, MAX_CARD_BYTES, MAX_CARDS, MAX_BOOKS, LAST_NUMBER}
-use Rattle.book_policies.specs.Policies.{IsPolicy}
-use Rattle.book_policies.specs.declared.parts.PolicyTables.{PolicyTables}
-use Rattle.book_adopting.specs.Adopting.{adopt}
+use Rattle.book_policy_values.specs.Policies.{IsPolicy}
+use Rattle.book_policy_values.specs.declared.parts.PolicyTables.{PolicyTables}
+use Rattle.book_office_adopting.specs.Adopting.{adopt}
 use Rattle.book_lists.specs.declared.entries.Entry.{Entry}
-use Rattle.book_values.specs.declared.paths.Path.{Path}
-use Rattle.book_values.specs.declared.paths.Path.TheVariants as path
+use Rattle.book_office_values.specs.declared.paths.Path.{Path}
+use Rattle.book_office_values.specs.declared.paths.Path.TheVariants as path
 use Rattle.book_office.specs.Resources.{card_at, resource_at}
 use Rattle.book_office.specs.Sound.{IsMapped, IsMappedGroup, IsOwner, IsSoundList, IsSound, Fits}
 

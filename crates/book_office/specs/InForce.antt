@@ -8,8 +8,8 @@ use Rattle.book_lists.specs.declared.entries.Entry.{Entry}
 use Rattle.book_lists.specs.declared.entries.Here.{Here}
 use Rattle.book_office.specs.declared.nodes.Level.{Level}
 use Rattle.book_office.specs.declared.nodes.Lists.{Lists}
-use Rattle.book_values.specs.declared.offices.Office.{Office}
-use Rattle.book_values.specs.declared.paths.Path.{Path}
+use Rattle.book_office_values.specs.declared.offices.Office.{Office}
+use Rattle.book_office_values.specs.declared.paths.Path.{Path}
 use Rattle.book_office.specs.Levels.{lists_at}
 
 -- the protected list of a level, or its own list

@@ -3,7 +3,7 @@ use Rattle.std.specs.Prelude.{◌≡◌, ◌⊎◌, ℕ, ◌+◌, nat_lt, if◌t
 use Rattle.book_office.specs.declared.edits.Edit.{Edit}
 use Rattle.book_office.specs.declared.keepers.StoreFault.{StoreFault}
 use Rattle.book_office.specs.declared.keepers.StoreFault.TheVariants.{Store, Memory}
-use Rattle.book_values.specs.declared.offices.Office.{Office}
+use Rattle.book_office_values.specs.declared.offices.Office.{Office}
 use Rattle.book_office.specs.Edits.{apply}
 use Rattle.book_office.specs.Sound.{IsSound, Fits}
 

@@ -1,8 +1,8 @@
 -- What the definitions of an Office imply.
 use Rattle.std.specs.Prelude.{◌≡◌, ℕ, ◌+◌, List, cond}
 use Rattle.book_office.specs.declared.edits.Edit.{Edit}
-use Rattle.book_values.specs.declared.offices.Office.{Office}
-use Rattle.book_values.specs.declared.paths.Path.{Path}
+use Rattle.book_office_values.specs.declared.offices.Office.{Office}
+use Rattle.book_office_values.specs.declared.paths.Path.{Path}
 use Rattle.book_office.specs.Edits.{apply, raises_epoch}
 use Rattle.book_office.specs.Resources.{resource_at, removed_at}
 use Rattle.book_office.specs.Sound.{IsSound}

@@ -5,9 +5,9 @@ use Rattle.book_lists.specs.declared.entries.Entry.{Entry}
 use Rattle.book_office.specs.declared.nodes.EffectiveEntry.{EffectiveEntry}
 use Rattle.book_office.specs.declared.nodes.Level.{Level}
 use Rattle.book_office.specs.declared.nodes.Lists.{Lists}
-use Rattle.book_values.specs.declared.offices.Office.{Office}
-use Rattle.book_values.specs.declared.paths.Path.{Path}
-use Rattle.book_values.specs.Paths.{levels}
+use Rattle.book_office_values.specs.declared.offices.Office.{Office}
+use Rattle.book_office_values.specs.declared.paths.Path.{Path}
+use Rattle.book_office_values.specs.Paths.{levels}
 use Rattle.book_office.specs.Resources.{Resource, resource_at}
 
 -- the protected list that stands at a path

@@ -1,10 +1,10 @@
 -- What a copy or a move finds, and leaves on its way: room for the card at its destination, and an empty book in the place of one that is taken out.
 use Rattle.std.specs.Prelude.{◌≡◌, ℕ, ◌≤◌, Bool, List, [], cond, is_some, None, Some}
 use Rattle.std.specs.FinMap.{get, insert, remove}
-use Rattle.book_values.specs.Names.{NamesTo, changed_at}
-use Rattle.book_values.specs.Fresh.{new_book}
-use Rattle.book_values.specs.declared.offices.Book.{Book}
-use Rattle.book_values.specs.declared.offices.StoredCard.{StoredCard}
+use Rattle.book_office_values.specs.Names.{NamesTo, changed_at}
+use Rattle.book_office_values.specs.Fresh.{new_book}
+use Rattle.book_office_values.specs.declared.offices.Book.{Book}
+use Rattle.book_office_values.specs.declared.offices.StoredCard.{StoredCard}
 use Rattle.book_limits.specs.declared.TheConstants.{LAST_NUMBER}
 
 -- the number of each book is within its limit, as in a sound Office; so it can rise

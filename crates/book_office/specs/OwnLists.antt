@@ -7,8 +7,8 @@ use Rattle.book_lists.specs.Decisions.{Decides}
 use Rattle.book_lists.specs.declared.entries.Entry.{Entry}
 use Rattle.book_lists.specs.declared.entries.Here.{Here}
 use Rattle.book_office.specs.declared.nodes.EffectiveEntry.{EffectiveEntry}
-use Rattle.book_values.specs.declared.offices.Office.{Office}
-use Rattle.book_values.specs.declared.paths.Path.{Path}
+use Rattle.book_office_values.specs.declared.offices.Office.{Office}
+use Rattle.book_office_values.specs.declared.paths.Path.{Path}
 use Rattle.book_office.specs.Edits.{apply}
 use Rattle.book_office.specs.declared.edits.Edit.TheVariants.{SetList}
 use Rattle.book_office.specs.Levels.{protected_at, lists_at, protected_entries, effective_at}

@@ -1,10 +1,10 @@
 -- A sound Office as a map from paths: what holds of a resource by where it stands, and of the numbers of a book.
 use Rattle.std.specs.Prelude.{◌≡◌, ◌≢◌, ◌⊎◌, ◌↔◌, ℕ, ◌≤◌, List, [], Some, None}
-use Rattle.book_values.specs.declared.offices.Office.{Office}
-use Rattle.book_values.specs.declared.paths.Kind.TheVariants as kind
-use Rattle.book_values.specs.declared.paths.Path.{Path}
-use Rattle.book_values.specs.declared.paths.Path.TheVariants as path
-use Rattle.book_values.specs.Paths.{IsPath, parent_of, kind_of}
+use Rattle.book_office_values.specs.declared.offices.Office.{Office}
+use Rattle.book_office_values.specs.declared.paths.Kind.TheVariants as kind
+use Rattle.book_office_values.specs.declared.paths.Path.{Path}
+use Rattle.book_office_values.specs.declared.paths.Path.TheVariants as path
+use Rattle.book_office_values.specs.Paths.{IsPath, parent_of, kind_of}
 use Rattle.book_office.specs.Resources.{Resource, resource_at, removed_at}
 use Rattle.book_office.specs.Sound.{IsSound}
 

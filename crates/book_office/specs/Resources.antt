@@ -5,15 +5,15 @@ use Rattle.book_lists.specs.declared.entries.Entry.{Entry}
 use Rattle.book_office.specs.declared.nodes.Changed.{Changed}
 use Rattle.book_office.specs.declared.nodes.Listed.{Listed}
 use Rattle.book_office.specs.declared.nodes.Node.{Node}
-use Rattle.book_values.specs.Changes.{Change, changes_after}
-use Rattle.book_values.specs.declared.offices.Book.{Book}
-use Rattle.book_values.specs.declared.offices.StoredCard.{StoredCard}
-use Rattle.book_values.specs.declared.offices.Office.{Office}
-use Rattle.book_values.specs.declared.offices.Properties.{Properties}
-use Rattle.book_values.specs.declared.paths.Kind.{Kind}
-use Rattle.book_values.specs.declared.paths.Kind.TheVariants as kind
-use Rattle.book_values.specs.declared.paths.Path.{Path}
-use Rattle.book_values.specs.declared.paths.Path.TheVariants as path
+use Rattle.book_office_values.specs.Changes.{Change, changes_after}
+use Rattle.book_office_values.specs.declared.offices.Book.{Book}
+use Rattle.book_office_values.specs.declared.offices.StoredCard.{StoredCard}
+use Rattle.book_office_values.specs.declared.offices.Office.{Office}
+use Rattle.book_office_values.specs.declared.offices.Properties.{Properties}
+use Rattle.book_office_values.specs.declared.paths.Kind.{Kind}
+use Rattle.book_office_values.specs.declared.paths.Kind.TheVariants as kind
+use Rattle.book_office_values.specs.declared.paths.Path.{Path}
+use Rattle.book_office_values.specs.declared.paths.Path.TheVariants as path
 
 -- a resource
 pub record Resource : Type 0 where
@@ -100,11 +100,11 @@ abbrev pub unnumbered : Node → Node
 unnumbered n = record n { number = 0 }
 
 -- a child in a listing: a resource without its text
-abbrev pub listed : List ℕ → Resource → Listed
-listed name r = record { name = name; kind = r.kind; owner = r.owner; label = r.label; number = r.number; protected = r.protected; own = r.own }
+abbrev pub as_listed : List ℕ → Resource → Listed
+as_listed name r = record { name = name; kind = r.kind; owner = r.owner; label = r.label; number = r.number; protected = r.protected; own = r.own }
 
 abbrev pub listed_home : List ℕ → Properties → Listed
-listed_home name home = listed name (properties_resource kind.Home 0 home)
+listed_home name home = as_listed name (properties_resource kind.Home 0 home)
 
 abbrev pub listed_homes : Office → List Listed
 listed_homes o =
@@ -113,16 +113,16 @@ listed_homes o =
     ∷ listed_home (codes "people") o.people ∷ []
 
 abbrev pub listed_principals : Kind → List (List ℕ × Properties) → List Listed
-listed_principals k principals = map (λ e. listed e.0 (properties_resource k 0 e.1)) principals
+listed_principals k principals = map (λ e. as_listed e.0 (properties_resource k 0 e.1)) principals
 
 abbrev pub listed_books : List (List ℕ × Book) → List Listed
-listed_books books = map (λ e. listed e.0 (book_resource e.1)) books
+listed_books books = map (λ e. as_listed e.0 (book_resource e.1)) books
 
-abbrev pub listed_in : Book → List (List ℕ × StoredCard) → List Listed
-listed_in book cards = map (λ e. listed e.0 (card_resource (number_of book e.0) e.1)) cards
+abbrev pub listed_of_book : Book → List (List ℕ × StoredCard) → List Listed
+listed_of_book book cards = map (λ e. as_listed e.0 (card_resource (number_of book e.0) e.1)) cards
 
 abbrev pub listed_cards : Book → List Listed
-listed_cards book = listed_in book (entries book.cards)
+listed_cards book = listed_of_book book (entries book.cards)
 
 -- the children of a resource, in byte order of their names
 abbrev pub children_at : Office → Path → List Listed

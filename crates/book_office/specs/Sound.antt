@@ -11,10 +11,10 @@ use Rattle.book_lists.specs.Names.{IsName}
 use Rattle.book_lists.specs.Principals.{person_path, group_path}
 use Rattle.book_office.specs.declared.edits.Edit.{Edit}
 use Rattle.book_office.specs.declared.edits.Edit.TheVariants.{PutCard, RemoveCard, CopyCard, MoveCard, AddBook, RemoveBook, SetLabel, SetList, SetMembers, Adopt}
-use Rattle.book_values.specs.declared.offices.Book.{Book}
-use Rattle.book_values.specs.declared.offices.StoredCard.{StoredCard}
-use Rattle.book_values.specs.declared.offices.Office.{Office}
-use Rattle.book_values.specs.declared.offices.Properties.{Properties}
+use Rattle.book_office_values.specs.declared.offices.Book.{Book}
+use Rattle.book_office_values.specs.declared.offices.StoredCard.{StoredCard}
+use Rattle.book_office_values.specs.declared.offices.Office.{Office}
+use Rattle.book_office_values.specs.declared.offices.Properties.{Properties}
 use Rattle.book_limits.specs.declared.TheConstants.{MAX_ENTRIES, MAX_MEMBERS, MAX_LABEL_BYTES, MAX_CARD_BYTES, MAX_CARDS, MAX_BOOKS, LAST_NUMBER}
 use Rattle.book_office.specs.Edits.{apply}
 use Rattle.book_office.specs.Resources.{card_at, resource_at}

@@ -2,17 +2,17 @@
 use Rattle.std.specs.Prelude.{◌≡◌, ◌≢◌, ℕ, ◌+◌, ◌<◌, ◌≤◌, List, [], ◌∷◌, ◌++◌, length, map, filter, fold, Contains, Option, Some, None}
 use Rattle.std.specs.FinMap.{get, keys}
 use Rattle.std.specs.Str.{bytes_eq}
-use Rattle.book_values.specs.declared.collections.changes.Numbers.{Numbers}
+use Rattle.book_office_values.specs.declared.collections.changes.Numbers.{Numbers}
 use Rattle.book_office.specs.declared.edits.Edit.{Edit}
 use Rattle.book_office.specs.declared.edits.Edit.TheVariants.{PutCard, RemoveCard, CopyCard, MoveCard, AddBook, RemoveBook, SetLabel, SetList, SetMembers, Adopt}
-use Rattle.book_values.specs.declared.offices.Book.{Book}
-use Rattle.book_values.specs.declared.offices.Office.{Office}
-use Rattle.book_values.specs.declared.offices.StoredCard.{StoredCard}
-use Rattle.book_values.specs.declared.paths.Path.{Path}
-use Rattle.book_values.specs.declared.paths.Path.TheVariants as path
+use Rattle.book_office_values.specs.declared.offices.Book.{Book}
+use Rattle.book_office_values.specs.declared.offices.Office.{Office}
+use Rattle.book_office_values.specs.declared.offices.StoredCard.{StoredCard}
+use Rattle.book_office_values.specs.declared.paths.Path.{Path}
+use Rattle.book_office_values.specs.declared.paths.Path.TheVariants as path
 use Rattle.book_office.specs.Edits.{apply, touches}
 use Rattle.book_office.specs.Resources.{card_at}
-use Rattle.book_values.specs.Changes.{touched}
+use Rattle.book_office_values.specs.Changes.{touched}
 use Rattle.book_office.specs.Sound.{IsPossible}
 
 -- the book at a path, or the book of the card at it

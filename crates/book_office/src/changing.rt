@@ -8,10 +8,10 @@ ghost use Rattle.book_office.specs.Edits.{add_book, apply, changed_at, place_car
 use crate::edits::Edit;
 use crate::moving::{copy_card, move_card};
 use crate::setting::{set_label, set_list, set_members};
-use book_adopting::adopt;
 use book_limits::LAST_NUMBER;
 use book_lists::{Name, Principal};
-use book_values::{Book, Changes, Items, NameMap, Office, Properties, StoredCard, Text};
+use book_office_adopting::adopt_policy;
+use book_office_values::{Book, Changes, Items, NameMap, Office, Properties, StoredCard, Text};
 use std::alloc::{AllocError, Global};
 
 /// Replaces the text of the card of a name, if there is one.
@@ -153,6 +153,6 @@ pub(crate) fn act(alloc: Global, office: &mut Office, edit: &Edit) -> Result<(),
         Edit::SetLabel { path, label } => set_label(office, path, label),
         Edit::SetList { path, entries } => set_list(office, path, entries),
         Edit::SetMembers { group, members } => set_members(alloc, office, group, members),
-        Edit::Adopt { policy } => adopt(alloc, office, policy),
+        Edit::Adopt { policy } => adopt_policy(alloc, office, policy),
     }
 }

@@ -1,8 +1,8 @@
 //! The edits of an Office.
 
 use book_lists::{Entry, Name, Principal};
-use book_policies::Policy;
-use book_values::{Items, Path, Text};
+use book_office_values::{Items, Path, Text};
+use book_policy_values::Policy;
 
 /// A change of an Office. It fits an Office where what it names as present is mapped, what it adds is not mapped and has
 /// a mapped parent, and what it leaves is sound.

@@ -7,14 +7,14 @@ ghost use Rattle.book_lists.specs.Scans.{IfScanned, IsAllowedRead, IsScan, read_
 ghost use Rattle.book_office.specs.InForce.{in_force, in_force_at, list_in, lists_in};
 ghost use Rattle.book_office.specs.Levels.{level_at};
 ghost use Rattle.book_office.specs.Resources.{Resource, card_in};
-ghost use Rattle.book_values.specs.Paths.{levels};
-ghost use Rattle.book_values.specs.declared.paths.Path.TheVariants as paths;
+ghost use Rattle.book_office_values.specs.Paths.{levels};
+ghost use Rattle.book_office_values.specs.declared.paths.Path.TheVariants as paths;
 
 use crate::nodes::Level;
 use crate::reads::{own_list, protected_list};
 use book_lists::{Circle, Entry, Here, Name, Outcome, Scan};
+use book_office_values::{Book, Office, Path};
 use book_rights::LeafSet;
-use book_values::{Book, Office, Path};
 
 /// Whether all of the need is granted by what the scan has come over.
 fn is_granted(scan: &Scan) -> bool

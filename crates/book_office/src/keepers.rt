@@ -3,7 +3,7 @@
 ghost use Rattle.std.specs.Prelude.{◌≡◌, is_some, nat_lt, option_map};
 ghost use Rattle.book_lists.specs.Callers.{IsCircle};
 ghost use Rattle.book_office.specs.declared.keepers.StoreFault.TheVariants.{Memory};
-ghost use Rattle.book_adopting.specs.Adopting.{adoption_of};
+ghost use Rattle.book_office_adopting.specs.Adopting.{adoption_of};
 ghost use Rattle.book_office.specs.Keeping.{Standing, Reads, Edits};
 ghost use Rattle.book_office.specs.Resources.{node_at, children_at, count_at, changed_after, unnumbered};
 ghost use Rattle.book_office.specs.Levels.{level_at, lists_at};
@@ -12,11 +12,11 @@ ghost use Rattle.book_office.specs.InForce.{AreUnlessGranted};
 use crate::edits::Edit;
 use crate::granting::grant;
 use crate::nodes::{Changed, Level, Listed, Lists, Node};
-use book_adopting::Adoption;
 use book_lists::{Caller, Circle, Here, Name, Pairs};
-use book_policies::Policy;
+use book_office_adopting::Adoption;
+use book_office_values::{Items, Path};
+use book_policy_values::Policy;
 use book_rights::LeafSet;
-use book_values::{Items, Path};
 use std::alloc::{AllocError, Global};
 
 /// Why a keeper gave up.

@@ -1,6 +1,6 @@
 //! What keeps an Office: what it has at each path, what each edit leaves, and the trait of its keepers.
 //!
-//! It stands on `book_values`, `book_policies` and `book_adopting`, whose types it names again, and on the crates below them.
+//! It stands on `book_office_values`, `book_policy_values` and `book_office_adopting`, whose types it names again, and on the crates below them.
 //! The crate above uses that a `Keeper` stands for a sound Office: each read tells what that Office has (`Reads`), and `act`
 //! leaves the edited Office or, on an error, the Office as it was (`Edits`); and that edits within the limits fit.
 //!
@@ -20,13 +20,13 @@ mod reads;
 mod setting;
 mod views;
 
-pub use book_adopting::{Adoption, adopting_twice_is_adopting_once};
-pub use book_policies::{
-    BookPart, EntryPart, GroupPart, PersonPart, Policy, PolicyBook, PolicyEntry, PolicyTables,
-};
-pub use book_values::{
+pub use book_office_adopting::{Adoption, adopting_twice_is_adopting_once};
+pub use book_office_values::{
     Book, Changes, Items, Kind, NameMap, Numbers, Office, Path, PathFault, Properties, StoredCard,
     Text,
+};
+pub use book_policy_values::{
+    BookPart, EntryPart, GroupPart, PersonPart, Policy, PolicyBook, PolicyEntry, PolicyTables,
 };
 pub use edits::Edit;
 pub use keepers::{Keeper, StoreFault};

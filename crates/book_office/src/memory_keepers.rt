@@ -11,11 +11,11 @@ use crate::granting::grant_at;
 use crate::keepers::{Keeper, StoreFault};
 use crate::nodes::{Changed, Level, Listed, Lists, Node};
 use crate::reads::{changed, children, count, find, find_unnumbered, has, level, lists};
-use book_adopting::{Adoption, adoption_of};
 use book_lists::{Caller, Circle, Here, Name, Pairs, expand};
-use book_policies::Policy;
+use book_office_adopting::{Adoption, adoption_of};
+use book_office_values::{Items, NameMap, Office, Path, Properties};
+use book_policy_values::Policy;
 use book_rights::LeafSet;
-use book_values::{Items, NameMap, Office, Path, Properties};
 use std::alloc::{AllocError, Global};
 use std::marker::Model;
 
@@ -29,8 +29,8 @@ pub struct MemoryKeeper {
 }
 
 impl Model for MemoryKeeper {
-    ghost use Rattle.book_values.specs.declared.offices.Office.{Office};
-    ghost use Rattle.book_values.specs.contracts.offices.Office as office_type;
+    ghost use Rattle.book_office_values.specs.declared.offices.Office.{Office};
+    ghost use Rattle.book_office_values.specs.contracts.offices.Office as office_type;
 
     ghost Value = { Office };
 

@@ -5,14 +5,14 @@ ghost use Rattle.std.specs.FinMap.{get, insert};
 ghost use Rattle.book_office.specs.Edits.{changed_at, copy_card, move_card, move_to, place_card, put_copy, remove_card};
 ghost use Rattle.book_office.specs.Moving.{AreNumbered, bare_book, handed, relabelled, roomed, unroomed};
 ghost use Rattle.book_office.specs.Resources.{card_at};
-ghost use Rattle.book_values.specs.declared.offices.Book.{Book};
+ghost use Rattle.book_office_values.specs.declared.offices.Book.{Book};
 ghost use Rattle.book_limits.specs.declared.TheConstants.{LAST_NUMBER};
-ghost use Rattle.book_values.specs.declared.offices.StoredCard.{StoredCard};
+ghost use Rattle.book_office_values.specs.declared.offices.StoredCard.{StoredCard};
 
 use crate::changing::add_card;
 use book_limits::LAST_NUMBER;
 use book_lists::{Name, Principal};
-use book_values::{Book, Changes, Items, NameMap, Office, Properties, StoredCard, Text};
+use book_office_values::{Book, Changes, Items, NameMap, Office, Properties, StoredCard, Text};
 use std::alloc::{AllocError, Global};
 use std::mem;
 

@@ -4,7 +4,7 @@ ghost use Rattle.std.specs.Prelude.{◌≡◌};
 ghost use Rattle.book_office.specs.Resources.{unnumbered};
 
 use book_lists::{Entry, Name, Principal};
-use book_values::{Items, Kind, Path, StoredCard, Text};
+use book_office_values::{Items, Kind, Path, StoredCard, Text};
 
 /// A resource without its lists.
 #[derive(Debug, Drop)]

@@ -4,14 +4,14 @@ ghost use Rattle.std.specs.Prelude.{◌≡◌, [], IfOk, is_some, option_map, un
 ghost use Rattle.std.specs.FinMap.{entries, get};
 ghost use Rattle.std.specs.Option.{option_copied};
 ghost use Rattle.book_lists.specs.Names.{IsName};
-ghost use Rattle.book_values.specs.Changes.{changes_after};
+ghost use Rattle.book_office_values.specs.Changes.{changes_after};
 ghost use Rattle.book_office.specs.Levels.{level_at, lists_at, own_at, protected_at};
-ghost use Rattle.book_office.specs.Resources.{changed_after, changed_in, book_resource, card_at, card_in, card_resource, children_at, count_at, listed, listed_books, listed_cards, listed_home, listed_homes, listed_principals, node_at, node_of, number_of, properties_at, properties_resource, unnumbered};
-ghost use Rattle.book_values.specs.declared.paths.Kind.TheVariants as kind;
+ghost use Rattle.book_office.specs.Resources.{changed_after, changed_in, book_resource, card_at, card_in, card_resource, children_at, count_at, as_listed, listed_books, listed_cards, listed_home, listed_homes, listed_principals, node_at, node_of, number_of, properties_at, properties_resource, unnumbered};
+ghost use Rattle.book_office_values.specs.declared.paths.Kind.TheVariants as kind;
 
 use crate::nodes::{Changed, Level, Listed, Lists, Node};
 use book_lists::{Entry, Name};
-use book_values::{Book, Items, Kind, NameMap, Office, Path, Properties, StoredCard};
+use book_office_values::{Book, Items, Kind, NameMap, Office, Path, Properties, StoredCard};
 use std::alloc::{AllocError, Global};
 
 /// The node of a resource other than a card.
@@ -90,7 +90,7 @@ fn listed_properties(
     kind: Kind,
     number: u64,
 ) -> Result<Listed, AllocError>
-    ensures { IfOk result (λ child. child ≡ listed name.now (properties_resource kind number properties.now)) }
+    ensures { IfOk result (λ child. child ≡ as_listed name.now (properties_resource kind number properties.now)) }
 {
     Ok(Listed {
         name: name.clone()?,
@@ -105,7 +105,7 @@ fn listed_properties(
 
 /// A book in a listing.
 fn listed_book(name: &Name, book: &Book) -> Result<Listed, AllocError>
-    ensures { IfOk result (λ child. child ≡ listed name.now (book_resource book.now)) }
+    ensures { IfOk result (λ child. child ≡ as_listed name.now (book_resource book.now)) }
 {
     listed_properties(name, &book.properties, Kind::Book, book.changes.number())
 }
@@ -117,7 +117,7 @@ fn listed_card(
     card: &StoredCard,
     number: u64,
 ) -> Result<Listed, AllocError>
-    ensures { IfOk result (λ child. child ≡ listed name.now (card_resource number card.now)) }
+    ensures { IfOk result (λ child. child ≡ as_listed name.now (card_resource number card.now)) }
 {
     Ok(Listed {
         name: name.clone()?,

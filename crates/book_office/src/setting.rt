@@ -6,18 +6,18 @@ ghost use Rattle.std.specs.FinSet as set;
 ghost use Rattle.std.specs.Str.{bytes_eq};
 ghost use Rattle.book_lists.specs.Memberships.{set_of};
 ghost use Rattle.book_lists.specs.declared.memberships.Membership.{Membership};
-ghost use Rattle.book_office.specs.Edits.{changed_at, card_labelled, label_card, labelled, listed, listed_card, members_set, own_list_set, set_label, set_list, set_members, with_cards, with_properties, with_book_properties};
+ghost use Rattle.book_office.specs.Edits.{changed_at, card_labelled, label_card, label_set, list_set, listed_card, members_set, own_list_set, set_label, set_list, set_members, with_cards, with_properties, with_book_properties};
 ghost use Rattle.book_office.specs.Moving.{AreNumbered};
-ghost use Rattle.book_values.specs.declared.offices.Book.{Book};
+ghost use Rattle.book_office_values.specs.declared.offices.Book.{Book};
 
 use book_limits::LAST_NUMBER;
 use book_lists::{Entry, Membership, Name, Pairs, Principal};
-use book_values::{Book, Items, NameMap, Office, Path, Properties, StoredCard, Text};
+use book_office_values::{Book, Items, NameMap, Office, Path, Properties, StoredCard, Text};
 use std::alloc::{AllocError, Global};
 
 /// Replaces the label of the person or the group of a name, if there is one.
 fn label_principal(principals: &mut NameMap<Properties>, name: &Name, label: Text)
-    ensures { principals.new ≡ changed_at (labelled label) principals.old name.now }
+    ensures { principals.new ≡ changed_at (label_set label) principals.old name.now }
 {
     if let Some(properties) = principals.get_mut(name) {
         properties.label = label;
@@ -26,7 +26,7 @@ fn label_principal(principals: &mut NameMap<Properties>, name: &Name, label: Tex
 
 /// Replaces the label of the book of a name, if there is one.
 fn label_book(books: &mut NameMap<Book>, name: &Name, label: Text)
-    ensures { books.new ≡ changed_at (with_book_properties (labelled label)) books.old name.now }
+    ensures { books.new ≡ changed_at (with_book_properties (label_set label)) books.old name.now }
 {
     if let Some(book) = books.get_mut(name) {
         book.properties.label = label;
@@ -35,7 +35,7 @@ fn label_book(books: &mut NameMap<Book>, name: &Name, label: Text)
 
 /// Replaces the label at a path that is no card's.
 fn label_properties(office: &mut Office, path: &Path, label: Text)
-    ensures { office.new ≡ with_properties (labelled label) office.old path.now }
+    ensures { office.new ≡ with_properties (label_set label) office.old path.now }
 {
     match path {
         Path::Root => office.root.label = label,
@@ -111,7 +111,7 @@ pub(crate) fn set_label(office: &mut Office, path: &Path, label: &Text) -> Resul
 
 /// Replaces the own list of the person or the group of a name, if there is one.
 fn list_principal(principals: &mut NameMap<Properties>, name: &Name, own: Items<Entry>)
-    ensures { principals.new ≡ changed_at (listed own) principals.old name.now }
+    ensures { principals.new ≡ changed_at (list_set own) principals.old name.now }
 {
     if let Some(properties) = principals.get_mut(name) {
         properties.own = own;
@@ -120,7 +120,7 @@ fn list_principal(principals: &mut NameMap<Properties>, name: &Name, own: Items<
 
 /// Replaces the own list of the book of a name, if there is one.
 fn list_book(books: &mut NameMap<Book>, name: &Name, own: Items<Entry>)
-    ensures { books.new ≡ changed_at (with_book_properties (listed own)) books.old name.now }
+    ensures { books.new ≡ changed_at (with_book_properties (list_set own)) books.old name.now }
 {
     if let Some(book) = books.get_mut(name) {
         book.properties.own = own;

@@ -7,7 +7,7 @@ ghost use Rattle.book_office.specs.Levels.{effective_at, effective_of, standing_
 use crate::keepers::{Keeper, StoreFault};
 use crate::nodes::{EffectiveEntry, Level, Lists};
 use book_lists::Entry;
-use book_values::{Items, Path};
+use book_office_values::{Items, Path};
 use std::alloc::{AllocError, Global};
 
 /// Adds the entries of one list, with the path where they stand.

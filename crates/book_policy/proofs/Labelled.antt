@@ -1,31 +1,25 @@
 -- The labels of parts by name, and what is asked of the parts against them.
-use Rattle.std.proofs.Common.{◌≡◌, ◌≢◌, ℕ, List, [], ◌∷◌, map, Some, None, cond, refl, sym, ◌∙◌, subst}
-use Rattle.std.specs.FinMap.{get, insert, empty, get-empty}
-use Rattle.std.specs.List.{All, AllByRecursion, AllPairs}
+use Rattle.book_policy.proofs.Common.{◌≡◌, ℕ, List, [], ◌∷◌, map, Some, None, cond, refl, sym, ◌∙◌, subst, empty, All, AllByRecursion, Path, GroupPart, BookPart, NamesForm, NamesPrincipal, added, named_group, named_person, CanAdd, entry_part, who_of, EntryText, Parts}
+use Rattle.std.proofs.Common.{◌≢◌}
+use Rattle.std.specs.FinMap.{get, insert, get-empty}
+use Rattle.std.specs.List.{AllPairs}
 use Rattle.std.proofs.lemmas.List.Elements.{All-nil, All-cons, All-head, All-tail, All-from_recursion, recursion_from_All}
 use Rattle.book_lists.specs.Names.{IsName, name_cmp}
-use Rattle.book_values.specs.Names.{NamesTo}
-use Rattle.book_values.specs.declared.paths.Path.{Path}
-use Rattle.book_values.specs.declared.paths.Path.TheVariants as path
-use Rattle.book_values.proofs.NameMapLaws.{by_same, put_at}
-use Rattle.book_policies.proofs.Names.{all_once, can_add}
-use Rattle.book_policies.specs.declared.parts.GroupPart.{GroupPart}
-use Rattle.book_policies.specs.declared.parts.BookPart.{BookPart}
-use Rattle.book_policies.specs.declared.parts.EntryPart.{EntryPart}
-use Rattle.book_policies.specs.Policies.{AreKnown, ArePlaces, IsPlaceOf, NamesForm, NamesOwner, NamesPlace, NamesPrincipal, added, named_book, named_group, named_person}
-use Rattle.book_policies.specs.Reading.{CanAdd}
+use Rattle.book_office_values.specs.Names.{NamesTo}
+use Rattle.book_office_values.specs.declared.paths.Path.TheVariants as path
+use Rattle.book_office_values.proofs.NameMapLaws.{by_same, put_at}
+use Rattle.book_office_values.proofs.OneName.{some_apart}
+use Rattle.book_policy_values.proofs.Names.{all_once, can_add}
+use Rattle.book_policy_values.specs.declared.parts.EntryPart.{EntryPart}
+use Rattle.book_policy_values.specs.Policies.{AreKnown, ArePlaces, IsPlaceOf, NamesOwner, NamesPlace, named_book}
+use Rattle.book_policy_values.proofs.Faults.{all_mapped}
 use Rattle.book_policy.specs.Passes.{AreLabelsOf, PlacesAreThere, PrincipalsAreThere, labelled_book}
-use Rattle.book_policy.specs.Rules.{entries_in, entry_part, who_of}
-use Rattle.book_policy.specs.declared.parts.EntryText.{EntryText}
-use Rattle.book_policy.specs.declared.parts.Parts.{Parts}
-use Rattle.book_policy.specs.declared.passes.Labels.{Labels}
+use Rattle.book_policy.specs.Rules.{entries_in}
+use Rattle.book_policy.specs.declared.fault_passes.Labels.{Labels}
 
 -- ---- maps with the same names
 abbrev pub SameNames : {V W : Type 0} → NamesTo V → NamesTo W → Type 0
 SameNames m n = (q : List ℕ) → get m q ≢ None → get n q ≢ None
-
-some_apart : {A P : Type 0} {x : A} → Some x ≡ None → P
-some_apart e = absurd cc
 
 same_inserted : {V W : Type 0} (m : NamesTo V) (n : NamesTo W) (k : List ℕ) (v : V) (w : W) → SameNames m n → SameNames (insert m k v) (insert n k w)
 same_inserted m n k v w same q there gone =
@@ -71,9 +65,6 @@ module _ {A : Type 0} (entry : A → List ℕ × List ℕ) (xs : List A) where
   all_new names once = can_add (λ _. Unit {0}) entry empty xs (λ k d within. tt) names once (λ k d within. get-empty name_cmp _)
 
 -- ---- the parts that entries make
-pub all_mapped : {A B : Type 0} (P : B → Type 0) (f : A → B) (xs : List A) → All (λ x. P (f x)) xs → All P (map f xs)
-all_mapped P f [] h = All-nil P
-all_mapped P f (x ∷ xs) h = All-cons P (f x) (map f xs) (All-head (λ y. P (f y)) x xs h) (all_mapped P f xs (All-tail (λ y. P (f y)) x xs h))
 
 all_before : {A B : Type 0} (P : B → Type 0) (f : A → B) (xs : List A) → All P (map f xs) → All (λ x. P (f x)) xs
 all_before P f [] h = All-nil _

@@ -1,13 +1,13 @@
 -- The least fault of parts, and of a text that spells them.
-use Rattle.std.proofs.Common.{◌≡◌, ◌≢◌, ◌<◌, ◌≤◌, ℕ, List, Some, None, true, false, sym, ◌∙◌, ap, subst, arith}
+use Rattle.book_policy.proofs.Common.{◌≡◌, ◌<◌, ◌≤◌, ℕ, List, Some, None, true, false, sym, ◌∙◌, ap, subst, arith, Parts}
+use Rattle.std.proofs.Common.{◌≢◌}
 use Rattle.toml.specs.Data.{Members}
 use Rattle.toml.specs.Parse.{parse_document}
 use Rattle.book_policy.specs.Passes.{KeepsNames}
 use Rattle.book_policy.specs.Shapes.{has_version_one, parts_in}
-use Rattle.book_policy.specs.Rules.{IsLeastBroken, PartsRule, Rule, Spells, number}
+use Rattle.book_policy.specs.Rules.{IsLeastBroken, PartsRule, Rule, SpellsParts, number}
 use Rattle.book_policy.specs.declared.faults.PolicyFault.{PolicyFault}
 use Rattle.book_policy.specs.declared.faults.PolicyFault.TheVariants.{NotToml, OtherVersion, BadKey, BadName, NameTwice, UnknownPrincipal, UnknownResource, UnknownPrivilege, TooMany, Memory}
-use Rattle.book_policy.specs.declared.parts.Parts.{Parts}
 
 -- the rules before a fault, each given where it comes before
 below : (K : PolicyFault → Type 0) (n : ℕ) → (1 < n → K NotToml) → (2 < n → K OtherVersion) → (3 < n → K BadKey) → (4 < n → K BadName)
@@ -90,15 +90,15 @@ module _ (parts : Parts) where
 pub same_table : (text : List ℕ) (t u : Members) → parse_document text ≡ Some t → parse_document text ≡ Some u → t ≡ u
 same_table text t u a b = let e : Some t ≡ Some u = sym a ∙ b in cc
 
-pub same_parts : (text : List ℕ) (p q : Parts) → Spells text p → Spells text q → p ≡ q
+pub same_parts : (text : List ℕ) (p q : Parts) → SpellsParts text p → SpellsParts text q → p ≡ q
 same_parts text p q a b =
     let t : a.table ≡ b.table = same_table text a.table b.table a.toml b.toml in
     let e : Some p ≡ Some q = sym a.spelled ∙ ap parts_in t ∙ b.spelled in
     cc
 
-module _ (text : List ℕ) (parts : Parts) (s : Spells text parts) where
+module _ (text : List ℕ) (parts : Parts) (s : SpellsParts text parts) where
   -- a rule of the parts is a rule of the text
-  of_parts : (f : PolicyFault) → PartsRule parts f → (q : Parts) → Spells text q → PartsRule q f
+  of_parts : (f : PolicyFault) → PartsRule parts f → (q : Parts) → SpellsParts text q → PartsRule q f
   of_parts f h q t = subst (λ (x : Parts). PartsRule x f) (same_parts text parts q s t) h
 
   pub lifted : (g : PolicyFault) → PartsRule parts g → Rule text g

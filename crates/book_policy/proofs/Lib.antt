@@ -1,3 +1,4 @@
+pub mod Common
 pub mod Labelled
 pub mod Least
 pub mod Privileges

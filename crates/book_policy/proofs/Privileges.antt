@@ -1,7 +1,8 @@
 -- The leaves of named privileges.
-use Rattle.std.proofs.Common.{◌≡◌, ◌≤◌, ◌<◌, ◌+◌, ◌||◌, ℕ, List, [], ◌∷◌, length, get_or, drop, Bool, true, false, refl, sym, ap, ◌∙◌, subst, arith}
-use Rattle.std.specs.List.{All, AllByRecursion}
-use Rattle.std.proofs.lemmas.Bool.{false≢true}
+use Rattle.book_policy.proofs.Common.{◌≡◌, ◌≤◌, ◌<◌, ℕ, List, [], ◌∷◌, length, drop, Bool, refl, sym, ap, ◌∙◌, subst, arith, All, AllByRecursion}
+use mathlib.Core.Bool.{or-false, or_assoc}
+use Rattle.std.proofs.Common.{◌+◌, get_or}
+use Rattle.std.proofs.lemmas.Bool.{or_left}
 use Rattle.std.proofs.lemmas.List.{drop_more}
 use Rattle.std.proofs.lemmas.List.Elements.{All-head}
 use Rattle.std.proofs.Math.ListN.{drop_of_length-le}
@@ -11,7 +12,7 @@ use Rattle.book_rights.specs.declared.privileges.Leaf.{Leaf}
 use Rattle.book_rights.specs.declared.privileges.Leaf.TheVariants.{Read, WriteContent, WriteProperties, Bind, Unbind, ReadAcl, WriteAcl, ReadCurrentUserPrivilegeSet}
 use Rattle.book_rights.specs.declared.privileges.Privilege.{Privilege}
 use Rattle.book_rights.specs.declared.privileges.Privilege.TheVariants.{One, Write, All as Whole}
-use Rattle.book_policies.specs.Policies.{HoldsSome}
+use Rattle.book_policy_values.specs.Policies.{HoldsSome}
 use Rattle.book_policy.specs.Rules.{IsPrivilegeName, all_privileges, leaves_named, leaves_of}
 
 pub leaves_of_name : (p : Privilege) → leaves_named all_privileges (name_of p) ≡ contained p
@@ -26,23 +27,11 @@ leaves_of_name (One ReadCurrentUserPrivilegeSet) = refl
 leaves_of_name Write = refl
 leaves_of_name Whole = refl
 
-or_later : (a b c : Bool) → ((a || b) || c) ≡ (a || (b || c))
-or_later true b c = refl
-or_later false b c = refl
-
-or_none : (a : Bool) → (a || false) ≡ a
-or_none true = refl
-or_none false = refl
-
-or_left : (a b : Bool) → a ≡ true → (a || b) ≡ true
-or_left true b h = refl
-or_left false b h = absurd (false≢true h)
-
 pub union_later : (f g h : Leaf → Bool) → union (union f g) h ≡ union f (union g h)
-union_later f g h = λ i leaf. or_later (f leaf) (g leaf) (h leaf) i
+union_later f g h = λ i leaf. or_assoc (f leaf) (g leaf) (h leaf) i
 
 pub union_none : (f : Leaf → Bool) → union f no_leaf ≡ f
-union_none f = λ i leaf. or_none (f leaf) i
+union_none f = λ i leaf. or-false (f leaf) i
 
 -- one name more
 pub one_more : (set : Leaf → Bool) (p : Privilege) (name : List ℕ) (names : List (List ℕ)) → name ≡ name_of p

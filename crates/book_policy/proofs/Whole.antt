@@ -1,24 +1,22 @@
 -- The policy of parts, and of a text.
-use Rattle.std.proofs.Common.{◌≡◌, ◌⊎◌, inl, inr, ◌<◌, ◌≤◌, ℕ, List, [], ◌∷◌, get_or, length, Result, Ok, Err, IfOk, IfErr, MatchResult, leb, true, false, refl, sym, ap, ◌∙◌, subst, arith}
-use Rattle.std.specs.List.{AllByRecursion}
-use Rattle.std.proofs.lemmas.Bool.{leb-true, leb-false}
+use Rattle.book_policy.proofs.Common.{◌≡◌, inl, inr, ◌<◌, ◌≤◌, ℕ, List, [], ◌∷◌, length, refl, sym, ap, ◌∙◌, subst, arith, AllByRecursion, added, named_group, named_person, entry_part, Parts, empty, map}
+use Rattle.std.proofs.Common.{◌⊎◌, get_or, Result, Ok, Err, IfOk, IfErr, MatchResult}
+use Rattle.std.proofs.lemmas.Bool.{cases_lt}
 use Rattle.std.proofs.lemmas.List.Elements.{All-from_recursion, recursion_from_All}
-use Rattle.book_policies.specs.declared.parts.EntryPart.{EntryPart}
-use Rattle.book_policies.specs.declared.parts.PolicyTables.{PolicyTables}
-use Rattle.book_policies.specs.Policies.{HoldsSome, IsFaultless, added, named_group, named_person, policy_of}
+use Rattle.book_policy_values.specs.declared.parts.EntryPart.{EntryPart}
+use Rattle.book_policy_values.specs.declared.parts.PolicyTables.{PolicyTables}
+use Rattle.book_policy_values.specs.Policies.{HoldsSome, IsFaultless, policy_of}
+use Rattle.book_policy_values.proofs.Faults.{all_mapped}
 use Rattle.book_policy.specs.Passes.{HasPrivileges, IsLaterFault, IsPolicyOfParts, IsReadable, IsShaped, KeepsNames}
-use Rattle.book_policy.specs.Rules.{ArePrivileges, HasOneFault, HasOnePolicy, IsFaultOf, IsLeastBroken, IsPolicyOf, IsPrivilegeName, PartsRule, PolicyExcludesFault, Rule, Spells, entries_in, entry_part, number, policy_of_parts}
+use Rattle.book_policy.specs.Rules.{ArePrivileges, HasOneFault, HasOnePolicy, IsFaultOf, IsLeastBroken, IsPolicyOf, IsPrivilegeName, PartsRule, PolicyExcludesFault, Rule, SpellsParts, entries_in, number, policy_of_parts}
 use Rattle.book_policy.specs.declared.faults.PolicyFault.{PolicyFault}
 use Rattle.book_policy.specs.declared.faults.PolicyFault.TheVariants.{NotToml, OtherVersion, BadKey, BadName, NameTwice, UnknownPrincipal, UnknownResource, UnknownPrivilege, TooMany, Memory}
-use Rattle.book_policy.specs.declared.parts.Parts.{Parts}
 use Rattle.book_limits.specs.declared.TheConstants.{MAX_POLICY_BYTES}
-use Rattle.book_policy.proofs.Labelled.{all_mapped, forms_of}
+use Rattle.book_policy.proofs.Labelled.{forms_of}
 use Rattle.book_policy.proofs.Least.{all_rules, least_of_text, lifted, same_parts, too_many, unknown_privilege}
 use Rattle.book_policy.proofs.Privileges.{holds_some}
 use Rattle.book_policy.proofs.Shaped.{shaped}
 use Rattle.book_policy.proofs.Words.{known_spells}
-use Rattle.std.specs.FinMap.{empty}
-use Rattle.std.proofs.Common.{map}
 
 module _ (parts : Parts) where
   -- ---- entries as parts of a policy
@@ -68,7 +66,7 @@ module _ (parts : Parts) where
   made_is (Err fault) s h (inl memory) = inl memory
   made_is (Err fault) s h (inr f) = inr (later_fault fault s h f)
 
-pub text_policy : (text : List ℕ) (parts : Parts) (policy : PolicyTables) → length text ≤ MAX_POLICY_BYTES → Spells text parts → IsPolicyOfParts parts policy → IsPolicyOf text policy
+pub text_policy : (text : List ℕ) (parts : Parts) (policy : PolicyTables) → length text ≤ MAX_POLICY_BYTES → SpellsParts text parts → IsPolicyOfParts parts policy → IsPolicyOf text policy
 text_policy text parts policy short s h = record {
   short = short;
   rules = λ g. lifted text parts s g (h.0 g);
@@ -80,10 +78,10 @@ text_policy text parts policy short s h = record {
 pub text_fault : (text : List ℕ) (fault : PolicyFault) → length text ≤ MAX_POLICY_BYTES → IsLeastBroken (Rule text) fault → IsFaultOf text fault
 text_fault text fault short l = record { long = λ above. absurd (omega arith); least = λ _. l }
 
-pub spelled_shaped : (text : List ℕ) (parts : Parts) → Spells text parts → IsShaped parts
+pub spelled_shaped : (text : List ℕ) (parts : Parts) → SpellsParts text parts → IsShaped parts
 spelled_shaped text parts s = shaped s.table parts s.spelled
 
-module _ (text : List ℕ) (parts : Parts) (short : length text ≤ MAX_POLICY_BYTES) (s : Spells text parts) where
+module _ (text : List ℕ) (parts : Parts) (short : length text ≤ MAX_POLICY_BYTES) (s : SpellsParts text parts) where
   pub ok_part : (r : Result PolicyTables PolicyFault) → MatchResult r (IsPolicyOfParts parts) (λ fault. (fault ≡ Memory) ⊎ IsLeastBroken (PartsRule parts) fault) → IfOk r (IsPolicyOf text)
   ok_part (Ok policy) h = text_policy text parts policy short s h
   ok_part (Err fault) h = tt
@@ -128,14 +126,8 @@ one_least K f g a b =
     let same : number f ≡ number g = omega (arith, le, ge) in
     sym (numbered f) ∙ ap fault_at same ∙ numbered g
 
-long_or_short : (n m : ℕ) → (n < m) ⊎ (m ≤ n)
-long_or_short n m = elim (leb m n) as (λ b. leb m n ≡ b → (n < m) ⊎ (m ≤ n)) [
-  | true ↦ λ e. inr (leb-true m n e)
-  | false ↦ λ e. inl (leb-false m n e)
-] refl
-
 pub one_fault : HasOneFault
-one_fault text fault other a b = by_length (long_or_short MAX_POLICY_BYTES (length text))
+one_fault text fault other a b = by_length (cases_lt MAX_POLICY_BYTES (length text))
   where
     by_length : (MAX_POLICY_BYTES < length text) ⊎ (length text ≤ MAX_POLICY_BYTES) → fault ≡ other
     by_length (inl long) = a.long long ∙ sym (b.long long)

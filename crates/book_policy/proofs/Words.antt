@@ -1,19 +1,18 @@
 -- Words for principal forms, and the paths of principals.
-use Rattle.std.proofs.Common.{◌≡◌, ◌⊎◌, ◌↔◌, ◌||◌, ℕ, List, [], ◌∷◌, ◌++◌, Bool, true, false, cond, codes, nat_eq, inl, inr, IsTrue, IfOk, Result, Ok, Err, refl, sym, ap, ◌∙◌, subst}
+use Rattle.book_policy.proofs.Common.{◌≡◌, ℕ, List, [], ◌∷◌, ◌++◌, Bool, true, false, cond, inl, inr, refl, sym, ap, ◌∙◌, subst, Path, NamesForm, NamesPrincipal, who_of}
+use Rattle.std.proofs.Common.{◌⊎◌, ◌↔◌, ◌||◌, codes, nat_eq, IsTrue, IfOk, Result, Ok, Err}
 use Rattle.std.specs.Str.{bytes_eq}
 use Rattle.std.proofs.lemmas.Bool.{eqb-true, false≢true}
 use Rattle.book_lists.specs.Principals.{IsPrincipal, Spells}
 use Rattle.book_lists.specs.declared.entries.Who.{Who}
 use Rattle.book_lists.specs.declared.entries.Who.TheVariants.{Href, Everyone, Authenticated, Unauthenticated, Owner, Own}
-use Rattle.book_values.specs.Names.{NamesTo}
-use Rattle.book_values.specs.Paths.{IsPath, SpellsPath, path_text}
-use Rattle.book_values.specs.declared.paths.Path.{Path}
-use Rattle.book_values.specs.declared.paths.Path.TheVariants as path
-use Rattle.book_policies.specs.Policies.{IsKnown, IsPrincipalOf, NamesForm, NamesPrincipal, spelled, trimmed}
-use Rattle.book_policies.proofs.Faults.{known_spelled}
-use Rattle.book_policies.proofs.Paths.{spelled_path}
+use Rattle.book_office_values.specs.Names.{NamesTo}
+use Rattle.book_office_values.specs.Paths.{IsPath, SpellsPath, path_text}
+use Rattle.book_office_values.specs.declared.paths.Path.TheVariants as path
+use Rattle.book_policy_values.specs.Policies.{IsKnown, IsPrincipalOf, spelled, trimmed}
+use Rattle.book_policy_values.proofs.Faults.{known_spelled}
+use Rattle.book_policy_values.proofs.Paths.{spelled_path}
 use Rattle.book_policy.specs.Passes.{SpellsWho, is_word}
-use Rattle.book_policy.specs.Rules.{who_of}
 
 -- ---- a slash at the end
 trimmed_or : (xs : List ℕ) → (xs ≡ trimmed xs) ⊎ (xs ≡ trimmed xs ++ codes "/")

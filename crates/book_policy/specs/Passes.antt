@@ -4,16 +4,16 @@ use Rattle.std.specs.FinMap.{empty}
 use Rattle.std.specs.List.{AllByRecursion}
 use Rattle.std.specs.Str.{bytes_eq}
 use Rattle.book_lists.specs.Principals.{IsPrincipal, Spells}
-use Rattle.book_policies.specs.declared.parts.BookPart.{BookPart}
-use Rattle.book_policies.specs.declared.parts.GroupPart.{GroupPart}
-use Rattle.book_policies.specs.Policies.{HaveShortLabels, IsFaultless, NamesForm, NamesOwner, NamesPlace, NamesPrincipal, added, named_group, named_person}
-use Rattle.book_policies.specs.declared.parts.PolicyTables.{PolicyTables}
+use Rattle.book_policy_values.specs.declared.parts.BookPart.{BookPart}
+use Rattle.book_policy_values.specs.declared.parts.GroupPart.{GroupPart}
+use Rattle.book_policy_values.specs.Policies.{HaveShortLabels, IsFaultless, NamesForm, NamesOwner, NamesPlace, NamesPrincipal, added, named_group, named_person}
+use Rattle.book_policy_values.specs.declared.parts.PolicyTables.{PolicyTables}
 use Rattle.book_policy.specs.Rules.{IsPrivilegeName, PartsRule, entries_in, policy_of_parts, who_of}
 use Rattle.book_policy.specs.declared.faults.PolicyFault.{PolicyFault}
 use Rattle.book_policy.specs.declared.faults.PolicyFault.TheVariants.{BadName, NameTwice, UnknownPrincipal, UnknownResource, UnknownPrivilege, TooMany}
 use Rattle.book_policy.specs.declared.parts.EntryText.{EntryText}
 use Rattle.book_policy.specs.declared.parts.Parts.{Parts}
-use Rattle.book_policy.specs.declared.passes.Labels.{Labels}
+use Rattle.book_policy.specs.declared.fault_passes.Labels.{Labels}
 
 abbrev pub labelled_book : BookPart → List ℕ × List ℕ
 labelled_book b = (b.name, b.label)

@@ -11,9 +11,9 @@ use Rattle.book_rights.specs.Leaves.{no_leaf, union}
 use Rattle.book_rights.specs.Privileges.{contained, name_of}
 use Rattle.book_lists.specs.declared.entries.Who.{Who}
 use Rattle.book_lists.specs.declared.entries.Who.TheVariants.{Href, Everyone, Authenticated, Unauthenticated, Owner, Own}
-use Rattle.book_policies.specs.declared.parts.EntryPart.{EntryPart}
-use Rattle.book_policies.specs.declared.parts.PolicyTables.{PolicyTables}
-use Rattle.book_policies.specs.Policies.{AreKnown, AreNames, AreOnce, ArePlaces, IsFew, policy_of, spelled}
+use Rattle.book_policy_values.specs.declared.parts.EntryPart.{EntryPart}
+use Rattle.book_policy_values.specs.declared.parts.PolicyTables.{PolicyTables}
+use Rattle.book_policy_values.specs.Policies.{AreKnown, AreNames, AreOnce, ArePlaces, IsFew, policy_of, spelled}
 use Rattle.book_policy.specs.Shapes.{has_version_one, parts_in}
 use Rattle.book_policy.specs.declared.faults.PolicyFault.{PolicyFault}
 use Rattle.book_policy.specs.declared.faults.PolicyFault.TheVariants.{NotToml, OtherVersion, BadKey, BadName, NameTwice, UnknownPrincipal, UnknownResource, UnknownPrivilege, TooMany, Memory}
@@ -83,7 +83,7 @@ PartsRule parts Memory = Unit {0}
 -- ---- what a text keeps to
 
 -- the text is TOML of version 1, and spells these parts
-pub record Spells (text : List ℕ) (parts : Parts) : Type 0 where
+pub record SpellsParts (text : List ℕ) (parts : Parts) : Type 0 where
   pub table : Members
   pub toml : parse_document text ≡ Some table
   pub version : has_version_one table ≡ true
@@ -91,7 +91,7 @@ pub record Spells (text : List ℕ) (parts : Parts) : Type 0 where
 
 -- a rule of the parts that a text spells, if it spells any
 abbrev pub OfParts : List ℕ → PolicyFault → Type 0
-OfParts text fault = (parts : Parts) → Spells text parts → PartsRule parts fault
+OfParts text fault = (parts : Parts) → SpellsParts text parts → PartsRule parts fault
 
 -- what a text breaks that has the fault
 abbrev pub Rule : List ℕ → PolicyFault → Type 0
@@ -139,7 +139,7 @@ pub record IsPolicyOf (text : List ℕ) (policy : PolicyTables) : Type 0 where
   pub short : length text ≤ MAX_POLICY_BYTES
   pub rules : (g : PolicyFault) → Rule text g
   pub parts : Parts
-  pub spelled : Spells text parts
+  pub spelled : SpellsParts text parts
   pub is : policy ≡ policy_of_parts parts
 
 -- ---- laws

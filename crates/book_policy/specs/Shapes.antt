@@ -2,9 +2,9 @@
 use Rattle.std.specs.Prelude.{ℕ, ℤ, pos, negsuc, List, [], ◌∷◌, ◌++◌, length, codes, nat_le, ◌==◌, ◌||◌, ◌&&◌, if◌then◌else◌, Bool, true, false, option_and_then, option_map, Option, Some, None}
 use Rattle.std.specs.Str.{bytes_eq}
 use Rattle.toml.specs.Data.{Data, Items, no_items, item, Members, no_members, member, get_member, as_bool, as_integer, as_str, as_array, as_table}
-use Rattle.book_policies.specs.declared.parts.PersonPart.{PersonPart}
-use Rattle.book_policies.specs.declared.parts.GroupPart.{GroupPart}
-use Rattle.book_policies.specs.declared.parts.BookPart.{BookPart}
+use Rattle.book_policy_values.specs.declared.parts.PersonPart.{PersonPart}
+use Rattle.book_policy_values.specs.declared.parts.GroupPart.{GroupPart}
+use Rattle.book_policy_values.specs.declared.parts.BookPart.{BookPart}
 use Rattle.book_limits.specs.declared.TheConstants.{MAX_LABEL_BYTES, MAX_PRIVILEGE_NAMES}
 use Rattle.book_policy.specs.declared.shapes.TableKind.{TableKind}
 use Rattle.book_policy.specs.declared.shapes.TableKind.TheVariants.{Top, Person, Group, Book, Listed}

@@ -8,7 +8,7 @@ pub fn policies_are_one()
 {}
 
 /// A law: a text has at most one fault beside want of memory.
-pub fn faults_are_one()
+pub fn policy_faults_are_one()
     ensures one_fault { HasOneFault }
 {}
 

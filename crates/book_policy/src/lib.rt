@@ -1,6 +1,6 @@
 //! Reading a policy from a text in TOML (own profile): `version`, and tables `person`, `group`, `book` and `entry`.
 //!
-//! It stands on `book_policies`, whose `Policy` keeps the rules, and on the crate `toml`, which reads the text as a
+//! It stands on `book_policy_values`, whose `Policy` keeps the rules, and on the crate `toml`, which reads the text as a
 //! table. The program above uses that `read_policy` answers the policy that the text spells exactly where no rule is
 //! broken, and else the least fault of the whole text.
 //!
@@ -8,13 +8,13 @@
 //! turn, `policies`, and `laws`.
 #![tactic(auto)]
 
+mod fault_passes;
 mod faults;
 mod laws;
 mod parts;
-mod passes;
 mod policies;
 mod shapes;
 
 pub use faults::PolicyFault;
-pub use laws::{faults_are_one, policies_are_one, policies_exclude_faults};
+pub use laws::{policies_are_one, policies_exclude_faults, policy_faults_are_one};
 pub use policies::read_policy;

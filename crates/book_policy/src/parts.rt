@@ -1,7 +1,7 @@
 //! The parts that a text spells, before its names are looked at.
 
-use book_policies::{BookPart, GroupPart, PersonPart};
-use book_values::{Items, Text};
+use book_office_values::{Items, Text};
+use book_policy_values::{BookPart, GroupPart, PersonPart};
 
 /// An entry as it was written; what it names may be wrong.
 #[derive(Drop)]

@@ -4,19 +4,19 @@ ghost use Rattle.std.specs.Prelude.{◌≡◌, ◌⊎◌, Some, None, codes, opt
 ghost use Rattle.toml.specs.Data.{as_integer, get_member};
 ghost use Rattle.toml.specs.Parse.{parse_document};
 ghost use Rattle.toml.specs.View.{table_view};
-ghost use Rattle.book_policies.specs.Policies.{IsFaultless, policy_of};
+ghost use Rattle.book_policy_values.specs.Policies.{IsFaultless, policy_of};
 ghost use Rattle.book_policy.specs.Passes.{IsLaterFault, IsPolicyOfParts, IsShaped, KeepsNames};
-ghost use Rattle.book_policy.specs.Rules.{IsFaultOf, IsLeastBroken, IsPolicyOf, PartsRule, Rule, Spells, policy_of_parts};
+ghost use Rattle.book_policy.specs.Rules.{IsFaultOf, IsLeastBroken, IsPolicyOf, PartsRule, Rule, SpellsParts, policy_of_parts};
 ghost use Rattle.book_policy.specs.Shapes.{has_version_one};
 ghost use Rattle.book_policy.specs.declared.faults.PolicyFault.TheVariants.{Memory, NotToml, TooMany, UnknownPrivilege};
 
+use crate::fault_passes::{are_names, entry_parts, labels_of, places_known, principals_known};
 use crate::faults::PolicyFault;
 use crate::parts::Parts;
-use crate::passes::{are_names, entry_parts, labels_of, places_known, principals_known};
 use crate::shapes::{member, parts_in};
 use book_limits::MAX_POLICY_BYTES;
-use book_policies::{BookPart, EntryPart, GroupPart, PersonPart, Policy};
-use book_values::Items;
+use book_office_values::Items;
+use book_policy_values::{BookPart, EntryPart, GroupPart, PersonPart, Policy};
 use std::alloc::{AllocError, Global};
 use toml::Table;
 
@@ -59,7 +59,7 @@ fn has_version_one(table: &Table) -> bool
 
 /// The parts that a text spells.
 fn parts_of(alloc: Global, text: &str) -> Result<Parts, PolicyFault>
-    ensures { MatchResult result (λ parts. Spells text.now parts)
+    ensures { MatchResult result (λ parts. SpellsParts text.now parts)
         (λ fault. (fault ≡ Memory) ⊎ IsLeastBroken (Rule text.now) fault) }
 {
     let table = match table_of(alloc, text) {

@@ -7,8 +7,8 @@ ghost use Rattle.book_policy.specs.Shapes.{action_of, array_of, book_in, each, e
 
 use crate::parts::{EntryText, Parts};
 use book_limits::{MAX_LABEL_BYTES, MAX_PRIVILEGE_NAMES};
-use book_policies::{BookPart, GroupPart, PersonPart};
-use book_values::{Items, Text};
+use book_office_values::{Items, Text};
+use book_policy_values::{BookPart, GroupPart, PersonPart};
 use std::alloc::{AllocError, Global};
 use toml::{Table, Value};
 

@@ -46,10 +46,10 @@ Eight = Bool × (Bool × (Bool × (Bool × (Bool × (Bool × (Bool × Bool))))))
 abbrev pub eight_of : (Leaf → Bool) → Eight
 eight_of f = (f Read, (f WriteContent, (f WriteProperties, (f Bind, (f Unbind, (f ReadAcl, (f WriteAcl, f ReadCurrentUserPrivilegeSet)))))))
 
-abbrev pub set_of : Eight → Leaf → Bool
-set_of t = at_leaf t.0 t.1.0 t.1.1.0 t.1.1.1.0 t.1.1.1.1.0 t.1.1.1.1.1.0 t.1.1.1.1.1.1.0 t.1.1.1.1.1.1.1
+abbrev pub set_by_leaf : Eight → Leaf → Bool
+set_by_leaf t = at_leaf t.0 t.1.0 t.1.1.0 t.1.1.1.0 t.1.1.1.1.0 t.1.1.1.1.1.0 t.1.1.1.1.1.1.0 t.1.1.1.1.1.1.1
 
-pub set_of-eight_of : (f : Leaf → Bool) → set_of (eight_of f) ≡ f
+pub set_of-eight_of : (f : Leaf → Bool) → set_by_leaf (eight_of f) ≡ f
 set_of-eight_of f = same_by_leaf _ _ refl refl refl refl refl refl refl refl
 
 -- whether two sets have the same leaves
@@ -93,7 +93,7 @@ same_leaves-decides f g = (
 
 -- a set of leaves is stored as its eight truth values
 abbrev pub coded_set : Coded (Leaf → Bool)
-coded_set = code_by Eight (coded× coded_bool (coded× coded_bool (coded× coded_bool (coded× coded_bool (coded× coded_bool (coded× coded_bool (coded× coded_bool coded_bool))))))) eight_of set_of set_of-eight_of
+coded_set = code_by Eight (coded× coded_bool (coded× coded_bool (coded× coded_bool (coded× coded_bool (coded× coded_bool (coded× coded_bool (coded× coded_bool coded_bool))))))) eight_of set_by_leaf set_of-eight_of
 
 -- how many leaves there are
 abbrev pub leaf_count : ℕ

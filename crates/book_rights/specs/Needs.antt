@@ -40,8 +40,8 @@ listed_others None = []
 listed_others (Some others) = others.0 ∷ listed_too others.1 []
 
 -- the needs as a list
-abbrev pub listed : Needs → List Need
-listed needs = needs.first ∷ listed_others needs.others
+abbrev pub need_list : Needs → List Need
+need_list needs = needs.first ∷ listed_others needs.others
 
 -- the needs of a request, in the order in which they are checked
 abbrev pub needs_of : Method → Shape → List Need

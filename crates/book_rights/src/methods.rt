@@ -2,7 +2,7 @@
 
 ghost use Rattle.std.specs.Prelude.{◌≡◌, Some, None};
 ghost use Rattle.book_rights.specs.declared.places.Place.TheVariants.{Target};
-ghost use Rattle.book_rights.specs.Needs.{at, only, needs_of, listed, read_and};
+ghost use Rattle.book_rights.specs.Needs.{at, only, needs_of, need_list, read_and};
 
 use crate::leaf_sets::LeafSet;
 use crate::places::{Need, Needs, Place};
@@ -112,7 +112,7 @@ fn read_and(acl: bool, privileges: bool) -> Need
 
 /// What a request needs, in the order in which it is checked. Takes no memory.
 pub fn needs(method: Method, shape: Shape) -> Needs
-    ensures { listed result ≡ needs_of method shape }
+    ensures { need_list result ≡ needs_of method shape }
 {
     match method {
         Method::Get => one(at(Place::Target, Leaf::Read)),

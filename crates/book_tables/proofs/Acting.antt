@@ -1,24 +1,12 @@
 -- An edit of rows that give an Office is an edit of the Office.
-use Rattle.std.proofs.Common.{◌≡◌, ◌⊎◌, inl, inr, ℕ, List, Ok, Err, arith, refl, sym, ap, subst, ◌∙◌, IsTrue}
-use Rattle.sqlite.specs.Effect.{Database, IsDatabase}
-use Rattle.sqlite.specs.Tree.{Trees}
-use Rattle.sqlite.specs.State.{State, HasCleanDisk, Survives}
-use Rattle.sqlite_trees.specs.View.{IsShaped}
+use Rattle.book_tables.proofs.Common.{◌≡◌, ◌⊎◌, inl, inr, ℕ, List, Ok, Err, arith, refl, sym, ap, subst, ◌∙◌, IsTrue, Database, IsDatabase, Trees, State, HasCleanDisk, Survives, IsShaped, Office, apply, StoreFault, Leftover, whole, failures_after_fault, IsSound, book_schema, Rows, rows_of, IsBook, in_store, Commits, MayLeave, Stays, is_at, PassesOnce, standing_of, Gives, Stands, StandsFor, LeftOf}
 use Rattle.sqlite_trees.specs.declared.store.Shape.TheVariants.{Table as TableShape}
-use Rattle.book_values.specs.declared.offices.Office.{Office}
 use Rattle.book_office.specs.declared.edits.Edit.{Edit}
-use Rattle.book_office.specs.Edits.{apply}
-use Rattle.book_office.specs.declared.keepers.StoreFault.{StoreFault}
-use Rattle.book_office.specs.Keeping.{Leftover, whole, Edits, failures_after_fault}
-use Rattle.book_office.specs.Sound.{IsSound, Fits}
-use Rattle.book_rows.specs.Schema.{book_schema, node_table}
-use Rattle.book_rows.specs.Rows.{Rows, rows_of, IsBook, in_store}
-use Rattle.book_rows.specs.Steps.{Change, Changed, Commits, MayLeave, Stays}
-use Rattle.book_rows.specs.Writes.{is_at}
-use Rattle.book_rows.proofs.Keys.{path_once}
-use Rattle.book_rows.proofs.Once.{PassesOnce}
-use Rattle.book_tables.specs.Keeps.{standing_of}
-use Rattle.book_tables.specs.Stands.{Gives, Stands, StandsFor, LeftOf}
+use Rattle.book_office.specs.Keeping.{Edits}
+use Rattle.book_office.specs.Sound.{Fits}
+use Rattle.book_tables_rows.specs.Schema.{node_table}
+use Rattle.book_tables_rows.specs.Steps.{Change, Changed}
+use Rattle.book_tables_rows.proofs.Keys.{path_once}
 use Rattle.book_tables.proofs.OneOffice.{only_left}
 
 -- what the schema says of the rows of `node`: they rise by their numbers, and no two have one path

@@ -1,36 +1,12 @@
 -- MKCOL: the rows with a new book give the Office with it.
-use Rattle.std.proofs.Common.{◌≡◌, ◌≢◌, ℕ, ℤ, ◌<ℤ◌, Bool, true, false, cond, ◌&&◌, List, [], ◌∷◌, find, Option, Some, None, option_map, option_and_then, refl, sym, ap, subst, ◌∙◌}
-use Rattle.std.specs.FinMap.{get, get-empty}
-use Rattle.std.specs.List.{AllByRecursion}
-use Rattle.sqlite.specs.declared.types.Value.{Value}
-use Rattle.sqlite.specs.declared.types.Value.TheVariants.{Int, Text}
-use Rattle.sqlite.specs.Edit.{next_rowid, id_in}
-use Rattle.sqlite.specs.Order.{Row, column}
-use Rattle.sqlite.specs.Tree.{rowid}
-use Rattle.sqlite_trees.proofs.ListLemmas.{all_weaker, all-append}
-use Rattle.sqlite_rules.proofs.ListLemmas.{all_has}
-use Rattle.sqlite_keyed.proofs.KeyedLemmas.{int_eq_apart}
-use Rattle.book_lists.specs.Names.{IsName, name_cmp}
-use Rattle.book_values.specs.Fresh.{new_book}
-use Rattle.book_values.specs.declared.offices.Book.{Book}
-use Rattle.book_values.specs.declared.offices.Office.{Office}
-use Rattle.book_values.specs.declared.paths.Kind.TheVariants as kind
-use Rattle.book_values.specs.declared.paths.Path.{Path}
-use Rattle.book_values.specs.declared.paths.Path.TheVariants as path
-use Rattle.book_values.specs.Paths.{IsPath, path_text, book_path}
-use Rattle.book_values.proofs.Spelling.{one_text}
-use Rattle.book_values.proofs.NameMapLaws.{same, same_itself, by_names}
-use Rattle.book_values.proofs.OneName.{some_apart, put_here, put_elsewhere}
+use Rattle.book_tables.proofs.Common.{◌≡◌, ◌≢◌, ℕ, ℤ, ◌<ℤ◌, Bool, true, false, cond, ◌&&◌, List, [], ◌∷◌, find, Option, Some, None, option_map, option_and_then, refl, sym, ap, subst, ◌∙◌, get, get-empty, AllByRecursion, Value, Int, Text, next_rowid, id_in, Row, rowid, all_weaker, all-append, all_has, int_eq_apart, IsName, name_cmp, Book, Office, Path, IsPath, path_text, book_path, one_text, same, same_itself, by_names, some_apart, put_here, put_elsewhere, apply, resource_at, removed_at, book_resource, card_in, unless_mapped, gone_book_place, gone_name_place, gone_number, Rows, has, number_in, is_at, is_gone, node_row, key, key_is, keyed, next_is, row_at, resource_in, resource_of, list_in, removed_in, removed_from, IsNode, IsEntry, IsRemoved, Gives}
+use Rattle.book_office_values.specs.Fresh.{new_book}
+use Rattle.book_office_values.specs.declared.paths.Kind.TheVariants as kind
+use Rattle.book_office_values.specs.declared.paths.Path.TheVariants as path
 use Rattle.book_office.specs.declared.edits.Edit.TheVariants.{AddBook}
-use Rattle.book_office.specs.Edits.{add_book, apply}
-use Rattle.book_office.specs.Resources.{resource_at, removed_at, book_resource, card_in, unless_mapped}
-use Rattle.book_rows.specs.Rows.{Rows, has}
-use Rattle.book_rows.specs.Nodes.{adding_book, number_in}
-use Rattle.book_rows.specs.Writes as writes
-use Rattle.book_rows.specs.Writes.{is_at, is_gone, node_row}
-use Rattle.book_rows.proofs.Shapes.{key, key_is, keyed, next_is}
-use Rattle.book_tables.specs.Rows.{row_at, resource_in, resource_of, list_in, removed_in, removed_from}
-use Rattle.book_tables.specs.Stands.{IsNode, IsEntry, IsRemoved, Gives}
+use Rattle.book_office.specs.Edits.{add_book}
+use Rattle.book_tables_rows.specs.Nodes.{adding_book}
+use Rattle.book_tables_rows.specs.Writes as writes
 use Rattle.book_tables.proofs.Acting.{Given, GivesEdited}
 use Rattle.book_tables.proofs.Looking.{found_has, has_int}
 use Rattle.book_tables.proofs.LeftRows.{book_name}
@@ -74,7 +50,7 @@ module _ (b : List ℕ) (owner : Option (List ℕ)) (rows : Rows) (o : Office) (
   new = node_row next bp id 4 owner [] None 0
 
   abbrev pub after : Rows
-  after = writes.add_book id bp owner rows
+  after = writes.add_book_rows id bp owner rows
 
   added : (t : List ℕ) → row_at after t ≡ cond (same bp t) (Some new) (row_at rows t)
   added t = row_added rows.nodes new bp t refl none
@@ -138,12 +114,12 @@ module _ (b : List ℕ) (owner : Option (List ℕ)) (rows : Rows) (o : Office) (
       let in_nodes = (found_has (is_at (book_path it.book)) rows.nodes row it.there.1).0 in
       let int = key_is row (all_has _ rows.nodes row given.nodes.shaped.1 in_nodes) in
       let below = all_has (λ r. key r <ℤ next) rows.nodes row (next_is rows.nodes (keyed rows.nodes given.nodes.shaped)) in_nodes in
-      let fails : has 1 (Int next) x ≡ false = has_int 1 x (key row) next (it.there.2 ∙ int) ∙ int_eq_apart (key row) next (λ is. below_apart (key row) next below is) in
-      ap (λ t. t && has 2 (Text name) x) fails))
+      let fails : has gone_book_place (Int next) x ≡ false = has_int 1 x (key row) next (it.there.2 ∙ int) ∙ int_eq_apart (key row) next (λ is. below_apart (key row) next below is) in
+      ap (λ t. t && has gone_name_place (Text name) x) fails))
 
   gone : (a name : List ℕ) → IsName a → removed_in after a name ≡ removed_at o' a name
   gone a name named_a = by_names a b (λ _. removed_in after a name ≡ removed_at o' a name)
-      (λ is. ap (λ z. removed_in after z name) is ∙ ap (removed_from rows.gone name) at_new ∙ ap (option_map (λ row. number_in (column row 3))) (no_names name)
+      (λ is. ap (λ z. removed_in after z name) is ∙ ap (removed_from rows.gone name) at_new ∙ ap (option_map (λ row. number_in (gone_number row))) (no_names name)
       ∙ sym (ap (λ z. removed_at o' z name) is ∙ ap (option_and_then (λ (k : Book). unless_mapped (get k.cards name) (get k.changes.last name))) book_there
       ∙ ap (λ r. unless_mapped r (get (new_book owner).changes.last name)) (get-empty name_cmp name) ∙ get-empty name_cmp name))
       (λ differs. ap (removed_from rows.gone name) (elsewhere (book_path a) (λ is. differs (book_name (one_text (path.Book a) (path.Book b) named_a named is))))

@@ -1,18 +1,11 @@
 -- Adopting a policy: which Offices it leaves as they are, and what is known of the others before they are written.
-use Rattle.std.proofs.Common.{◌≡◌, Bool, true, false, not, List, refl, sym, ap, subst, ◌∙◌, true≢false}
-use Rattle.book_policies.specs.declared.parts.PolicyTables.{PolicyTables}
-use Rattle.book_values.specs.declared.offices.Office.{Office}
-use Rattle.book_adopting.specs.Adopting.{taken_over, adoption_of}
-use Rattle.book_adopting.specs.Sameness.{same_office}
-use Rattle.book_adopting.specs.TakingOver.{bare}
-use Rattle.book_adopting.specs.declared.adopting.Adoption.{Adoption}
-use Rattle.book_adopting.proofs.Adoptions.{adopting_nothing}
-use Rattle.book_adopting.proofs.BareAdoption.{adoption_told, bare_over}
-use Rattle.book_adopting.proofs.Samenesses.{same_office_is, office_itself}
-use Rattle.book_office.specs.declared.edits.Edit.TheVariants.{Adopt}
-use Rattle.book_office.specs.Edits.{apply}
-use Rattle.book_rows.specs.Adopting.{Place, Listed, Joined, adopting}
-use Rattle.book_tables.specs.Adopting.{AreDifferences}
+use Rattle.book_tables.proofs.Common.{◌≡◌, Bool, true, false, not, List, refl, sym, ap, subst, ◌∙◌, true≢false, PolicyTables, Office, taken_over, adoption_of, bare, Adopt, apply, Place, Joined, AreDifferences}
+use Rattle.book_office_adopting.specs.Sameness.{same_office}
+use Rattle.book_office_adopting.specs.declared.adopting.Adoption.{Adoption}
+use Rattle.book_office_adopting.proofs.Adoptions.{adopting_nothing}
+use Rattle.book_office_adopting.proofs.BareAdoption.{adoption_told, bare_over}
+use Rattle.book_office_adopting.proofs.Samenesses.{same_office_is, office_itself}
+use Rattle.book_tables_rows.specs.Adopting.{Listed, adopting}
 use Rattle.book_tables.proofs.AdoptedRows.{adoption_gives}
 use Rattle.book_tables.proofs.ReadActing.{GivesKnown}
 

@@ -1,50 +1,25 @@
 -- Adopting a policy: where what differs is written, the rows give the Office that took it over, with the next epoch.
-use Rattle.std.proofs.Common.{◌≡◌, ◌≢◌, ◌⊎◌, inl, inr, ℕ, ◌+◌, Bool, true, false, cond, List, [], ◌∷◌, ◌++◌, map, find, is_some, Option, Some, None, option_map, refl, sym, ap, subst, ◌∙◌}
-use Rattle.std.specs.FinMap.{get, entries}
+use Rattle.book_tables.proofs.Common.{◌≡◌, ◌≢◌, ◌⊎◌, inl, inr, ℕ, ◌+◌, Bool, true, false, cond, List, [], ◌∷◌, map, find, is_some, Option, Some, None, option_map, refl, sym, ap, subst, ◌∙◌, get, entries, AllByRecursion, list_any, bytes_eq, Row, update_where, Has, all_weaker, Memberships, group_path, Membership, PolicyTables, Office, Properties, Kind, Path, IsPath, path_text, some_apart, where_some, taken_over, bare, Adopt, apply, resource_at, properties_at, properties_resource, IsSound, resources_stand_in_place, Place, Joined, in_turn, Rows, with_epoch, AreDifferences, Compared, HasLists, HasPlace, lists_said, members_in, place_said, row_at, resource_of, is_member, IsNode, IsEntry, IsRemoved, Gives}
 use Rattle.std.specs.FinSet as set
-use Rattle.std.specs.List.{AllByRecursion, list_any}
-use Rattle.std.specs.Str.{bytes_eq}
-use Rattle.sqlite.specs.Order.{Row}
-use Rattle.sqlite_keyed.specs.Lists.{update_where}
-use Rattle.sqlite_rules.specs.Lists.{Has}
-use Rattle.sqlite_trees.proofs.ListLemmas.{all_weaker}
-use Rattle.book_lists.specs.Memberships.{Memberships, set_of}
-use Rattle.book_lists.specs.Principals.{group_path}
-use Rattle.book_lists.specs.declared.memberships.Membership.{Membership}
+use Rattle.book_lists.specs.Memberships.{set_of}
 use Rattle.book_lists.proofs.Pairing.{same_path, path_itself}
-use Rattle.book_policies.specs.declared.parts.PolicyTables.{PolicyTables}
-use Rattle.book_values.specs.declared.offices.Office.{Office}
-use Rattle.book_values.specs.declared.offices.Properties.{Properties}
-use Rattle.book_values.specs.declared.paths.Kind.{Kind}
-use Rattle.book_values.specs.declared.paths.Path.{Path}
-use Rattle.book_values.specs.declared.paths.Path.TheVariants as path
-use Rattle.book_values.specs.Paths.{IsPath, path_text}
-use Rattle.book_values.proofs.OneName.{some_apart, where_some, by_option}
-use Rattle.book_adopting.specs.Adopting.{taken_over, adopt}
-use Rattle.book_adopting.specs.TakingOver.{bare}
-use Rattle.book_adopting.proofs.Adoptions.{adopting_something}
-use Rattle.book_office.specs.declared.edits.Edit.TheVariants.{Adopt}
-use Rattle.book_office.specs.Edits.{apply}
-use Rattle.book_office.specs.Resources.{resource_at, properties_at, properties_resource}
-use Rattle.book_office.specs.Sound.{IsSound, IsMappedGroup}
-use Rattle.book_office.proofs.StandingResources.{resources_stand_in_place}
-use Rattle.book_rows.specs.Adopting.{Place, Listed, Joined, AdoptsPolicy, adopting, adopted_rows, in_turn, write_place, write_lists, write_group}
-use Rattle.book_rows.specs.Rows.{Rows}
-use Rattle.book_rows.specs.Writes as writes
-use Rattle.book_rows.specs.Writes.{with_epoch}
-use Rattle.book_tables.specs.Adopting.{AreDifferences, Compared, HasLists, HasPlace, compared, group_said, lists_said, members_in, place_said}
-use Rattle.book_tables.specs.Rows.{row_at, resource_in, resource_of, has_member, is_member}
-use Rattle.book_tables.specs.Stands.{IsNode, IsEntry, IsRemoved, Gives}
+use Rattle.book_office_values.specs.declared.paths.Path.TheVariants as path
+use Rattle.book_office_adopting.specs.Adopting.{adopt}
+use Rattle.book_office_adopting.proofs.Adoptions.{adopting_something}
+use Rattle.book_office.specs.Sound.{IsMappedGroup}
+use Rattle.book_tables_rows.specs.Adopting.{Listed, AdoptsPolicy, adopted_rows, write_place, write_lists, write_group}
+use Rattle.book_tables_rows.specs.Writes as writes
+use Rattle.book_tables.specs.Adopting.{compared, group_said}
+use Rattle.book_tables.specs.Rows.{has_member}
 use Rattle.book_tables.proofs.Acting.{Given}
 use Rattle.book_tables.proofs.ChangedNodes.{same_resources}
-use Rattle.book_tables.proofs.Comparisons.{Chosen, choose, IsCompared, is_compared, each_compared, entry_got, got_entry}
-use Rattle.book_tables.proofs.LeftRows.{by_bool}
+use Rattle.book_tables.proofs.Comparisons.{Chosen, choose, IsCompared, is_compared, each_compared, got_entry}
 use Rattle.book_tables.proofs.OneOffice.{epoch_is}
 use Rattle.book_tables.proofs.PlacedRows.{HasRoom, place_of, each_place_at, places_written}
 use Rattle.book_tables.proofs.RejoinedGroups.{join_at, all_joined, groups_alone, pair_found}
 use Rattle.book_tables.proofs.RelistedRows.{lists_of, each_list_at, all_lists_written}
 use Rattle.book_tables.proofs.RowFacts.{kept_node, kept_entry, kept_removed}
-use Rattle.book_tables.proofs.SameLists.{has_map, has_mapped}
+use Rattle.book_tables.proofs.SameLists.{has_map}
 use Rattle.book_tables.proofs.TakenPlaces.{AreChosen, bare_properties, resource_told, removed_stay, group_stays, written_taken_over}
 use Rattle.book_tables.proofs.Turns.{turned, turned_either, turned_made}
 use Rattle.book_tables.proofs.WellRows.{AreWell, Rewrites, rewrites_both}

@@ -1,30 +1,20 @@
 -- The last changes of a book, by their numbers.
-use Rattle.std.proofs.Common.{◌≡◌, ℕ, suc, add-one, ◌<◌, true, List, [], ◌∷◌, map, nat_lt, Some, sym, ap, subst, ◌∙◌, arith, Less, nat_cmp}
+use Rattle.book_tables.proofs.Common.{◌≡◌, ℕ, suc, ◌<◌, true, List, [], ◌∷◌, map, Some, sym, ap, subst, ◌∙◌, arith, Less, nat_list_cmp_total, get, entries, IsAscending, Has, has_filtered, has_kept, ascending-map, Changed, changed_in, changes_after, NamesTo, Book, mem_get, get_mem, names_apart}
+use Rattle.std.proofs.Common.{add-one, nat_lt, nat_cmp}
+use Rattle.std.proofs.lemmas.Bool.Decides.{nat_tests}
 use Rattle.std.specs.List.{IsAllAdjacentAnswer}
 use Rattle.std.specs.Cmp.{nat_cmp_total, ranked}
-use Rattle.std.specs.Cmp.Lexicographic.{nat_list_cmp_total}
-use Rattle.std.specs.FinMap.{get, entries, entries_sorted, get-from_entries, nat_cmp-IsAntisymmetric}
-use Rattle.std.proofs.lemmas.Bool.Decides.{nat_tests}
-use Rattle.sqlite_trees.specs.Tree.{IsAscending}
-use Rattle.sqlite_rules.specs.Lists.{Has}
-use Rattle.sqlite_rules.proofs.ListLemmas.{has_filtered, has_kept}
-use Rattle.sqlite_keyed.proofs.ListLemmas.{all_weaker, ascending-map, ascending-filter, ascending_weaker}
-use Rattle.book_office.specs.declared.nodes.Changed.{Changed}
-use Rattle.book_office.specs.Resources.{changed_in}
-use Rattle.book_values.specs.Changes.{Change, by_number, changes_after}
-use Rattle.book_values.specs.Names.{NamesTo}
-use Rattle.book_values.specs.declared.offices.Book.{Book}
-use Rattle.book_values.proofs.Members.{mem_map, find_mem, mem_some, mem_get, get_mem}
-use Rattle.book_values.proofs.NameMapLaws.{names_apart}
+use Rattle.std.specs.FinMap.{entries_sorted, get-from_entries, nat_cmp-IsAntisymmetric}
+use Rattle.sqlite_keyed.proofs.ListLemmas.{all_weaker, ascending-filter, ascending_weaker}
+use Rattle.book_office_values.specs.Changes.{Change, by_number}
+use Rattle.book_office_values.proofs.Members.{mem_map, find_mem, mem_some}
 use Rattle.book_tables.proofs.SameLists.{has_map, has_mapped, keys_rise}
 use Rattle.book_tables.proofs.OfficeChildren.{has_mem, mem_has}
-use Rattle.book_values.proofs.Indexes.{unswap}
+use Rattle.book_office_values.proofs.Indexes.{unswap}
+use Rattle.book_office_values.proofs.Above.{above}
 
-above : (a b : ℕ) → a < b → nat_lt a b ≡ true
-above a b h = grind (arith, nat_tests)
-
-is_above : (a b : ℕ) → nat_lt a b ≡ true → a < b
-is_above a b h = grind (arith, nat_tests)
+below : (a b : ℕ) → nat_lt a b ≡ true → a < b
+below a b h = grind (arith, nat_tests)
 
 -- one change is before another
 abbrev pub IsEarlier : Changed → Changed → Type 0
@@ -65,7 +55,7 @@ module _ (book : Book) where
       let got = mem_get nat_cmp_total nat_cmp-IsAntisymmetric (by_number book.changes.last) it.0.0 it.0.1 (has_mem it.0 (entries (by_number book.changes.last)) f.0) in
       record {
         number = (λ i. get book.changes.last (it.2 i).name) ∙ named book.changes.last it.0.0 it.0.1 got ∙ ap (λ (z : Changed). Some z.number) (sym it.2);
-        above = subst (λ (z : Changed). n < z.number) (sym it.2) (is_above n it.0.0 f.1);
+        above = subst (λ (z : Changed). n < z.number) (sym it.2) (below n it.0.0 f.1);
         card = ap (λ (z : Changed). z.card) it.2 ∙ ap (λ (z : Changed). get book.cards z.name) (sym it.2);
       }
 
@@ -91,5 +81,5 @@ neighbours_rise (x ∷ []) h = (tt, tt)
 neighbours_rise (x ∷ y ∷ ys) h =
     let rest : IsAllAdjacentAnswer (λ x y b. b ≡ nat_lt x.number y.number) (y ∷ ys) true = λ k d low. rw add-one (rw add-one at (h (suc k) d (omega (arith, low)))) in
     let up = neighbours_rise (y ∷ ys) rest in
-    let first : x.number < y.number = is_above x.number y.number (sym (h 0 x (omega arith))) in
+    let first : x.number < y.number = below x.number y.number (sym (h 0 x (omega arith))) in
     ((first, all_weaker (λ (z : Changed). y.number < z.number) (λ (z : Changed). x.number < z.number) (λ z l. omega (arith, first, l)) ys up.0), up)

@@ -1,30 +1,13 @@
 -- PUT, COPY and the label of a card: the rows give the edited Office.
-use Rattle.std.proofs.Common.{◌≡◌, ℕ, ◌+◌, List, [], find, Option, Some, None, option_map, option_and_then, is_some, unwrap_or, refl, sym, ap, subst, ◌∙◌}
-use Rattle.std.specs.FinMap.{get, insert}
-use Rattle.sqlite.specs.declared.types.Value.TheVariants.{Int}
-use Rattle.sqlite.specs.Edit.{id_in}
-use Rattle.sqlite.specs.Order.{Row, column}
-use Rattle.sqlite.specs.Tree.{rowid}
-use Rattle.sqlite_trees.specs.View.{IsShaped}
+use Rattle.book_tables.proofs.Common.{◌≡◌, ℕ, ◌+◌, List, [], find, Option, Some, None, option_map, option_and_then, is_some, unwrap_or, refl, sym, ap, subst, ◌∙◌, get, insert, same_Some, Int, id_in, Row, rowid, IsShaped, IsName, Book, StoredCard, Office, book_path, card_path, some_apart, by_option, where_some, put_here, put_elsewhere, SetLabel, with_book, apply, Resource, card_at, book_resource, card_resource, card_in, number_of, unless_mapped, IsSound, IsSoundBook, gone_number, node_label, node_number, Rows, number_in, text_in, row_at, resource_of, removed_from, Gives, delete_where}
 use Rattle.sqlite_trees.specs.declared.store.Shape.TheVariants.{Table as TableShape}
-use Rattle.book_lists.specs.Names.{IsName}
-use Rattle.book_values.specs.declared.offices.Book.{Book}
-use Rattle.book_values.specs.declared.offices.StoredCard.{StoredCard}
-use Rattle.book_values.specs.declared.offices.Office.{Office}
-use Rattle.book_values.specs.declared.paths.Path.TheVariants as path
-use Rattle.book_values.specs.Paths.{book_path, card_path}
-use Rattle.book_values.proofs.OneName.{same_some, some_apart, by_option, where_some, put_here, put_elsewhere}
-use Rattle.book_office.specs.declared.edits.Edit.TheVariants.{PutCard, CopyCard, SetLabel}
-use Rattle.book_office.specs.Edits.{card_put, card_copied, copy_from, put_card, put_copy, label_card, card_labelled, with_text, with_book, apply}
+use Rattle.book_office_values.specs.declared.paths.Path.TheVariants as path
+use Rattle.book_office.specs.declared.edits.Edit.TheVariants.{PutCard, CopyCard}
+use Rattle.book_office.specs.Edits.{card_put, card_copied, copy_from, put_card, put_copy, label_card, card_labelled, with_text}
 use Rattle.book_office.specs.Moving.{relabelled}
-use Rattle.book_office.specs.Resources.{Resource, card_at, book_resource, card_resource, card_in, number_of, unless_mapped}
-use Rattle.book_office.specs.Sound.{IsSound, IsSoundBook}
-use Rattle.book_rows.specs.Rows.{Rows}
-use Rattle.book_rows.specs.Nodes.{PutsCard, PutsCopy, LabelsCard, number_in, text_in, putting_card, copying_card, labelling_card}
-use Rattle.book_rows.specs.Writes as writes
-use Rattle.book_tables.specs.Rows.{row_at, resource_of, removed_from}
-use Rattle.book_tables.specs.Stands.{Gives}
-use Rattle.sqlite_keyed.specs.Lists.{delete_where}
+use Rattle.book_tables_rows.specs.Columns.{node_text}
+use Rattle.book_tables_rows.specs.Nodes.{PutsCard, PutsCopy, LabelsCard, putting_card, copying_card, labelling_card}
+use Rattle.book_tables_rows.specs.Writes as writes
 use Rattle.book_tables.proofs.LeftRows.{none_deleted}
 use Rattle.book_tables.proofs.Acting.{Given, GivesEdited}
 use Rattle.book_tables.proofs.TouchedOffices.{edited_book, touched_office, named_card}
@@ -38,14 +21,14 @@ unmapped f (Some a) e = some_apart e
 pub record AtBook (rows : Rows) (o : Office) (b : List ℕ) (book_row : Row) (book : Book) : Type 0 where
   pub there : get o.books b ≡ Some book
   pub named : IsName b
-  pub number : number_in (column book_row 8) + 1 ≡ book.changes.number + 1
+  pub number : number_in (node_number book_row) + 1 ≡ book.changes.number + 1
 
 pub at_book : (rows : Rows) (o : Office) → Gives rows o → IsSound o → (b : List ℕ) (book_row : Row) → row_at rows (book_path b) ≡ Some book_row
     → (book : Book) → get o.books b ≡ Some book → AtBook rows o b book_row book
 at_book rows o gives sound b book_row found book there =
     let named = (sound.books b book there).0 in
     let is : resource_of rows.entries book_row ≡ book_resource book =
-    same_some _ _ (sym (ap (option_map (resource_of rows.entries)) found) ∙ gives.resources (path.Book b) named ∙ ap (option_map book_resource) there) in
+    same_Some _ _ (sym (ap (option_map (resource_of rows.entries)) found) ∙ gives.resources (path.Book b) named ∙ ap (option_map book_resource) there) in
     record { there = there; named = named; number = ap (λ (r : Resource). r.number + 1) is }
 
 pub card_told : (rows : Rows) (o : Office) → Gives rows o → (b c : List ℕ) → IsName b → IsName c → (book : Book) → get o.books b ≡ Some book
@@ -56,7 +39,7 @@ card_told rows o gives b c named named_c book there = gives.resources (path.Card
 pub not_gone : (rows : Rows) (o : Office) → Gives rows o → (b c : List ℕ) → IsName b → (book_row : Row) → row_at rows (book_path b) ≡ Some book_row
     → (book : Book) → get o.books b ≡ Some book → (card : StoredCard) → get book.cards c ≡ Some card → find (writes.is_gone (rowid book_row) c) rows.gone ≡ None
 not_gone rows o gives b c named book_row found book there card its =
-    unmapped (λ row. number_in (column row 3)) (find (writes.is_gone (rowid book_row) c) rows.gone)
+    unmapped (λ row. number_in (gone_number row)) (find (writes.is_gone (rowid book_row) c) rows.gone)
     (sym (ap (removed_from rows.gone c) found) ∙ gives.gone b c named
     ∙ ap (option_and_then (λ (k : Book). unless_mapped (get k.cards c) (get k.changes.last c))) there ∙ ap (λ r. unless_mapped r (get book.changes.last c)) its)
 
@@ -87,7 +70,7 @@ module _ (b c : List ℕ) (owner : Option (List ℕ)) (text : List ℕ) where
       by_option (row_at rows (card_path b c))
       (λ none.
       let no_card = unmapped (card_resource (number_of book c)) (get book.cards c) (sym told ∙ ap (option_map (resource_of rows.entries)) none) in
-      let rows_are = made.rows_are ∙ (λ i. writes.put_card (Int (id_in (rowid made.book))) (is_some (none i)) (book_path b) (card_path b c) c owner text (at.number i) rows) in
+      let rows_are = made.rows_are ∙ (λ i. writes.put_card_rows (Int (id_in (rowid made.book))) (is_some (none i)) (book_path b) (card_path b c) c owner text (at.number i) rows) in
       let gives = written.gives_new rows o given.gives given.nodes.shaped b c book there at.named named_c made.book made.there none owner [] text in
       subst (λ r. Gives r (apply o (PutCard b c owner text))) (sym rows_are) (subst (Gives _) (placed_put o book there None no_card) gives))
       (λ old found.
@@ -95,14 +78,14 @@ module _ (b c : List ℕ) (owner : Option (List ℕ)) (text : List ℕ) where
       (λ no_card. some_apart (sym (ap (option_map (resource_of rows.entries)) found) ∙ told ∙ ap (option_map (card_resource (number_of book c))) no_card))
       (λ card its.
       let n = book.changes.number + 1 in
-      let alike : written.AreAlike n (writes.with_text text n) (with_text text) = record {
+      let alike : written.AreAlike n (writes.row_with_text text n) (with_text text) = record {
         columns = record { id = λ r. refl; path = λ r. refl; parent = λ r. refl; kind = λ r. refl; number = λ r. refl };
         resource = λ entries r k (card : StoredCard) is. ap (λ (r : Resource). record r { text = Some text; number = n }) is;
       } in
-      let gives = written.gives_old rows o given.gives given.nodes.shaped b c book there at.named named_c made.book made.there old found card its (writes.with_text text n) (with_text text) alike in
+      let gives = written.gives_old rows o given.gives given.nodes.shaped b c book there at.named named_c made.book made.there old found card its (writes.row_with_text text n) (with_text text) alike in
       let stays = none_gone rows o given.gives given.nodes.shaped b c at.named named_c made.book made.there book there card its in
       let rows_are = made.rows_are
-      ∙ (λ i. writes.put_card (Int (id_in (rowid made.book))) (is_some (found i)) (book_path b) (card_path b c) c owner text (at.number i) (record rows { gone = sym stays i })) in
+      ∙ (λ i. writes.put_card_rows (Int (id_in (rowid made.book))) (is_some (found i)) (book_path b) (card_path b c) c owner text (at.number i) (record rows { gone = sym stays i })) in
       subst (λ r. Gives r (apply o (PutCard b c owner text))) (sym rows_are) (subst (Gives _) (placed_put o book there (Some card) its) gives))))
 
   pub puts_card : GivesEdited (PutCard b c owner text) (putting_card (book_path b) (card_path b c) c owner text)
@@ -123,7 +106,7 @@ module _ (from_book from_card b c : List ℕ) (owner : Option (List ℕ)) where
 
   -- the row of the source tells the card
   source_told : (rows : Rows) (o : Office) → Gives rows o → IsSound o → (source : StoredCard) → card_at o from_book from_card ≡ Some source → (row : Row) → row_at rows source_path ≡ Some row
-      → (unwrap_or (text_in (column row 6)) [] ≡ source.label) × (text_in (column row 7) ≡ Some source.text)
+      → (unwrap_or (text_in (node_label row)) [] ≡ source.label) × (text_in (node_text row) ≡ Some source.text)
   source_told rows o gives sound source source_is row found =
       by_option (get o.books from_book)
       (λ none. some_apart (sym source_is ∙ ap (option_and_then (λ (k : Book). get k.cards from_card)) none))
@@ -132,7 +115,7 @@ module _ (from_book from_card b c : List ℕ) (owner : Option (List ℕ)) where
       let its : get book.cards from_card ≡ Some source = sym (ap (option_and_then (λ (k : Book). get k.cards from_card)) there) ∙ source_is in
       let named_c = name_of_card book ((sound.books from_book book there).1) source its in
       let is : resource_of rows.entries row ≡ card_resource (number_of book from_card) source =
-      same_some _ _ (sym (ap (option_map (resource_of rows.entries)) found) ∙ card_told rows o gives from_book from_card named named_c book there ∙ ap (option_map (card_resource (number_of book from_card))) its) in
+      same_Some _ _ (sym (ap (option_map (resource_of rows.entries)) found) ∙ card_told rows o gives from_book from_card named named_c book there ∙ ap (option_map (card_resource (number_of book from_card))) its) in
       (ap (λ (r : Resource). r.label) is, ap (λ (r : Resource). r.text) is))
     where
       name_of_card : (book : Book) → IsSoundBook o book → (card : StoredCard) → get book.cards from_card ≡ Some card → IsName from_card
@@ -146,8 +129,8 @@ module _ (from_book from_card b c : List ℕ) (owner : Option (List ℕ)) where
       let o' = apply o (CopyCard from_book from_card b c owner) in
       let at = at_book rows o given.gives given.sound b made.book made.there book there in
       let tells = source_told rows o given.gives given.sound source source_is made.source made.source_there in
-      let label : unwrap_or (text_in (column made.source 6)) [] ≡ source.label = tells.0 in
-      let text : made.text ≡ source.text = same_some _ _ (sym made.text_is ∙ tells.1) in
+      let label : unwrap_or (text_in (node_label made.source)) [] ≡ source.label = tells.0 in
+      let text : made.text ≡ source.text = same_Some _ _ (sym made.text_is ∙ tells.1) in
       let sound = subst IsSound (sym (placed_copy o book there source source_is (get book.cards c) refl)) given.fits.sound in
       let new_card = card_copied (get book.cards c) owner source.label source.text in
       let named_c = named_card o b c book there (insert book.cards c new_card) (Some new_card) (put_here book.cards c new_card) (put_elsewhere book.cards c new_card) sound in
@@ -155,7 +138,7 @@ module _ (from_book from_card b c : List ℕ) (owner : Option (List ℕ)) where
       by_option (row_at rows (card_path b c))
       (λ none.
       let no_card = unmapped (card_resource (number_of book c)) (get book.cards c) (sym told ∙ ap (option_map (resource_of rows.entries)) none) in
-      let rows_are = made.rows_are ∙ (λ i. writes.put_copy (Int (id_in (rowid made.book))) (is_some (none i)) (book_path b) (card_path b c) c owner (label i) (text i) (at.number i) rows) in
+      let rows_are = made.rows_are ∙ (λ i. writes.put_copy_rows (Int (id_in (rowid made.book))) (is_some (none i)) (book_path b) (card_path b c) c owner (label i) (text i) (at.number i) rows) in
       let gives = written.gives_new rows o given.gives given.nodes.shaped b c book there at.named named_c made.book made.there none owner source.label source.text in
       subst (λ r. Gives r o') (sym rows_are) (subst (Gives _) (placed_copy o book there source source_is None no_card) gives))
       (λ old found.
@@ -170,7 +153,7 @@ module _ (from_book from_card b c : List ℕ) (owner : Option (List ℕ)) where
       let gives = written.gives_old rows o given.gives given.nodes.shaped b c book there at.named named_c made.book made.there old found card its (writes.with_copy source.label source.text n) (relabelled source.label source.text) alike in
       let stays = none_gone rows o given.gives given.nodes.shaped b c at.named named_c made.book made.there book there card its in
       let rows_are = made.rows_are
-      ∙ (λ i. writes.put_copy (Int (id_in (rowid made.book))) (is_some (found i)) (book_path b) (card_path b c) c owner (label i) (text i) (at.number i) (record rows { gone = sym stays i })) in
+      ∙ (λ i. writes.put_copy_rows (Int (id_in (rowid made.book))) (is_some (found i)) (book_path b) (card_path b c) c owner (label i) (text i) (at.number i) (record rows { gone = sym stays i })) in
       subst (λ r. Gives r o') (sym rows_are) (subst (Gives _) (placed_copy o book there source source_is (Some card) its) gives)))))
 
   pub copies_card : GivesEdited (CopyCard from_book from_card b c owner) (copying_card source_path (book_path b) (card_path b c) c owner)
@@ -210,7 +193,7 @@ module _ (b c label : List ℕ) where
       } in
       let gives = written.gives_old rows o given.gives given.nodes.shaped b c book there at.named named_c made.book made.there old found card its (writes.with_label label n) (card_labelled label) alike in
       let stays = none_gone rows o given.gives given.nodes.shaped b c at.named named_c made.book made.there book there card its in
-      let rows_are = made.rows_are ∙ (λ i. writes.label_card (book_path b) (card_path b c) label (at.number i) (record rows { gone = sym stays i })) in
+      let rows_are = made.rows_are ∙ (λ i. writes.label_card_rows (book_path b) (card_path b c) label (at.number i) (record rows { gone = sym stays i })) in
       subst (λ r. Gives r o') (sym rows_are) (subst (Gives _) placed gives))))
 
   pub labels_card : GivesEdited (SetLabel (path.Card b c) label) (labelling_card (book_path b) (card_path b c) label)

@@ -1,20 +1,10 @@
 -- An Office in which what is kept at one path changed: the resource there, and all else.
-use Rattle.std.proofs.Common.{◌≡◌, ◌≢◌, ℕ, List, Option, Some, None, option_map, option_and_then, refl, sym, ap, subst, ◌∙◌}
-use Rattle.std.specs.FinMap.{get}
-use Rattle.book_lists.specs.Memberships.{Memberships}
-use Rattle.book_lists.specs.declared.entries.Entry.{Entry}
-use Rattle.book_values.specs.declared.offices.Book.{Book}
-use Rattle.book_values.specs.declared.offices.Office.{Office}
-use Rattle.book_values.specs.declared.offices.Properties.{Properties}
-use Rattle.book_values.specs.declared.offices.StoredCard.{StoredCard}
-use Rattle.book_values.specs.declared.paths.Kind.{Kind}
-use Rattle.book_values.specs.declared.paths.Kind.TheVariants as kind
-use Rattle.book_values.specs.declared.paths.Path.{Path}
-use Rattle.book_values.specs.declared.paths.Path.TheVariants as path
-use Rattle.book_values.specs.Names.{NamesTo, changed_at}
-use Rattle.book_values.proofs.OneName.{changed_here, changed_elsewhere, by_changed}
-use Rattle.book_office.specs.Edits.{with_properties, with_book_properties, with_cards, with_card, labelled, set_label, listed, listed_card, own_list_set}
-use Rattle.book_office.specs.Resources.{Resource, resource_at, removed_at, properties_resource, book_resource, card_resource, card_in, number_of, unless_mapped}
+use Rattle.book_tables.proofs.Common.{◌≡◌, ◌≢◌, ℕ, List, Option, Some, None, option_map, option_and_then, refl, sym, ap, subst, ◌∙◌, get, Memberships, Entry, Book, Office, Properties, StoredCard, Kind, Path, NamesTo, Resource, resource_at, removed_at, properties_resource, book_resource, card_resource, card_in, number_of, unless_mapped}
+use Rattle.book_office_values.specs.declared.paths.Kind.TheVariants as kind
+use Rattle.book_office_values.specs.declared.paths.Path.TheVariants as path
+use Rattle.book_office_values.specs.Names.{changed_at}
+use Rattle.book_office_values.proofs.OneName.{changed_here, changed_elsewhere, by_changed}
+use Rattle.book_office.specs.Edits.{with_properties, with_book_properties, with_cards, with_card, label_set, set_label, list_set, listed_card, own_list_set}
 
 -- a path that is no card's
 abbrev pub IsOther : Path → Type 0
@@ -215,7 +205,7 @@ relabel label r = record r { label = label }
 abbrev pub relist : List Entry → Resource → Resource
 relist list r = record r { own = list }
 
-set_label_is : (p : Path) → IsOther p → (label : List ℕ) (o : Office) → with_properties (labelled label) o p ≡ set_label p label o
+set_label_is : (p : Path) → IsOther p → (label : List ℕ) (o : Office) → with_properties (label_set label) o p ≡ set_label p label o
 set_label_is path.Root other label o = refl
 set_label_is path.People other label o = refl
 set_label_is path.Groups other label o = refl
@@ -227,7 +217,7 @@ set_label_is (path.Card b c) other label o = absurd (other b c refl)
 
 pub label_changes : (p : Path) → IsOther p → (label : List ℕ) (o : Office) → ChangesOne o (set_label p label o) p (relabel label)
 label_changes p other label o =
-    subst (λ o'. ChangesOne o o' p (relabel label)) (set_label_is p other label o) (properties_change o (labelled label) (relabel label) (λ k n v. refl) p other)
+    subst (λ o'. ChangesOne o o' p (relabel label)) (set_label_is p other label o) (properties_change o (label_set label) (relabel label) (λ k n v. refl) p other)
 
 -- the own list of a card
 module _ (o : Office) (b c : List ℕ) (list : List Entry) where
@@ -280,8 +270,8 @@ module _ (o : Office) (b c : List ℕ) (list : List Entry) where
     epoch = refl;
   }
 
-other_list : (p : Path) → IsOther p → (list : List Entry) (o : Office) → ChangesOne o (with_properties (listed list) o p) p (relist list)
-other_list p other list o = properties_change o (listed list) (relist list) (λ k n v. refl) p other
+other_list : (p : Path) → IsOther p → (list : List Entry) (o : Office) → ChangesOne o (with_properties (list_set list) o p) p (relist list)
+other_list p other list o = properties_change o (list_set list) (relist list) (λ k n v. refl) p other
 
 pub list_changes : (p : Path) (list : List Entry) (o : Office) → ChangesOne o (own_list_set p list o) p (relist list)
 list_changes path.Root list o = other_list path.Root (λ b c e. cc) list o

@@ -1,23 +1,10 @@
 -- Changes that an open connection shows, in order of their numbers, are those of the Office for which it stands.
-use Rattle.std.proofs.Common.{◌≡◌, ℕ, ◌<◌, ◌≤◌, min, List, [], ◌∷◌, ◌++◌, codes, Option, Some, None, option_map, unwrap_or, refl, sym, ap, subst, ◌∙◌, arith, IsPermutation}
+use Rattle.book_tables.proofs.Common.{◌≡◌, ℕ, ◌<◌, ◌≤◌, List, [], ◌∷◌, ◌++◌, codes, Option, Some, None, option_map, unwrap_or, refl, sym, ap, subst, ◌∙◌, arith, IsPermutation, get, Row, State, LAST_NUMBER, IsName, Book, Office, changes_after, book_path, some_apart, Changed, book_resource, changed_in, Rows, rows_of, ShowsChanges, changes_of, row_at, resource_of, Stands, StandsFor}
+use Rattle.std.proofs.Common.{min}
 use Rattle.std.proofs.lemmas.List.Sorted.{length_permutation, IsPermutation-sym}
-use Rattle.std.specs.FinMap.{get}
-use Rattle.sqlite.specs.Order.{Row}
-use Rattle.sqlite.specs.State.{State}
-use Rattle.book_limits.specs.declared.TheConstants.{LAST_NUMBER}
-use Rattle.book_lists.specs.Names.{IsName}
-use Rattle.book_values.specs.declared.offices.Book.{Book}
-use Rattle.book_values.specs.declared.offices.Office.{Office}
-use Rattle.book_values.specs.declared.paths.Path.TheVariants as path
-use Rattle.book_values.specs.Changes.{changes_after}
-use Rattle.book_values.specs.Paths.{book_path}
-use Rattle.book_values.proofs.OneName.{some_apart}
-use Rattle.book_office.specs.declared.nodes.Changed.{Changed}
-use Rattle.book_office.specs.Resources.{book_resource, changed_in, changed_after}
-use Rattle.book_rows.specs.Rows.{Rows, rows_of}
-use Rattle.book_tables.specs.LastChanges.{ShowsChanges, DoRise, changes_of}
-use Rattle.book_tables.specs.Rows.{row_at, resource_of}
-use Rattle.book_tables.specs.Stands.{Stands, StandsFor}
+use Rattle.book_office_values.specs.declared.paths.Path.TheVariants as path
+use Rattle.book_office.specs.Resources.{changed_after}
+use Rattle.book_tables.specs.LastChanges.{DoRise}
 use Rattle.book_tables.proofs.Acting.{nodes_of}
 use Rattle.book_tables.proofs.BookChanges.{IsEarlier, not_both, changes_rise}
 use Rattle.book_tables.proofs.ChangedRows.{rows_tell, tell_rows}

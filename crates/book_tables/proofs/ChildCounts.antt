@@ -1,17 +1,6 @@
 -- A count of children tells how many the resource has.
-use Rattle.std.proofs.Common.{◌≡◌, ℕ, length, filter, Option, Some, None, option_map, unwrap_or, refl, sym, ap, ◌∙◌}
-use Rattle.sqlite.specs.Order.{Row}
-use Rattle.sqlite.specs.State.{State}
-use Rattle.sqlite.specs.Tree.{rowid}
-use Rattle.book_values.specs.declared.offices.Office.{Office}
-use Rattle.book_values.specs.declared.paths.Path.{Path}
-use Rattle.book_values.specs.Paths.{IsPath, path_text}
-use Rattle.book_office.specs.Resources.{count_at}
-use Rattle.book_rows.specs.Rows.{rows_of}
-use Rattle.book_rows.specs.Writes.{is_under}
+use Rattle.book_tables.proofs.Common.{◌≡◌, ℕ, length, filter, Option, Some, None, option_map, unwrap_or, refl, sym, ap, ◌∙◌, Row, State, rowid, Office, Path, IsPath, path_text, count_at, rows_of, is_under, row_at, StandsFor}
 use Rattle.book_tables.specs.Children.{ShowsChildCount}
-use Rattle.book_tables.specs.Rows.{row_at}
-use Rattle.book_tables.specs.Stands.{StandsFor}
 use Rattle.book_tables.proofs.Acting.{nodes_of}
 use Rattle.book_tables.proofs.ChildRows.{count_is, none_below}
 use Rattle.book_tables.proofs.OfficeChildren.{counted_children}

@@ -1,42 +1,20 @@
 -- The rows under the row of a path, in order of their paths, are the children of the resource there.
-use Rattle.std.proofs.Common.{◌≡◌, inl, inr, ℕ, Bool, true, false, List, [], ◌∷◌, ◌++◌, map, filter, find, length, drop, Option, Some, None, option_map, unwrap_or, refl, sym, ap, subst, ◌∙◌, true≢false, Less, is_eq, nat_cmp}
+use Rattle.book_tables.proofs.Common.{◌≡◌, inl, inr, ℕ, Bool, true, false, List, [], ◌∷◌, ◌++◌, map, filter, find, length, drop, Option, Some, None, option_map, unwrap_or, refl, sym, ap, subst, ◌∙◌, true≢false, Less, is_eq, tied_itself, IsTotalOrder, Int, Text, Row, value_cmp, rowid, IsAscending, Has, all_has, has_filtered, has_kept, value_cmp_total, sort_by, ascending-map, Office, Path, IsPath, path_text, parent_of, one_text, is_same, same_itself, some_apart, resource_at, count_at, IsSound, resources_stand_in_place, node_parent, node_path, by_path, text_in, Rows, is_at, is_under, PassesOnce, int_itself, text_above, row_at, resource_of, IsParent, IsNodeAt, IsNode, Gives, same_Some}
+use Rattle.std.proofs.Common.{nat_cmp}
 use Rattle.std.proofs.Math.Seq.{drop-append_seam}
 use Rattle.std.proofs.lemmas.List.Sorted.{length_permutation}
-use Rattle.std.proofs.lemmas.Cmp.{tied_itself}
 use Rattle.std.specs.Option.{option_to_list}
-use Rattle.std.specs.Cmp.{IsTotalOrder, nat_cmp_total}
+use Rattle.std.specs.Cmp.{nat_cmp_total}
 use Rattle.std.specs.Cmp.Lexicographic.{slice_cmp}
 use Rattle.std.specs.Ordering.{ordering_then}
-use Rattle.sqlite.specs.declared.types.Value.TheVariants.{Int, Text}
-use Rattle.sqlite.specs.Order.{Row, column, value_cmp}
-use Rattle.sqlite.specs.Tree.{rowid}
-use Rattle.sqlite_trees.specs.Tree.{IsAscending}
-use Rattle.sqlite_rules.specs.Lists.{Has}
-use Rattle.sqlite_rules.proofs.ListLemmas.{all_has, has_filtered, has_kept}
-use Rattle.sqlite_value.proofs.OrderLemmas.{value_cmp-Text, value_cmp_total}
-use Rattle.sqlite_keyed.specs.Lists.{sort_by}
-use Rattle.sqlite_keyed.proofs.ListLemmas.{ascending-map, ascending-filter}
+use Rattle.sqlite_value.proofs.OrderLemmas.{value_cmp-Text}
+use Rattle.sqlite_keyed.proofs.ListLemmas.{ascending-filter}
 use Rattle.sqlite_keyed.proofs.SortLemmas.{IsPermutation-sort_by}
-use Rattle.book_values.specs.declared.offices.Office.{Office}
-use Rattle.book_values.specs.declared.paths.Path.{Path}
-use Rattle.book_values.specs.declared.paths.Path.TheVariants as path
-use Rattle.book_values.specs.Paths.{IsPath, path_text, parent_of}
-use Rattle.book_values.proofs.Spelling.{one_text}
-use Rattle.book_values.proofs.NameMapLaws.{is_same, same_itself}
-use Rattle.book_values.proofs.OneName.{some_apart, same_some}
-use Rattle.book_office.specs.Resources.{resource_at, count_at}
-use Rattle.book_office.specs.Sound.{IsSound}
-use Rattle.book_office.proofs.StandingResources.{resources_stand_in_place}
-use Rattle.book_rows.specs.Lists.{by_path}
-use Rattle.book_rows.specs.Nodes.{text_in}
-use Rattle.book_rows.specs.Rows.{Rows}
-use Rattle.book_rows.specs.Writes.{is_at, is_under}
-use Rattle.book_rows.proofs.Once.{PassesOnce, filter_finds}
-use Rattle.book_tables.specs.Children.{text_above, last_name}
-use Rattle.book_tables.specs.Rows.{row_at, resource_of}
-use Rattle.book_tables.specs.Stands.{IsParent, IsNodeAt, IsNode, Gives}
+use Rattle.book_office_values.specs.declared.paths.Path.TheVariants as path
+use Rattle.book_tables_rows.proofs.Once.{filter_finds}
+use Rattle.book_tables.specs.Children.{last_name}
 use Rattle.book_tables.proofs.Acting.{AreNodes}
-use Rattle.book_tables.proofs.Looking.{found_has, has_text, has_int, same_ints, int_itself}
+use Rattle.book_tables.proofs.Looking.{found_has, has_text, has_int, same_ints}
 use Rattle.book_tables.proofs.RowFacts.{number_of_row, numbers_apart}
 use Rattle.book_tables.proofs.LeftRows.{has_null}
 use Rattle.book_tables.proofs.SameLists.{same_members, has_map, has_mapped, has_sorted, sorted_has, sorted_rises}
@@ -58,20 +36,20 @@ ascending_within R S (x ∷ xs) tells up = (
 
 pub by_path_total : IsTotalOrder by_path
 by_path_total = record {
-  antisymm = λ a b. value_cmp_total.antisymm (column a 2) (column b 2);
-  trans = λ a b c. value_cmp_total.trans (column a 2) (column b 2) (column c 2);
-  congr = λ a b c. value_cmp_total.congr (column a 2) (column b 2) (column c 2);
+  antisymm = λ a b. value_cmp_total.antisymm (node_path a) (node_path b);
+  trans = λ a b c. value_cmp_total.trans (node_path a) (node_path b) (node_path c);
+  congr = λ a b c. value_cmp_total.congr (node_path a) (node_path b) (node_path c);
 }
 
 above_named : (q above : Path) → IsPath q → parent_of q ≡ Some above → IsPath above
 above_named path.Root a named e = some_apart (sym e)
-above_named path.People a named e = subst IsPath (same_some _ _ e) tt
-above_named path.Groups a named e = subst IsPath (same_some _ _ e) tt
-above_named path.Books a named e = subst IsPath (same_some _ _ e) tt
-above_named (path.Person n) a named e = subst IsPath (same_some _ _ e) tt
-above_named (path.Group n) a named e = subst IsPath (same_some _ _ e) tt
-above_named (path.Book n) a named e = subst IsPath (same_some _ _ e) tt
-above_named (path.Card b c) a named e = subst IsPath (same_some _ _ e) named.0
+above_named path.People a named e = subst IsPath (same_Some _ _ e) tt
+above_named path.Groups a named e = subst IsPath (same_Some _ _ e) tt
+above_named path.Books a named e = subst IsPath (same_Some _ _ e) tt
+above_named (path.Person n) a named e = subst IsPath (same_Some _ _ e) tt
+above_named (path.Group n) a named e = subst IsPath (same_Some _ _ e) tt
+above_named (path.Book n) a named e = subst IsPath (same_Some _ _ e) tt
+above_named (path.Card b c) a named e = subst IsPath (same_Some _ _ e) named.0
 
 -- the one that is found, where no two pass
 pub found_once : (p : Row → Bool) (rows : List Row) (x : Row) → PassesOnce p rows → Has rows x → p x ≡ true → find p rows ≡ Some x
@@ -83,7 +61,7 @@ found_once p rows x once there passes = go (find p rows) (subst (λ l. Has l x) 
     go (Some y) (inr none) = absurd none
 
 -- no two rows that have texts as their paths tie
-no_ties : (rows : List Row) → ((t : List ℕ) → PassesOnce (is_at t) rows) → ((x : Row) → Has rows x → (t : List ℕ) × (column x 2 ≡ Text t)) → IsAscending (λ a b. is_eq (by_path a b) ≡ false) rows
+no_ties : (rows : List Row) → ((t : List ℕ) → PassesOnce (is_at t) rows) → ((x : Row) → Has rows x → (t : List ℕ) × (node_path x ≡ Text t)) → IsAscending (λ a b. is_eq (by_path a b) ≡ false) rows
 no_ties [] once texts = tt
 no_ties (x ∷ rows) once texts =
     let t = texts x (inl refl) in (
@@ -98,7 +76,7 @@ no_ties (x ∷ rows) once texts =
 
 -- what a row tells of a child: the name behind what stands above, and the resource
 abbrev pub told_child : List ℕ → List Row → Row → Child
-told_child front entries x = (drop (length front) (unwrap_or (text_in (column x 2)) []), resource_of entries x)
+told_child front entries x = (drop (length front) (unwrap_or (text_in (node_path x)) []), resource_of entries x)
 
 module _ (rows : Rows) (o : Office) (gives : Gives rows o) (nodes : AreNodes rows) (sound : IsSound o) (p : Path) (is_path : IsPath p) where
   row_found : (x : Row) (q : Path) → Has rows.nodes x → IsNodeAt rows x q → row_at rows (path_text q) ≡ Some x
@@ -117,13 +95,13 @@ module _ (rows : Rows) (o : Office) (gives : Gives rows o) (nodes : AreNodes row
           let found = found_has (is_at (path_text q)) rows.nodes x e in
           let n = all_has (IsNode rows) rows.nodes x gives.nodes found.0 in
           let texts = is_same (path_text n.0) (path_text q) (sym (has_text 2 x (path_text n.0) (path_text q) n.1.path) ∙ found.1) in
-          (x, found.0, subst (IsNodeAt rows x) (one_text n.0 q n.1.named named texts) n.1, same_some _ _ is)
+          (x, found.0, subst (IsNodeAt rows x) (one_text n.0 q n.1.named named texts) n.1, same_Some _ _ is)
 
   module _ (node : Row) (found : row_at rows (path_text p) ≡ Some node) where
     abbrev pub under : List Row
     under = filter (is_under (rowid node)) rows.nodes
 
-    parent_is : (x : Row) (q : Path) → IsPath q → is_under (rowid node) x ≡ true → IsParent rows (column x 3) (Some q) → q ≡ p
+    parent_is : (x : Row) (q : Path) → IsPath q → is_under (rowid node) x ≡ true → IsParent rows (node_parent x) (Some q) → q ≡ p
     parent_is x q named passes (s, at, is) =
         let k = number_of_row rows gives.nodes nodes.shaped (path_text p) node found in
         let ks = number_of_row rows gives.nodes nodes.shaped (path_text q) s at in
@@ -133,7 +111,7 @@ module _ (rows : Rows) (o : Office) (gives : Gives rows o) (nodes : AreNodes row
     above_is : (x : Row) (q : Path) → IsNodeAt rows x q → is_under (rowid node) x ≡ true → parent_of q ≡ Some p
     above_is x q n passes = go (parent_of q) refl n.parent
       where
-        go : (above : Option Path) → parent_of q ≡ above → IsParent rows (column x 3) above → above ≡ Some p
+        go : (above : Option Path) → parent_of q ≡ above → IsParent rows (node_parent x) above → above ≡ Some p
         go None e null =
             let k = number_of_row rows gives.nodes nodes.shaped (path_text p) node found in
             absurd (true≢false (sym passes ∙ ap (λ v. is_under v x) k.1 ∙ has_null 3 x k.0 null))
@@ -142,8 +120,8 @@ module _ (rows : Rows) (o : Office) (gives : Gives rows o) (nodes : AreNodes row
     pub under_is : (x : Row) (q : Path) → IsNodeAt rows x q → parent_of q ≡ Some p → is_under (rowid node) x ≡ true
     under_is x q n above =
         let k = number_of_row rows gives.nodes nodes.shaped (path_text p) node found in
-        let parent : IsParent rows (column x 3) (Some p) = subst (IsParent rows (column x 3)) above n.parent in
-        let is : column x 3 ≡ Int k.0 = parent.2 ∙ ap rowid (same_some _ _ (sym parent.1 ∙ found)) ∙ k.1 in
+        let parent : IsParent rows (node_parent x) (Some p) = subst (IsParent rows (node_parent x)) above n.parent in
+        let is : node_parent x ≡ Int k.0 = parent.2 ∙ ap rowid (same_Some _ _ (sym parent.1 ∙ found)) ∙ k.1 in
         ap (λ v. is_under v x) k.1 ∙ has_int 3 x k.0 k.0 is ∙ int_itself k.0
 
     -- the path of a row under the path's
@@ -197,7 +175,7 @@ module _ (rows : Rows) (o : Office) (gives : Gives rows o) (nodes : AreNodes row
 
     rows_rise : IsAscending IsBefore (map tell (sort_by by_path under))
     rows_rise =
-        let texts : (x : Row) → Has under x → (t : List ℕ) × (column x 2 ≡ Text t) = λ x h. let c = child_row x h in (path_text c.0, c.1.path) in
+        let texts : (x : Row) → Has under x → (t : List ℕ) × (node_path x ≡ Text t) = λ x h. let c = child_row x h in (path_text c.0, c.1.path) in
         let ties = no_ties under (λ t. ascending-filter (λ a b. is_at t a ≡ true → is_at t b ≡ false) (is_under (rowid node)) rows.nodes (nodes.once t)) texts in
         ascending-map IsBefore tell (sort_by by_path under)
         (ascending_within (λ a b. by_path a b ≡ Less) (λ a b. IsBefore (tell a) (tell b)) (sort_by by_path under)

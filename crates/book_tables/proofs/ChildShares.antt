@@ -1,45 +1,31 @@
 -- The entries of one list among those of its node, or of all children, are the entries of the list: a sorted list, sifted, is the sifted list, sorted.
-use Rattle.std.proofs.Common.{◌≡◌, inl, ℕ, suc, ℤ, Bool, true, false, not, cond, ◌&&◌, List, [], ◌∷◌, map, filter, drop, None, refl, sym, ap, subst, ◌∙◌, true≢false, arith, Ordering, Less, Equal, Greater, is_gt, int_cmp}
+use Rattle.book_tables.proofs.Common.{◌≡◌, inl, ℕ, ℤ, Bool, true, false, cond, ◌&&◌, List, [], ◌∷◌, map, filter, drop, None, refl, sym, ap, subst, ◌∙◌, true≢false, arith, Ordering, Less, Equal, Greater, is_gt, int_cmp, IsTotalOrder, AllByRecursion, and_parts, tied_itself, ints, Value, Null, Int, Text, id_in, Database, IsDatabase, Row, value_cmp, rowid, IsAscending, value_cmp_total, value_cmp-Int, Has, all_has, all_from, has_filtered, sort_by, map-map, ascending-map, ace_node_place, ace_protected_place, rowid_place, by_path, Rows, rows_of, has, IsBook, book_schema, by_place, flag, is_entry, is_under, key_is, int_itself, child_shown, card_shown, entry_shown, entry_of, list_in, DoNotFall, card_among, child_among, list_among}
 use Rattle.std.specs.Prelude.{◌≤ℤ◌, int_lt}
-use Rattle.std.specs.Cmp.{IsTotalOrder}
-use Rattle.std.specs.List.{AllByRecursion}
 use Rattle.std.specs.Ordering.{ordering_reverse, ordering_then}
-use Rattle.std.proofs.lemmas.Bool.{and_parts}
-use Rattle.std.proofs.lemmas.Cmp.{tied_itself, upto, on_total, then_total}
-use Rattle.std.proofs.lemmas.Int.{ints}
-use Rattle.sqlite.specs.declared.types.Value.{Value}
-use Rattle.sqlite.specs.declared.types.Value.TheVariants.{Null, Int, Real, Text, Blob}
-use Rattle.sqlite.specs.Edit.{id_in}
-use Rattle.sqlite.specs.Effect.{Database, IsDatabase}
+use Rattle.std.proofs.lemmas.Bool.{not-true}
+use Rattle.std.proofs.lemmas.Cmp.{upto, on_total, then_total}
+use Rattle.sqlite.specs.declared.types.Value.TheVariants.{Real, Blob}
 use Rattle.sqlite.specs.Kind.TheVariants as kinds
 use Rattle.sqlite.specs.Ops.{is_null}
-use Rattle.sqlite.specs.Order.{Row, column, value_cmp}
-use Rattle.sqlite.specs.Tree.{rowid}
-use Rattle.sqlite_trees.specs.Tree.{IsAscending}
-use Rattle.sqlite_value.proofs.OrderLemmas.{value_cmp_total, value_cmp-Int}
 use Rattle.sqlite_schema.specs.declared.schema.Column.{Column}
 use Rattle.sqlite_schema.specs.declared.schema.Constraint.TheVariants.{Datatype, NotNull}
 use Rattle.sqlite_schema.specs.Rules.{is_of as is_kind, are_typed, are_present, has_computed}
-use Rattle.sqlite_rules.specs.Lists.{Has}
-use Rattle.sqlite_rules.proofs.ListLemmas.{all_has, all_from, has_filtered, some_from}
-use Rattle.sqlite_keyed.specs.Lists.{insert_sorted, sort_by}
-use Rattle.sqlite_keyed.proofs.ListLemmas.{all_weaker, all-filter, filter-map, map-map, ascending-map}
+use Rattle.sqlite_rules.proofs.ListLemmas.{some_from}
+use Rattle.sqlite_keyed.specs.Lists.{insert_sorted}
+use Rattle.sqlite_keyed.proofs.ListLemmas.{all_weaker, all-filter, filter-map}
 use Rattle.sqlite_trees.proofs.ListLemmas.{filter_same}
 use Rattle.sqlite_catalog.proofs.ListFacts.{filter_within}
-use Rattle.book_rows.specs.Lists.{by_list, by_path, listed_columns, child_entries, children_of}
-use Rattle.book_rows.specs.Rows.{Rows, rows_of, has, IsBook}
-use Rattle.book_rows.specs.Schema.{book_schema, node_table, ace_table, ace_columns}
-use Rattle.book_rows.specs.Writes.{by_place, flag, is_below, is_entry, is_under}
-use Rattle.book_rows.proofs.Shapes.{key_is}
-use Rattle.book_rows.proofs.Typing.{typed_at}
-use Rattle.book_tables.specs.Children.{child_shown, listed_shown}
-use Rattle.book_tables.specs.LastChanges.{AreCardsOf, card_shown, changed_shown}
-use Rattle.book_tables.specs.Listing.{entry_shown}
-use Rattle.book_tables.specs.Rows.{entry_of, list_in}
-use Rattle.book_tables.specs.Shares.{DoNotFall, card_among, child_among, is_listed, is_of, list_among, list_of, node_in}
+use Rattle.book_tables_rows.specs.Columns.{ace_node, ace_place, ace_protected}
+use Rattle.book_tables_rows.specs.Lists.{by_list, listed_columns, child_entries, children_of, listed_entry_place}
+use Rattle.book_tables_rows.specs.Schema.{node_table, ace_table, ace_columns}
+use Rattle.book_tables_rows.specs.Writes.{is_below}
+use Rattle.book_tables_rows.proofs.Typing.{typed_at, past_first}
+use Rattle.book_tables.specs.Children.{listed_shown}
+use Rattle.book_tables.specs.LastChanges.{AreCardsOf, changed_shown}
+use Rattle.book_tables.specs.Shares.{is_listed, is_of, list_of, node_in}
 use Rattle.book_tables.proofs.ChildRows.{ascending_within, by_path_total}
 use Rattle.book_tables.proofs.ChildrenTold.{columns, map_within}
-use Rattle.book_tables.proofs.Looking.{has_int, int_itself, same_ints}
+use Rattle.book_tables.proofs.Looking.{has_int, same_ints}
 use Rattle.book_tables.proofs.SameLists.{has_sorted}
 
 -- ---- a sorted list
@@ -140,12 +126,12 @@ both_tests p q (x ∷ xs) = go (p x) refl (both_tests p q xs)
 
 by_list_total : IsTotalOrder by_list
 by_list_total =
-    then_total (on_total (λ (r : Row). column r 1) value_cmp_total) (then_total (on_total (λ (r : Row). column r 2) value_cmp_total) (on_total (λ (r : Row). column r 3) value_cmp_total))
+    then_total (on_total (λ (r : Row). ace_node r) value_cmp_total) (then_total (on_total (λ (r : Row). ace_protected r) value_cmp_total) (on_total (λ (r : Row). ace_place r) value_cmp_total))
 
 -- the node and the list are whole numbers
 pub record IsNumbered (row : Row) : Type 0 where
-  pub node : column row 1 ≡ Int (id_in (column row 1))
-  pub list : column row 2 ≡ Int (id_in (column row 2))
+  pub node : ace_node row ≡ Int (id_in (ace_node row))
+  pub list : ace_protected row ≡ Int (id_in (ace_protected row))
 
 int_there : (v : Value) → is_null v ≡ false → is_kind kinds.Integer v ≡ true → v ≡ Int (id_in v)
 int_there Null there typed = absurd (true≢false there)
@@ -154,15 +140,7 @@ int_there (Real x) there typed = absurd (true≢false (sym typed))
 int_there (Text t) there typed = absurd (true≢false (sym typed))
 int_there (Blob b) there typed = absurd (true≢false (sym typed))
 
-present : (b : Bool) → not b ≡ true → b ≡ false
-present false h = refl
-present true h = absurd (true≢false (sym h))
-
-pub behind_number : (row : Row) (i : ℕ) → column (drop 1 row) i ≡ column row (suc i)
-behind_number [] i = refl
-behind_number (v ∷ row) i = refl
-
-flag_is : (b : Bool) → flag b ≡ Int (id_in (flag b))
+pub flag_is : (b : Bool) → flag b ≡ Int (id_in (flag b))
 flag_is true = refl
 flag_is false = refl
 
@@ -193,8 +171,8 @@ module _ (db : Database) (book : IsBook db) where
       let list = and_parts _ _ node.1 in
       let at = λ (i : ℕ) (c : Column). typed_at None 0 ace_columns (drop 1 row) i c types in
       record {
-        node = int_there (column row 1) (present (is_null (column row 1)) node.0) (ap (is_kind kinds.Integer) (sym (behind_number row 0)) ∙ at 0 _ refl refl refl);
-        list = int_there (column row 2) (present (is_null (column row 2)) list.0) (ap (is_kind kinds.Integer) (sym (behind_number row 1)) ∙ at 1 _ refl refl refl);
+        node = int_there (ace_node row) (not-true (is_null (ace_node row)) node.0) (ap (is_kind kinds.Integer) (sym (past_first row 0)) ∙ at 0 _ refl refl refl);
+        list = int_there (ace_protected row) (not-true (is_null (ace_protected row)) list.0) (ap (is_kind kinds.Integer) (sym (past_first row 1)) ∙ at 1 _ refl refl refl);
       }
 
   -- ---- the lists of one node
@@ -204,19 +182,19 @@ module _ (db : Database) (book : IsBook db) where
     its = is_entry (Int number) protected
 
     -- what is told of an entry of one of its lists
-    tells : (row : Row) → IsNumbered row → its row ≡ true → (column row 1 ≡ Int number) × (column row 2 ≡ flag protected)
+    tells : (row : Row) → IsNumbered row → its row ≡ true → (ace_node row ≡ Int number) × (ace_protected row ≡ flag protected)
     tells row n passes =
-        let both = and_parts (has 1 (Int number) row) (has 2 (flag protected) row) passes in
-        let second : has 2 (Int (id_in (flag protected))) row ≡ true = ap (λ v. has 2 v row) (sym (flag_is protected)) ∙ both.1 in
-        (n.node ∙ ap Int (same_ints 1 row (id_in (column row 1)) number n.node both.0), n.list ∙ ap Int (same_ints 2 row (id_in (column row 2)) (id_in (flag protected)) n.list second) ∙ sym (flag_is protected))
+        let both = and_parts (has ace_node_place (Int number) row) (has ace_protected_place (flag protected) row) passes in
+        let second : has ace_protected_place (Int (id_in (flag protected))) row ≡ true = ap (λ v. has ace_protected_place v row) (sym (flag_is protected)) ∙ both.1 in
+        (n.node ∙ ap Int (same_ints 1 row (id_in (ace_node row)) number n.node both.0), n.list ∙ ap Int (same_ints 2 row (id_in (ace_protected row)) (id_in (flag protected)) n.list second) ∙ sym (flag_is protected))
 
-    listed : (row : Row) → IsNumbered row → is_listed protected (listed_columns row) ≡ has 2 (flag protected) row
-    listed row n = sym (ap (λ v. has 2 v row) (flag_is protected) ∙ has_int 2 row (id_in (column row 2)) (id_in (flag protected)) n.list)
+    listed : (row : Row) → IsNumbered row → is_listed protected (listed_columns row) ≡ has ace_protected_place (flag protected) row
+    listed row n = sym (ap (λ v. has ace_protected_place v row) (flag_is protected) ∙ has_int 2 row (id_in (ace_protected row)) (id_in (flag protected)) n.list)
 
     tested : (row : Row) → IsNumbered row → (is_of number (listed_columns row) && is_listed protected (listed_columns row)) ≡ its row
-    tested row n = (λ i. sym (has_int 1 row (id_in (column row 1)) number n.node) i && listed row n i)
+    tested row n = (λ i. sym (has_int 1 row (id_in (ace_node row)) number n.node) i && listed row n i)
 
-    one_place : (a b : Row) → (column a 1 ≡ Int number) × (column a 2 ≡ flag protected) → (column b 1 ≡ Int number) × (column b 2 ≡ flag protected) → by_list a b ≡ by_place a b
+    one_place : (a b : Row) → (ace_node a ≡ Int number) × (ace_protected a ≡ flag protected) → (ace_node b ≡ Int number) × (ace_protected b ≡ flag protected) → by_list a b ≡ by_place a b
     one_place a b in_a in_b =
         (λ i. ordering_then (value_cmp (in_a.0 i) (in_b.0 i)) (ordering_then (value_cmp (in_a.1 i) (in_b.1 i)) (by_place a b)))
         ∙ ap (λ o. ordering_then o (ordering_then (value_cmp (flag protected) (flag protected)) (by_place a b))) (tied_itself value_cmp_total (Int number))
@@ -224,19 +202,19 @@ module _ (db : Database) (book : IsBook db) where
 
     in_place : sort_by by_list (filter its rows.entries) ≡ sort_by by_place (filter its rows.entries)
     in_place =
-        sorted_alike by_list by_list_total by_place (λ r. (column r 1 ≡ Int number) × (column r 2 ≡ flag protected)) one_place (filter its rows.entries)
+        sorted_alike by_list by_list_total by_place (λ r. (ace_node r ≡ Int number) × (ace_protected r ≡ flag protected)) one_place (filter its rows.entries)
         (all_from _ (filter its rows.entries) (λ r h. let found = has_filtered its rows.entries r h in tells r (numbered r found.0) found.1))
 
     -- a list among all entries of the node
-    pub list_is_told : list_among protected (map listed_columns (sort_by by_list (filter (has 1 (Int number)) rows.entries))) ≡ list_in rows.entries (Int number) protected
+    pub list_is_told : list_among protected (map listed_columns (sort_by by_list (filter (has ace_node_place (Int number)) rows.entries))) ≡ list_in rows.entries (Int number) protected
     list_is_told =
-        let own = filter (has 1 (Int number)) rows.entries in
-        ap (map (entry_shown 2)) (filter-map (is_listed protected) listed_columns (sort_by by_list own))
-        ∙ map-map (entry_shown 2) listed_columns (filter (λ r. is_listed protected (listed_columns r)) (sort_by by_list own))
+        let own = filter (has ace_node_place (Int number)) rows.entries in
+        ap (map (entry_shown listed_entry_place)) (filter-map (is_listed protected) listed_columns (sort_by by_list own))
+        ∙ map-map (entry_shown listed_entry_place) listed_columns (filter (λ r. is_listed protected (listed_columns r)) (sort_by by_list own))
         ∙ ap (map entry_of) (sifted_sorted by_list by_list_total (λ r. is_listed protected (listed_columns r)) own
-        ∙ ap (sort_by by_list) (filter_same (λ r. is_listed protected (listed_columns r)) (has 2 (flag protected)) own
-        (all_from _ own (λ r h. listed r (numbered r (has_filtered (has 1 (Int number)) rows.entries r h).0)))
-        ∙ both_tests (has 1 (Int number)) (has 2 (flag protected)) rows.entries)
+        ∙ ap (sort_by by_list) (filter_same (λ r. is_listed protected (listed_columns r)) (has ace_protected_place (flag protected)) own
+        (all_from _ own (λ r h. listed r (numbered r (has_filtered (has ace_node_place (Int number)) rows.entries r h).0)))
+        ∙ both_tests (has ace_node_place (Int number)) (has ace_protected_place (flag protected)) rows.entries)
         ∙ in_place)
 
   module _ (id : ℤ) where
@@ -249,15 +227,15 @@ module _ (db : Database) (book : IsBook db) where
     in_table : (row : Row) → Has sorted row → Has rows.entries row
     in_table row h = (has_filtered (is_below (Int id) rows.nodes) rows.entries row (has_sorted by_list by_list_total below row h)).0
 
-    not_above : (a b : Row) → IsNumbered a → IsNumbered b → is_gt (by_list a b) ≡ false → id_in (column a 1) ≤ℤ id_in (column b 1)
+    not_above : (a b : Row) → IsNumbered a → IsNumbered b → is_gt (by_list a b) ≡ false → id_in (ace_node a) ≤ℤ id_in (ace_node b)
     not_above a b na nb h =
-        let first : is_gt (value_cmp (column a 1) (column b 1)) ≡ false = first_at_most (value_cmp (column a 1) (column b 1)) (ordering_then (value_cmp (column a 2) (column b 2)) (value_cmp (column a 3) (column b 3))) h in
-        at_most_numbers (id_in (column a 1)) (id_in (column b 1)) (sym (ap is_gt ((λ i. value_cmp (na.node i) (nb.node i)) ∙ value_cmp-Int (id_in (column a 1)) (id_in (column b 1)))) ∙ first)
+        let first : is_gt (value_cmp (ace_node a) (ace_node b)) ≡ false = first_at_most (value_cmp (ace_node a) (ace_node b)) (ordering_then (value_cmp (ace_protected a) (ace_protected b)) (value_cmp (ace_place a) (ace_place b))) h in
+        at_most_numbers (id_in (ace_node a)) (id_in (ace_node b)) (sym (ap is_gt ((λ i. value_cmp (na.node i) (nb.node i)) ∙ value_cmp-Int (id_in (ace_node a)) (id_in (ace_node b)))) ∙ first)
 
     pub do_not_fall : DoNotFall (child_entries id rows)
     do_not_fall =
         ascending-map (λ a b. node_in a ≤ℤ node_in b) listed_columns sorted
-        (ascending_within (AtMost by_list by_list_total) (λ a b. id_in (column a 1) ≤ℤ id_in (column b 1)) sorted
+        (ascending_within (AtMost by_list by_list_total) (λ a b. id_in (ace_node a) ≤ℤ id_in (ace_node b)) sorted
         (λ a b in_a in_b h. not_above a b (numbered a (in_table a in_a)) (numbered b (in_table b in_b)) h) (up_sorted by_list by_list_total below))
 
     -- ---- the lists of one child
@@ -266,13 +244,13 @@ module _ (db : Database) (book : IsBook db) where
       abbrev number : ℤ
       number = id_in (rowid child)
 
-      number_is : column child 0 ≡ Int number
+      number_is : rowid child ≡ Int number
       number_is = key_is child (all_has _ rows.nodes child (book.rising node_table (inl refl)).1 there)
 
       its_below : (row : Row) → Has rows.entries row → its number protected row ≡ true → is_below (Int id) rows.nodes row ≡ true
       its_below row in_entries passes =
           some_from _ rows.nodes child there
-          (ap (λ b. b && has 0 (column row 1) child) under ∙ ap (λ v. has 0 v child) (tells number protected row (numbered row in_entries) passes).0 ∙ has_int 0 child number number number_is ∙ int_itself number)
+          (ap (λ b. b && has rowid_place (ace_node row) child) under ∙ ap (λ v. has rowid_place v child) (tells number protected row (numbered row in_entries) passes).0 ∙ has_int 0 child number number number_is ∙ int_itself number)
 
       sifted : filter (its number protected) sorted ≡ sort_by by_place (filter (its number protected) rows.entries)
       sifted =
@@ -282,8 +260,8 @@ module _ (db : Database) (book : IsBook db) where
       pub share_is : list_of (child_entries id rows) number protected ≡ list_in rows.entries (Int number) protected
       share_is =
           ap (λ shown. list_among protected shown) (filter-map (is_of number) listed_columns sorted)
-          ∙ ap (map (entry_shown 2)) (filter-map (is_listed protected) listed_columns (filter (λ r. is_of number (listed_columns r)) sorted))
-          ∙ map-map (entry_shown 2) listed_columns (filter (λ r. is_listed protected (listed_columns r)) (filter (λ r. is_of number (listed_columns r)) sorted))
+          ∙ ap (map (entry_shown listed_entry_place)) (filter-map (is_listed protected) listed_columns (filter (λ r. is_of number (listed_columns r)) sorted))
+          ∙ map-map (entry_shown listed_entry_place) listed_columns (filter (λ r. is_listed protected (listed_columns r)) (filter (λ r. is_of number (listed_columns r)) sorted))
           ∙ ap (map entry_of) (both_tests (λ r. is_of number (listed_columns r)) (λ r. is_listed protected (listed_columns r)) sorted
           ∙ filter_same (λ r. is_of number (listed_columns r) && is_listed protected (listed_columns r)) (its number protected) sorted (all_from _ sorted (λ r h. tested number protected r (numbered r (in_table r h)))) ∙ sifted)
 

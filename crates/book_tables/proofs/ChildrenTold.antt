@@ -1,25 +1,7 @@
 -- Children that an open connection shows are those of the Office for which it stands.
-use Rattle.std.proofs.Common.{◌≡◌, inl, inr, true, false, List, [], ◌∷◌, map, filter, Option, Some, None, option_map, unwrap_or, refl, sym, ap, ◌∙◌}
-use Rattle.sqlite.specs.Edit.{id_in}
-use Rattle.sqlite.specs.Order.{Row, column}
-use Rattle.sqlite.specs.State.{State}
-use Rattle.sqlite.specs.Tree.{rowid}
-use Rattle.sqlite_rules.specs.Lists.{Has}
-use Rattle.sqlite_rules.proofs.ListLemmas.{has_filtered}
-use Rattle.sqlite_keyed.specs.Lists.{sort_by}
-use Rattle.sqlite_keyed.proofs.ListLemmas.{map-map}
-use Rattle.book_values.specs.declared.offices.Office.{Office}
-use Rattle.book_values.specs.declared.paths.Path.{Path}
-use Rattle.book_values.specs.Paths.{IsPath, path_text}
-use Rattle.book_office.specs.declared.nodes.Listed.{Listed}
-use Rattle.book_office.specs.Resources.{children_at}
-use Rattle.book_rows.specs.Lists as lists
-use Rattle.book_rows.specs.Lists.{by_path}
-use Rattle.book_rows.specs.Rows.{Rows, rows_of}
-use Rattle.book_rows.specs.Writes.{is_at, is_under}
-use Rattle.book_tables.specs.Children.{ShowsListing, child_shown, text_above}
-use Rattle.book_tables.specs.Rows.{row_at}
-use Rattle.book_tables.specs.Stands.{Stands, StandsFor}
+use Rattle.book_tables.proofs.Common.{◌≡◌, inl, inr, true, false, List, [], ◌∷◌, map, filter, Option, Some, None, option_map, unwrap_or, refl, sym, ap, ◌∙◌, id_in, Row, State, rowid, Has, has_filtered, sort_by, map-map, Office, Path, IsPath, path_text, Listed, children_at, node_label, node_number, node_path, by_path, Rows, rows_of, is_at, is_under, ShowsListing, child_shown, text_above, row_at, Stands, StandsFor}
+use Rattle.book_tables_rows.specs.Columns.{node_kind, node_owner}
+use Rattle.book_tables_rows.specs.Lists as lists
 use Rattle.book_tables.proofs.RowFacts.{row_number}
 use Rattle.book_tables.proofs.Acting.{AreNodes, nodes_of}
 use Rattle.book_tables.proofs.ChildRows.{by_path_total, told_child, rows_are_children, none_below}
@@ -33,7 +15,7 @@ map_within f g (x ∷ xs) same = (λ i. same x (inl refl) i ∷ map_within f g x
 
 -- what is shown of a child's row
 abbrev pub columns : Row → Row
-columns row = column row 0 ∷ column row 2 ∷ column row 4 ∷ column row 5 ∷ column row 6 ∷ column row 8 ∷ []
+columns row = rowid row ∷ node_path row ∷ node_kind row ∷ node_owner row ∷ node_label row ∷ node_number row ∷ []
 
 pub children_told : (s : State) (p : Path) → IsPath p → (children : List Listed) → ShowsListing s (path_text p) (text_above p) children → (o : Office) → StandsFor s o → children ≡ children_at o p
 children_told s p is_path children shows o stands = shows.1 st.book ∙ go (row_at rows (path_text p)) refl

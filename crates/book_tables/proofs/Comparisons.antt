@@ -1,20 +1,9 @@
 -- Which places are compared, and which of the items are added.
-use Rattle.std.proofs.Common.{◌≡◌, ◌⊎◌, inl, inr, ℕ, List, [], ◌∷◌, ◌++◌, map, Option, Some, None, option_map, refl, sym, ap, subst, ◌∙◌}
+use Rattle.book_tables.proofs.Common.{◌≡◌, ◌⊎◌, inl, inr, ℕ, List, [], ◌∷◌, ◌++◌, map, Option, Some, None, option_map, refl, sym, ap, subst, ◌∙◌, nat_list_cmp_total, get, entries, same_Some, Has, NamesTo, Book, Office, Properties, Path, mem_get, get_mem, names_apart, some_apart, properties_at, Compared, compared_in, compared_books}
 use Rattle.std.proofs.lemmas.List.{append_assoc, append-nil}
-use Rattle.std.specs.Cmp.Lexicographic.{nat_list_cmp_total}
-use Rattle.std.specs.FinMap.{get, entries}
-use Rattle.sqlite_rules.specs.Lists.{Has}
-use Rattle.book_values.specs.Names.{NamesTo}
-use Rattle.book_values.specs.declared.offices.Book.{Book}
-use Rattle.book_values.specs.declared.offices.Office.{Office}
-use Rattle.book_values.specs.declared.offices.Properties.{Properties}
-use Rattle.book_values.specs.declared.paths.Path.{Path}
-use Rattle.book_values.specs.declared.paths.Path.TheVariants as path
-use Rattle.book_values.proofs.Members.{Mem, mem_get, get_mem}
-use Rattle.book_values.proofs.NameMapLaws.{names_apart}
-use Rattle.book_values.proofs.OneName.{some_apart, same_some}
-use Rattle.book_office.specs.Resources.{properties_at}
-use Rattle.book_tables.specs.Adopting.{Adds, AddsEach, Compared, compared, compared_homes, compared_in, compared_books, properties_of}
+use Rattle.book_office_values.specs.declared.paths.Path.TheVariants as path
+use Rattle.book_office_values.proofs.Members.{Mem}
+use Rattle.book_tables.specs.Adopting.{Adds, AddsEach, compared, compared_homes, properties_of}
 use Rattle.book_tables.proofs.SameLists.{has_map, has_mapped}
 
 -- ---- items that are added
@@ -144,10 +133,10 @@ module _ (old new : Office) where
 
   -- each place of the new Office is compared
   pub each_compared : (p : Path) (properties : Properties) → properties_at new p ≡ Some properties → Has (compared old new) (at_path p properties)
-  each_compared path.Root properties is = at_home _ (inl (ap (at_path path.Root) (sym (same_some _ _ is))))
-  each_compared path.People properties is = at_home _ (inr (inl (ap (at_path path.People) (sym (same_some _ _ is)))))
-  each_compared path.Groups properties is = at_home _ (inr (inr (inl (ap (at_path path.Groups) (sym (same_some _ _ is))))))
-  each_compared path.Books properties is = at_home _ (inr (inr (inr (inl (ap (at_path path.Books) (sym (same_some _ _ is)))))))
+  each_compared path.Root properties is = at_home _ (inl (ap (at_path path.Root) (sym (same_Some _ _ is))))
+  each_compared path.People properties is = at_home _ (inr (inl (ap (at_path path.People) (sym (same_Some _ _ is)))))
+  each_compared path.Groups properties is = at_home _ (inr (inr (inl (ap (at_path path.Groups) (sym (same_Some _ _ is))))))
+  each_compared path.Books properties is = at_home _ (inr (inr (inr (inl (ap (at_path path.Books) (sym (same_Some _ _ is)))))))
   each_compared (path.Person n) properties is =
       has_first but_books (compared_books old.books (entries new.books)) _ (has_first homes_persons (compared_in path.Group old.groups (entries new.groups)) _
       (has_last (compared_homes old new) (compared_in path.Person old.persons (entries new.persons)) _
@@ -160,6 +149,6 @@ module _ (old new : Office) where
       go : (r : Option Book) → get new.books b ≡ r → option_map properties_of r ≡ Some properties → Has (compared old new) (at_path (path.Book b) properties)
       go None e h = some_apart (sym h)
       go (Some book) e h = has_last but_books (compared_books old.books (entries new.books)) _
-          (subst (λ k. Has (compared_books old.books (entries new.books)) (at_path (path.Book b) k)) (same_some _ _ h)
+          (subst (λ k. Has (compared_books old.books (entries new.books)) (at_path (path.Book b) k)) (same_Some _ _ h)
           (has_map (λ (e : List ℕ × Book). record { path = path.Book e.0; old = option_map properties_of (get old.books e.0); new = e.1.properties }) (entries new.books) (b, book) (got_entry new.books b book e)))
   each_compared (path.Card b c) properties is = some_apart (sym is)

@@ -1,9 +1,6 @@
 -- The direct members of a group, found among pairs one by one; and lists of texts that are compared one by one.
-use Rattle.std.proofs.Common.{◌≡◌, ℕ, suc, ◌+◌, ◌<◌, ◌≤◌, Bool, true, false, cond, List, [], ◌∷◌, ◌++◌, map, filter, drop, get_or, length, refl, sym, ap, ◌∙◌, arith}
-use Rattle.std.proofs.lemmas.List.{append_assoc, append-nil, drop_more, drop_all, map-append, get_or-map}
-use Rattle.std.specs.Str.{bytes_eq}
-use Rattle.book_lists.specs.declared.memberships.Membership.{Membership}
-use Rattle.book_tables.specs.Adopting.{members_in}
+use Rattle.book_tables.proofs.Common.{◌≡◌, ℕ, suc, ◌+◌, ◌<◌, List, [], ◌∷◌, ◌++◌, map, drop, get_or, length, refl, sym, ap, ◌∙◌, arith, Membership, members_in}
+use Rattle.std.proofs.lemmas.List.{get_or-map}
 
 module _ {A : Type 0} (f : A → List ℕ) (group : List ℕ) (pairs : List Membership) where
   -- the members that were found and those to come are all

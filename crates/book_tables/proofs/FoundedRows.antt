@@ -1,30 +1,13 @@
 -- The rows of a new store give the empty Office.
-use Rattle.std.proofs.Common.{◌≡◌, ◌⊎◌, inl, inr, ℕ, ℤ, pos, cond, List, [], codes, Some, None, Result, Ok, Err, option_map, option_and_then, refl, sym, ap, subst, ◌∙◌, IsTrue}
-use Rattle.std.specs.FinMap.{get, empty, get-empty}
+use Rattle.book_tables.proofs.Common.{◌≡◌, ◌⊎◌, inl, inr, ℕ, ℤ, pos, cond, List, [], codes, Some, None, Result, Ok, Err, option_map, option_and_then, refl, sym, ap, subst, ◌∙◌, IsTrue, get, empty, get-empty, Null, Int, Database, Row, State, HasCleanDisk, Survives, Trees, membership_cmp, name_cmp, group_path, same, Book, Path, IsPath, path_text, book_path, card_path, resource_at, removed_at, properties_resource, book_resource, card_in, unless_mapped, rows_of, IsBook, in_store, Stays, row_at, resource_of, resource_in, removed_from, removed_in, Gives, Stands}
 use Rattle.std.specs.FinSet as set
 use Rattle.sqlite.specs.declared.error.Error.{Error}
-use Rattle.sqlite.specs.declared.types.Value.TheVariants.{Null, Int}
-use Rattle.sqlite.specs.Effect.{Database}
-use Rattle.sqlite.specs.Order.{Row}
-use Rattle.sqlite.specs.State.{State, HasCleanDisk, Survives}
-use Rattle.sqlite.specs.Tree.{Trees}
-use Rattle.book_lists.specs.Memberships.{membership_cmp}
-use Rattle.book_lists.specs.Names.{name_cmp}
-use Rattle.book_lists.specs.Principals.{person_path, group_path}
-use Rattle.book_values.proofs.NameMapLaws.{same}
-use Rattle.book_values.specs.declared.offices.Book.{Book}
-use Rattle.book_values.specs.declared.paths.Kind.TheVariants as kind
-use Rattle.book_values.specs.declared.paths.Path.{Path}
-use Rattle.book_values.specs.declared.paths.Path.TheVariants as path
-use Rattle.book_values.specs.Paths.{IsPath, path_text, book_path, card_path}
+use Rattle.book_lists.specs.Principals.{person_path}
+use Rattle.book_office_values.specs.declared.paths.Kind.TheVariants as kind
+use Rattle.book_office_values.specs.declared.paths.Path.TheVariants as path
 use Rattle.book_office.specs.Edits.{empty_office}
-use Rattle.book_office.specs.Resources.{resource_at, removed_at, properties_resource, book_resource, card_in, unless_mapped}
 use Rattle.book_office.proofs.NewOffices.{empty_sound}
-use Rattle.book_rows.specs.Rows.{rows_of, IsBook, in_store}
-use Rattle.book_rows.specs.Steps.{Stays}
-use Rattle.book_store.specs.Founding.{IsFounded, MayFound, first_rows, bare_node}
-use Rattle.book_tables.specs.Rows.{row_at, resource_of, resource_in, removed_from, removed_in}
-use Rattle.book_tables.specs.Stands.{Gives, Stands}
+use Rattle.book_tables_schema.specs.Founding.{IsFounded, MayFound, first_rows, bare_node}
 use Rattle.book_tables.specs.declared.opening.OpenFault.TheVariants.{Store}
 use Rattle.book_tables.specs.Opened.{StandsAlone, IsUnfounded, open_fault}
 use Rattle.book_tables.proofs.Looking.{has_text}

@@ -1,47 +1,26 @@
 -- The direct members of a group: the rows give the Office with them.
-use Rattle.std.proofs.Common.{◌≡◌, ◌≢◌, ℕ, ◌+◌, Bool, true, false, not, cond, ◌&&◌, ◌||◌, List, [], ◌∷◌, ◌++◌, find, Option, Some, None, is_some, refl, sym, ap, subst, ◌∙◌}
-use Rattle.std.proofs.lemmas.Bool.{and_parts}
-use Rattle.std.proofs.lemmas.List.Folds.{find-append}
+use Rattle.book_tables.proofs.Common.{◌≡◌, ◌≢◌, ℕ, ◌+◌, Bool, true, false, not, cond, ◌&&◌, ◌||◌, List, [], ◌∷◌, ◌++◌, find, Option, Some, None, is_some, refl, sym, ap, subst, ◌∙◌, and_parts, false_from_ne_true, find-append, contains-insert, option_or, eq_by_cmp, bytes_eq, Int, Text, next_rowid, Row, update_where, delete_where, all_weaker, Memberships, membership_cmp, Membership, memberships_total, memberships_exact, same_membership, Office, by_names, apply, Rows, has, with_epoch, is_member, IsNode, IsEntry, IsRemoved, Gives}
+use mathlib.Core.Bool.{and-true, and-false}
 use Rattle.std.specs.FinSet as set
-use Rattle.std.specs.FinSet.{contains-insert, contains-retain}
-use Rattle.std.specs.Option.{option_or}
-use Rattle.std.specs.Ordering.{eq_by_cmp}
-use Rattle.std.specs.Str.{bytes_eq}
+use Rattle.std.specs.FinSet.{contains-retain}
 use Rattle.std.proofs.lemmas.Map.Text.{is_eq-slice_cmp}
-use Rattle.sqlite.specs.declared.types.Value.TheVariants.{Int, Text}
-use Rattle.sqlite.specs.Edit.{next_rowid}
-use Rattle.sqlite.specs.Order.{Row}
-use Rattle.sqlite_keyed.specs.Lists.{update_where, delete_where}
-use Rattle.sqlite_trees.proofs.ListLemmas.{all_weaker}
-use Rattle.book_lists.specs.Memberships.{Memberships, membership_cmp}
-use Rattle.book_lists.specs.declared.memberships.Membership.{Membership}
-use Rattle.book_lists.proofs.Pairing.{memberships_total, memberships_exact, same_membership, same_path, path_itself}
-use Rattle.book_values.specs.declared.offices.Office.{Office}
-use Rattle.book_values.proofs.NameMapLaws.{by_names}
+use Rattle.book_lists.proofs.Pairing.{same_path, path_itself}
 use Rattle.book_office.specs.declared.edits.Edit.TheVariants.{SetMembers}
-use Rattle.book_office.specs.Edits.{apply, members_set}
+use Rattle.book_office.specs.Edits.{members_set}
 use Rattle.book_office.proofs.GroupMembers.{members_added, members_joined}
-use Rattle.book_rows.specs.Rows.{Rows, has}
-use Rattle.book_rows.specs.Nodes.{setting_members}
-use Rattle.book_rows.specs.Writes as writes
-use Rattle.book_rows.specs.Writes.{with_epoch}
-use Rattle.book_tables.specs.Rows.{is_member}
-use Rattle.book_tables.specs.Stands.{IsNode, IsEntry, IsRemoved, Gives}
+use Rattle.book_tables_rows.specs.Columns.{member_group_place, member_member_place}
+use Rattle.book_tables_rows.specs.Nodes.{setting_members}
+use Rattle.book_tables_rows.specs.Writes as writes
 use Rattle.book_tables.proofs.Acting.{Given, GivesEdited}
 use Rattle.book_tables.proofs.ChangedNodes.{same_resources}
-use Rattle.book_tables.proofs.LeftRows.{by_bool}
 use Rattle.book_tables.proofs.Looking.{find-delete_where, find-deleted, all_of_all, has_text}
 use Rattle.book_tables.proofs.OneOffice.{epoch_is}
 use Rattle.book_tables.proofs.OneValue as value
-use Rattle.book_tables.proofs.RowFacts.{kept_node, kept_entry, kept_removed, and_false}
+use Rattle.book_tables.proofs.RowFacts.{kept_node, kept_entry, kept_removed}
 
 -- the members of these rows are those pairs
 abbrev pub AreMembers : List Row → Memberships → Type 0
 AreMembers members pairs = (m : Membership) → is_some (find (is_member m) members) ≡ set.contains pairs m
-
-and_true : (b : Bool) → (b && true) ≡ b
-and_true true = refl
-and_true false = refl
 
 -- ---- a group without its members
 
@@ -49,19 +28,19 @@ same_bytes : (a b : List ℕ) → a ≡ b → bytes_eq a b ≡ true
 same_bytes a b is = ap (bytes_eq a) (sym is) ∙ path_itself a
 
 module _ (group : List ℕ) where
-  others_left : (members : List Row) (m : Membership) → is_some (find (is_member m) (delete_where (has 1 (Text group)) members)) ≡ (is_some (find (is_member m) members) && not (bytes_eq m.group group))
-  others_left members m = by_names m.group group (λ _. is_some (find (is_member m) (delete_where (has 1 (Text group)) members)) ≡ (is_some (find (is_member m) members) && not (bytes_eq m.group group)))
+  others_left : (members : List Row) (m : Membership) → is_some (find (is_member m) (delete_where (has member_group_place (Text group)) members)) ≡ (is_some (find (is_member m) members) && not (bytes_eq m.group group))
+  others_left members m = by_names m.group group (λ _. is_some (find (is_member m) (delete_where (has member_group_place (Text group)) members)) ≡ (is_some (find (is_member m) members) && not (bytes_eq m.group group)))
       (λ is.
-      ap is_some (find-deleted (is_member m) (has 1 (Text group)) members (all_of_all _ members (λ row passes. ap (λ t. has 1 (Text t) row) (sym is) ∙ (and_parts (has 1 (Text m.group) row) (has 2 (Text m.member) row) passes).0)))
-      ∙ sym (ap (λ b. is_some (find (is_member m) members) && not b) (same_bytes m.group group is) ∙ and_false _))
+      ap is_some (find-deleted (is_member m) (has member_group_place (Text group)) members (all_of_all _ members (λ row passes. ap (λ t. has member_group_place (Text t) row) (sym is) ∙ (and_parts (has member_group_place (Text m.group) row) (has member_member_place (Text m.member) row) passes).0)))
+      ∙ sym (ap (λ b. is_some (find (is_member m) members) && not b) (same_bytes m.group group is) ∙ and-false _))
       (λ apart.
-      ap is_some (find-delete_where (is_member m) (has 1 (Text group)) members (all_of_all _ members (λ row passes. value.one_text 1 row m.group group apart (and_parts (has 1 (Text m.group) row) (has 2 (Text m.member) row) passes).0)))
-      ∙ sym (ap (λ b. is_some (find (is_member m) members) && not b) (other_bytes apart) ∙ and_true _))
+      ap is_some (find-delete_where (is_member m) (has member_group_place (Text group)) members (all_of_all _ members (λ row passes. value.one_text 1 row m.group group apart (and_parts (has member_group_place (Text m.group) row) (has member_member_place (Text m.member) row) passes).0)))
+      ∙ sym (ap (λ b. is_some (find (is_member m) members) && not b) (other_bytes apart) ∙ and-true _))
     where
       other_bytes : m.group ≢ group → bytes_eq m.group group ≡ false
-      other_bytes apart = by_bool (bytes_eq m.group group) (λ e. apart (same_path m.group group e))
+      other_bytes apart = false_from_ne_true (bytes_eq m.group group) (λ e. apart (same_path m.group group e))
 
-  without : (members : List Row) (pairs : Memberships) → AreMembers members pairs → AreMembers (delete_where (has 1 (Text group)) members) (set.retain pairs (λ (m : Membership). not (bytes_eq m.group group)))
+  without : (members : List Row) (pairs : Memberships) → AreMembers members pairs → AreMembers (delete_where (has member_group_place (Text group)) members) (set.retain pairs (λ (m : Membership). not (bytes_eq m.group group)))
   without members pairs are m =
       others_left members m ∙ ap (λ b. b && not (bytes_eq m.group group)) (are m)
       ∙ sym (contains-retain pairs (λ (m : Membership). not (bytes_eq m.group group)) m (λ x e. ap (λ (k : Membership). not (bytes_eq k.group group)) (sym (memberships_exact m x e))))
@@ -115,7 +94,7 @@ module _ (group : List ℕ) (members : List (List ℕ)) (rows : Rows) (o : Offic
   abbrev pub after : Rows
   after = record rows { members = (writes.write_members group members rows).members; meta = update_where (λ _. true) (with_epoch (o.epoch + 1)) rows.meta }
 
-  pub after_is : writes.set_members group members (o.epoch + 1) rows ≡ after
+  pub after_is : writes.set_members_rows group members (o.epoch + 1) rows ≡ after
   after_is = ap (writes.set_epoch (o.epoch + 1)) (members_alone group members (writes.delete_members group rows))
 
   joined : AreMembers after.members (members_set o.pairs group members)
@@ -137,6 +116,6 @@ joins_members group members = record {
   fits = λ rows o given. record { meta = (o.epoch, given.gives.meta) };
   gives = λ rows after o given made.
       let epoch = epoch_is rows.meta made.epoch o.epoch made.meta given.gives.meta in
-      let is = made.rows_are ∙ ap (λ n. writes.set_members group members (n + 1) rows) epoch ∙ after_is group members rows o given in
+      let is = made.rows_are ∙ ap (λ n. writes.set_members_rows group members (n + 1) rows) epoch ∙ after_is group members rows o given in
       subst (λ r. Gives r (apply o (SetMembers group members))) (sym is) (gives_joined group members rows o given);
 }

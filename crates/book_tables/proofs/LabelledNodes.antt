@@ -1,24 +1,9 @@
 -- The label of a resource that is no card: the rows give the Office with the label.
-use Rattle.std.proofs.Common.{◌≡◌, ◌≢◌, ℕ, true, false, cond, List, Option, Some, None, option_map, refl, sym, ap, subst, ◌∙◌}
-use Rattle.sqlite.specs.Order.{Row, column}
-use Rattle.sqlite.specs.Tree.{rowid}
-use Rattle.sqlite_trees.proofs.ListLemmas.{all_weaker}
-use Rattle.book_values.specs.declared.offices.Office.{Office}
-use Rattle.book_values.specs.declared.paths.Path.{Path}
-use Rattle.book_values.specs.Paths.{IsPath, path_text, book_path}
-use Rattle.book_values.proofs.Spelling.{one_text}
-use Rattle.book_values.proofs.NameMapLaws.{same_itself, by_names}
-use Rattle.book_values.proofs.OneName.{same_some, where_some}
-use Rattle.book_office.specs.declared.edits.Edit.TheVariants.{SetLabel}
-use Rattle.book_office.specs.Edits.{set_label, apply}
-use Rattle.book_office.specs.Resources.{resource_at}
-use Rattle.book_office.proofs.StandingResources.{resources_stand_in_place}
-use Rattle.book_rows.specs.Rows.{Rows}
-use Rattle.book_rows.specs.Nodes.{labelling_node, number_in}
-use Rattle.book_rows.specs.Writes as writes
-use Rattle.book_rows.specs.Writes.{is_at, with_label}
-use Rattle.book_tables.specs.Rows.{row_at, resource_in, resource_of, removed_from}
-use Rattle.book_tables.specs.Stands.{IsNode, IsEntry, IsRemoved, Gives}
+use Rattle.book_tables.proofs.Common.{◌≡◌, ◌≢◌, ℕ, true, false, cond, List, Option, Some, None, option_map, refl, sym, ap, subst, ◌∙◌, same_Some, Row, rowid, all_weaker, Office, Path, IsPath, path_text, book_path, one_text, same_itself, by_names, where_some, SetLabel, apply, resource_at, resources_stand_in_place, node_number, Rows, number_in, is_at, row_at, resource_in, resource_of, removed_from, IsNode, IsEntry, IsRemoved, Gives}
+use Rattle.book_office.specs.Edits.{set_label}
+use Rattle.book_tables_rows.specs.Nodes.{labelling_node}
+use Rattle.book_tables_rows.specs.Writes as writes
+use Rattle.book_tables_rows.specs.Writes.{with_label}
 use Rattle.book_tables.proofs.Acting.{Given, GivesEdited}
 use Rattle.book_tables.proofs.ChangedNodes.{IsOther, ChangesOne, relabel, label_changes}
 use Rattle.book_tables.proofs.RowFacts.{apart, KeepsNumbers, KeepsRows, kept_node, kept_entry, kept_removed, has_updated, all_updated, is_at_found}
@@ -35,10 +20,10 @@ module _ (p : Path) (other : IsOther p) (label : List ℕ) (rows : Rows) (o : Of
   at = path_text p
 
   abbrev n : ℕ
-  n = number_in (column node 8)
+  n = number_in (node_number node)
 
   abbrev pub after : Rows
-  after = writes.set_label at label n rows
+  after = writes.set_label_rows at label n rows
 
   abbrev o' : Office
   o' = set_label p label o
@@ -68,7 +53,7 @@ module _ (p : Path) (other : IsOther p) (label : List ℕ) (rows : Rows) (o : Of
 
   keeps_numbers : KeepsNumbers rows after
   keeps_numbers t r found = by_names t at (λ _. (s : Row) × (row_at after t ≡ Some s) × (rowid s ≡ rowid r))
-      (λ is. (with_label label n node, ap (row_at after) is ∙ node_then, ap rowid (same_some _ _ (sym at_node ∙ sym (ap (row_at rows) is) ∙ found))))
+      (λ is. (with_label label n node, ap (row_at after) is ∙ node_then, ap rowid (same_Some _ _ (sym at_node ∙ sym (ap (row_at rows) is) ∙ found))))
       (λ differs. (r, found_then t ∙ untouched t (row_at rows t) refl differs ∙ found, refl))
 
   keeps_rows : KeepsRows rows after
@@ -98,7 +83,7 @@ module _ (p : Path) (other : IsOther p) (label : List ℕ) (rows : Rows) (o : Of
     resources = resources;
     members = λ m. given.gives.members m ∙ ap (λ pairs. Rattle.std.specs.FinSet.contains pairs m) (sym changes.pairs);
     gone = λ a name named. ap (removed_from rows.gone name) (found_then (book_path a)) ∙ same_book name (row_at rows (book_path a)) ∙ given.gives.gone a name named ∙ sym (changes.removed a name);
-    meta = subst (Rattle.book_rows.specs.Writes.IsMeta rows.meta) (sym changes.epoch) given.gives.meta;
+    meta = subst (Rattle.book_tables_rows.specs.Writes.IsMeta rows.meta) (sym changes.epoch) given.gives.meta;
   }
 
 pub labels_node : (p : Path) → IsOther p → (label : List ℕ) → GivesEdited (SetLabel p label) (labelling_node (path_text p) label)

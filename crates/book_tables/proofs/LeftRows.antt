@@ -1,15 +1,9 @@
 -- Rows that a DELETE leaves, and a test on a column that is NULL.
-use Rattle.std.proofs.Common.{◌≡◌, ◌⊎◌, inl, inr, ℕ, ℤ, Bool, true, false, not, cond, ◌||◌, List, [], ◌∷◌, find, filter, Some, None, refl, sym, ap, subst, ◌∙◌, true≢false}
-use Rattle.std.specs.List.{AllByRecursion, list_any}
+use Rattle.book_tables.proofs.Common.{◌≡◌, ◌⊎◌, inl, inr, ℕ, ℤ, Bool, true, false, not, cond, ◌||◌, List, [], ◌∷◌, find, filter, Some, None, refl, sym, ap, subst, ◌∙◌, true≢false, AllByRecursion, list_any, Null, Int, Text, Row, column, Has, delete_where, has, PassesOnce}
 use Rattle.std.specs.Option.{option_to_list}
-use Rattle.sqlite.specs.declared.types.Value.TheVariants.{Null, Int, Text}
 use Rattle.sqlite.specs.Ops.{binary}
-use Rattle.sqlite.specs.Order.{Row, column}
-use Rattle.sqlite_rules.specs.Lists.{Has}
-use Rattle.sqlite_keyed.specs.Lists.{delete_where}
-use Rattle.book_values.specs.declared.paths.Path.TheVariants as path
-use Rattle.book_rows.specs.Rows.{has}
-use Rattle.book_rows.proofs.Once.{PassesOnce, filter_finds}
+use Rattle.book_office_values.specs.declared.paths.Path.TheVariants as path
+use Rattle.book_tables_rows.proofs.Once.{filter_finds}
 
 pub none_stays : (q p : Row → Bool) (xs : List Row) → find q xs ≡ None → find q (delete_where p xs) ≡ None
 none_stays q p [] h = refl
@@ -19,15 +13,6 @@ none_stays q p (x ∷ xs) h = go (q x) (p x) refl refl (none_stays q p xs)
     go true b e f more = absurd (let some = rw e at h in cc)
     go false true e f more = rw f (more (rw e at h))
     go false false e f more = rw f (rw e (more (rw e at h)))
-
-pub in_left : (p : Row → Bool) (xs : List Row) (x : Row) → Has (delete_where p xs) x → Has xs x × (p x ≡ false)
-in_left p [] x h = absurd h
-in_left p (y ∷ xs) x h = go (p y) refl h (in_left p xs x)
-  where
-    go : (b : Bool) → p y ≡ b → Has (cond (not b) (y ∷ delete_where p xs) (delete_where p xs)) x → (Has (delete_where p xs) x → Has xs x × (p x ≡ false)) → Has (y ∷ xs) x × (p x ≡ false)
-    go true e h more = let m = more h in (inr m.0, m.1)
-    go false e (inl is) more = (inl is, ap p is ∙ e)
-    go false e (inr h) more = let m = more h in (inr m.0, m.1)
 
 pub stays_in : (p : Row → Bool) (xs : List Row) (x : Row) → Has xs x → p x ≡ false → Has (delete_where p xs) x
 stays_in p [] x h out = absurd h
@@ -69,10 +54,6 @@ pub any_has : (p : Row → Bool) (xs : List Row) (x : Row) → Has xs x → p x 
 any_has p [] x h passes = absurd h
 any_has p (y ∷ xs) x (inl is) passes = rw (ap p (sym is) ∙ passes) refl
 any_has p (y ∷ xs) x (inr h) passes = elim (p y) as (λ t. (t || list_any p xs) ≡ true) [ true ↦ refl | false ↦ any_has p xs x h passes ]
-
-pub by_bool : (b : Bool) → (b ≡ true → ⊥) → b ≡ false
-by_bool true h = absurd (h refl)
-by_bool false h = refl
 
 pub has_null : (place : ℕ) (row : Row) (n : ℤ) → column row place ≡ Null → has place (Int n) row ≡ false
 unfolding binary

@@ -1,28 +1,11 @@
 -- Rows of lists tell the lists of an Office.
-use Rattle.std.proofs.Common.{◌≡◌, ℕ, Bool, true, false, List, [], ◌∷◌, ◌++◌, map, filter, Option, Some, None, option_map, unwrap_or, refl, sym, ap, ◌∙◌, append_assoc}
-use Rattle.std.specs.List.{AllByRecursion}
-use Rattle.sqlite.specs.declared.types.Value.{Value}
-use Rattle.sqlite.specs.Edit.{id_in}
-use Rattle.sqlite.specs.Effect.{Database}
-use Rattle.sqlite.specs.Order.{Row}
-use Rattle.sqlite.specs.State.{State}
-use Rattle.sqlite.specs.Tree.{rowid}
-use Rattle.sqlite_keyed.specs.Lists.{sort_by}
-use Rattle.book_values.specs.declared.offices.Office.{Office}
-use Rattle.book_values.specs.declared.paths.Path.{Path}
-use Rattle.book_values.specs.declared.paths.Path.TheVariants as path
-use Rattle.book_values.specs.Paths.{IsPath, path_text, levels}
-use Rattle.book_office.specs.Levels.{level_at, lists_at}
-use Rattle.book_office.specs.Resources.{Resource, resource_at}
+use Rattle.book_tables.proofs.Common.{◌≡◌, ℕ, Bool, true, false, List, [], ◌∷◌, ◌++◌, map, filter, Option, Some, None, option_map, unwrap_or, refl, sym, ap, ◌∙◌, AllByRecursion, Value, id_in, Database, Row, State, rowid, sort_by, Office, Path, IsPath, path_text, levels, lists_at, Resource, resource_at, Lists, ace_node_place, Rows, rows_of, has, IsBook, is_at, level_told, list_among, list_in, row_at, resource_of, Gives, StandsFor}
+use Rattle.std.proofs.Common.{append_assoc}
+use Rattle.book_office_values.specs.declared.paths.Path.TheVariants as path
+use Rattle.book_office.specs.Levels.{level_at}
 use Rattle.book_office.specs.declared.nodes.Level.{Level}
-use Rattle.book_office.specs.declared.nodes.Lists.{Lists}
-use Rattle.book_rows.specs.Lists.{by_list, listed_columns}
-use Rattle.book_rows.specs.Rows.{Rows, rows_of, has, IsBook}
-use Rattle.book_rows.specs.Writes.{is_at}
-use Rattle.book_tables.specs.Levels.{list_told, level_told, ShowsLevel, ShowsLists}
-use Rattle.book_tables.specs.Shares.{list_among}
-use Rattle.book_tables.specs.Rows.{list_in, row_at, resource_of}
-use Rattle.book_tables.specs.Stands.{Gives, StandsFor}
+use Rattle.book_tables_rows.specs.Lists.{by_list, listed_columns}
+use Rattle.book_tables.specs.Levels.{list_told, ShowsLevel, ShowsLists}
 use Rattle.book_tables.proofs.Acting.{nodes_of}
 use Rattle.book_tables.proofs.ChildShares.{list_is_told}
 use Rattle.book_tables.proofs.LabelledNodes.{map_twice}
@@ -38,12 +21,12 @@ module _ (db : Database) (book : IsBook db) (o : Office) (gives : Gives (rows_of
   list_is t protected = go (row_at rows t) refl
     where
       go : (r : Option Row) → row_at rows t ≡ r
-          → list_among protected (unwrap_or (option_map (λ node. map listed_columns (sort_by by_list (filter (has 1 (rowid node)) rows.entries))) r) [])
+          → list_among protected (unwrap_or (option_map (λ node. map listed_columns (sort_by by_list (filter (has ace_node_place (rowid node)) rows.entries))) r) [])
           ≡ unwrap_or (option_map (λ node. list_in rows.entries (rowid node) protected) r) []
       go None e = refl
       go (Some node) e =
           let number = row_number rows (nodes_of db book).shaped node (found_has (is_at t) rows.nodes node e).0 in
-          ap (λ (id : Value). list_among protected (map listed_columns (sort_by by_list (filter (has 1 id) rows.entries)))) (sym number)
+          ap (λ (id : Value). list_among protected (map listed_columns (sort_by by_list (filter (has ace_node_place id) rows.entries)))) (sym number)
           ∙ list_is_told db book (id_in (rowid node)) protected ∙ ap (λ (id : Value). list_in rows.entries id protected) number
 
   -- what the row at a path gives of its resource

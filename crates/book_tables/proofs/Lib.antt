@@ -1,3 +1,4 @@
+pub mod Common
 pub mod Looking
 pub mod RowFacts
 pub mod LeftRows

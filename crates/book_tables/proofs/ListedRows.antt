@@ -1,37 +1,12 @@
 -- The own list of a resource: the rows give the Office with the list.
-use Rattle.std.proofs.Common.{◌≡◌, ◌≢◌, ℕ, ◌+◌, ℤ, pos, Bool, true, false, List, [], ◌∷◌, map, Option, Some, None, option_map, refl, sym, ap, subst, ◌∙◌, ◌&&◌}
-use Rattle.std.proofs.lemmas.Bool.{and_parts}
+use Rattle.book_tables.proofs.Common.{◌≡◌, ◌≢◌, ℕ, ◌+◌, ℤ, pos, Bool, true, false, List, [], ◌∷◌, map, Option, Some, None, option_map, refl, sym, ap, subst, ◌∙◌, ◌&&◌, and_parts, AllByRecursion, Value, Int, next_rowid, id_in, Row, rowid, update_where, Has, all_has, all_weaker, all-append, Entry, Office, Path, IsPath, path_text, by_names, where_some, one_text, apply, resource_at, resources_stand_in_place, ace_node_place, ace_protected_place, Rows, has, is_at, is_entry, flag, with_epoch, key_is, row_at, resource_in, resource_of, list_in, entry_values, entry_of, entry_said, IsNode, IsEntry, IsRemoved, Gives}
 use Rattle.std.specs.FinSet as set
-use Rattle.std.specs.List.{AllByRecursion}
-use Rattle.sqlite.specs.declared.types.Value.{Value}
-use Rattle.sqlite.specs.declared.types.Value.TheVariants.{Int}
-use Rattle.sqlite.specs.Edit.{next_rowid, id_in}
-use Rattle.sqlite.specs.Order.{Row}
-use Rattle.sqlite.specs.Tree.{rowid}
-use Rattle.sqlite_keyed.specs.Lists.{update_where}
-use Rattle.sqlite_rules.specs.Lists.{Has}
-use Rattle.sqlite_rules.proofs.ListLemmas.{all_has}
-use Rattle.sqlite_trees.proofs.ListLemmas.{all_weaker, all-append}
-use Rattle.book_lists.specs.declared.entries.Entry.{Entry}
-use Rattle.book_values.specs.declared.offices.Office.{Office}
-use Rattle.book_values.specs.declared.paths.Path.{Path}
-use Rattle.book_values.specs.Paths.{IsPath, path_text}
-use Rattle.book_values.proofs.NameMapLaws.{by_names}
-use Rattle.book_values.proofs.OneName.{where_some}
-use Rattle.book_values.proofs.Spelling.{one_text}
 use Rattle.book_office.specs.declared.edits.Edit.TheVariants.{SetList}
-use Rattle.book_office.specs.Edits.{apply, own_list_set, set_list}
-use Rattle.book_office.specs.Resources.{resource_at}
-use Rattle.book_office.proofs.StandingResources.{resources_stand_in_place}
-use Rattle.book_rows.specs.Rows.{Rows, has}
-use Rattle.book_rows.specs.Nodes.{SetsList, setting_list}
-use Rattle.book_rows.specs.Writes as writes
-use Rattle.book_rows.specs.Writes.{Said, is_at, is_entry, entry_row, flag, with_epoch}
-use Rattle.book_rows.proofs.Shapes.{key_is}
-use Rattle.book_rows.proofs.WrittenLists.{written_are_read, others_stay}
-use Rattle.book_tables.specs.Rows.{row_at, resource_in, resource_of, list_in, entry_values, entry_of}
-use Rattle.book_tables.specs.Settings.{entry_said}
-use Rattle.book_tables.specs.Stands.{IsNode, IsEntry, IsRemoved, Gives}
+use Rattle.book_office.specs.Edits.{own_list_set, set_list}
+use Rattle.book_tables_rows.specs.Nodes.{SetsList, setting_list}
+use Rattle.book_tables_rows.specs.Writes as writes
+use Rattle.book_tables_rows.specs.Writes.{Said, entry_row}
+use Rattle.book_tables_rows.proofs.WrittenLists.{written_are_read, others_stay}
 use Rattle.book_tables.proofs.Acting.{Given, GivesEdited}
 use Rattle.book_tables.proofs.ChangedNodes.{ChangesOne, relist, list_changes, same_resources}
 use Rattle.book_tables.proofs.Looking.{found_has}
@@ -66,12 +41,12 @@ list_written rows id list =
 -- a list of another node stays
 list_of_other : (rows : Rows) (id k : ℤ) (list : List Said) → id ≢ k → (protected : Bool) → list_in (writes.write_list (Int id) list rows).entries (Int k) protected ≡ list_in rows.entries (Int k) protected
 list_of_other rows id k list apart protected = ap (map entry_of) (others_stay rows id list (Int k) protected (λ row own.
-    ap (λ b. b && has 2 (flag protected) row) (one_number 1 row id k apart (and_parts (has 1 (Int id) row) (has 2 (flag false) row) own).0)))
+    ap (λ b. b && has ace_protected_place (flag protected) row) (one_number 1 row id k apart (and_parts (has ace_node_place (Int id) row) (has ace_protected_place (flag false) row) own).0)))
 
 list_protected : (rows : Rows) (id : ℤ) (list : List Said) → list_in (writes.write_list (Int id) list rows).entries (Int id) true ≡ list_in rows.entries (Int id) true
 list_protected rows id list = ap (map entry_of) (others_stay rows id list (Int id) true (λ row own.
-    let its = and_parts (has 1 (Int id) row) (has 2 (flag false) row) own in
-    ap (λ b. b && has 2 (flag true) row) its.0 ∙ one_number 2 row (pos 0) (pos 1) (λ e. cc) its.1))
+    let its = and_parts (has ace_node_place (Int id) row) (has ace_protected_place (flag false) row) own in
+    ap (λ b. b && has ace_protected_place (flag true) row) its.0 ∙ one_number 2 row (pos 0) (pos 1) (λ e. cc) its.1))
 
 -- ---- the rows
 
@@ -88,7 +63,7 @@ module _ (p : Path) (list : List Entry) (rows : Rows) (o : Office) (given : Give
   abbrev pub after : Rows
   after = record rows { entries = entries; meta = update_where (λ _. true) (with_epoch (o.epoch + 1)) rows.meta }
 
-  pub after_is : writes.set_list (Int id) said (o.epoch + 1) rows ≡ after
+  pub after_is : writes.set_list_rows (Int id) said (o.epoch + 1) rows ≡ after
   after_is = ap (writes.set_epoch (o.epoch + 1)) (entries_alone (Int id) 0 said (writes.delete_own (Int id) rows))
 
   abbrev o' : Office
@@ -162,7 +137,7 @@ module _ (p : Path) (list : List Entry) (rows after : Rows) (o : Office) (given 
       let id = id_in (rowid made.node) in
       let number = key_is made.node (all_has _ rows.nodes made.node given.nodes.shaped.1 (found_has (is_at (path_text p)) rows.nodes made.node made.there).0) in
       let epoch = epoch_is rows.meta made.epoch o.epoch made.meta given.gives.meta in
-      let is = made.rows_are ∙ ap (λ n. writes.set_list (Int id) (map entry_said list) (n + 1) rows) epoch ∙ after_is p list rows o given made.node made.there id number in
+      let is = made.rows_are ∙ ap (λ n. writes.set_list_rows (Int id) (map entry_said list) (n + 1) rows) epoch ∙ after_is p list rows o given made.node made.there id number in
       subst (λ r. Gives r (apply o (SetList p list))) (sym is) (gives_listed p list rows o given made.node made.there id number)
 
 pub lists_node : (p : Path) (list : List Entry) → GivesEdited (SetList p list) (setting_list (path_text p) (map entry_said list))

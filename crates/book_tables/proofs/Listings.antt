@@ -1,36 +1,26 @@
 -- A map, of its listing.
-use Rattle.std.proofs.Common.{◌≡◌, ℕ, List, [], ◌∷◌, map, Option, Some, None, option_map, refl, sym, ap, ◌∙◌}
-use Rattle.std.specs.Cmp.Lexicographic.{nat_list_cmp_total}
-use Rattle.std.specs.FinMap.{get, empty, entries, get-empty, same_map}
-use Rattle.book_lists.specs.Names.{name_cmp}
-use Rattle.book_values.specs.declared.offices.Book.{Book}
-use Rattle.book_values.specs.declared.offices.Properties.{Properties}
-use Rattle.book_values.specs.declared.paths.Kind.{Kind}
-use Rattle.book_values.specs.Names.{NamesTo}
-use Rattle.book_values.proofs.NameMapLaws.{names_apart}
-use Rattle.book_policies.specs.Policies.{added}
-use Rattle.book_adopting.specs.TakingOver.{placed, bare_books}
-use Rattle.book_adopting.proofs.Merges.{made_of, get_mapped}
-use Rattle.book_adopting.proofs.TakenOver.{get_placed}
-use Rattle.book_office.specs.declared.nodes.Listed.{Listed}
-use Rattle.book_office.specs.Resources.{Resource, listed, listed_principals, listed_books}
-use Rattle.book_tables.specs.BareOffice.{place_told, book_told}
+use Rattle.book_tables.proofs.Common.{◌≡◌, ℕ, List, [], ◌∷◌, map, Option, Some, None, option_map, refl, sym, ap, ◌∙◌, nat_list_cmp_total, get, empty, entries, get-empty, name_cmp, Book, Properties, Kind, NamesTo, names_apart, added, bare_books, Listed, Resource, listed_principals, place_told, book_told}
+use Rattle.std.specs.FinMap.{same_map}
+use Rattle.book_office_adopting.specs.TakingOver.{all_inserted}
+use Rattle.book_office_adopting.proofs.Merges.{made_of, get_mapped}
+use Rattle.book_office_adopting.proofs.TakenOver.{get_placed}
+use Rattle.book_office.specs.Resources.{as_listed, listed_books}
 
 module _ {X V : Type 0} (read : X → Resource) (tell : Listed → List ℕ × V) (named : (l : Listed) → (tell l).0 ≡ l.name) where
-  added_placed : (m : NamesTo V) (es : List (List ℕ × X)) → added m (map tell (map (λ e. listed e.0 (read e.1)) es)) ≡ placed (λ n x. (tell (listed n (read x))).1) m es
+  added_placed : (m : NamesTo V) (es : List (List ℕ × X)) → added m (map tell (map (λ e. as_listed e.0 (read e.1)) es)) ≡ all_inserted (λ n x. (tell (as_listed n (read x))).1) m es
   added_placed m [] = refl
   added_placed m (e ∷ es) =
-      ap (λ n. added (Rattle.std.specs.FinMap.insert m n (tell (listed e.0 (read e.1))).1) (map tell (map (λ e. listed e.0 (read e.1)) es))) (named (listed e.0 (read e.1)))
-      ∙ added_placed (Rattle.std.specs.FinMap.insert m e.0 (tell (listed e.0 (read e.1))).1) es
+      ap (λ n. added (Rattle.std.specs.FinMap.insert m n (tell (as_listed e.0 (read e.1))).1) (map tell (map (λ e. as_listed e.0 (read e.1)) es))) (named (as_listed e.0 (read e.1)))
+      ∙ added_placed (Rattle.std.specs.FinMap.insert m e.0 (tell (as_listed e.0 (read e.1))).1) es
 
   -- what stands at a name of the map that a listing gives
-  pub get_told : (there : NamesTo X) (q : List ℕ) → get (added empty (map tell (map (λ e. listed e.0 (read e.1)) (entries there)))) q
-      ≡ option_map (λ x. (tell (listed q (read x))).1) (get there q)
+  pub get_told : (there : NamesTo X) (q : List ℕ) → get (added empty (map tell (map (λ e. as_listed e.0 (read e.1)) (entries there)))) q
+      ≡ option_map (λ x. (tell (as_listed q (read x))).1) (get there q)
   get_told there q =
       ap (λ m. get m q) (added_placed empty (entries there)) ∙ get_placed _ empty there q
       ∙ ap (made_of _ (get there q)) (get-empty name_cmp q) ∙ go (get there q)
     where
-      go : (r : Option X) → made_of (λ x _. (tell (listed q (read x))).1) r None ≡ option_map (λ x. (tell (listed q (read x))).1) r
+      go : (r : Option X) → made_of (λ x _. (tell (as_listed q (read x))).1) r None ≡ option_map (λ x. (tell (as_listed q (read x))).1) r
       go None = refl
       go (Some x) = refl
 

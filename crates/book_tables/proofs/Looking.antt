@@ -1,17 +1,9 @@
 -- What is found in a list of rows after one of its writes, and what a test on a column tells.
-use Rattle.std.proofs.Common.{◌≡◌, inl, inr, ℕ, ℤ, Bool, true, false, cond, List, [], ◌∷◌, find, Some, None, option_map, refl, sym, ap, ◌∙◌, true≢false, Ordering, Less, Equal, Greater, is_eq, int_eq, int_cmp, arith}
-use Rattle.std.specs.List.{AllByRecursion}
-use Rattle.std.proofs.lemmas.Int.{ints}
-use Rattle.sqlite.specs.declared.types.Value.TheVariants.{Int, Text}
-use Rattle.sqlite.specs.Order.{Row, column}
+use Rattle.book_tables.proofs.Common.{◌≡◌, inl, inr, ℕ, ℤ, Bool, true, false, cond, List, [], ◌∷◌, find, Some, None, option_map, refl, sym, ap, ◌∙◌, true≢false, Ordering, Less, Equal, Greater, is_eq, int_cmp, AllByRecursion, Int, Text, Row, column, Has, value_cmp-Int, update_where, delete_where, name_cmp, same, has}
+use Rattle.std.proofs.Common.{int_eq}
 use Rattle.sqlite.specs.Ops.{binary, is_true, from_truth}
-use Rattle.sqlite_rules.specs.Lists.{Has}
-use Rattle.sqlite_value.proofs.OrderLemmas.{value_cmp-Text, value_cmp-Int}
-use Rattle.sqlite_keyed.specs.Lists.{update_where, delete_where}
+use Rattle.sqlite_value.proofs.OrderLemmas.{value_cmp-Text}
 use Rattle.sqlite_keyed.proofs.KeyedLemmas.{same_int}
-use Rattle.book_lists.specs.Names.{name_cmp}
-use Rattle.book_values.proofs.NameMapLaws.{same}
-use Rattle.book_rows.specs.Rows.{has}
 
 -- ---- lists
 
@@ -74,9 +66,6 @@ has_text place row text other is = rw (is, value_cmp-Text text other) (told (nam
 pub has_int : (place : ℕ) (row : Row) (n m : ℤ) → column row place ≡ Int n → has place (Int m) row ≡ int_eq n m
 unfolding binary
 has_int place row n m is = rw (is, value_cmp-Int n m) (told (int_cmp n m))
-
-pub int_itself : (n : ℤ) → int_eq n n ≡ true
-int_itself n = grind (arith, ints)
 
 pub same_ints : (place : ℕ) (row : Row) (n m : ℤ) → column row place ≡ Int n → has place (Int m) row ≡ true → n ≡ m
 same_ints place row n m is h = same_int n m (sym (has_int place row n m is) ∙ h)

@@ -1,27 +1,11 @@
 -- MOVE of a card: the change of the rows gives the edited Office.
-use Rattle.std.proofs.Common.{◌≡◌, ◌≢◌, ℕ, ◌+◌, List, Some, None, option_map, option_and_then, refl, sym, ap, subst, ◌∙◌}
-use Rattle.std.specs.FinMap.{get, insert, remove}
-use Rattle.sqlite.specs.declared.types.Value.TheVariants.{Int}
-use Rattle.sqlite.specs.Edit.{id_in}
-use Rattle.sqlite.specs.Tree.{rowid}
-use Rattle.book_lists.specs.Names.{IsName}
-use Rattle.book_values.specs.declared.offices.Book.{Book}
-use Rattle.book_values.specs.declared.offices.StoredCard.{StoredCard}
-use Rattle.book_values.specs.declared.offices.Office.{Office}
-use Rattle.book_values.specs.declared.paths.Path.TheVariants as path
-use Rattle.book_values.specs.Paths.{book_path, card_path}
-use Rattle.book_values.proofs.NameMapLaws.{by_names}
-use Rattle.book_values.proofs.OneName.{some_apart, by_option, where_some, put_here, put_elsewhere, removed_here, removed_elsewhere}
+use Rattle.book_tables.proofs.Common.{◌≡◌, ◌≢◌, ℕ, ◌+◌, List, Some, None, option_map, option_and_then, refl, sym, ap, subst, ◌∙◌, get, insert, remove, Int, id_in, rowid, IsName, Book, StoredCard, Office, book_path, card_path, by_names, some_apart, by_option, where_some, put_here, put_elsewhere, removed_here, removed_elsewhere, with_book, apply, Resource, card_at, book_resource, card_resource, number_of, IsSound, Rows, row_at, resource_of, Gives}
+use Rattle.book_office_values.specs.declared.paths.Path.TheVariants as path
 use Rattle.book_office.specs.declared.edits.Edit.TheVariants.{MoveCard}
-use Rattle.book_office.specs.Edits.{remove_card, move_to, with_book, apply}
-use Rattle.book_office.specs.Resources.{Resource, card_at, book_resource, card_resource, number_of}
-use Rattle.book_office.specs.Sound.{IsSound}
-use Rattle.book_rows.specs.Rows.{Rows}
-use Rattle.book_rows.specs.Nodes.{MovesCard, FitCardRemoval, moving_card}
-use Rattle.book_rows.specs.Writes as writes
-use Rattle.book_rows.specs.Writes.{clear_at}
-use Rattle.book_tables.specs.Rows.{row_at, resource_of}
-use Rattle.book_tables.specs.Stands.{Gives}
+use Rattle.book_office.specs.Edits.{remove_card, move_to}
+use Rattle.book_tables_rows.specs.Nodes.{MovesCard, FitCardRemoval, moving_card}
+use Rattle.book_tables_rows.specs.Writes as writes
+use Rattle.book_tables_rows.specs.Writes.{clear_at}
 use Rattle.book_tables.proofs.Acting.{Given, GivesEdited}
 use Rattle.book_tables.proofs.CardEdits.{at_book, card_told}
 use Rattle.book_tables.proofs.MovedRows.{are_cleared, between, gives_moved, target_resource}

@@ -1,39 +1,11 @@
 -- MOVE of a card: the rows give the Office in which it was moved.
-use Rattle.std.proofs.Common.{◌≡◌, ◌≢◌, ℕ, ◌+◌, Bool, true, false, cond, List, [], ◌∷◌, ◌++◌, find, Option, Some, None, option_map, is_some, refl, sym, ap, subst, ◌∙◌}
-use Rattle.std.specs.FinMap.{get, insert, remove}
-use Rattle.std.specs.List.{AllByRecursion}
-use Rattle.sqlite.specs.declared.types.Value.{Value}
-use Rattle.sqlite.specs.declared.types.Value.TheVariants.{Int, Text}
-use Rattle.sqlite.specs.Edit.{next_rowid, id_in}
-use Rattle.sqlite.specs.Order.{Row, column}
-use Rattle.sqlite.specs.Tree.{rowid}
-use Rattle.sqlite_trees.specs.View.{IsShaped}
+use Rattle.book_tables.proofs.Common.{◌≡◌, ◌≢◌, ℕ, ◌+◌, Bool, true, false, cond, List, [], ◌∷◌, ◌++◌, find, Option, Some, None, option_map, is_some, refl, sym, ap, subst, ◌∙◌, get, insert, remove, AllByRecursion, same_Some, Value, Int, Text, next_rowid, id_in, Row, rowid, IsShaped, all-append, Has, all_has, update_where, delete_where, IsName, Book, StoredCard, Office, Path, IsPath, path_text, book_path, card_path, one_text, same, is_same, same_itself, by_names, some_apart, by_option, put_here, put_elsewhere, removed_here, removed_elsewhere, Resource, resource_at, removed_at, book_resource, card_resource, number_of, gone_number, node_path, rowid_place, Rows, has, number_in, is_at, is_gone, with_number, PassesOnce, key_is, in_left, row_at, resource_in, resource_of, list_in, is_member, removed_from, removed_in, IsNodeAt, IsNode, IsEntry, IsRemoved, Gives}
 use Rattle.sqlite_trees.specs.declared.store.Shape.TheVariants.{Table as TableShape}
-use Rattle.sqlite_trees.proofs.ListLemmas.{all-append}
-use Rattle.sqlite_rules.specs.Lists.{Has}
-use Rattle.sqlite_rules.proofs.ListLemmas.{all_has}
-use Rattle.sqlite_keyed.specs.Lists.{update_where, delete_where}
-use Rattle.book_lists.specs.Names.{IsName}
-use Rattle.book_values.specs.declared.offices.Book.{Book}
-use Rattle.book_values.specs.declared.offices.StoredCard.{StoredCard}
-use Rattle.book_values.specs.declared.offices.Office.{Office}
-use Rattle.book_values.specs.declared.paths.Path.{Path}
-use Rattle.book_values.specs.declared.paths.Path.TheVariants as path
-use Rattle.book_values.specs.Paths.{IsPath, path_text, book_path, card_path}
-use Rattle.book_values.proofs.Spelling.{one_text}
-use Rattle.book_values.proofs.NameMapLaws.{same, is_same, same_itself, by_names}
-use Rattle.book_values.proofs.OneName.{same_some, some_apart, by_option, put_here, put_elsewhere, removed_here, removed_elsewhere}
-use Rattle.book_office.specs.Resources.{Resource, resource_at, removed_at, book_resource, card_resource, number_of}
-use Rattle.book_rows.specs.Rows.{Rows, has}
-use Rattle.book_rows.specs.Nodes.{number_in}
-use Rattle.book_rows.specs.Writes as writes
-use Rattle.book_rows.specs.Writes.{is_at, is_gone, with_number, moved_to, clear_at}
-use Rattle.book_rows.proofs.Once.{PassesOnce}
-use Rattle.book_rows.proofs.Shapes.{key_is}
-use Rattle.book_tables.specs.Rows.{row_at, resource_in, resource_of, list_in, is_member, removed_from, removed_in}
-use Rattle.book_tables.specs.Stands.{IsNodeAt, IsNode, IsEntry, IsRemoved, Gives}
+use Rattle.book_office_values.specs.declared.paths.Path.TheVariants as path
+use Rattle.book_tables_rows.specs.Writes as writes
+use Rattle.book_tables_rows.specs.Writes.{moved_to, clear_at}
 use Rattle.book_tables.proofs.Looking.{found_has, has_text}
-use Rattle.book_tables.proofs.LeftRows.{in_left, book_or_card, card_book, card_name}
+use Rattle.book_tables.proofs.LeftRows.{book_or_card, card_book, card_name}
 use Rattle.book_tables.proofs.RowFacts.{apart, has_updated, all_updated, all_from_has, is_at_found}
 use Rattle.book_tables.proofs.TouchedOffices as office
 use Rattle.book_tables.proofs.TouchedOffices.{touched_office}
@@ -112,7 +84,7 @@ are_cleared rows o gives shaped once b c named named_c (Some row) is = record {
   others = removed.others_left rows o gives shaped once b c named named_c row is;
   lists = removed.lists_left rows o gives shaped once b c named named_c row is;
   entry = removed.entry_left rows o gives shaped once b c named named_c row is;
-  nodes = λ x h. (in_left (has 0 (Int (id_in (rowid row)))) rows.nodes x h).0;
+  nodes = λ x h. (in_left (has rowid_place (Int (id_in (rowid row)))) rows.nodes x h).0;
   gone = refl;
   members = refl;
   meta = refl;
@@ -172,8 +144,8 @@ module _ (rows : Rows) (o : Office) (gives : Gives rows o) (shaped : IsShaped Ta
   upd1_id : (r : Row) → rowid (upd1 r) ≡ rowid r
   upd1_id r = elim (is_at sbp r) as (λ b. rowid (cond b (with_number n1 r) r) ≡ rowid r) [ true ↦ refl | false ↦ refl ]
 
-  upd1_path : (r : Row) → column (upd1 r) 2 ≡ column r 2
-  upd1_path r = elim (is_at sbp r) as (λ b. column (cond b (with_number n1 r) r) 2 ≡ column r 2) [ true ↦ refl | false ↦ refl ]
+  upd1_path : (r : Row) → node_path (upd1 r) ≡ node_path r
+  upd1_path r = elim (is_at sbp r) as (λ b. node_path (cond b (with_number n1 r) r) ≡ node_path r) [ true ↦ refl | false ↦ refl ]
 
   found_between : (t : List ℕ) → row_at between t ≡ option_map upd1 (row_at cleared t)
   found_between t = row_changed cleared.nodes sbp t (with_number n1) (numbered_keeps n1)
@@ -207,7 +179,7 @@ module _ (rows : Rows) (o : Office) (gives : Gives rows o) (shaped : IsShaped Ta
   same_lists t (Some r) is differs = ap Some (λ i. record (resource_of rows.entries r) { protected = clear.lists t r is differs true i; own = clear.lists t r is differs false i })
 
   source_book_resource : resource_of cleared.entries source_row ≡ book_resource sbook
-  source_book_resource = same_some _ _ (
+  source_book_resource = same_Some _ _ (
       sym (ap (option_map (resource_of cleared.entries)) at_source) ∙ same_lists sbp (row_at rows sbp) refl (book_card sb tb tc named_sb named_tb named_tc)
       ∙ gives.resources (path.Book sb) named_sb ∙ ap (option_map book_resource) sthere)
 
@@ -248,7 +220,7 @@ module _ (rows : Rows) (o : Office) (gives : Gives rows o) (shaped : IsShaped Ta
     others2 = put_elsewhere tbook.cards tc card
 
     pub target_resource : resource_of cleared.entries target_row ≡ book_resource tbook
-    target_resource = same_some _ _ (
+    target_resource = same_Some _ _ (
         sym (ap (option_map (resource_of cleared.entries)) at_target) ∙ resources_between (path.Book tb) named_tb (λ e. book_or_card e) (λ e. book_or_card e)
         ∙ ap (option_map book_resource) tthere)
 
@@ -271,13 +243,13 @@ module _ (rows : Rows) (o : Office) (gives : Gives rows o) (shaped : IsShaped Ta
     at_moved x t = has_text 2 (moved x) dcp t refl
 
     -- each row between has a path's text
-    texts_between : AllByRecursion (λ x. (u : List ℕ) × (column x 2 ≡ Text u)) between.nodes
-    texts_between = all_updated (λ x. (u : List ℕ) × (column x 2 ≡ Text u)) (is_at sbp) (with_number n1) (λ x h. h) cleared.nodes
+    texts_between : AllByRecursion (λ x. (u : List ℕ) × (node_path x ≡ Text u)) between.nodes
+    texts_between = all_updated (λ x. (u : List ℕ) × (node_path x ≡ Text u)) (is_at sbp) (with_number n1) (λ x h. h) cleared.nodes
         (all_from_has _ cleared.nodes (λ x there. let n = all_has (IsNode rows) rows.nodes x gives.nodes (clear.nodes x there) in (path_text n.0, n.1.path)))
 
     mid_other : (t : List ℕ) → t ≢ scp → t ≢ dcp → find (is_at t) mid ≡ row_at between t
     mid_other t not_scp not_dcp = moved_elsewhere (is_at scp) (is_at t) moved between.nodes (all_from_has _ between.nodes (λ x there at_scp.
-        let u = all_has (λ x. (u : List ℕ) × (column x 2 ≡ Text u)) between.nodes x texts_between there in
+        let u = all_has (λ x. (u : List ℕ) × (node_path x ≡ Text u)) between.nodes x texts_between there in
         let is : u.0 ≡ scp = is_same u.0 scp (sym (has_text 2 x u.0 scp u.1) ∙ at_scp) in
         (has_text 2 x u.0 t u.1 ∙ apart u.0 t (λ e. not_scp (sym e ∙ is)), at_moved x t ∙ apart dcp t (λ e. not_dcp (sym e)))))
 
@@ -309,7 +281,7 @@ module _ (rows : Rows) (o : Office) (gives : Gives rows o) (shaped : IsShaped Ta
     upd2_other t None is h = refl
     upd2_other t (Some r) is h =
         let f = found_has (is_at t) between.nodes r is in
-        let u = all_has (λ x. (u : List ℕ) × (column x 2 ≡ Text u)) between.nodes r texts_between f.0 in
+        let u = all_has (λ x. (u : List ℕ) × (node_path x ≡ Text u)) between.nodes r texts_between f.0 in
         let same_text : u.0 ≡ t = is_same u.0 t (sym (has_text 2 r u.0 t u.1) ∙ f.1) in
         ap (λ x. Some (cond x (with_number n2 r) r)) (has_text 2 r u.0 tbp u.1 ∙ apart u.0 tbp (λ e. h (sym same_text ∙ e)))
 
@@ -318,8 +290,8 @@ module _ (rows : Rows) (o : Office) (gives : Gives rows o) (shaped : IsShaped Ta
     moved_resource : (row : Row) → row_at rows scp ≡ Some row → resource_of cleared.entries (moved row) ≡ card_resource n2 card
     moved_resource row found =
         let told : resource_of rows.entries row ≡ card_resource (number_of sbook sc) card =
-        same_some _ _ (sym (ap (option_map (resource_of rows.entries)) found) ∙ card_told rows o gives sb sc named_sb named_sc sbook sthere ∙ ap (option_map (card_resource (number_of sbook sc))) its) in
-        let there : resource_of cleared.entries row ≡ card_resource (number_of sbook sc) card = same_some _ _ (same_lists scp (Some row) found card_texts_apart) ∙ told in
+        same_Some _ _ (sym (ap (option_map (resource_of rows.entries)) found) ∙ card_told rows o gives sb sc named_sb named_sc sbook sthere ∙ ap (option_map (card_resource (number_of sbook sc))) its) in
+        let there : resource_of cleared.entries row ≡ card_resource (number_of sbook sc) card = same_Some _ _ (same_lists scp (Some row) found card_texts_apart) ∙ told in
         ap (λ (r : Resource). record r { number = n2 }) there
 
     resources_after : (row : Row) → row_at rows scp ≡ Some row → (p : Path) → IsPath p → resource_in after (path_text p) ≡ resource_at o2 p
@@ -365,7 +337,7 @@ module _ (rows : Rows) (o : Office) (gives : Gives rows o) (shaped : IsShaped Ta
     id2_is = by_option (row_at cleared tbp)
         (λ none. some_apart (sym at_target ∙ found_between tbp ∙ ap (option_map upd1) none))
         (λ r is.
-        let same_row : target_row ≡ upd1 r = same_some _ _ (sym at_target ∙ found_between tbp ∙ ap (option_map upd1) is) in
+        let same_row : target_row ≡ upd1 r = same_Some _ _ (sym at_target ∙ found_between tbp ∙ ap (option_map upd1) is) in
         let there = clear.nodes r (found_has (is_at tbp) cleared.nodes r is).0 in
         let k = key_is r (all_has _ rows.nodes r shaped.1 there) in
         let ids : rowid target_row ≡ rowid r = ap rowid same_row ∙ upd1_id r in
@@ -401,7 +373,7 @@ module _ (rows : Rows) (o : Office) (gives : Gives rows o) (shaped : IsShaped Ta
     -- the row of a book has its number afterwards
     same_book : (g : List Row) (name : List ℕ) (found : Option Row) → removed_from g name (option_map upd2 (option_map upd1 found)) ≡ removed_from g name found
     same_book g name None = refl
-    same_book g name (Some r) = ap (λ v. option_map (λ row. number_in (column row 3)) (find (is_gone v name) g)) (upd2_id (upd1 r) ∙ upd1_id r)
+    same_book g name (Some r) = ap (λ v. option_map (λ row. number_in (gone_number row)) (find (is_gone v name) g)) (upd2_id (upd1 r) ∙ upd1_id r)
 
     book_after : (a : List ℕ) → IsName a → row_at after (book_path a) ≡ option_map upd2 (option_map upd1 (row_at rows (book_path a)))
     book_after a named_a =
@@ -410,7 +382,7 @@ module _ (rows : Rows) (o : Office) (gives : Gives rows o) (shaped : IsShaped Ta
 
     module _ (row : Row) (at_row : row_at rows tbp ≡ Some row) where
       same_id : rowid row ≡ id2
-      same_id = sym (upd1_id row) ∙ ap rowid (same_some _ _ (sym (ap (option_map upd1) at_row) ∙ sym (between_not tbp (book_card tb tb tc named_tb named_tb named_tc)) ∙ at_target)) ∙ id2_is
+      same_id = sym (upd1_id row) ∙ ap rowid (same_Some _ _ (sym (ap (option_map upd1) at_row) ∙ sym (between_not tbp (book_card tb tb tc named_tb named_tb named_tc)) ∙ at_target)) ∙ id2_is
 
       abbrev left_rows : List Row
       left_rows = gone.left rows o gives shaped tb tc named_tb row at_row grown_rows all_grown

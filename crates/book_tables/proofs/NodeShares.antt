@@ -1,13 +1,12 @@
 -- The entries of one node lie side by side where the nodes' numbers do not fall, between two partition points.
-use Rattle.std.proofs.Common.{◌≡◌, ℕ, zero, suc, ◌<◌, ◌≤◌, ℤ, Bool, true, false, not, List, [], ◌∷◌, filter, length, take, drop, get_or, cond, refl, sym, ap, subst, ◌∙◌, true≢false, arith, Less, Equal, Greater, is_eq, int_eq}
+use Rattle.book_tables.proofs.Common.{◌≡◌, ℕ, suc, ◌<◌, ◌≤◌, ℤ, Bool, true, false, not, List, [], ◌∷◌, filter, length, take, drop, get_or, cond, refl, sym, ap, subst, ◌∙◌, true≢false, arith, Less, Equal, Greater, is_eq, AllByRecursion, ints, Row, IsAscending, DoNotFall}
+use Rattle.std.proofs.Common.{zero, int_eq}
 use Rattle.std.specs.Prelude.{◌≤ℤ◌, int_lt}
-use Rattle.std.specs.List.{AllByRecursion, AllWithin}
+use Rattle.std.specs.List.{AllWithin}
 use Rattle.std.specs.List.Sorted.{IsPartitionPoint, IsPartitionedBy}
-use Rattle.std.proofs.lemmas.Int.{ints}
-use Rattle.sqlite.specs.Order.{Row}
-use Rattle.sqlite_trees.specs.Tree.{IsAscending}
+use Rattle.std.proofs.lemmas.Bool.{not-true}
 use Rattle.sqlite_keyed.proofs.ListLemmas.{all_weaker, all_both, filter_none}
-use Rattle.book_tables.specs.Shares.{DoNotFall, is_of, node_in}
+use Rattle.book_tables.specs.Shares.{is_of, node_in}
 
 module _ {X : Type 0} where
   all_at : (P : X → Type 0) (xs : List X) (i : ℕ) (d : X) → AllByRecursion P xs → i < length xs → P (get_or xs i d)
@@ -62,10 +61,6 @@ is_below node row = int_lt (node_in row) node
 abbrev pub is_up_to : ℤ → Row → Bool
 is_up_to node row = not (int_lt node (node_in row))
 
-failed : (b : Bool) → not b ≡ true → b ≡ false
-failed false h = refl
-failed true h = absurd (true≢false (sym h))
-
 below_before : (n a b : ℤ) → a ≤ℤ b → int_lt b n ≡ true → int_lt a n ≡ true
 below_before n a b le h = grind (arith, ints)
 
@@ -103,7 +98,7 @@ module _ (node : ℤ) (entries : List Row) (rising : DoNotFall entries) where
     pub parted_up_to : (rest : List Row) → rest ≡ drop start entries → IsPartitionedBy (is_up_to node) rest
     parted_up_to rest is =
         subst (IsPartitionedBy (is_up_to node)) (sym is)
-        (parted (λ a b. node_in a ≤ℤ node_in b) (is_up_to node) (λ a b le h. ap not (not_above_before node (node_in a) (node_in b) le (failed (int_lt node (node_in b)) h))) (drop start entries)
+        (parted (λ a b. node_in a ≤ℤ node_in b) (is_up_to node) (λ a b le h. ap not (not_above_before node (node_in a) (node_in b) le (not-true (int_lt node (node_in b)) h))) (drop start entries)
         (ascending_left (λ a b. node_in a ≤ℤ node_in b) entries start rising))
 
     module _ (within : start ≤ length entries) (point : IsPartitionPoint (λ r. is_below node r ≡ true) (λ r. is_below node r ≡ false) entries start) (count : ℕ) where

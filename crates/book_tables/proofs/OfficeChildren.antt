@@ -1,25 +1,11 @@
 -- The children of a resource of an Office: their names and what they are, in byte order of their names.
-use Rattle.std.proofs.Common.{◌≡◌, inl, inr, ℕ, List, [], ◌∷◌, ◌++◌, map, length, codes, Option, Some, None, option_map, option_and_then, unwrap_or, refl, sym, ap, subst, ◌∙◌, Less}
-use Rattle.std.specs.Cmp.Lexicographic.{nat_list_cmp_total}
-use Rattle.std.specs.FinMap.{get, len, entries, entries_sorted, len-entries}
-use Rattle.sqlite_trees.specs.Tree.{IsAscending}
-use Rattle.sqlite_rules.specs.Lists.{Has}
-use Rattle.sqlite_keyed.proofs.ListLemmas.{map-map, ascending-map}
-use Rattle.book_lists.specs.Names.{name_cmp}
-use Rattle.book_values.specs.Names.{NamesTo}
-use Rattle.book_values.specs.declared.offices.Book.{Book}
-use Rattle.book_values.specs.declared.offices.StoredCard.{StoredCard}
-use Rattle.book_values.specs.declared.offices.Office.{Office}
-use Rattle.book_values.specs.declared.offices.Properties.{Properties}
-use Rattle.book_values.specs.declared.paths.Kind.TheVariants as kind
-use Rattle.book_values.specs.declared.paths.Path.{Path}
-use Rattle.book_values.specs.declared.paths.Path.TheVariants as path
-use Rattle.book_values.specs.Paths.{path_text, parent_of}
-use Rattle.book_values.proofs.Members.{Mem, mem_get, get_mem}
-use Rattle.book_values.proofs.NameMapLaws.{names_apart}
-use Rattle.book_values.proofs.OneName.{some_apart, same_some, by_option}
-use Rattle.book_office.specs.Resources.{Resource, resource_at, children_at, count_at, listed, listed_cards, properties_resource, book_resource, card_resource, card_in, number_of}
-use Rattle.book_tables.specs.Children.{last_name, text_above}
+use Rattle.book_tables.proofs.Common.{◌≡◌, inl, inr, ℕ, List, [], ◌∷◌, ◌++◌, map, length, codes, Option, Some, None, option_map, option_and_then, unwrap_or, refl, sym, ap, subst, ◌∙◌, Less, nat_list_cmp_total, get, entries, IsAscending, Has, map-map, ascending-map, name_cmp, NamesTo, Book, StoredCard, Office, Properties, Path, path_text, parent_of, mem_get, get_mem, names_apart, some_apart, by_option, Resource, resource_at, children_at, count_at, properties_resource, book_resource, card_resource, card_in, number_of, text_above, same_Some}
+use Rattle.std.specs.FinMap.{len, entries_sorted, len-entries}
+use Rattle.book_office_values.specs.declared.paths.Kind.TheVariants as kind
+use Rattle.book_office_values.specs.declared.paths.Path.TheVariants as path
+use Rattle.book_office_values.proofs.Members.{Mem}
+use Rattle.book_office.specs.Resources.{as_listed, listed_cards}
+use Rattle.book_tables.specs.Children.{last_name}
 use Rattle.book_tables.proofs.SameLists.{has_map, has_mapped, keys_rise}
 use Rattle.book_office.proofs.StandingResources.{from_map, from_and_then}
 use Rattle.std.proofs.lemmas.List.{length-map}
@@ -42,7 +28,7 @@ offspring o (path.Book b) = unwrap_or (option_map (λ (book : Book). cards_of bo
 offspring o (path.Card b c) = []
 
 abbrev pub listed_child : Child → Rattle.book_office.specs.declared.nodes.Listed.Listed
-listed_child k = listed k.0 k.1
+listed_child k = as_listed k.0 k.1
 
 counted : {V : Type 0} (m : NamesTo V) (f : List ℕ × V → Child) → len m ≡ length (map f (entries m))
 counted m f = len-entries m ∙ sym (length-map (entries m) f)
@@ -160,16 +146,16 @@ in_entries m f n r v at is = subst (Has (map f (entries m))) is (has_map f (entr
 
 at_path : (o : Office) (q : Path) (r : Resource) (p : Path) → parent_of q ≡ Some p → resource_at o q ≡ Some r → Has (offspring o p) (last_name q, r)
 at_path o path.Root r p above there = some_apart (sym above)
-at_path o path.People r p above there = subst (λ z. Has (offspring o z) (codes "people", r)) (same_some _ _ above) (inr (inr (inl (ap (λ x. (codes "people", x)) (sym (same_some _ _ there))))))
-at_path o path.Groups r p above there = subst (λ z. Has (offspring o z) (codes "groups", r)) (same_some _ _ above) (inr (inl (ap (λ x. (codes "groups", x)) (sym (same_some _ _ there)))))
-at_path o path.Books r p above there = subst (λ z. Has (offspring o z) (codes "books", r)) (same_some _ _ above) (inl (ap (λ x. (codes "books", x)) (sym (same_some _ _ there))))
-at_path o (path.Person n) r p above there = subst (λ z. Has (offspring o z) (n, r)) (same_some _ _ above)
+at_path o path.People r p above there = subst (λ z. Has (offspring o z) (codes "people", r)) (same_Some _ _ above) (inr (inr (inl (ap (λ x. (codes "people", x)) (sym (same_Some _ _ there))))))
+at_path o path.Groups r p above there = subst (λ z. Has (offspring o z) (codes "groups", r)) (same_Some _ _ above) (inr (inl (ap (λ x. (codes "groups", x)) (sym (same_Some _ _ there)))))
+at_path o path.Books r p above there = subst (λ z. Has (offspring o z) (codes "books", r)) (same_Some _ _ above) (inl (ap (λ x. (codes "books", x)) (sym (same_Some _ _ there))))
+at_path o (path.Person n) r p above there = subst (λ z. Has (offspring o z) (n, r)) (same_Some _ _ above)
     (from_map (properties_resource kind.Person 0) (get o.persons n) r there (λ v at is. in_entries o.persons (λ e. (e.0, properties_resource kind.Person 0 e.1)) n r v at (ap (λ x. (n, x)) is)))
-at_path o (path.Group n) r p above there = subst (λ z. Has (offspring o z) (n, r)) (same_some _ _ above)
+at_path o (path.Group n) r p above there = subst (λ z. Has (offspring o z) (n, r)) (same_Some _ _ above)
     (from_map (properties_resource kind.Group 0) (get o.groups n) r there (λ v at is. in_entries o.groups (λ e. (e.0, properties_resource kind.Group 0 e.1)) n r v at (ap (λ x. (n, x)) is)))
-at_path o (path.Book n) r p above there = subst (λ z. Has (offspring o z) (n, r)) (same_some _ _ above)
+at_path o (path.Book n) r p above there = subst (λ z. Has (offspring o z) (n, r)) (same_Some _ _ above)
     (from_map book_resource (get o.books n) r there (λ v at is. in_entries o.books (λ e. (e.0, book_resource e.1)) n r v at (ap (λ x. (n, x)) is)))
-at_path o (path.Card b c) r p above there = subst (λ z. Has (offspring o z) (c, r)) (same_some _ _ above)
+at_path o (path.Card b c) r p above there = subst (λ z. Has (offspring o z) (c, r)) (same_Some _ _ above)
     (from_and_then (λ (book : Book). card_in book c) (get o.books b) r there (λ book some here.
     subst (λ x. Has (unwrap_or (option_map (λ (k : Book). cards_of k (entries k.cards)) x) []) (c, r)) (sym some)
     (from_map (card_resource (number_of book c)) (get book.cards c) r here (λ v at is. in_entries book.cards (λ e. (e.0, card_resource (number_of book e.0) e.1)) c r v at (ap (λ x. (c, x)) is)))))
@@ -180,10 +166,10 @@ children_are o p k c = subst (λ n. Has (offspring o p) (n, k.1)) c.name (at_pat
 -- the text of a path right below another is what stands above, and its last name
 pub text_below : (q p : Path) → parent_of q ≡ Some p → path_text q ≡ text_above p ++ last_name q
 text_below path.Root p above = some_apart (sym above)
-text_below path.People p above = ap (λ z. text_above z ++ codes "people") (same_some _ _ above)
-text_below path.Groups p above = ap (λ z. text_above z ++ codes "groups") (same_some _ _ above)
-text_below path.Books p above = ap (λ z. text_above z ++ codes "books") (same_some _ _ above)
-text_below (path.Person n) p above = ap (λ z. text_above z ++ n) (same_some _ _ above)
-text_below (path.Group n) p above = ap (λ z. text_above z ++ n) (same_some _ _ above)
-text_below (path.Book n) p above = ap (λ z. text_above z ++ n) (same_some _ _ above)
-text_below (path.Card b c) p above = ap (λ z. text_above z ++ c) (same_some _ _ above)
+text_below path.People p above = ap (λ z. text_above z ++ codes "people") (same_Some _ _ above)
+text_below path.Groups p above = ap (λ z. text_above z ++ codes "groups") (same_Some _ _ above)
+text_below path.Books p above = ap (λ z. text_above z ++ codes "books") (same_Some _ _ above)
+text_below (path.Person n) p above = ap (λ z. text_above z ++ n) (same_Some _ _ above)
+text_below (path.Group n) p above = ap (λ z. text_above z ++ n) (same_Some _ _ above)
+text_below (path.Book n) p above = ap (λ z. text_above z ++ n) (same_Some _ _ above)
+text_below (path.Card b c) p above = ap (λ z. text_above z ++ c) (same_Some _ _ above)

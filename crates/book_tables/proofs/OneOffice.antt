@@ -1,22 +1,10 @@
 -- Rows give one sound Office at most.
-use Rattle.std.proofs.Common.{◌≡◌, ℕ, List, Option, None, option_and_then, sym, ap, ◌∙◌}
-use Rattle.std.specs.FinMap.{get}
-use Rattle.sqlite.specs.Order.{Row}
-use Rattle.sqlite.specs.Tree.{Trees}
-use Rattle.book_values.specs.declared.offices.Book.{Book}
-use Rattle.book_values.specs.declared.offices.Office.{Office}
-use Rattle.book_values.specs.declared.paths.Path.{Path}
-use Rattle.book_values.specs.Paths.{IsPath}
-use Rattle.book_values.proofs.OneName.{by_option}
-use Rattle.book_adopting.proofs.KeptPairs.{both_within}
-use Rattle.book_office.specs.Keeping.{Leftover, whole, broken}
-use Rattle.book_office.specs.Resources.{resource_at, removed_at, unless_mapped}
-use Rattle.book_office.specs.Sound.{IsSound}
+use Rattle.book_tables.proofs.Common.{◌≡◌, ℕ, List, Option, None, option_and_then, sym, ap, ◌∙◌, get, Row, Trees, Book, Office, Path, IsPath, by_option, Leftover, whole, resource_at, removed_at, unless_mapped, IsSound, resources_stand_in_place, Rows, rows_of, in_store, Gives, Stands}
+use Rattle.book_office_adopting.proofs.KeptPairs.{both_within}
+use Rattle.book_office.specs.Keeping.{broken}
 use Rattle.book_office.proofs.SameOffices.{same_office}
-use Rattle.book_office.proofs.StandingResources.{resources_stand_in_place}
-use Rattle.book_rows.specs.Rows.{Rows, rows_of, in_store}
-use Rattle.book_rows.specs.Writes.{IsMeta}
-use Rattle.book_tables.specs.Stands.{Gives, Stands, LeftBy}
+use Rattle.book_tables_rows.specs.Writes.{IsMeta}
+use Rattle.book_tables.specs.Stands.{LeftBy}
 
 pub epoch_is : (meta : List Row) (a b : ℕ) → IsMeta meta a → IsMeta meta b → a ≡ b
 epoch_is meta a b (i, e) (j, f) = let same = sym e ∙ f in cc

@@ -1,15 +1,9 @@
 -- A column has one value: two that it has are equal.
-use Rattle.std.proofs.Common.{◌≡◌, ◌≢◌, ℕ, ℤ, Bool, true, false, List, [], ◌∷◌, refl, sym, ◌∙◌, true≢false}
-use Rattle.sqlite.specs.declared.types.Value.{Value}
-use Rattle.sqlite.specs.declared.types.Value.TheVariants.{Int, Text}
-use Rattle.sqlite.specs.Order.{Row}
+use Rattle.book_tables.proofs.Common.{◌≡◌, ◌≢◌, ℕ, ℤ, Bool, true, false, List, [], ◌∷◌, refl, sym, ◌∙◌, true≢false, false_from_ne_true, Value, Int, Text, Row, is_same, has}
 use Rattle.sqlite_value.specs.Keys.{plain}
 use Rattle.sqlite_value.proofs.KeyLemmas.{first_key-plain}
 use Rattle.sqlite_schema.specs.Rules.{agree}
 use Rattle.sqlite_rules.proofs.KeyLemmas.{agree_back, agree_chain}
-use Rattle.book_values.proofs.NameMapLaws.{is_same}
-use Rattle.book_rows.specs.Rows.{has}
-use Rattle.book_tables.proofs.LeftRows.{by_bool}
 use Rattle.book_tables.proofs.Looking.{has_text, same_ints}
 
 module _ (place : ℕ) (row : Row) where
@@ -26,7 +20,7 @@ module _ (place : ℕ) (row : Row) where
           absurd (true≢false (rw (first_key-plain, e) at (sym chain)))
 
   pub one_number : (a b : ℤ) → a ≢ b → has place (Int a) row ≡ true → has place (Int b) row ≡ false
-  one_number a b apart p = by_bool (has place (Int b) row) (λ q. apart (same_ints 0 (Int a ∷ []) a b refl (both_equal (Int a) (Int b) p q)))
+  one_number a b apart p = false_from_ne_true (has place (Int b) row) (λ q. apart (same_ints 0 (Int a ∷ []) a b refl (both_equal (Int a) (Int b) p q)))
 
   pub one_text : (a b : List ℕ) → a ≢ b → has place (Text a) row ≡ true → has place (Text b) row ≡ false
-  one_text a b apart p = by_bool (has place (Text b) row) (λ q. apart (is_same a b (sym (has_text 0 (Text a ∷ []) a b refl) ∙ both_equal (Text a) (Text b) p q)))
+  one_text a b apart p = false_from_ne_true (has place (Text b) row) (λ q. apart (is_same a b (sym (has_text 0 (Text a ∷ []) a b refl) ∙ both_equal (Text a) (Text b) p q)))

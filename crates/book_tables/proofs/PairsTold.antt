@@ -1,50 +1,34 @@
 -- Rows of members tell the pairs of an Office.
-use Rattle.std.proofs.Common.{◌≡◌, ℕ, ◌+◌, ◌<◌, Bool, true, false, ◌&&◌, ◌||◌, List, [], ◌∷◌, map, find, take, length, get_or, is_some, refl, sym, ap, ◌∙◌}
+use Rattle.book_tables.proofs.Common.{◌≡◌, ℕ, ◌+◌, ◌<◌, Bool, true, false, ◌&&◌, ◌||◌, List, [], ◌∷◌, map, find, take, length, get_or, is_some, refl, sym, ap, ◌∙◌, contains-insert, list_any, eq_by_cmp, Text, Row, State, memberships_total, memberships_exact, same_membership, Memberships, membership_cmp, Membership, Office, rows_of, is_member, StandsFor}
+use mathlib.Core.Bool.{or_comm}
 use Rattle.std.specs.FinSet as set
-use Rattle.std.specs.FinSet.{contains-insert, same_set}
-use Rattle.std.specs.List.{list_any}
-use Rattle.std.specs.Ordering.{eq_by_cmp}
+use Rattle.std.specs.FinSet.{same_set}
 use Rattle.std.proofs.lemmas.List.Folds.{list_any_more}
 use Rattle.std.proofs.lemmas.List.Sorted.{list_any-IsPermutation}
 use Rattle.std.proofs.lemmas.Map.Text.{is_eq-slice_cmp}
-use Rattle.sqlite.specs.declared.types.Value.TheVariants.{Text}
-use Rattle.sqlite.specs.Order.{Row, column}
-use Rattle.sqlite.specs.State.{State}
-use Rattle.book_lists.proofs.Pairing.{memberships_total, memberships_exact, same_membership}
-use Rattle.book_lists.specs.Memberships.{Memberships, membership_cmp}
-use Rattle.book_lists.specs.declared.memberships.Membership.{Membership}
-use Rattle.book_values.specs.declared.offices.Office.{Office}
-use Rattle.book_rows.specs.Lists.{ShowsRows, pairs_of}
-use Rattle.book_rows.specs.Rows.{rows_of}
+use Rattle.book_tables_rows.specs.Columns.{member_group, member_member}
+use Rattle.book_tables_rows.specs.Lists.{ShowsRows, pairs_of, pair_group, pair_member}
 use Rattle.book_tables.specs.Listing.{ShowsPairs, tells_member}
-use Rattle.book_tables.specs.Rows.{is_member}
-use Rattle.book_tables.specs.Stands.{StandsFor}
 use Rattle.book_tables.proofs.Looking.{has_text}
 
 -- ---- a pair is added
 
 -- the row of a pair tells that pair and no other
-tells_one : (m e : Membership) (row : Row) → column row 0 ≡ Text e.group → column row 1 ≡ Text e.member → tells_member m row ≡ eq_by_cmp membership_cmp m e
+tells_one : (m e : Membership) (row : Row) → pair_group row ≡ Text e.group → pair_member row ≡ Text e.member → tells_member m row ≡ eq_by_cmp membership_cmp m e
 tells_one m e row group member =
     (λ i. (has_text 0 row e.group m.group group ∙ is_eq-slice_cmp e.group m.group) i && (has_text 1 row e.member m.member member ∙ is_eq-slice_cmp e.member m.member) i)
     ∙ sym (same_membership e m)
-
-turned : (a b : Bool) → (a || b) ≡ (b || a)
-turned true true = refl
-turned true false = refl
-turned false true = refl
-turned false false = refl
 
 -- the pairs so far have a pair where one of the rows so far tells it
 abbrev pub AreTold : Memberships → List Row → Type 0
 AreTold pairs rows = (m : Membership) → set.contains pairs m ≡ list_any (tells_member m) rows
 
 pub one_more_told : (pairs : Memberships) (rows : List Row) (i : ℕ) (row : Row) (e : Membership) → i < length rows → get_or rows i row ≡ row
-    → column row 0 ≡ Text e.group → column row 1 ≡ Text e.member → AreTold pairs (take i rows) → AreTold (set.insert pairs e) (take (i + 1) rows)
+    → pair_group row ≡ Text e.group → pair_member row ≡ Text e.member → AreTold pairs (take i rows) → AreTold (set.insert pairs e) (take (i + 1) rows)
 one_more_told pairs rows i row e below is group member told m =
     contains-insert memberships_total pairs e m
     ∙ (λ j. sym (tells_one m e row group member) j || told m j)
-    ∙ turned (tells_member m row) (list_any (tells_member m) (take i rows))
+    ∙ or_comm (tells_member m row) (list_any (tells_member m) (take i rows))
     ∙ ap (λ r. list_any (tells_member m) (take i rows) || tells_member m r) (sym is)
     ∙ sym (list_any_more (tells_member m) rows i row below)
 
@@ -68,7 +52,7 @@ pairs_shown s rows pairs shows told = (
   λ book m.
       told m
       ∙ sym (list_any-IsPermutation (tells_member m) (pairs_of (rows_of s.now.trees)) rows (shows.1 book))
-      ∙ any_mapped (tells_member m) (λ (row : Row). column row 1 ∷ column row 2 ∷ []) (rows_of s.now.trees).members
+      ∙ any_mapped (tells_member m) (λ (row : Row). member_group row ∷ member_member row ∷ []) (rows_of s.now.trees).members
       ∙ any_found (is_member m) (rows_of s.now.trees).members,
 )
 

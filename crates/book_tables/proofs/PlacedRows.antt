@@ -1,33 +1,13 @@
 -- The rows after places were written: at each path the resource has the owner and the label, or is a new one.
-use Rattle.std.proofs.Common.{◌≡◌, ◌≢◌, ◌⊎◌, inl, inr, ℕ, ℤ, ◌<ℤ◌, Bool, true, false, cond, ◌&&◌, List, [], ◌∷◌, map, find, Option, Some, None, option_map, refl, sym, ap, subst, ◌∙◌}
-use Rattle.std.specs.List.{AllByRecursion}
-use Rattle.sqlite.specs.declared.types.Value.{Value}
-use Rattle.sqlite.specs.declared.types.Value.TheVariants.{Int, Text}
-use Rattle.sqlite.specs.Edit.{next_rowid, id_in}
-use Rattle.sqlite.specs.Order.{Row, column}
-use Rattle.sqlite.specs.Tree.{rowid}
-use Rattle.sqlite_trees.specs.View.{IsShaped}
+use Rattle.book_tables.proofs.Common.{◌≡◌, ◌≢◌, ◌⊎◌, inl, inr, ℕ, ℤ, ◌<ℤ◌, Bool, true, false, cond, ◌&&◌, List, [], ◌∷◌, map, find, Option, Some, None, option_map, refl, sym, ap, subst, ◌∙◌, AllByRecursion, Value, Int, Text, next_rowid, id_in, Row, rowid, IsShaped, all_weaker, all-append, all_has, int_eq_apart, Properties, Kind, Path, IsPath, path_text, parent_of, kind_of, book_path, same, same_itself, by_names, some_apart, by_option, Resource, Place, in_turn, gone_book_place, gone_name_place, gone_number, Rows, has, number_in, is_at, is_gone, node_row, key, key_is, keyed, next_is, Compared, place_said, row_at, resource_in, resource_of, list_in, removed_in, removed_from, IsNode, IsEntry, IsRemoved, IsParent}
 use Rattle.sqlite_trees.specs.declared.store.Shape.TheVariants.{Table as TableShape}
-use Rattle.sqlite_trees.proofs.ListLemmas.{all_weaker, all-append}
 use Rattle.sqlite_trees.proofs.TreeLemmas.{IsShaped-put_row}
-use Rattle.sqlite_rules.proofs.ListLemmas.{all_has}
-use Rattle.sqlite_keyed.proofs.KeyedLemmas.{int_eq_apart}
-use Rattle.book_values.specs.declared.offices.Properties.{Properties}
-use Rattle.book_values.specs.declared.paths.Kind.{Kind}
-use Rattle.book_values.specs.declared.paths.Kind.TheVariants as kind
-use Rattle.book_values.specs.declared.paths.Path.{Path}
-use Rattle.book_values.specs.Paths.{IsPath, path_text, parent_of, kind_of, book_path}
-use Rattle.book_values.proofs.NameMapLaws.{same, same_itself, by_names}
-use Rattle.book_values.proofs.OneName.{some_apart, by_option}
-use Rattle.book_office.specs.Resources.{Resource}
-use Rattle.book_rows.specs.Adopting.{Place, add_under, write_found, write_place, in_turn}
-use Rattle.book_rows.specs.Rows.{Rows, has}
-use Rattle.book_rows.specs.Nodes.{number_in}
-use Rattle.book_rows.specs.Writes.{is_at, is_gone, node_row, insert_node, with_place, set_place}
-use Rattle.book_rows.proofs.Shapes.{key, key_is, keyed, next_is, put_next}
-use Rattle.book_tables.specs.Adopting.{Compared, place_said, text_or_empty}
-use Rattle.book_tables.specs.Rows.{row_at, resource_in, resource_of, list_in, removed_in, removed_from, kind_code, kind_numbered}
-use Rattle.book_tables.specs.Stands.{IsNode, IsEntry, IsRemoved, IsParent}
+use Rattle.book_office_values.specs.declared.paths.Kind.TheVariants as kind
+use Rattle.book_tables_rows.specs.Adopting.{add_under, write_found, write_place}
+use Rattle.book_tables_rows.specs.Writes.{insert_node, with_place, set_place}
+use Rattle.book_tables_rows.proofs.Shapes.{put_next}
+use Rattle.book_tables.specs.Adopting.{text_or_empty}
+use Rattle.book_tables.specs.Rows.{kind_code, kind_numbered}
 use Rattle.book_tables.proofs.Looking.{found_has, find-update_where, has_int}
 use Rattle.book_tables.proofs.RowFacts.{apart, row_added, KeepsNumbers, KeepsRows, kept_node, kept_entry, kept_removed, has_appended, has_updated, all_updated, all_from_has, is_at_found}
 use Rattle.book_tables.proofs.AddedBooks.{none_found}
@@ -35,7 +15,7 @@ use Rattle.book_tables.proofs.Turns.{turned}
 use Rattle.book_tables.proofs.WrittenCards.{new_list, owner_told, below_apart}
 use Rattle.book_tables.proofs.WellRows.{AreWell, Rewrites, updated_shaped, rewrites_nothing, rewrites_both}
 
-kind_told : (k : Kind) → kind_numbered (kind_code k) ≡ k
+pub kind_told : (k : Kind) → kind_numbered (kind_code k) ≡ k
 kind_told kind.Root = refl
 kind_told kind.Home = refl
 kind_told kind.Person = refl
@@ -194,13 +174,13 @@ module _ (rows : Rows) (well : AreWell rows) (p : Path) (named : IsPath p) (prop
       let in_nodes = (found_has (is_at (book_path it.book)) rows.nodes row it.there.1).0 in
       let int = key_is row (all_has _ rows.nodes row well.shaped.1 in_nodes) in
       let below = all_has (λ r. key r <ℤ next) rows.nodes row (next_is rows.nodes (keyed rows.nodes well.shaped)) in_nodes in
-      let fails : has 1 (Int next) x ≡ false = has_int 1 x (key row) next (it.there.2 ∙ int) ∙ int_eq_apart (key row) next (λ is. below_apart (key row) next below is) in
-      ap (λ t. t && has 2 (Text name) x) fails))
+      let fails : has gone_book_place (Int next) x ≡ false = has_int 1 x (key row) next (it.there.2 ∙ int) ∙ int_eq_apart (key row) next (λ is. below_apart (key row) next below is) in
+      ap (λ t. t && has gone_name_place (Text name) x) fails))
 
   new_removed : (b name : List ℕ) → removed_in new_after b name ≡ removed_in rows b name
   new_removed b name = by_names (book_path b) new_at (λ _. removed_in new_after b name ≡ removed_in rows b name)
       (λ is.
-      ap (removed_from rows.gone name) (ap (row_at new_after) is ∙ at_new) ∙ ap (option_map (λ row. number_in (column row 3))) (no_names name)
+      ap (removed_from rows.gone name) (ap (row_at new_after) is ∙ at_new) ∙ ap (option_map (λ row. number_in (gone_number row))) (no_names name)
       ∙ sym (ap (removed_from rows.gone name) (ap (row_at rows) is ∙ none)))
       (λ differs. ap (removed_from rows.gone name) (elsewhere (book_path b) differs))
 

@@ -1,19 +1,11 @@
 -- An edit that rests on what was read before it.
-use Rattle.std.proofs.Common.{◌≡◌, ◌⊎◌, inl, inr, ℕ, Result, Ok, Err, OnOk, OnErr, IsErrAnd, arith, sym, ap, subst, ◌∙◌, IsTrue}
-use Rattle.sqlite.specs.Effect.{Database}
-use Rattle.sqlite.specs.Tree.{Trees}
-use Rattle.sqlite.specs.State.{State, HasCleanDisk, Survives}
-use Rattle.book_values.specs.declared.offices.Office.{Office}
+use Rattle.book_tables.proofs.Common.{◌≡◌, inl, inr, ℕ, Result, Ok, Err, arith, sym, ap, subst, ◌∙◌, IsTrue, Database, Trees, State, HasCleanDisk, Survives, Office, apply, StoreFault, Leftover, Standing, Reads, whole, failures_after_fault, IsSound, Rows, in_store, Commits, MayLeave, Stays, standing_of, Gives, Stands, StandsFor, LeftOf}
+use Rattle.std.proofs.Common.{OnOk, OnErr, IsErrAnd}
 use Rattle.book_office.specs.declared.edits.Edit.{Edit}
-use Rattle.book_office.specs.Edits.{apply}
-use Rattle.book_office.specs.declared.keepers.StoreFault.{StoreFault}
-use Rattle.book_office.specs.Keeping.{Leftover, Standing, Edits, Reads, whole, failures_after, failures_after_fault}
-use Rattle.book_office.specs.Sound.{IsSound, Fits}
-use Rattle.book_rows.specs.Rows.{Rows, rows_of, in_store}
-use Rattle.book_rows.specs.Steps.{Change, Commits, MayLeave, Stays}
+use Rattle.book_office.specs.Keeping.{Edits, failures_after}
+use Rattle.book_office.specs.Sound.{Fits}
+use Rattle.book_tables_rows.specs.Steps.{Change}
 use Rattle.book_tables.specs.Adopting.{Rests}
-use Rattle.book_tables.specs.Keeps.{standing_of}
-use Rattle.book_tables.specs.Stands.{Gives, Stands, StandsFor, LeftOf}
 use Rattle.book_tables.proofs.Acting.{Given, GivesEdited, acts_kept, edit_made, edit_failed}
 use Rattle.book_tables.proofs.OneOffice.{one_office, only_left}
 

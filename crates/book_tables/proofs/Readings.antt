@@ -1,8 +1,6 @@
 -- Reads of a keeper, one after another.
-use Rattle.std.proofs.Common.{◌≡◌, ℕ, Result, Ok, Err, IsErrAnd, sym, ap, ◌∙◌}
-use Rattle.book_values.specs.declared.offices.Office.{Office}
-use Rattle.book_office.specs.declared.keepers.StoreFault.{StoreFault}
-use Rattle.book_office.specs.Keeping.{Standing, Reads, failures_after_fault}
+use Rattle.book_tables.proofs.Common.{◌≡◌, ℕ, Result, Ok, Err, sym, ap, ◌∙◌, Office, StoreFault, Standing, Reads, failures_after_fault}
+use Rattle.std.proofs.Common.{IsErrAnd}
 
 module _ {A : Type 0} (a b : Standing) (x : A) (T : Office → A → Type 0) (first : Reads a b (Ok x) T) where
   -- what was read tells something else

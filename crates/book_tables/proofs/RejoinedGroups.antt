@@ -1,23 +1,14 @@
 -- The rows after the direct members of groups were written: the pairs that they tell.
-use Rattle.std.proofs.Common.{◌≡◌, ◌≢◌, ℕ, Bool, true, false, not, cond, ◌&&◌, ◌||◌, List, [], ◌∷◌, map, filter, find, is_some, refl, sym, ap, subst, ◌∙◌}
+use Rattle.book_tables.proofs.Common.{◌≡◌, ℕ, Bool, true, false, not, cond, ◌&&◌, ◌||◌, List, [], ◌∷◌, map, filter, refl, sym, ap, ◌∙◌, contains-insert, list_any, eq_by_cmp, bytes_eq, Memberships, membership_cmp, Membership, memberships_total, memberships_exact, same_membership, Rows, Joined, in_turn, members_in}
 use Rattle.std.specs.FinSet as set
-use Rattle.std.specs.FinSet.{contains-insert, contains-retain, contains-from_list}
-use Rattle.std.specs.List.{AllByRecursion, list_any}
-use Rattle.std.specs.Ordering.{eq_by_cmp}
-use Rattle.std.specs.Str.{bytes_eq}
+use Rattle.std.specs.FinSet.{contains-retain, contains-from_list}
 use Rattle.std.proofs.lemmas.Cmp.{nat_list_eq_equiv}
-use Rattle.sqlite.specs.Order.{Row}
-use Rattle.sqlite_trees.proofs.ListLemmas.{all_weaker}
-use Rattle.book_lists.specs.Memberships.{Memberships, membership_cmp, set_of}
-use Rattle.book_lists.specs.declared.memberships.Membership.{Membership}
-use Rattle.book_lists.proofs.Pairing.{memberships_total, memberships_exact, same_membership, same_path, path_itself}
+use Rattle.book_lists.specs.Memberships.{set_of}
 use Rattle.book_office.specs.Edits.{members_set}
 use Rattle.book_office.proofs.GroupMembers.{members_added, members_joined, is_of_others}
-use Rattle.book_rows.specs.Rows.{Rows}
-use Rattle.book_rows.specs.Adopting.{Joined, write_group, in_turn}
-use Rattle.book_rows.specs.Writes as writes
-use Rattle.book_tables.specs.Adopting.{members_in, group_said}
-use Rattle.book_tables.specs.Rows.{has_member, is_member}
+use Rattle.book_tables_rows.specs.Adopting.{write_group}
+use Rattle.book_tables_rows.specs.Writes as writes
+use Rattle.book_tables.specs.Rows.{has_member}
 use Rattle.book_tables.proofs.JoinedMembers.{members_alone, members_rewritten, AreMembers}
 use Rattle.book_tables.proofs.Turns.{turned}
 

@@ -1,30 +1,8 @@
 -- The rows after both lists of places were written: at each of their paths the resource has the lists.
-use Rattle.std.proofs.Common.{◌≡◌, ◌≢◌, ℕ, ◌+◌, ℤ, Bool, true, false, cond, ◌&&◌, List, [], ◌∷◌, map, Option, Some, None, option_map, refl, sym, ap, subst, ◌∙◌}
-use Rattle.std.specs.List.{AllByRecursion}
-use Rattle.sqlite.specs.declared.types.Value.{Value}
-use Rattle.sqlite.specs.declared.types.Value.TheVariants.{Int}
-use Rattle.sqlite.specs.Edit.{next_rowid, id_in}
-use Rattle.sqlite.specs.Order.{Row}
-use Rattle.sqlite.specs.Tree.{rowid}
-use Rattle.sqlite_rules.specs.Lists.{Has}
-use Rattle.sqlite_rules.proofs.ListLemmas.{all_has}
-use Rattle.sqlite_trees.proofs.ListLemmas.{all_weaker, all-append}
-use Rattle.book_lists.specs.declared.entries.Entry.{Entry}
-use Rattle.book_values.specs.declared.offices.Properties.{Properties}
-use Rattle.book_values.specs.declared.paths.Path.{Path}
-use Rattle.book_values.specs.Paths.{path_text}
-use Rattle.book_values.proofs.NameMapLaws.{same, by_names}
-use Rattle.book_values.proofs.OneName.{by_option}
-use Rattle.book_office.specs.Resources.{Resource}
-use Rattle.book_rows.specs.Adopting.{Listed, list_found, write_lists, in_turn}
-use Rattle.book_rows.specs.Rows.{Rows, has}
-use Rattle.book_rows.specs.Writes.{Said, is_at, entry_row, flag, delete_entries, insert_listed, insert_list, write_both}
-use Rattle.book_rows.proofs.Shapes.{key_is}
-use Rattle.book_rows.proofs.WrittenBoth.{both_are_read, other_lists_stay}
-use Rattle.book_tables.specs.Adopting.{Compared, lists_said}
-use Rattle.book_tables.specs.Rows.{row_at, resource_in, resource_of, list_in, entry_values, entry_of}
-use Rattle.book_tables.specs.Settings.{entry_said}
-use Rattle.book_tables.specs.Stands.{IsNode, IsEntry, IsRemoved}
+use Rattle.book_tables.proofs.Common.{◌≡◌, ◌≢◌, ℕ, ◌+◌, ℤ, Bool, true, false, cond, ◌&&◌, List, [], ◌∷◌, map, Option, Some, None, option_map, refl, sym, ap, subst, ◌∙◌, AllByRecursion, Value, Int, next_rowid, id_in, Row, rowid, Has, all_has, all_weaker, all-append, Entry, Properties, Path, path_text, same, by_names, by_option, Resource, in_turn, ace_node_place, ace_protected_place, Rows, has, is_at, flag, key_is, Compared, lists_said, row_at, resource_in, resource_of, list_in, entry_values, entry_of, entry_said, IsNode, IsEntry, IsRemoved}
+use Rattle.book_tables_rows.specs.Adopting.{Listed, list_found, write_lists}
+use Rattle.book_tables_rows.specs.Writes.{Said, entry_row, delete_entries, insert_listed, insert_list, write_both}
+use Rattle.book_tables_rows.proofs.WrittenBoth.{both_are_read, other_lists_stay}
 use Rattle.book_tables.proofs.Looking.{found_has}
 use Rattle.book_tables.proofs.OneValue.{one_number}
 use Rattle.book_tables.proofs.RowFacts.{kept_node, kept_entry, kept_removed, number_of_row, numbers_apart}
@@ -90,12 +68,12 @@ module _ (rows : Rows) (well : AreWell rows) (p : Path) (properties : Properties
   -- a list that was written is the list
   own_here : list_in entries (rowid node) false ≡ properties.own
   own_here = ap (λ v. list_in entries v false) id_is
-      ∙ entries_in_columns (Rattle.book_rows.specs.Writes.entries_of entries (Int id) false)
+      ∙ entries_in_columns (Rattle.book_tables_rows.specs.Writes.entries_of entries (Int id) false)
       ∙ ap (map entry_in) (both_are_read rows id protected own).1 ∙ entries_told properties.own
 
   protected_here : list_in entries (rowid node) true ≡ properties.protected
   protected_here = ap (λ v. list_in entries v true) id_is
-      ∙ entries_in_columns (Rattle.book_rows.specs.Writes.entries_of entries (Int id) true)
+      ∙ entries_in_columns (Rattle.book_tables_rows.specs.Writes.entries_of entries (Int id) true)
       ∙ ap (map entry_in) (both_are_read rows id protected own).0 ∙ entries_told properties.protected
 
   node_then : resource_of entries node ≡ relisted properties (resource_of rows.entries node)
@@ -103,7 +81,7 @@ module _ (rows : Rows) (well : AreWell rows) (p : Path) (properties : Properties
 
   -- a list of another node stays
   other_list : (k : ℤ) → id ≢ k → (list : Bool) → list_in entries (Int k) list ≡ list_in rows.entries (Int k) list
-  other_list k apart list = ap (map entry_of) (other_lists_stay rows id protected own (Int k) list (λ row its. ap (λ b. b && has 2 (flag list) row) (one_number 1 row id k apart its)))
+  other_list k apart list = ap (map entry_of) (other_lists_stay rows id protected own (Int k) list (λ row its. ap (λ b. b && has ace_protected_place (flag list) row) (one_number 1 row id k apart its)))
 
   elsewhere : (t : List ℕ) → t ≢ at → resource_in after t ≡ resource_in rows t
   elsewhere t apart = by_option (row_at rows t)
@@ -139,7 +117,7 @@ module _ (rows : Rows) (well : AreWell rows) (p : Path) (properties : Properties
     nodes = all_weaker (IsNode rows) (IsNode after) (kept_node rows after (λ t r found. (r, found, refl))) rows.nodes well.nodes;
     entries = all_listed (IsEntry after) (Int id) false (new_entry false) 0 properties.own (insert_list (Int id) true 0 protected (delete_entries (Int id) rows))
         (all_listed (IsEntry after) (Int id) true (new_entry true) 0 properties.protected (delete_entries (Int id) rows)
-        (all_filter_weaker (IsEntry rows) (IsEntry after) (kept_entry rows after (λ x there. (x, there, refl))) (has 1 (Int id)) rows.entries well.entries));
+        (all_filter_weaker (IsEntry rows) (IsEntry after) (kept_entry rows after (λ x there. (x, there, refl))) (has ace_node_place (Int id)) rows.entries well.entries));
     removed = all_weaker (IsRemoved rows) (IsRemoved after) (kept_removed rows after (λ t r found. (r, found, refl))) rows.gone well.removed;
     shaped = well.shaped;
   }

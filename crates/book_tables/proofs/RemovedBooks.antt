@@ -1,24 +1,8 @@
 -- DELETE of a book: the rows give the Office without it.
-use Rattle.std.proofs.Common.{◌≡◌, ℕ, ◌+◌, List, Some, sym, subst, ◌∙◌}
-use Rattle.std.specs.FinMap.{get}
-use Rattle.sqlite.specs.declared.types.Value.TheVariants.{Int}
-use Rattle.sqlite.specs.Edit.{id_in}
-use Rattle.sqlite.specs.Order.{Row}
-use Rattle.sqlite.specs.Tree.{rowid}
-use Rattle.sqlite_rules.proofs.ListLemmas.{all_has}
-use Rattle.book_lists.specs.Names.{IsName}
-use Rattle.book_values.specs.declared.offices.Office.{Office}
-use Rattle.book_values.specs.Paths.{book_path}
-use Rattle.book_values.proofs.OneName.{where_some}
+use Rattle.book_tables.proofs.Common.{◌≡◌, ℕ, ◌+◌, List, Some, sym, subst, ◌∙◌, get, Int, id_in, Row, rowid, all_has, IsName, Office, book_path, where_some, apply, Rows, is_at, key_is, row_at, Gives}
 use Rattle.book_office.specs.declared.edits.Edit.TheVariants.{RemoveBook}
-use Rattle.book_office.specs.Edits.{apply}
-use Rattle.book_rows.specs.Rows.{Rows}
-use Rattle.book_rows.specs.Nodes.{RemovesBook, FitRemoval, removing_book}
-use Rattle.book_rows.specs.Writes as writes
-use Rattle.book_rows.specs.Writes.{is_at}
-use Rattle.book_rows.proofs.Shapes.{key_is}
-use Rattle.book_tables.specs.Rows.{row_at}
-use Rattle.book_tables.specs.Stands.{Gives}
+use Rattle.book_tables_rows.specs.Nodes.{RemovesBook, FitRemoval, removing_book}
+use Rattle.book_tables_rows.specs.Writes as writes
 use Rattle.book_tables.proofs.Acting.{Given, GivesEdited}
 use Rattle.book_tables.proofs.Looking.{found_has}
 use Rattle.book_tables.proofs.OneOffice.{epoch_is}
@@ -42,7 +26,7 @@ module _ (b : List ℕ) (rows : Rows) (o : Office) (given : Given rows o (Remove
   removal_gives after made =
       let epoch = epoch_is rows.meta made.epoch o.epoch made.meta given.gives.meta in
       let gives = gives_removed rows o given.gives given.nodes.shaped given.nodes.once b named made.book made.there (id_in (rowid made.book)) (number made.book made.there) in
-      subst (λ r. Gives r (apply o (RemoveBook b))) (sym (made.rows_are ∙ (λ i. writes.remove_book (Int (id_in (rowid made.book))) (epoch i + 1) rows))) gives
+      subst (λ r. Gives r (apply o (RemoveBook b))) (sym (made.rows_are ∙ (λ i. writes.remove_book_rows (Int (id_in (rowid made.book))) (epoch i + 1) rows))) gives
 
 pub removes_book : (b : List ℕ) → GivesEdited (RemoveBook b) (removing_book (book_path b))
 removes_book b = record { fits = λ rows o given. removal_fits b rows o given; gives = λ rows after o given made. removal_gives b rows o given after made }

@@ -1,44 +1,16 @@
 -- DELETE of a card: no row refers to it but its entries, and the rows without it give the Office without it.
-use Rattle.std.proofs.Common.{◌≡◌, ◌≢◌, ℕ, ◌+◌, Bool, true, false, cond, List, find, map, Option, Some, None, option_map, option_and_then, refl, sym, ap, subst, ◌∙◌, true≢false}
-use Rattle.std.proofs.lemmas.Bool.{and_parts}
-use Rattle.std.specs.FinMap.{get, remove}
-use Rattle.std.specs.List.{AllByRecursion}
-use Rattle.sqlite.specs.declared.types.Value.{Value}
-use Rattle.sqlite.specs.declared.types.Value.TheVariants.{Int}
-use Rattle.sqlite.specs.Edit.{next_rowid, id_in}
-use Rattle.sqlite.specs.Order.{Row, column}
-use Rattle.sqlite.specs.Tree.{rowid}
-use Rattle.sqlite_trees.specs.View.{IsShaped}
+use Rattle.book_tables.proofs.Common.{◌≡◌, ◌≢◌, ℕ, ◌+◌, Bool, true, false, cond, List, find, map, Option, Some, None, option_map, option_and_then, refl, sym, ap, subst, ◌∙◌, true≢false, and_parts, false_from_ne_true, get, remove, AllByRecursion, same_Some, Value, Int, next_rowid, id_in, Row, rowid, IsShaped, all_weaker, all-append, Has, all_has, delete_where, sort_by, IsName, Book, StoredCard, Office, Path, IsPath, path_text, parent_of, book_path, card_path, one_text, same_itself, by_names, some_apart, by_option, where_some, removed_here, removed_elsewhere, apply, card_at, IsSoundBook, ace_node_place, gone_book_place, node_parent, rowid_place, Rows, has, is_at, is_entry, by_place, with_number, PassesOnce, key, key_is, in_left, int_itself, row_at, list_in, entry_of, IsParent, IsNode, IsEntry, IsRemoved, Gives}
 use Rattle.sqlite_trees.specs.declared.store.Shape.TheVariants.{Table as TableShape}
-use Rattle.sqlite_trees.proofs.ListLemmas.{all_weaker, all-append}
-use Rattle.sqlite_rules.specs.Lists.{Has}
-use Rattle.sqlite_rules.proofs.ListLemmas.{all_has}
-use Rattle.sqlite_keyed.specs.Lists.{delete_where, sort_by}
-use Rattle.book_lists.specs.Names.{IsName}
-use Rattle.book_values.specs.declared.offices.Book.{Book}
-use Rattle.book_values.specs.declared.offices.StoredCard.{StoredCard}
-use Rattle.book_values.specs.declared.offices.Office.{Office}
-use Rattle.book_values.specs.declared.paths.Path.{Path}
-use Rattle.book_values.specs.declared.paths.Path.TheVariants as path
-use Rattle.book_values.specs.Paths.{IsPath, path_text, parent_of, book_path, card_path}
-use Rattle.book_values.proofs.Spelling.{one_text}
-use Rattle.book_values.proofs.NameMapLaws.{same_itself, by_names}
-use Rattle.book_values.proofs.OneName.{same_some, some_apart, by_option, where_some, removed_here, removed_elsewhere}
+use Rattle.book_office_values.specs.declared.paths.Path.TheVariants as path
 use Rattle.book_office.specs.declared.edits.Edit.TheVariants.{RemoveCard}
-use Rattle.book_office.specs.Edits.{remove_card, apply}
-use Rattle.book_office.specs.Resources.{card_at}
-use Rattle.book_office.specs.Sound.{IsSoundBook}
-use Rattle.book_rows.specs.Rows.{Rows, has}
-use Rattle.book_rows.specs.Nodes.{RemovesCard, FitCardRemoval, removing_card}
-use Rattle.book_rows.specs.Writes as writes
-use Rattle.book_rows.specs.Writes.{is_at, is_entry, by_place, with_number, delete_entries, AreFree}
-use Rattle.book_rows.proofs.Once.{PassesOnce}
-use Rattle.book_rows.proofs.Shapes.{key, key_is}
-use Rattle.book_tables.specs.Rows.{row_at, list_in, entry_of}
-use Rattle.book_tables.specs.Stands.{IsParent, IsNode, IsEntry, IsRemoved, Gives}
+use Rattle.book_office.specs.Edits.{remove_card}
+use Rattle.book_tables_rows.specs.Columns.{node_parent_place}
+use Rattle.book_tables_rows.specs.Nodes.{RemovesCard, FitCardRemoval, removing_card}
+use Rattle.book_tables_rows.specs.Writes as writes
+use Rattle.book_tables_rows.specs.Writes.{delete_entries, AreFree}
 use Rattle.book_tables.proofs.Acting.{Given, GivesEdited}
-use Rattle.book_tables.proofs.Looking.{found_has, find-delete_where, find-deleted, has_int, same_ints, int_itself}
-use Rattle.book_tables.proofs.LeftRows.{in_left, stays_in, filter-delete_where, one_found, by_bool, has_null, book_or_card}
+use Rattle.book_tables.proofs.Looking.{found_has, find-delete_where, find-deleted, has_int, same_ints}
+use Rattle.book_tables.proofs.LeftRows.{stays_in, filter-delete_where, one_found, has_null, book_or_card}
 use Rattle.book_tables.proofs.RowFacts.{apart, same_rowid, has_updated, all_updated, all_from_has, is_at_found, number_of_row, numbers_apart}
 use Rattle.book_tables.proofs.TouchedOffices.{edited_book, touched_office}
 use Rattle.book_tables.proofs.TouchedRows.{AreTouched, gives_touched}
@@ -71,7 +43,7 @@ parent_kept rows after keeps v p is_path =
 
 pub node_kept : (rows after : Rows) → KeepsAbove rows after → (row : Row) → IsNode rows row → IsNode after row
 node_kept rows after keeps row (p, n) =
-    (p, record { named = n.named; path = n.path; parent = parent_kept rows after keeps (column row 3) p n.named n.parent; kind = n.kind; number = n.number })
+    (p, record { named = n.named; path = n.path; parent = parent_kept rows after keeps (node_parent row) p n.named n.parent; kind = n.kind; number = n.number })
 
 pub gone_kept : (rows after : Rows) → KeepsAbove rows after → (row : Row) → IsRemoved rows row → IsRemoved after row
 gone_kept rows after keeps row r =
@@ -97,52 +69,52 @@ module _ (rows : Rows) (o : Office) (gives : Gives rows o) (shaped : IsShaped Ta
   pub id_is : rowid card_row ≡ id
   id_is = node_number card_row card_there
 
-  own_row : (r : Row) → Has rows.nodes r → has 0 id r ≡ true → r ≡ card_row
+  own_row : (r : Row) → Has rows.nodes r → has rowid_place id r ≡ true → r ≡ card_row
   own_row r there own =
       let n = node_number r there in
       same_rowid rows.nodes r card_row shaped.0 there card_there (n ∙ ap Int (same_ints 0 r (key r) (key card_row) n own) ∙ sym id_is)
 
-  pub itself : has 0 id card_row ≡ true
+  pub itself : has rowid_place id card_row ≡ true
   itself = has_int 0 card_row (key card_row) (key card_row) id_is ∙ int_itself (key card_row)
 
   -- a row at another text is another
-  pub other_row : (t : List ℕ) → t ≢ cp → (r : Row) → Has rows.nodes r → is_at t r ≡ true → has 0 id r ≡ false
-  other_row t differs r there at = by_bool (has 0 id r) (λ own.
+  pub other_row : (t : List ℕ) → t ≢ cp → (r : Row) → Has rows.nodes r → is_at t r ≡ true → has rowid_place id r ≡ false
+  other_row t differs r there at = false_from_ne_true (has rowid_place id r) (λ own.
       true≢false (sym at ∙ ap (is_at t) (own_row r there own) ∙ is_at_found rows gives.nodes shaped cp t card_row at_card ∙ apart cp t (λ is. differs (sym is))))
 
   abbrev pub nodes_left : List Row
-  nodes_left = delete_where (has 0 id) rows.nodes
+  nodes_left = delete_where (has rowid_place id) rows.nodes
 
   pub card_left : find (is_at cp) nodes_left ≡ None
-  card_left = find-deleted (is_at cp) (has 0 id) rows.nodes (all_from_has _ rows.nodes (λ x there at.
-      ap (has 0 id) (one_found (is_at cp) rows.nodes x card_row (once cp) at_card there at) ∙ itself))
+  card_left = find-deleted (is_at cp) (has rowid_place id) rows.nodes (all_from_has _ rows.nodes (λ x there at.
+      ap (has rowid_place id) (one_found (is_at cp) rows.nodes x card_row (once cp) at_card there at) ∙ itself))
 
   pub others_left : (t : List ℕ) → t ≢ cp → find (is_at t) nodes_left ≡ row_at rows t
-  others_left t differs = find-delete_where (is_at t) (has 0 id) rows.nodes (all_from_has _ rows.nodes (λ x there at. other_row t differs x there at))
+  others_left t differs = find-delete_where (is_at t) (has rowid_place id) rows.nodes (all_from_has _ rows.nodes (λ x there at. other_row t differs x there at))
 
   abbrev pub entries_left : List Row
-  entries_left = delete_where (has 1 id) rows.entries
+  entries_left = delete_where (has ace_node_place id) rows.entries
 
   -- the lists of other rows stay
   pub lists_left : (t : List ℕ) (r : Row) → row_at rows t ≡ Some r → t ≢ cp → (pr : Bool) → list_in entries_left (rowid r) pr ≡ list_in rows.entries (rowid r) pr
   lists_left t r found differs pr =
       let k_r = number_of_row rows gives.nodes shaped t r found in
-      ap (λ es. map entry_of (sort_by by_place es)) (filter-delete_where (is_entry (rowid r) pr) (has 1 id) rows.entries (all_from_has _ rows.entries (λ e in_entries passes.
-      by_bool (has 1 id e) (λ own.
+      ap (λ es. map entry_of (sort_by by_place es)) (filter-delete_where (is_entry (rowid r) pr) (has ace_node_place id) rows.entries (all_from_has _ rows.entries (λ e in_entries passes.
+      false_from_ne_true (has ace_node_place id e) (λ own.
       let it = all_has (IsEntry rows) rows.entries e gives.entries in_entries in
       let its = it.its ∙ node_number it.node it.there in
-      let is_r = same_ints 1 e (key it.node) k_r.0 its (ap (λ v. has 1 v e) (sym k_r.1) ∙ (and_parts _ _ passes).0) in
+      let is_r = same_ints 1 e (key it.node) k_r.0 its (ap (λ v. has ace_node_place v e) (sym k_r.1) ∙ (and_parts _ _ passes).0) in
       let is_card = same_ints 1 e (key it.node) (key card_row) its own in
       differs (numbers_apart rows gives.nodes shaped t cp r card_row found at_card (k_r.1 ∙ ap Int (sym is_r ∙ is_card) ∙ sym id_is))))))
 
   -- a row that is left keeps its number and is there
   pub entry_left : (after : Rows) → ((x : Row) → Has nodes_left x → (y : Row) × Has after.nodes y × (rowid y ≡ rowid x)) → (e : Row) → Has entries_left e → IsEntry after e
   entry_left after there e in_entries =
-      let left = in_left (has 1 id) rows.entries e in_entries in
+      let left = in_left (has ace_node_place id) rows.entries e in_entries in
       let it = all_has (IsEntry rows) rows.entries e gives.entries left.0 in
       let m = node_number it.node it.there in
-      let other : has 0 id it.node ≡ false = has_int 0 it.node (key it.node) (key card_row) m ∙ sym (has_int 1 e (key it.node) (key card_row) (it.its ∙ m)) ∙ left.1 in
-      let y = there it.node (stays_in (has 0 id) rows.nodes it.node it.there other) in
+      let other : has rowid_place id it.node ≡ false = has_int 0 it.node (key it.node) (key card_row) m ∙ sym (has_int 1 e (key it.node) (key card_row) (it.its ∙ m)) ∙ left.1 in
+      let y = there it.node (stays_in (has rowid_place id) rows.nodes it.node it.there other) in
       record { node = y.0; there = y.1; its = it.its ∙ sym y.2; list = it.list; protected = it.protected; place = it.place; spelled = it.spelled }
 
   -- a row whose number is in a column is at no path but the card's
@@ -150,29 +122,29 @@ module _ (rows : Rows) (o : Office) (gives : Gives rows o) (shaped : IsShaped Ta
   not_above above is_path no_card s found is =
       no_card b c (one_text above (path.Card b c) is_path (named, named_card) (numbers_apart rows gives.nodes shaped (path_text above) cp s card_row found at_card is))
 
-  no_child : (child : Row) → Has rows.nodes child → has 3 id child ≡ false
+  no_child : (child : Row) → Has rows.nodes child → has node_parent_place id child ≡ false
   no_child child there =
       let n = all_has (IsNode rows) rows.nodes child gives.nodes there in
-      by_parent n.0 n.1.named (λ above. IsParent rows (column child 3) above → has 3 id child ≡ false)
+      by_parent n.0 n.1.named (λ above. IsParent rows (node_parent child) above → has node_parent_place id child ≡ false)
       (λ null. has_null 3 child (key card_row) null)
-      (λ above is_path no_card (s, found, is). by_bool (has 3 id child) (λ hit.
+      (λ above is_path no_card (s, found, is). false_from_ne_true (has node_parent_place id child) (λ hit.
       let ks = number_of_row rows gives.nodes shaped (path_text above) s found in
       not_above above is_path no_card s found (ks.1 ∙ ap Int (same_ints 3 child ks.0 (key card_row) (is ∙ ks.1) hit) ∙ sym id_is)))
       n.1.parent
 
-  no_name : (name : Row) → Has rows.gone name → has 1 id name ≡ false
+  no_name : (name : Row) → Has rows.gone name → has gone_book_place id name ≡ false
   no_name name there =
       let it = all_has (IsRemoved rows) rows.gone name gives.removed there in
       let ks = number_of_row rows gives.nodes shaped (book_path it.book) it.there.0 it.there.1 in
-      by_bool (has 1 id name) (λ hit.
+      false_from_ne_true (has gone_book_place id name) (λ hit.
       not_above (path.Book it.book) it.named (λ a d e. cc) it.there.0 it.there.1 (ks.1 ∙ ap Int (same_ints 1 name ks.0 (key card_row) (it.there.2 ∙ ks.1) hit) ∙ sym id_is))
 
   -- without its entries, no row refers to the card
-  pub free_card : AreFree (has 0 id) (delete_entries id rows)
+  pub free_card : AreFree (has rowid_place id) (delete_entries id rows)
   free_card = record {
-    nodes = λ node child there own in_nodes out. ap (λ v. has 3 v child) (ap rowid (own_row node there own) ∙ id_is) ∙ no_child child in_nodes;
-    entries = λ node entry there own in_entries. ap (λ v. has 1 v entry) (ap rowid (own_row node there own) ∙ id_is) ∙ (in_left (has 1 id) rows.entries entry in_entries).1;
-    gone = λ node name there own in_gone. ap (λ v. has 1 v name) (ap rowid (own_row node there own) ∙ id_is) ∙ no_name name in_gone;
+    nodes = λ node child there own in_nodes out. ap (λ v. has node_parent_place v child) (ap rowid (own_row node there own) ∙ id_is) ∙ no_child child in_nodes;
+    entries = λ node entry there own in_entries. ap (λ v. has ace_node_place v entry) (ap rowid (own_row node there own) ∙ id_is) ∙ (in_left (has ace_node_place id) rows.entries entry in_entries).1;
+    gone = λ node name there own in_gone. ap (λ v. has gone_book_place v name) (ap rowid (own_row node there own) ∙ id_is) ∙ no_name name in_gone;
   }
 
   -- ---- the card is taken out of its book
@@ -194,7 +166,7 @@ module _ (rows : Rows) (o : Office) (gives : Gives rows o) (shaped : IsShaped Ta
     cards_apart is = book_or_card (one_text (path.Book b) (path.Card b c) named (named, named_card) is)
 
     abbrev pub after : Rows
-    after = writes.remove_card book_id id bp c n rows
+    after = writes.remove_card_rows book_id id bp c n rows
 
     abbrev upd : Row → Row
     upd r = cond (is_at bp r) (with_number n r) r
@@ -217,7 +189,7 @@ module _ (rows : Rows) (o : Office) (gives : Gives rows o) (shaped : IsShaped Ta
     keeps_above q is_path no_card r found =
         let not_card : path_text q ≢ cp = λ is. no_card b c (one_text q (path.Card b c) is_path (named, named_card) is) in
         by_names (path_text q) bp (λ _. (s : Row) × (row_at after (path_text q) ≡ Some s) × (rowid s ≡ rowid r))
-        (λ is. (with_number n book_row, ap (row_at after) is ∙ book_then, ap rowid (same_some _ _ (sym at_book_row ∙ sym (ap (row_at rows) is) ∙ found))))
+        (λ is. (with_number n book_row, ap (row_at after) is ∙ book_then, ap rowid (same_Some _ _ (sym at_book_row ∙ sym (ap (row_at rows) is) ∙ found))))
         (λ not_book. (r, elsewhere (path_text q) not_book not_card ∙ found, refl))
 
     touched : AreTouched rows after b c book_row None n
@@ -234,7 +206,7 @@ module _ (rows : Rows) (o : Office) (gives : Gives rows o) (shaped : IsShaped Ta
     nodes_after : AllByRecursion (IsNode after) after.nodes
     nodes_after =
         all_updated (IsNode after) (is_at bp) (with_number n) (node_changed after (with_number n) (numbered_keeps n)) nodes_left
-        (all_from_has (IsNode after) nodes_left (λ x in_nodes. node_kept rows after keeps_above x (all_has (IsNode rows) rows.nodes x gives.nodes (in_left (has 0 id) rows.nodes x in_nodes).0)))
+        (all_from_has (IsNode after) nodes_left (λ x in_nodes. node_kept rows after keeps_above x (all_has (IsNode rows) rows.nodes x gives.nodes (in_left (has rowid_place id) rows.nodes x in_nodes).0)))
 
     removed_after : AllByRecursion (IsRemoved after) after.gone
     removed_after =
@@ -286,7 +258,7 @@ module _ (b c : List ℕ) (rows : Rows) (o : Office) (given : Given rows o (Remo
       let at = at_book rows o given.gives given.sound b made.book made.there k.book k.there in
       let gives = gives_without rows o given.gives given.nodes.shaped given.nodes.once b c k.named k.named_card made.card made.card_there k.book k.there k.card k.its made.book made.there in
       subst (λ r. Gives r (apply o (RemoveCard b c)))
-      (sym (made.rows_are ∙ (λ i. writes.remove_card (Int (id_in (rowid made.book))) (Int (id_in (rowid made.card))) (book_path b) c (at.number i) rows)))
+      (sym (made.rows_are ∙ (λ i. writes.remove_card_rows (Int (id_in (rowid made.book))) (Int (id_in (rowid made.card))) (book_path b) c (at.number i) rows)))
       (subst (Gives _) (sym (edited_book (remove_card c) o b k.book k.there)) gives)
 
   removal_fits : FitCardRemoval (card_path b c) rows

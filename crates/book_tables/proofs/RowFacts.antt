@@ -1,30 +1,9 @@
 -- Rows that give an Office: where a row stands, and which rows stay when one is written.
-use Rattle.std.proofs.Common.{◌≡◌, ◌≢◌, inl, inr, ℕ, ℤ, Bool, true, false, cond, ◌&&◌, List, [], ◌∷◌, ◌++◌, find, Option, Some, None, refl, sym, ap, ◌∙◌}
-use Rattle.std.specs.Option.{option_or}
-use Rattle.std.specs.List.{AllByRecursion}
-use Rattle.std.proofs.lemmas.List.Folds.{find-append}
-use Rattle.std.proofs.lemmas.Cmp.{tied_itself}
-use Rattle.sqlite.specs.declared.types.Value.{Value}
-use Rattle.sqlite.specs.declared.types.Value.TheVariants.{Int, Text}
-use Rattle.sqlite.specs.Edit.{id_in}
-use Rattle.sqlite.specs.Order.{Row, column, value_cmp}
-use Rattle.sqlite.specs.Tree.{rowid}
-use Rattle.sqlite_trees.specs.View.{IsShaped}
+use Rattle.book_tables.proofs.Common.{◌≡◌, ◌≢◌, inl, inr, ℕ, ℤ, Bool, true, false, cond, List, [], ◌∷◌, ◌++◌, find, Option, Some, None, refl, sym, ap, ◌∙◌, option_or, AllByRecursion, find-append, tied_itself, Value, Int, Text, id_in, Row, value_cmp, rowid, IsShaped, Has, all_has, value_cmp_total, Path, path_text, parent_of, update_where, same, is_same, by_names, gone_book, node_parent, node_path, Rows, is_at, row_at, IsParent, IsNode, IsEntry, IsRemoved}
 use Rattle.sqlite_trees.specs.Tree.{IsTable}
 use Rattle.sqlite_trees.specs.declared.store.Shape.TheVariants.{Table as TableShape}
-use Rattle.sqlite_rules.specs.Lists.{Has}
-use Rattle.sqlite_rules.proofs.ListLemmas.{all_has}
-use Rattle.sqlite_value.proofs.OrderLemmas.{value_cmp_total}
-use Rattle.book_values.specs.declared.paths.Path.{Path}
-use Rattle.book_values.specs.declared.paths.Path.TheVariants as path
-use Rattle.book_values.specs.Paths.{path_text, parent_of}
-use Rattle.sqlite_keyed.specs.Lists.{update_where}
-use Rattle.book_values.proofs.NameMapLaws.{same, is_same, by_names}
-use Rattle.book_rows.specs.Rows.{Rows}
-use Rattle.book_rows.specs.Writes.{is_at}
-use Rattle.book_rows.proofs.Shapes.{int_of}
-use Rattle.book_tables.specs.Rows.{row_at}
-use Rattle.book_tables.specs.Stands.{IsParent, IsNode, IsEntry, IsRemoved}
+use Rattle.book_office_values.specs.declared.paths.Path.TheVariants as path
+use Rattle.book_tables_rows.proofs.Shapes.{int_of}
 use Rattle.book_tables.proofs.Looking.{found_has, has_text}
 
 pub apart : (a b : List ℕ) → a ≢ b → same a b ≡ false
@@ -45,7 +24,7 @@ or_none None = refl
 or_none (Some a) = refl
 
 -- a row is added at a path where none was
-pub row_added : (nodes : List Row) (new : Row) (at t : List ℕ) → column new 2 ≡ Text at → find (is_at at) nodes ≡ None
+pub row_added : (nodes : List Row) (new : Row) (at t : List ℕ) → node_path new ≡ Text at → find (is_at at) nodes ≡ None
     → find (is_at t) (nodes ++ new ∷ []) ≡ cond (same at t) (Some new) (find (is_at t) nodes)
 row_added nodes new at t is none =
     find-append (is_at t) nodes (new ∷ []) ∙ ap (λ b. option_or (find (is_at t) nodes) (cond b (Some new) None)) (has_text 2 new at t is)
@@ -82,16 +61,12 @@ pub all_from_has : (P : Row → Type 0) (xs : List Row) → ((x : Row) → Has x
 all_from_has P [] h = tt
 all_from_has P (x ∷ xs) h = (h x (inl refl), all_from_has P xs (λ y there. h y (inr there)))
 
-pub and_false : (b : Bool) → (b && false) ≡ false
-and_false true = refl
-and_false false = refl
-
 -- each row stays, by its number
 abbrev pub KeepsRows : Rows → Rows → Type 0
 KeepsRows rows after = (x : Row) → Has rows.nodes x → (y : Row) × Has after.nodes y × (rowid y ≡ rowid x)
 
 pub kept_node : (rows after : Rows) → KeepsNumbers rows after → (row : Row) → IsNode rows row → IsNode after row
-kept_node rows after keeps row (p, n) = (p, record { named = n.named; path = n.path; parent = kept_parent rows after keeps (column row 3) (parent_of p) n.parent; kind = n.kind; number = n.number })
+kept_node rows after keeps row (p, n) = (p, record { named = n.named; path = n.path; parent = kept_parent rows after keeps (node_parent row) (parent_of p) n.parent; kind = n.kind; number = n.number })
 
 pub kept_entry : (rows after : Rows) → KeepsRows rows after → (row : Row) → IsEntry rows row → IsEntry after row
 kept_entry rows after keeps row e =
@@ -100,7 +75,7 @@ kept_entry rows after keeps row e =
 
 pub kept_removed : (rows after : Rows) → KeepsNumbers rows after → (row : Row) → IsRemoved rows row → IsRemoved after row
 kept_removed rows after keeps row r =
-    record { book = r.book; named = r.named; there = kept_parent rows after keeps (column row 1) (Some (path.Book r.book)) r.there; name = r.name; spelled = r.spelled; number = r.number }
+    record { book = r.book; named = r.named; there = kept_parent rows after keeps (gone_book row) (Some (path.Book r.book)) r.there; name = r.name; spelled = r.spelled; number = r.number }
 
 -- the number of a row
 pub row_number : (rows : Rows) → IsShaped TableShape rows.nodes → (x : Row) → Has rows.nodes x → Int (id_in (rowid x)) ≡ rowid x
@@ -108,7 +83,7 @@ row_number rows shaped x there = let k = int_of (rowid x) (all_has _ rows.nodes 
 
 module _ (rows : Rows) (nodes : AllByRecursion (IsNode rows) rows.nodes) (shaped : IsShaped TableShape rows.nodes) where
   -- the row that is found at a text has it
-  pub found_at : (t : List ℕ) (r : Row) → row_at rows t ≡ Some r → column r 2 ≡ Text t
+  pub found_at : (t : List ℕ) (r : Row) → row_at rows t ≡ Some r → node_path r ≡ Text t
   found_at t r found =
       let there = found_has (is_at t) rows.nodes r found in
       let node = all_has (IsNode rows) rows.nodes r nodes there.0 in

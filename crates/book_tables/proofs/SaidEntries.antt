@@ -1,20 +1,17 @@
 -- An own list is that of the rows that say its entries.
-use Rattle.std.proofs.Common.{◌≡◌, pos, List, [], ◌∷◌, map, refl, ap, ◌∙◌}
-use Rattle.sqlite.specs.declared.types.Value.TheVariants.{Int}
-use Rattle.sqlite.specs.Order.{Row, column}
+use Rattle.book_tables.proofs.Common.{◌≡◌, pos, List, [], ◌∷◌, map, refl, ap, ◌∙◌, Int, Row, Entry, flag, entry_values, entry_of, entry_said}
 use Rattle.book_rights.specs.Leaves.{mask_of}
-use Rattle.book_lists.specs.declared.entries.Entry.{Entry}
 use Rattle.book_lists.specs.declared.entries.Who.{Who}
 use Rattle.book_lists.specs.declared.entries.Who.TheVariants.{Href, Everyone, Authenticated, Unauthenticated, Owner, Own}
-use Rattle.book_rows.specs.Lists.{entry_columns, said_columns}
-use Rattle.book_rows.specs.Writes.{flag, or_null}
-use Rattle.book_tables.specs.Rows.{form_code, principal_value, entry_told, entry_values, entry_of}
-use Rattle.book_tables.specs.Settings.{principal_said, entry_said}
+use Rattle.book_tables_rows.specs.Lists.{entry_columns, said_columns, entry_deny, entry_form, entry_invert, entry_mask, entry_principal}
+use Rattle.book_tables_rows.specs.Writes.{or_null}
+use Rattle.book_tables.specs.Rows.{form_code, principal_value, entry_told}
+use Rattle.book_tables.specs.Settings.{principal_said}
 use Rattle.book_tables.proofs.SpelledEntries.{entry_is}
 
 -- the entry that form, principal, invert, deny and mask spell
 abbrev pub entry_in : Row → Entry
-entry_in row = entry_told (column row 0) (column row 1) (column row 2) (column row 3) (column row 4)
+entry_in row = entry_told (entry_form row) (entry_principal row) (entry_invert row) (entry_deny row) (entry_mask row)
 
 principal_is : (w : Who) → or_null (principal_said w) ≡ principal_value w
 principal_is (Href principal) = refl

@@ -1,14 +1,10 @@
 -- The columns of an entry tell that entry.
-use Rattle.std.proofs.Common.{◌≡◌, pos, Bool, true, false, ◌&&◌, refl, ◌∙◌}
-use Rattle.std.proofs.lemmas.Bool.{and_parts}
-use Rattle.sqlite.specs.declared.types.Value.TheVariants.{Int}
+use Rattle.book_tables.proofs.Common.{◌≡◌, pos, Bool, true, false, ◌&&◌, refl, ◌∙◌, and_parts, Int, Entry, flag}
 use Rattle.book_rights.specs.declared.privileges.Leaf.{Leaf}
 use Rattle.book_rights.specs.declared.privileges.Leaf.TheVariants.{Read, WriteContent, WriteProperties, Bind, Unbind, ReadAcl, WriteAcl, ReadCurrentUserPrivilegeSet}
 use Rattle.book_rights.specs.Leaves.{at_leaf, same_leaves, same_leaves-decides, set_of-eight_of, leaves_in, mask_of}
-use Rattle.book_lists.specs.declared.entries.Entry.{Entry}
 use Rattle.book_lists.specs.declared.entries.Who.{Who}
 use Rattle.book_lists.specs.declared.entries.Who.TheVariants.{Href, Everyone, Authenticated, Unauthenticated, Owner, Own}
-use Rattle.book_rows.specs.Writes.{flag}
 use Rattle.book_tables.specs.Rows.{flag_in, form_code, principal_value, who_numbered, entry_told}
 
 -- ---- the mask of a set is that of no other

@@ -1,28 +1,13 @@
 -- What an Office that takes over a policy has at each path, beside what it had.
-use Rattle.std.proofs.Common.{◌≡◌, ◌≢◌, ◌⊎◌, inl, inr, ℕ, List, [], ◌∷◌, cond, true, false, Option, Some, None, option_map, option_and_then, unwrap_or, refl, sym, ap, subst, ◌∙◌}
-use Rattle.std.specs.FinMap.{get, get-empty}
-use Rattle.std.specs.List.{AllByRecursion}
-use Rattle.sqlite_rules.specs.Lists.{Has}
-use Rattle.book_lists.specs.Names.{name_cmp}
-use Rattle.book_lists.specs.Principals.{person_path, group_path}
-use Rattle.book_policies.specs.declared.parts.PolicyBook.{PolicyBook}
-use Rattle.book_policies.specs.declared.parts.PolicyTables.{PolicyTables}
-use Rattle.book_values.specs.declared.offices.Book.{Book}
-use Rattle.book_values.specs.declared.offices.Office.{Office}
-use Rattle.book_values.specs.declared.offices.Properties.{Properties}
-use Rattle.book_values.specs.declared.paths.Path.{Path}
-use Rattle.book_values.specs.declared.paths.Path.TheVariants as path
-use Rattle.book_values.specs.Fresh.{new_book}
-use Rattle.book_values.specs.Paths.{IsPath, path_text, kind_of, book_path}
-use Rattle.book_values.proofs.NameMapLaws.{same, same_itself, by_names}
-use Rattle.book_values.proofs.OneName.{some_apart, same_some, by_option}
-use Rattle.book_values.proofs.Spelling.{one_text}
-use Rattle.book_adopting.specs.Adopting.{taken_over}
-use Rattle.book_adopting.specs.TakingOver.{bare, emptied}
-use Rattle.book_adopting.proofs.Adoptions.{person_after, book_after, person_there, group_there, book_there}
-use Rattle.book_adopting.proofs.Merges.{get_mapped}
-use Rattle.book_office.specs.Resources.{Resource, resource_at, properties_at, properties_resource, removed_at, book_resource, card_in, unless_mapped}
-use Rattle.book_tables.specs.Adopting.{Compared, HasLists, HasPlace, properties_of}
+use Rattle.book_tables.proofs.Common.{◌≡◌, ◌≢◌, ◌⊎◌, inl, inr, ℕ, List, [], ◌∷◌, cond, false, Option, Some, None, option_map, option_and_then, unwrap_or, refl, sym, ap, subst, ◌∙◌, get, get-empty, AllByRecursion, same_Some, Has, name_cmp, group_path, PolicyTables, Book, Office, Properties, Path, IsPath, path_text, kind_of, book_path, same, same_itself, by_names, some_apart, by_option, one_text, taken_over, bare, Resource, resource_at, properties_at, properties_resource, removed_at, book_resource, card_in, unless_mapped, Compared, HasLists, HasPlace}
+use Rattle.book_lists.specs.Principals.{person_path}
+use Rattle.book_policy_values.specs.declared.parts.PolicyBook.{PolicyBook}
+use Rattle.book_office_values.specs.declared.paths.Path.TheVariants as path
+use Rattle.book_office_values.specs.Fresh.{new_book}
+use Rattle.book_office_adopting.specs.TakingOver.{emptied}
+use Rattle.book_office_adopting.proofs.Adoptions.{person_after, book_after, person_there, group_there, book_there}
+use Rattle.book_office_adopting.proofs.Merges.{get_mapped}
+use Rattle.book_tables.specs.Adopting.{properties_of}
 use Rattle.book_tables.proofs.Comparisons.{IsCompared}
 use Rattle.book_tables.proofs.PlacedRows.{placed_on, place_at, each_place_at}
 use Rattle.book_tables.proofs.RelistedRows.{relisted, list_at, each_list_at}
@@ -73,7 +58,7 @@ resource_told o (path.Book b) properties is = go (get o.books b) is
   where
     go : (r : Option Book) → option_map properties_of r ≡ Some properties → option_map book_resource r ≡ Some (properties_resource (kind_of (path.Book b)) (number_in r) properties)
     go None e = some_apart (sym e)
-    go (Some book) e = ap (λ k. Some (properties_resource (kind_of (path.Book b)) book.changes.number k)) (same_some _ _ e)
+    go (Some book) e = ap (λ k. Some (properties_resource (kind_of (path.Book b)) book.changes.number k)) (same_Some _ _ e)
 resource_told o (path.Card b c) properties is = some_apart (sym is)
 
 -- where no place is kept, no resource but a card is there, and the number is 0
@@ -218,7 +203,7 @@ module _ (old new : Office) (p : Path) (is_path : IsPath p) where
     relisted_twice (Some r) = refl
 
     same_place : (c : Compared) → IsCompared old new c → IsPath c.path → at ≡ path_text c.path → (p ≡ c.path) × (properties ≡ c.new)
-    same_place c compared named is = let h = here c compared named is in (h.0, same_some _ _ (sym kept ∙ h.1))
+    same_place c compared named is = let h = here c compared named is in (h.0, same_Some _ _ (sym kept ∙ h.1))
 
     place_step : (c : Compared) → IsCompared old new c → IsPath c.path → ((r : Option Resource) → place_at c.path c.new at r ≡ r) ⊎ ((r : Option Resource) → place_at c.path c.new at r ≡ Placed r)
     place_step c compared named = by_names at (path_text c.path) (λ b. ((r : Option Resource) → cond b (Some (placed_on c.path c.new r)) r ≡ r) ⊎ ((r : Option Resource) → cond b (Some (placed_on c.path c.new r)) r ≡ Placed r))

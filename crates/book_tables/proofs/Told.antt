@@ -1,20 +1,8 @@
 -- A read of rows that give an Office tells what the Office has, and leaves it.
-use Rattle.std.proofs.Common.{◌≡◌, inl, inr, ℕ, Option, option_map, Ok, Err, arith, refl, sym, ap, ◌∙◌}
-use Rattle.sqlite.specs.State.{State, HasCleanDisk, Survives}
-use Rattle.book_values.specs.declared.offices.Office.{Office}
-use Rattle.book_values.specs.declared.paths.Path.{Path}
-use Rattle.book_values.specs.Paths.{IsPath, path_text}
-use Rattle.book_office.specs.declared.keepers.StoreFault.{StoreFault}
-use Rattle.book_office.specs.declared.nodes.Node.{Node}
-use Rattle.book_office.specs.Keeping.{Leftover, Reads, failures_after_fault}
-use Rattle.book_office.specs.Resources.{node_at, node_of}
-use Rattle.book_rows.specs.Nodes.{ShowsEpoch}
-use Rattle.book_rows.specs.Rows.{rows_of}
-use Rattle.book_rows.specs.Steps.{Stays}
-use Rattle.book_tables.specs.Keeps.{standing_of}
+use Rattle.book_tables.proofs.Common.{◌≡◌, inl, inr, ℕ, Option, option_map, Ok, Err, arith, refl, sym, ap, ◌∙◌, State, HasCleanDisk, Survives, Office, Path, IsPath, path_text, StoreFault, Node, Leftover, Reads, failures_after_fault, node_at, rows_of, Stays, standing_of, row_at, resource_of, StandsFor, LeftOf}
+use Rattle.book_office.specs.Resources.{node_of}
+use Rattle.book_tables_rows.specs.Nodes.{ShowsEpoch}
 use Rattle.book_tables.specs.Reading.{ShowsNode}
-use Rattle.book_tables.specs.Rows.{row_at, resource_of}
-use Rattle.book_tables.specs.Stands.{StandsFor, LeftOf}
 use Rattle.book_tables.proofs.Acting.{acts_kept}
 use Rattle.book_tables.proofs.LabelledNodes.{map_twice}
 

@@ -1,42 +1,24 @@
 -- What is told of rows with their lists, one by one.
-use Rattle.std.proofs.Common.{◌≡◌, ℕ, ℤ, Bool, true, ◌+◌, ◌<◌, false, List, [], ◌∷◌, ◌++◌, ◌&&◌, map, filter, take, length, get_or, codes, Option, Some, None, option_map, unwrap_or, refl, sym, ap, subst, ◌∙◌, IsPermutation}
+use Rattle.book_tables.proofs.Common.{◌≡◌, ℕ, ℤ, Bool, ◌+◌, ◌<◌, false, List, [], ◌∷◌, ◌++◌, ◌&&◌, map, filter, take, length, get_or, codes, Option, Some, None, option_map, unwrap_or, refl, sym, ap, subst, ◌∙◌, IsPermutation, Int, id_in, Database, Row, State, and_parts, same_Some, all_from, has_filtered, map-map, Entry, Changed, Listed, rowid, some_apart, entry_place, Rows, rows_of, IsBook, Looks, is_under, ShowsListing, child_shown, ShowsChanges, card_shown, removed_shown, changes_of, entry_shown, row_at, DoNotFall, card_among, child_among}
 use Rattle.std.proofs.lemmas.List.{map-append, take_more}
 use Rattle.std.proofs.lemmas.List.Sorted.{IsPermutation-refl, IsPermutation-trans, IsPermutation-map, IsPermutation-append}
-use Rattle.sqlite.specs.declared.types.Value.TheVariants.{Int}
-use Rattle.sqlite.specs.Edit.{id_in}
-use Rattle.sqlite.specs.Effect.{Database}
-use Rattle.sqlite.specs.Order.{Row, column}
-use Rattle.sqlite.specs.State.{State}
-use Rattle.std.proofs.lemmas.Bool.{and_parts}
-use Rattle.sqlite_rules.proofs.ListLemmas.{all_from, has_filtered}
-use Rattle.sqlite_keyed.proofs.ListLemmas.{map-map}
-use Rattle.book_lists.specs.declared.entries.Entry.{Entry}
-use Rattle.book_office.specs.declared.nodes.Changed.{Changed}
-use Rattle.book_office.specs.declared.nodes.Listed.{Listed}
-use Rattle.sqlite.specs.Tree.{rowid}
-use Rattle.book_values.proofs.OneName.{some_apart, same_some}
-use Rattle.book_rows.specs.declared.nodes.Found.{Found}
-use Rattle.book_rows.specs.Lists as lists
-use Rattle.book_rows.specs.Lists.{ShowsList, ShowsRows, ShowsChildren, ShowsChildEntries, entry_columns}
-use Rattle.book_rows.specs.Nodes.{Finds, Told, told, told_of}
-use Rattle.book_rows.specs.Rows.{Rows, rows_of, IsBook}
-use Rattle.book_rows.specs.Steps.{Looks}
-use Rattle.book_rows.specs.Writes.{entries_of, is_under}
-use Rattle.book_tables.specs.Children.{ShowsListing, child_shown}
-use Rattle.book_tables.specs.LastChanges.{AreCardsOf, ShowsEntries, ShowsCard, ShowsCards, ShowsChanges, changed_shown, own_shown, card_shown, removed_shown, changes_of}
-use Rattle.book_tables.specs.Listing.{entry_shown}
-use Rattle.book_tables.specs.Rows.{row_at, list_in}
-use Rattle.book_tables.specs.Shares.{DoNotFall, card_among, child_among}
+use Rattle.book_tables_rows.specs.declared.nodes.FoundNode.{FoundNode}
+use Rattle.book_tables_rows.specs.Columns.{node_number_place}
+use Rattle.book_tables_rows.specs.Lists as lists
+use Rattle.book_tables_rows.specs.Lists.{ShowsList, ShowsRows, ShowsChildren, ShowsChildEntries, entry_columns, changed_id}
+use Rattle.book_tables_rows.specs.Nodes.{Finds, Told, told, told_of}
+use Rattle.book_tables_rows.specs.Writes.{entries_of}
+use Rattle.book_tables.specs.LastChanges.{AreCardsOf, ShowsEntries, ShowsCard, ShowsCards, changed_shown, own_shown}
 use Rattle.book_tables.proofs.ChildShares.{cards_are, do_not_fall, shares_are}
 use Rattle.book_tables.proofs.SameLists.{has_mapped, has_permuted}
 
-pub entries_told : (s : State) (id : ℤ) (protected : Bool) (rows : List Row) (list : List Entry) → ShowsList s id protected rows → list ≡ map (entry_shown 0) rows → ShowsEntries s id protected list
+pub entries_told : (s : State) (id : ℤ) (protected : Bool) (rows : List Row) (list : List Entry) → ShowsList s id protected rows → list ≡ map (entry_shown entry_place) rows → ShowsEntries s id protected list
 entries_told s id protected rows list shows is = (
   shows.0,
-  λ book. is ∙ ap (map (entry_shown 0)) (shows.1 book) ∙ map-map (entry_shown 0) entry_columns (entries_of (rows_of s.now.trees).entries (Int id) protected),
+  λ book. is ∙ ap (map (entry_shown entry_place)) (shows.1 book) ∙ map-map (entry_shown entry_place) entry_columns (entries_of (rows_of s.now.trees).entries (Int id) protected),
 )
 
-pub card_told : (s : State) (front : List ℕ) (row : Row) (own : List Entry) (changed : Changed) → ShowsEntries s (id_in (column row 0)) false own → changed ≡ changed_shown front own row → ShowsCard s front row changed
+pub card_told : (s : State) (front : List ℕ) (row : Row) (own : List Entry) (changed : Changed) → ShowsEntries s (id_in (changed_id row)) false own → changed ≡ changed_shown front own row → ShowsCard s front row changed
 card_told s front row own changed shows is book = is ∙ ap (λ list. changed_shown front list row) (shows.1 book)
 
 -- what is shown after a read was there before it
@@ -51,7 +33,7 @@ told_next f rows i item so_far y within is told_so_far told_now =
     (λ j. told_so_far j ++ told_now j ∷ []) ∙ sym (map-append f (take i rows) (item ∷ [])) ∙ ap (map f) (sym (take_more rows i item within ∙ ap (λ x. take i rows ++ x ∷ []) is))
 
 -- no row has the path
-pub none_changed : (s : State) (path : List ℕ) (number : ℕ) (found : Option Found) → found ≡ None → Finds s path (option_map told found) → ShowsChanges s path number []
+pub none_changed : (s : State) (path : List ℕ) (number : ℕ) (found : Option FoundNode) → found ≡ None → Finds s path (option_map told found) → ShowsChanges s path number []
 none_changed s path number found is finds = (finds.0, λ book. go book (row_at (rows_of s.now.trees) path) refl)
   where
     go : IsBook s.now → (r : Option Row) → row_at (rows_of s.now.trees) path ≡ r → IsPermutation (unwrap_or (option_map (changes_of (rows_of s.now.trees) (path ++ codes "/") number) r) []) []
@@ -59,25 +41,25 @@ none_changed s path number found is finds = (finds.0, λ book. go book (row_at (
     go book (Some node) e = some_apart (sym (ap (option_map told_of) e) ∙ sym (finds.1 book) ∙ ap (option_map told) is)
 
 -- what is shown of the changed cards of a book is shown of its cards
-cards_found : (rows : Rows) (id : ℤ) (number : ℕ) (cards : List Row) → IsPermutation (lists.changed_after id number rows) cards → AreCardsOf rows id cards
+cards_found : (rows : Rows) (id : ℤ) (number : ℕ) (cards : List Row) → IsPermutation (lists.changed_rows id number rows) cards → AreCardsOf rows id cards
 cards_found rows id number cards same = all_from _ cards (λ shown h.
-    let changed = has_mapped _ (filter (λ row. is_under (Int id) row && lists.is_above 8 number row) rows.nodes) shown (has_permuted (lists.changed_after id number rows) cards same shown h) in
-    let found = has_filtered (λ row. is_under (Int id) row && lists.is_above 8 number row) rows.nodes changed.0 changed.1 in
-    (changed.0, found.0, (and_parts (is_under (Int id) changed.0) (lists.is_above 8 number changed.0) found.1).0, ap (λ row. column row 0) changed.2))
+    let changed = has_mapped _ (filter (λ row. is_under (Int id) row && lists.is_above node_number_place number row) rows.nodes) shown (has_permuted (lists.changed_rows id number rows) cards same shown h) in
+    let found = has_filtered (λ row. is_under (Int id) row && lists.is_above node_number_place number row) rows.nodes changed.0 changed.1 in
+    (changed.0, found.0, (and_parts (is_under (Int id) changed.0) (lists.is_above node_number_place number changed.0) found.1).0, ap changed_id changed.2))
 
 pub many_told : (s : State) (id : ℤ) (front : List ℕ) (rows entries : List Row) (changes : List Changed) → ShowsChildEntries s id entries → (DoNotFall entries → changes ≡ map (card_among entries front) rows) → ShowsCards s id front rows changes
 many_told s id front rows entries changes shows joined book cards =
     let is = shows.1 book in
     joined (subst DoNotFall (sym is) (do_not_fall s.now book id)) ∙ ap (λ es. map (card_among es front) rows) is ∙ cards_are s.now book id front rows cards
 
-module _ (old first second third : State) (path front : List ℕ) (number : ℕ) (f : Found) (found : Option Found) (is : found ≡ Some f) (finds : Finds old path (option_map told found))
+module _ (old first second third : State) (path front : List ℕ) (number : ℕ) (f : FoundNode) (found : Option FoundNode) (is : found ≡ Some f) (finds : Finds old path (option_map told found))
     (look : Looks old first) (look_on : Looks first second) (look_last : Looks second third) (cards names : List Row)
-    (shows_cards : ShowsRows first (lists.changed_after f.id number) cards) (shows_names : ShowsRows second (lists.gone_after f.id number) names) (front_is : front ≡ path ++ codes "/")
+    (shows_cards : ShowsRows first (lists.changed_rows f.id number) cards) (shows_names : ShowsRows second (lists.gone_after f.id number) names) (front_is : front ≡ path ++ codes "/")
     (shown changes : List Changed) (are_shown : ShowsCards third f.id front cards shown) (changes_are : changes ≡ shown ++ map removed_shown names) where
   at_node : IsBook old.now → (r : Option Row) → row_at (rows_of old.now.trees) path ≡ r → IsPermutation (unwrap_or (option_map (changes_of (rows_of old.now.trees) (path ++ codes "/") number) r) []) changes
   at_node book None e = some_apart (sym (ap (option_map told) is) ∙ finds.1 book ∙ ap (option_map told_of) e)
   at_node book (Some node) e =
-      let same : told f ≡ told_of node = same_some _ _ (sym (ap (option_map told) is) ∙ finds.1 book ∙ ap (option_map told_of) e) in
+      let same : told f ≡ told_of node = same_Some _ _ (sym (ap (option_map told) is) ∙ finds.1 book ∙ ap (option_map told_of) e) in
       let id : f.id ≡ id_in (rowid node) = ap (λ (t : Told). t.id) same in
       let rows = rows_of old.now.trees in
       let e1 : first.now ≡ old.now = look.same book in
@@ -86,8 +68,8 @@ module _ (old first second third : State) (path front : List ℕ) (number : ℕ)
       let b2 : IsBook second.now = subst IsBook (sym e2) book in
       let e3 : third.now ≡ old.now = look_last.same b2 ∙ e2 in
       let b3 : IsBook third.now = subst IsBook (sym e3) book in
-      let in_cards : IsPermutation (lists.changed_after (id_in (rowid node)) number rows) cards =
-      subst (λ k. IsPermutation (lists.changed_after k number rows) cards) id (subst (λ (d : Database). IsPermutation (lists.changed_after f.id number (rows_of d.trees)) cards) e1 (shows_cards.1 b1)) in
+      let in_cards : IsPermutation (lists.changed_rows (id_in (rowid node)) number rows) cards =
+      subst (λ k. IsPermutation (lists.changed_rows k number rows) cards) id (subst (λ (d : Database). IsPermutation (lists.changed_rows f.id number (rows_of d.trees)) cards) e1 (shows_cards.1 b1)) in
       let in_names : IsPermutation (lists.gone_after (id_in (rowid node)) number rows) names =
       subst (λ k. IsPermutation (lists.gone_after k number rows) names) id (subst (λ (d : Database). IsPermutation (lists.gone_after f.id number (rows_of d.trees)) names) e2 (shows_names.1 b2)) in
       let are_cards : AreCardsOf (rows_of third.now.trees) f.id cards =
@@ -106,7 +88,7 @@ in_any_order s path number changes ordered shows same = (shows.0, λ book. IsPer
 
 -- ---- children
 
-pub none_listed : (s : State) (path front : List ℕ) (found : Option Found) → found ≡ None → Finds s path (option_map told found) → ShowsListing s path front []
+pub none_listed : (s : State) (path front : List ℕ) (found : Option FoundNode) → found ≡ None → Finds s path (option_map told found) → ShowsListing s path front []
 none_listed s path front found is finds = (finds.0, λ book. go book (row_at (rows_of s.now.trees) path) refl)
   where
     go : IsBook s.now → (r : Option Row) → row_at (rows_of s.now.trees) path ≡ r
@@ -114,14 +96,14 @@ none_listed s path front found is finds = (finds.0, λ book. go book (row_at (ro
     go book None e = refl
     go book (Some node) e = some_apart (sym (ap (option_map told_of) e) ∙ sym (finds.1 book) ∙ ap (option_map told) is)
 
-module _ (old first second : State) (path front : List ℕ) (f : Found) (found : Option Found) (is : found ≡ Some f) (finds : Finds old path (option_map told found)) (look : Looks old first) (look_on : Looks first second)
+module _ (old first second : State) (path front : List ℕ) (f : FoundNode) (found : Option FoundNode) (is : found ≡ Some f) (finds : Finds old path (option_map told found)) (look : Looks old first) (look_on : Looks first second)
     (rows entries : List Row) (shows : ShowsChildren first f.id rows) (shows_entries : ShowsChildEntries second f.id entries) (children : List Listed)
     (joined : DoNotFall entries → children ≡ map (child_among entries front) rows) where
   listed_at : IsBook old.now → (r : Option Row) → row_at (rows_of old.now.trees) path ≡ r
       → children ≡ unwrap_or (option_map (λ node. map (child_shown (rows_of old.now.trees) front) (lists.children_of (id_in (rowid node)) (rows_of old.now.trees))) r) []
   listed_at book None e = some_apart (sym (ap (option_map told) is) ∙ finds.1 book ∙ ap (option_map told_of) e)
   listed_at book (Some node) e =
-      let same : told f ≡ told_of node = same_some _ _ (sym (ap (option_map told) is) ∙ finds.1 book ∙ ap (option_map told_of) e) in
+      let same : told f ≡ told_of node = same_Some _ _ (sym (ap (option_map told) is) ∙ finds.1 book ∙ ap (option_map told_of) e) in
       let id : f.id ≡ id_in (rowid node) = ap (λ (t : Told). t.id) same in
       let e1 : first.now ≡ old.now = look.same book in
       let b1 : IsBook first.now = subst IsBook (sym e1) book in

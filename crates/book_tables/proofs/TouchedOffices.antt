@@ -1,19 +1,8 @@
 -- The resources of an Office in which one name of a book was touched.
-use Rattle.std.proofs.Common.{◌≡◌, ◌≢◌, ℕ, ◌+◌, List, Option, Some, option_map, option_and_then, unwrap_or, refl, sym, ap, ◌∙◌}
-use Rattle.std.specs.FinMap.{get, insert}
-use Rattle.book_values.specs.Changes.{touched}
-use Rattle.book_values.specs.declared.offices.Book.{Book}
-use Rattle.book_values.specs.declared.offices.StoredCard.{StoredCard}
-use Rattle.book_values.specs.declared.offices.Office.{Office}
-use Rattle.book_values.specs.declared.paths.Path.{Path}
-use Rattle.book_values.specs.declared.paths.Path.TheVariants as path
-use Rattle.book_values.specs.Names.{NamesTo, changed_if}
-use Rattle.book_lists.specs.Names.{IsName}
-use Rattle.book_office.specs.Edits.{with_book}
-use Rattle.book_office.specs.Resources.{resource_at, removed_at, book_resource, card_resource, card_in, number_of, unless_mapped}
-use Rattle.book_office.specs.Sound.{IsSound}
-use Rattle.book_values.proofs.NameMapLaws.{by_names}
-use Rattle.book_values.proofs.OneName.{put_here, put_elsewhere}
+use Rattle.book_tables.proofs.Common.{◌≡◌, ◌≢◌, ℕ, ◌+◌, List, Option, Some, option_map, option_and_then, unwrap_or, refl, sym, ap, ◌∙◌, get, insert, Book, StoredCard, Office, Path, NamesTo, IsName, with_book, resource_at, removed_at, book_resource, card_resource, card_in, number_of, unless_mapped, IsSound, by_names, put_here, put_elsewhere}
+use Rattle.book_office_values.specs.Changes.{touched}
+use Rattle.book_office_values.specs.declared.paths.Path.TheVariants as path
+use Rattle.book_office_values.specs.Names.{changed_if}
 
 -- the book that is there becomes another
 pub edited_book : (f : Book → Book) (o : Office) (b : List ℕ) (book : Book) → get o.books b ≡ Some book → with_book f o b ≡ record o { books = insert o.books b (f book) }

@@ -1,25 +1,6 @@
 -- Rows in which one name of a book was touched give the Office in which it was touched.
-use Rattle.std.proofs.Common.{◌≡◌, ◌≢◌, ℕ, ◌+◌, Bool, true, false, List, find, Option, Some, None, option_map, is_some, refl, sym, ap, ◌∙◌}
-use Rattle.std.specs.FinMap.{get}
-use Rattle.std.specs.List.{AllByRecursion}
-use Rattle.sqlite.specs.Order.{Row}
-use Rattle.sqlite.specs.Tree.{rowid}
-use Rattle.book_lists.specs.Names.{IsName}
-use Rattle.book_values.specs.declared.offices.Book.{Book}
-use Rattle.book_values.specs.declared.offices.StoredCard.{StoredCard}
-use Rattle.book_values.specs.declared.offices.Office.{Office}
-use Rattle.book_values.specs.declared.paths.Path.{Path}
-use Rattle.book_values.specs.declared.paths.Path.TheVariants as path
-use Rattle.book_values.specs.Names.{NamesTo}
-use Rattle.book_values.specs.Paths.{IsPath, path_text, book_path, card_path}
-use Rattle.book_values.proofs.Spelling.{one_text}
-use Rattle.book_values.proofs.NameMapLaws.{by_names}
-use Rattle.book_values.proofs.OneName.{same_some}
-use Rattle.book_office.specs.Resources.{Resource, resource_at, removed_at, book_resource, card_resource, unless_mapped}
-use Rattle.book_rows.specs.Rows.{Rows}
-use Rattle.book_rows.specs.Writes.{with_number}
-use Rattle.book_tables.specs.Rows.{row_at, resource_in, resource_of, list_in, removed_from, removed_in, is_member}
-use Rattle.book_tables.specs.Stands.{IsNode, IsEntry, IsRemoved, Gives}
+use Rattle.book_tables.proofs.Common.{◌≡◌, ◌≢◌, ℕ, ◌+◌, Bool, true, false, List, find, Option, Some, None, option_map, is_some, refl, sym, ap, ◌∙◌, get, AllByRecursion, same_Some, Row, rowid, IsName, Book, StoredCard, Office, Path, NamesTo, IsPath, path_text, book_path, card_path, one_text, by_names, Resource, resource_at, removed_at, book_resource, card_resource, unless_mapped, Rows, with_number, row_at, resource_in, resource_of, list_in, removed_from, removed_in, is_member, IsNode, IsEntry, IsRemoved, Gives}
+use Rattle.book_office_values.specs.declared.paths.Path.TheVariants as path
 use Rattle.book_tables.proofs.LeftRows.{book_name, book_or_card}
 use Rattle.book_tables.proofs.TouchedOffices as office
 
@@ -53,7 +34,7 @@ module _ (rows after : Rows) (o : Office) (gives : Gives rows o) (b c : List ℕ
 
   book_resource_is : resource_of rows.entries book_row ≡ book_resource book
   book_resource_is =
-      same_some _ _ (sym (ap (option_map (resource_of rows.entries)) at_book) ∙ gives.resources (path.Book b) named ∙ ap (option_map book_resource) there)
+      same_Some _ _ (sym (ap (option_map (resource_of rows.entries)) at_book) ∙ gives.resources (path.Book b) named ∙ ap (option_map book_resource) there)
 
   new_book_resource : resource_of after.entries (with_number n book_row) ≡ book_resource (office.new_book o b c book there cards card here others)
   new_book_resource =

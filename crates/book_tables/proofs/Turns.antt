@@ -1,7 +1,5 @@
 -- Steps in turn, of which each leaves a value or makes the same of it.
-use Rattle.std.proofs.Common.{◌≡◌, ◌⊎◌, inl, inr, List, [], ◌∷◌, refl, sym, ap, ◌∙◌}
-use Rattle.std.specs.List.{AllByRecursion}
-use Rattle.sqlite_rules.specs.Lists.{Has}
+use Rattle.book_tables.proofs.Common.{◌≡◌, ◌⊎◌, inl, inr, List, [], ◌∷◌, refl, sym, ap, ◌∙◌, AllByRecursion, Has}
 
 module _ {A X : Type 0} (step : A → X → X) where
   abbrev pub turned : List A → X → X

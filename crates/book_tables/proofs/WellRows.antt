@@ -1,20 +1,9 @@
 -- Rows of nodes that are well: where a row stands, and rows that a write left well.
-use Rattle.std.proofs.Common.{◌≡◌, ℕ, Bool, true, false, List, [], ◌∷◌, map, Option, refl, sym, ap, subst, ◌∙◌, IsTrue}
-use Rattle.std.specs.List.{AllByRecursion}
-use Rattle.sqlite.specs.Order.{Row, value_cmp}
-use Rattle.sqlite.specs.Tree.{rowid}
-use Rattle.sqlite_keyed.specs.Lists.{update_where}
-use Rattle.sqlite_trees.specs.View.{IsShaped, is_int}
+use Rattle.book_tables.proofs.Common.{◌≡◌, ℕ, Bool, true, false, List, [], ◌∷◌, map, Option, refl, sym, ap, subst, ◌∙◌, IsTrue, AllByRecursion, Row, value_cmp, rowid, update_where, IsShaped, IsAscending, Value, Resource, Rows, resource_in, removed_in, IsNode, IsEntry, IsRemoved, IsName}
+use Rattle.sqlite_trees.specs.View.{is_int}
 use Rattle.sqlite_trees.specs.declared.store.Shape.TheVariants.{Table as TableShape}
 use Rattle.sqlite_trees.proofs.ListLemmas.{ascending-map, ascending_from_map}
 use Rattle.std.specs.declared.cmp.Ordering.TheVariants.{Less}
-use Rattle.sqlite_trees.specs.Tree.{IsAscending}
-use Rattle.sqlite.specs.declared.types.Value.{Value}
-use Rattle.book_office.specs.Resources.{Resource}
-use Rattle.book_rows.specs.Rows.{Rows}
-use Rattle.book_tables.specs.Rows.{resource_in, removed_in}
-use Rattle.book_tables.specs.Stands.{IsNode, IsEntry, IsRemoved}
-use Rattle.book_lists.specs.Names.{IsName}
 use Rattle.book_tables.proofs.RowFacts.{all_updated, KeepsNumbers}
 
 -- each row has its form, and those of `node` rise by their numbers

@@ -1,38 +1,13 @@
 -- The rows after a card was written, in a new row or over one that is there.
-use Rattle.std.proofs.Common.{◌≡◌, ◌≢◌, ℕ, ℤ, pos, ◌<ℤ◌, arith, ◌+◌, Bool, true, false, not, cond, List, [], ◌∷◌, ◌++◌, find, filter, map, Option, Some, None, option_map, option_and_then, refl, sym, ap, subst, ◌∙◌}
-use Rattle.std.proofs.lemmas.Int.{ints}
-use Rattle.std.specs.FinMap.{get, insert}
-use Rattle.std.specs.List.{AllByRecursion}
-use Rattle.sqlite.specs.declared.types.Value.{Value}
-use Rattle.sqlite.specs.declared.types.Value.TheVariants.{Int, Text}
+use Rattle.book_tables.proofs.Common.{◌≡◌, ◌≢◌, ℕ, ℤ, pos, ◌<ℤ◌, arith, ◌+◌, Bool, true, false, not, cond, List, [], ◌∷◌, ◌++◌, find, filter, map, Option, Some, None, option_map, option_and_then, refl, sym, ap, subst, ◌∙◌, ints, get, insert, AllByRecursion, same_Some, Value, Int, Text, next_rowid, id_in, Row, rowid, IsShaped, all_weaker, all-append, all_has, update_where, delete_where, sort_by, int_eq_apart, IsName, Book, StoredCard, Office, parent_of, book_path, card_path, one_text, same, same_itself, by_names, some_apart, put_here, put_elsewhere, card_resource, card_in, number_of, ace_node_place, node_number, node_parent, node_path, Rows, has, number_in, text_in, is_at, is_gone, is_entry, by_place, with_number, node_row, key, key_is, keyed, next_is, row_at, resource_of, list_in, entry_of, IsParent, IsNode, IsEntry, IsRemoved, Gives}
 use Rattle.sqlite.specs.Collation.TheVariants.{Binary}
-use Rattle.sqlite.specs.Edit.{next_rowid, id_in}
-use Rattle.sqlite.specs.Order.{Row, column}
-use Rattle.sqlite.specs.Tree.{rowid}
 use Rattle.sqlite_schema.specs.Rules.{equal}
-use Rattle.sqlite_trees.specs.View.{IsShaped}
 use Rattle.sqlite_trees.specs.declared.store.Shape.TheVariants.{Table as TableShape}
-use Rattle.sqlite_trees.proofs.ListLemmas.{all_weaker, all-filter, all-append}
-use Rattle.sqlite_rules.proofs.ListLemmas.{all_has}
-use Rattle.sqlite_keyed.specs.Lists.{update_where, delete_where, sort_by}
-use Rattle.sqlite_keyed.proofs.KeyedLemmas.{int_eq_apart}
-use Rattle.book_lists.specs.Names.{IsName}
-use Rattle.book_values.specs.declared.offices.Book.{Book}
-use Rattle.book_values.specs.declared.offices.StoredCard.{StoredCard}
-use Rattle.book_values.specs.declared.offices.Office.{Office}
-use Rattle.book_values.specs.declared.paths.Kind.TheVariants as kind
-use Rattle.book_values.specs.declared.paths.Path.TheVariants as path
-use Rattle.book_values.specs.Paths.{parent_of, book_path, card_path}
-use Rattle.book_values.proofs.Spelling.{one_text}
-use Rattle.book_values.proofs.NameMapLaws.{same, same_itself, by_names}
-use Rattle.book_values.proofs.OneName.{same_some, some_apart, put_here, put_elsewhere}
-use Rattle.book_office.specs.Resources.{card_resource, card_in, number_of}
-use Rattle.book_rows.specs.Rows.{Rows, has}
-use Rattle.book_rows.specs.Nodes.{number_in, text_in}
-use Rattle.book_rows.specs.Writes.{is_at, is_gone, is_entry, by_place, with_number, node_row, or_null, set_number, delete_gone_name, insert_node}
-use Rattle.book_rows.proofs.Shapes.{key, key_is, keyed, next_is}
-use Rattle.book_tables.specs.Rows.{row_at, resource_of, list_in, entry_of}
-use Rattle.book_tables.specs.Stands.{IsParent, IsNode, IsEntry, IsRemoved, Gives}
+use Rattle.sqlite_trees.proofs.ListLemmas.{all-filter}
+use Rattle.book_office_values.specs.declared.paths.Kind.TheVariants as kind
+use Rattle.book_office_values.specs.declared.paths.Path.TheVariants as path
+use Rattle.book_tables_rows.specs.Columns.{node_kind}
+use Rattle.book_tables_rows.specs.Writes.{or_null, set_number, delete_gone_name, insert_node}
 use Rattle.book_tables.proofs.Looking.{found_has, find-update_where, has_text, has_int}
 use Rattle.book_tables.proofs.LeftRows.{book_or_card}
 use Rattle.book_tables.proofs.RowFacts.{apart, row_added, KeepsNumbers, KeepsRows, kept_node, kept_entry, kept_removed, has_updated, has_appended, all_updated, all_from_has, found_at, is_at_found}
@@ -43,10 +18,10 @@ use Rattle.book_tables.proofs.GoneNames as gone
 -- columns that an update keeps
 pub record KeepsColumns (f : Row → Row) : Type 0 where
   pub id : (r : Row) → rowid (f r) ≡ rowid r
-  pub path : (r : Row) → column (f r) 2 ≡ column r 2
-  pub parent : (r : Row) → column (f r) 3 ≡ column r 3
-  pub kind : (r : Row) → column (f r) 4 ≡ column r 4
-  pub number : (r : Row) → column (f r) 8 ≡ Int (pos (number_in (column (f r) 8)))
+  pub path : (r : Row) → node_path (f r) ≡ node_path r
+  pub parent : (r : Row) → node_parent (f r) ≡ node_parent r
+  pub kind : (r : Row) → node_kind (f r) ≡ node_kind r
+  pub number : (r : Row) → node_number (f r) ≡ Int (pos (number_in (node_number (f r))))
 
 pub node_changed : (rows : Rows) (f : Row → Row) → KeepsColumns f → (r : Row) → IsNode rows r → IsNode rows (f r)
 node_changed rows f k r (p, n) = (
@@ -69,7 +44,7 @@ row_changed nodes at t f k = find-update_where (is_at t) (is_at at) f (λ r. ap 
 
 -- ---- the list of a node that isn't there
 
-no_entries : (entries : List Row) (id : ℤ) (pr : Bool) → AllByRecursion (λ e. has 1 (Int id) e ≡ false) entries → filter (is_entry (Int id) pr) entries ≡ []
+no_entries : (entries : List Row) (id : ℤ) (pr : Bool) → AllByRecursion (λ e. has ace_node_place (Int id) e ≡ false) entries → filter (is_entry (Int id) pr) entries ≡ []
 no_entries [] id pr none = refl
 no_entries (e ∷ es) id pr none = rw (none.0) (no_entries es id pr none.1)
 
@@ -151,7 +126,7 @@ module _ (rows : Rows) (o : Office) (gives : Gives rows o) (shaped : IsShaped Ta
     pub keeps_numbers : KeepsNumbers rows after
     keeps_numbers t r found =
         by_names t bp (λ _. (s : Row) × (row_at after t ≡ Some s) × (rowid s ≡ rowid r))
-        (λ is. (with_number n book_row, ap (row_at after) is ∙ are.touched_book, ap rowid (same_some _ _ (sym at_book ∙ sym (ap (row_at rows) is) ∙ found))))
+        (λ is. (with_number n book_row, ap (row_at after) is ∙ are.touched_book, ap rowid (same_Some _ _ (sym at_book ∙ sym (ap (row_at rows) is) ∙ found))))
         (λ not_book. by_names t cp (λ _. (s : Row) × (row_at after t ≡ Some s) × (rowid s ≡ rowid r))
         (λ is. (card_row, ap (row_at after) is ∙ are.at_card, are.same_card r (sym (ap (row_at rows) is) ∙ found)))
         (λ not_card. (r, are.elsewhere t not_book not_card ∙ found, refl)))
@@ -259,7 +234,7 @@ module _ (rows : Rows) (o : Office) (gives : Gives rows o) (shaped : IsShaped Ta
     found_then : (t : List ℕ) → row_at rows_old t ≡ option_map upd (option_map upd_card (row_at rows t))
     found_then t = row_changed written bp t (with_number n) (numbered_keeps n) ∙ ap (option_map upd) (row_changed rows.nodes cp t f alike.columns)
 
-    text_at : column (f old) 2 ≡ Text cp
+    text_at : node_path (f old) ≡ Text cp
     text_at = alike.columns.path old ∙ found_at rows gives.nodes shaped cp old at_card
 
     not_written : (t : List ℕ) (found : Option Row) → row_at rows t ≡ found → t ≢ cp → option_map upd_card found ≡ found
@@ -278,7 +253,7 @@ module _ (rows : Rows) (o : Office) (gives : Gives rows o) (shaped : IsShaped Ta
           let one = has_updated (is_at cp) f alike.columns.id rows.nodes x h in
           let two = has_updated (is_at bp) (with_number n) (λ r. refl) written one.0 one.1 in
           (two.0, two.1, two.2 ∙ one.2);
-      same_card = λ r found. alike.columns.id old ∙ ap rowid (same_some _ _ (sym at_card ∙ found));
+      same_card = λ r found. alike.columns.id old ∙ ap rowid (same_Some _ _ (sym at_card ∙ found));
       gone = refl;
       members = refl;
       meta = refl;
@@ -294,6 +269,6 @@ module _ (rows : Rows) (o : Office) (gives : Gives rows o) (shaped : IsShaped Ta
     pub gives_old : Gives rows_old (touched_office o b c book (insert book.cards c (g card)))
     gives_old =
         let told : resource_of rows.entries old ≡ card_resource (number_of book c) card =
-        same_some _ _ (sym (ap (option_map (resource_of rows.entries)) at_card) ∙ gives.resources (path.Card b c) (named, named_card)
+        same_Some _ _ (sym (ap (option_map (resource_of rows.entries)) at_card) ∙ gives.resources (path.Card b c) (named, named_card)
         ∙ ap (option_and_then (λ (k : Book). card_in k c)) there ∙ ap (option_map (card_resource (number_of book c))) its) in
         gives_written rows_old (f old) are_old (g card) (alike.resource rows.entries old (number_of book c) card told) nodes_old

@@ -1,19 +1,19 @@
 -- What is written where an Office takes over a policy: of its places, lists and groups those that differ.
-use Rattle.std.specs.Prelude.{◌≡◌, ◌⊎◌, ℕ, List, [], ◌∷◌, ◌++◌, codes, map, filter, Option, Some, None, option_map, IsTrue}
+use Rattle.std.specs.Prelude.{◌≡◌, ◌⊎◌, ℕ, List, [], ◌∷◌, ◌++◌, map, filter, Option, Some, None, option_map, IsTrue}
 use Rattle.std.specs.FinMap.{get, entries}
 use Rattle.std.specs.Str.{bytes_eq}
 use Rattle.sqlite.specs.State.{State}
 use Rattle.book_lists.specs.Memberships.{set_of}
 use Rattle.book_lists.specs.Principals.{group_path}
 use Rattle.book_lists.specs.declared.memberships.Membership.{Membership}
-use Rattle.book_values.specs.declared.offices.Book.{Book}
-use Rattle.book_values.specs.declared.offices.Office.{Office}
-use Rattle.book_values.specs.declared.offices.Properties.{Properties}
-use Rattle.book_values.specs.declared.paths.Path.{Path}
-use Rattle.book_values.specs.declared.paths.Path.TheVariants as path
-use Rattle.book_values.specs.Names.{NamesTo}
-use Rattle.book_values.specs.Paths.{path_text, parent_of, kind_of}
-use Rattle.book_rows.specs.Adopting.{Place, Listed, Joined}
+use Rattle.book_office_values.specs.declared.offices.Book.{Book}
+use Rattle.book_office_values.specs.declared.offices.Office.{Office}
+use Rattle.book_office_values.specs.declared.offices.Properties.{Properties}
+use Rattle.book_office_values.specs.declared.paths.Path.{Path}
+use Rattle.book_office_values.specs.declared.paths.Path.TheVariants as path
+use Rattle.book_office_values.specs.Names.{NamesTo}
+use Rattle.book_office_values.specs.Paths.{path_text, parent_of, kind_of}
+use Rattle.book_tables_rows.specs.Adopting.{Place, Listed, Joined}
 use Rattle.book_tables.specs.Rows.{kind_code}
 use Rattle.book_tables.specs.Settings.{entry_said}
 

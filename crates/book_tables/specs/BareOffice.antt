@@ -3,10 +3,10 @@ use Rattle.std.specs.Prelude.{ℕ, List}
 use Rattle.std.specs.FinMap.{empty}
 use Rattle.book_lists.specs.Memberships.{Memberships}
 use Rattle.book_office.specs.declared.nodes.Listed.{Listed}
-use Rattle.book_values.specs.declared.offices.Book.{Book}
-use Rattle.book_values.specs.declared.offices.Office.{Office}
-use Rattle.book_values.specs.declared.offices.Properties.{Properties}
-use Rattle.book_adopting.specs.TakingOver.{bare_books}
+use Rattle.book_office_values.specs.declared.offices.Book.{Book}
+use Rattle.book_office_values.specs.declared.offices.Office.{Office}
+use Rattle.book_office_values.specs.declared.offices.Properties.{Properties}
+use Rattle.book_office_adopting.specs.TakingOver.{bare_books}
 use Rattle.book_tables.specs.declared.places.Homes.{Homes}
 use Rattle.book_tables.specs.declared.places.Places.{Places}
 

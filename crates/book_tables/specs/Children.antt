@@ -2,18 +2,19 @@
 use Rattle.std.specs.Prelude.{◌≡◌, ℕ, List, [], ◌++◌, true, false, map, filter, drop, length, codes, option_map, unwrap_or, IsTrue}
 use Rattle.sqlite.specs.declared.types.Value.TheVariants.{Int}
 use Rattle.sqlite.specs.Edit.{id_in}
-use Rattle.sqlite.specs.Order.{Row, column}
+use Rattle.sqlite.specs.Order.{Row}
 use Rattle.sqlite.specs.State.{State}
 use Rattle.sqlite.specs.Tree.{rowid}
 use Rattle.book_lists.specs.declared.entries.Entry.{Entry}
 use Rattle.book_office.specs.declared.nodes.Listed.{Listed}
-use Rattle.book_rows.specs.Lists as lists
-use Rattle.book_rows.specs.Nodes.{number_in, text_in}
-use Rattle.book_rows.specs.Rows.{Rows, rows_of, IsBook}
-use Rattle.book_rows.specs.Writes.{is_under}
-use Rattle.book_values.specs.declared.paths.Path.{Path}
-use Rattle.book_values.specs.declared.paths.Path.TheVariants as path
-use Rattle.book_values.specs.Paths.{path_text}
+use Rattle.book_tables_rows.specs.Lists as lists
+use Rattle.book_tables_rows.specs.Lists.{child_id, child_kind, child_label, child_number, child_owner, child_path}
+use Rattle.book_tables_rows.specs.Nodes.{number_in, text_in}
+use Rattle.book_tables_rows.specs.Rows.{Rows, rows_of, IsBook}
+use Rattle.book_tables_rows.specs.Writes.{is_under}
+use Rattle.book_office_values.specs.declared.paths.Path.{Path}
+use Rattle.book_office_values.specs.declared.paths.Path.TheVariants as path
+use Rattle.book_office_values.specs.Paths.{path_text}
 use Rattle.book_tables.specs.Rows.{row_at, kind_in, list_in}
 
 -- how many rows stand under the row with a path; none where no row has it
@@ -51,17 +52,17 @@ last_name (path.Card book name) = name
 -- a child with these lists: what is shown of its row is number, path, kind, owner, label and change number, and its name stands behind what its path begins with
 abbrev pub listed_shown : List ℕ → List Entry → List Entry → Row → Listed
 listed_shown front protected own row = record {
-  name = drop (length front) (unwrap_or (text_in (column row 1)) []);
-  kind = kind_in (column row 2);
-  owner = text_in (column row 3);
-  label = unwrap_or (text_in (column row 4)) [];
-  number = number_in (column row 5);
+  name = drop (length front) (unwrap_or (text_in (child_path row)) []);
+  kind = kind_in (child_kind row);
+  owner = text_in (child_owner row);
+  label = unwrap_or (text_in (child_label row)) [];
+  number = number_in (child_number row);
   protected = protected;
   own = own;
 }
 
 abbrev pub child_shown : Rows → List ℕ → Row → Listed
-child_shown rows front row = listed_shown front (list_in rows.entries (Int (id_in (column row 0))) true) (list_in rows.entries (Int (id_in (column row 0))) false) row
+child_shown rows front row = listed_shown front (list_in rows.entries (Int (id_in (child_id row))) true) (list_in rows.entries (Int (id_in (child_id row))) false) row
 
 -- an open connection shows the children of the node at a path, in order of their paths; none where no row has it
 abbrev pub ShowsListing : State → List ℕ → List ℕ → List Listed → Type 0

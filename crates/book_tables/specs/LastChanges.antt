@@ -3,42 +3,43 @@ use Rattle.std.specs.Prelude.{◌≡◌, ℕ, ℤ, Bool, ◌<◌, true, false, L
 use Rattle.std.specs.List.{AllByRecursion}
 use Rattle.sqlite.specs.declared.types.Value.TheVariants.{Int}
 use Rattle.sqlite.specs.Edit.{id_in}
-use Rattle.sqlite.specs.Order.{Row, column}
+use Rattle.sqlite.specs.Order.{Row}
 use Rattle.sqlite.specs.State.{State}
 use Rattle.sqlite.specs.Tree.{rowid}
 use Rattle.sqlite_rules.specs.Lists.{Has}
 use Rattle.sqlite_trees.specs.Tree.{IsAscending}
 use Rattle.book_lists.specs.declared.entries.Entry.{Entry}
 use Rattle.book_office.specs.declared.nodes.Changed.{Changed}
-use Rattle.book_rows.specs.Lists as lists
-use Rattle.book_rows.specs.Nodes.{number_in, text_in}
-use Rattle.book_rows.specs.Rows.{Rows, rows_of, IsBook}
-use Rattle.book_rows.specs.Writes.{is_under}
+use Rattle.book_tables_rows.specs.Lists as lists
+use Rattle.book_tables_rows.specs.Lists.{changed_id, changed_label, changed_number, changed_owner, changed_path, changed_text, removed_name, removed_number}
+use Rattle.book_tables_rows.specs.Nodes.{number_in, text_in}
+use Rattle.book_tables_rows.specs.Rows.{Rows, rows_of, IsBook}
+use Rattle.book_tables_rows.specs.Writes.{is_under}
 use Rattle.book_tables.specs.Rows.{row_at, list_in}
 
 -- the change of a card with this own list: what is shown of its row is number, path, owner, label, text and change number, and its name stands behind what its path begins with
 abbrev pub changed_shown : List ℕ → List Entry → Row → Changed
 changed_shown front own row = record {
-  number = number_in (column row 5);
-  name = drop (length front) (unwrap_or (text_in (column row 1)) []);
-  card = Some (record { owner = text_in (column row 2); label = unwrap_or (text_in (column row 3)) []; own = own; text = unwrap_or (text_in (column row 4)) [] });
+  number = number_in (changed_number row);
+  name = drop (length front) (unwrap_or (text_in (changed_path row)) []);
+  card = Some (record { owner = text_in (changed_owner row); label = unwrap_or (text_in (changed_label row)) []; own = own; text = unwrap_or (text_in (changed_text row)) [] });
 }
 
 -- the own list of the node with the number that is shown
 abbrev pub own_shown : Rows → Row → List Entry
-own_shown rows row = list_in rows.entries (Int (id_in (column row 0))) false
+own_shown rows row = list_in rows.entries (Int (id_in (changed_id row))) false
 
 abbrev pub card_shown : Rows → List ℕ → Row → Changed
 card_shown rows front row = changed_shown front (own_shown rows row) row
 
 -- the change of a removed name: what is shown of its row is name and change number
 abbrev pub removed_shown : Row → Changed
-removed_shown row = record { number = number_in (column row 1); name = unwrap_or (text_in (column row 0)) []; card = None }
+removed_shown row = record { number = number_in (removed_number row); name = unwrap_or (text_in (removed_name row)) []; card = None }
 
 -- the changes above a number of the book whose row this is
 abbrev pub changes_of : Rows → List ℕ → ℕ → Row → List Changed
 changes_of rows front number book =
-    map (card_shown rows front) (lists.changed_after (id_in (rowid book)) number rows) ++ map removed_shown (lists.gone_after (id_in (rowid book)) number rows)
+    map (card_shown rows front) (lists.changed_rows (id_in (rowid book)) number rows) ++ map removed_shown (lists.gone_after (id_in (rowid book)) number rows)
 
 -- those of the book at a path; none where no row has it
 abbrev pub changes_told : Rows → List ℕ → ℕ → List Changed
@@ -54,7 +55,7 @@ ShowsCard s front row changed = IsBook s.now → changed ≡ card_shown (rows_of
 
 -- each of these rows is shown of a card of the book with a number
 abbrev pub AreCardsOf : Rows → ℤ → List Row → Type 0
-AreCardsOf rows book = AllByRecursion (λ shown. (card : Row) × Has rows.nodes card × (is_under (Int book) card ≡ true) × (column shown 0 ≡ rowid card))
+AreCardsOf rows book = AllByRecursion (λ shown. (card : Row) × Has rows.nodes card × (is_under (Int book) card ≡ true) × (changed_id shown ≡ rowid card))
 
 -- it shows the changes of those cards, with their lists
 abbrev pub ShowsCards : State → ℤ → List ℕ → List Row → List Changed → Type 0

@@ -4,10 +4,10 @@ use Rattle.sqlite.specs.State.{State}
 use Rattle.book_lists.specs.declared.entries.Entry.{Entry}
 use Rattle.book_office.specs.declared.nodes.Level.{Level}
 use Rattle.book_office.specs.declared.nodes.Lists.{Lists}
-use Rattle.book_values.specs.declared.paths.Path.{Path}
-use Rattle.book_values.specs.Paths.{path_text, levels}
-use Rattle.book_rows.specs.Lists.{entries_at}
-use Rattle.book_rows.specs.Rows.{Rows, rows_of, IsBook}
+use Rattle.book_office_values.specs.declared.paths.Path.{Path}
+use Rattle.book_office_values.specs.Paths.{path_text, levels}
+use Rattle.book_tables_rows.specs.Lists.{entries_at}
+use Rattle.book_tables_rows.specs.Rows.{Rows, rows_of, IsBook}
 use Rattle.book_tables.specs.Shares.{list_among}
 
 -- a list of the row at the text of a path, in order of the places; empty where no row has it

@@ -7,7 +7,8 @@ use Rattle.sqlite.specs.State.{State}
 use Rattle.book_lists.specs.Memberships.{Memberships}
 use Rattle.book_lists.specs.declared.entries.Entry.{Entry}
 use Rattle.book_lists.specs.declared.memberships.Membership.{Membership}
-use Rattle.book_rows.specs.Rows.{rows_of, has, IsBook}
+use Rattle.book_tables_rows.specs.Lists.{pair_group_place, pair_member_place}
+use Rattle.book_tables_rows.specs.Rows.{rows_of, has, IsBook}
 use Rattle.book_tables.specs.Rows.{entry_told, has_member}
 
 -- ---- entries
@@ -24,7 +25,7 @@ entry_shown place row = entry_told (column row place) (column row (place + 1)) (
 
 -- the columns of a pair, group and member, are these
 abbrev pub tells_member : Membership → Row → Bool
-tells_member m row = has 0 (Text m.group) row && has 1 (Text m.member) row
+tells_member m row = has pair_group_place (Text m.group) row && has pair_member_place (Text m.member) row
 
 -- an open connection shows the pairs of group and member that rows have
 abbrev pub ShowsPairs : State → Memberships → Type 0

@@ -4,9 +4,9 @@ use Rattle.sqlite.specs.declared.error.Error.{Error}
 use Rattle.sqlite.specs.declared.error.Error.TheVariants.{SqliteFailure}
 use Rattle.sqlite.specs.declared.error.ErrorCode.TheVariants.{OutOfMemory}
 use Rattle.sqlite.specs.State.{State}
-use Rattle.book_values.specs.declared.offices.Office.{Office}
+use Rattle.book_office_values.specs.declared.offices.Office.{Office}
 use Rattle.book_office.specs.Keeping.{Leftover, whole}
-use Rattle.book_rows.specs.Steps.{Stays}
+use Rattle.book_tables_rows.specs.Steps.{Stays}
 use Rattle.book_tables.specs.declared.opening.OpenFault.{OpenFault}
 use Rattle.book_tables.specs.declared.opening.OpenFault.TheVariants.{Memory, Store}
 use Rattle.book_tables.specs.Stands.{StandsFor, LeftOf}

@@ -2,8 +2,8 @@
 use Rattle.std.specs.Prelude.{◌≡◌, ℕ, List, Option, option_map, IsTrue}
 use Rattle.sqlite.specs.State.{State}
 use Rattle.book_office.specs.declared.nodes.Node.{Node}
-use Rattle.book_rows.specs.Nodes.{Told, told_of}
-use Rattle.book_rows.specs.Rows.{rows_of, IsBook}
+use Rattle.book_tables_rows.specs.Nodes.{Told, told_of}
+use Rattle.book_tables_rows.specs.Rows.{rows_of, IsBook}
 use Rattle.book_tables.specs.Rows.{kind_numbered, row_at}
 
 -- a resource without its lists, as the columns of its row tell it

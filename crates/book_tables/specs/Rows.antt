@@ -10,14 +10,14 @@ use Rattle.book_lists.specs.declared.entries.Entry.{Entry}
 use Rattle.book_lists.specs.declared.entries.Who.{Who}
 use Rattle.book_lists.specs.declared.entries.Who.TheVariants.{Href, Everyone, Authenticated, Unauthenticated, Owner, Own}
 use Rattle.book_lists.specs.declared.memberships.Membership.{Membership}
-use Rattle.book_values.specs.declared.paths.Kind.{Kind}
-use Rattle.book_values.specs.declared.paths.Kind.TheVariants as kind
-use Rattle.book_values.specs.Paths.{book_path}
+use Rattle.book_office_values.specs.declared.paths.Kind.{Kind}
+use Rattle.book_office_values.specs.declared.paths.Kind.TheVariants as kind
+use Rattle.book_office_values.specs.Paths.{book_path}
 use Rattle.book_office.specs.Resources.{Resource}
-use Rattle.book_rows.specs.Columns.{ace_deny, ace_form, ace_invert, ace_mask, ace_principal, gone_number, node_kind, node_label, node_number, node_owner, node_text}
-use Rattle.book_rows.specs.Nodes.{number_in, text_in}
-use Rattle.book_rows.specs.Rows.{Rows, has}
-use Rattle.book_rows.specs.Writes.{is_at, is_gone, flag, entries_of}
+use Rattle.book_tables_rows.specs.Columns.{ace_deny, ace_form, ace_invert, ace_mask, ace_principal, gone_number, member_group_place, member_member_place, node_kind, node_label, node_number, node_owner, node_text}
+use Rattle.book_tables_rows.specs.Nodes.{number_in, text_in}
+use Rattle.book_tables_rows.specs.Rows.{Rows, has}
+use Rattle.book_tables_rows.specs.Writes.{is_at, is_gone, flag, entries_of}
 
 -- ---- codes and values
 
@@ -120,7 +120,7 @@ resource_in rows path = option_map (resource_of rows.entries) (row_at rows path)
 -- ---- members and removed names
 
 abbrev pub is_member : Membership → Row → Bool
-is_member m row = has 1 (Text m.group) row && has 2 (Text m.member) row
+is_member m row = has member_group_place (Text m.group) row && has member_member_place (Text m.member) row
 
 -- some row of `member` says that the one is a direct member of the other
 abbrev pub has_member : Rows → Membership → Bool

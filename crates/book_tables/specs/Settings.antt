@@ -4,7 +4,7 @@ use Rattle.book_rights.specs.Leaves.{mask_of}
 use Rattle.book_lists.specs.declared.entries.Entry.{Entry}
 use Rattle.book_lists.specs.declared.entries.Who.{Who}
 use Rattle.book_lists.specs.declared.entries.Who.TheVariants.{Href, Everyone, Authenticated, Unauthenticated, Owner, Own}
-use Rattle.book_rows.specs.Writes.{Said}
+use Rattle.book_tables_rows.specs.Writes.{Said}
 use Rattle.book_tables.specs.Rows.{form_code}
 
 -- the path of a path's form; none of every other

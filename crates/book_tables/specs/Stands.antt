@@ -11,17 +11,17 @@ use Rattle.sqlite.specs.State.{State}
 use Rattle.sqlite_rules.specs.Lists.{Has}
 use Rattle.book_lists.specs.Names.{IsName}
 use Rattle.book_lists.specs.declared.memberships.Membership.{Membership}
-use Rattle.book_values.specs.declared.offices.Office.{Office}
-use Rattle.book_values.specs.declared.paths.Path.{Path}
-use Rattle.book_values.specs.declared.paths.Path.TheVariants as path
-use Rattle.book_values.specs.Paths.{IsPath, path_text, parent_of, kind_of}
+use Rattle.book_office_values.specs.declared.offices.Office.{Office}
+use Rattle.book_office_values.specs.declared.paths.Path.{Path}
+use Rattle.book_office_values.specs.declared.paths.Path.TheVariants as path
+use Rattle.book_office_values.specs.Paths.{IsPath, path_text, parent_of, kind_of}
 use Rattle.book_office.specs.Keeping.{Leftover, whole, broken}
 use Rattle.book_office.specs.Resources.{resource_at, removed_at}
 use Rattle.book_office.specs.Sound.{IsSound}
-use Rattle.book_rows.specs.Columns.{ace_node, ace_place, ace_protected, gone_book, gone_name, gone_number, node_kind, node_number, node_parent, node_path}
-use Rattle.book_rows.specs.Nodes.{number_in}
-use Rattle.book_rows.specs.Rows.{Rows, rows_of, IsBook, in_store}
-use Rattle.book_rows.specs.Writes.{IsMeta, flag}
+use Rattle.book_tables_rows.specs.Columns.{ace_node, ace_place, ace_protected, gone_book, gone_name, gone_number, node_kind, node_number, node_parent, node_path}
+use Rattle.book_tables_rows.specs.Nodes.{number_in}
+use Rattle.book_tables_rows.specs.Rows.{Rows, rows_of, IsBook, in_store}
+use Rattle.book_tables_rows.specs.Writes.{IsMeta, flag}
 use Rattle.book_tables.specs.Rows.{row_at, kind_code, resource_in, has_member, removed_in, entry_of, entry_values}
 
 -- ---- the form of a row

@@ -1,14 +1,14 @@
 //! Adopting a policy: what differs is written, in one transaction.
 
 ghost use Rattle.std.specs.Prelude.{◌≡◌, false, map, true, IfOk, MatchOption, OnErr, OnOk};
-ghost use Rattle.book_adopting.specs.Adopting.{adoption_of as adoption_told, taken_over};
-ghost use Rattle.book_adopting.specs.TakingOver.{bare};
+ghost use Rattle.book_office_adopting.specs.Adopting.{adoption_of as adoption_told, taken_over};
+ghost use Rattle.book_office_adopting.specs.TakingOver.{bare};
 ghost use Rattle.sqlite.specs.Held.{state};
 ghost use Rattle.sqlite.specs.State.{HasCleanDisk, Survives};
 ghost use Rattle.book_office.specs.Keeping.{Edits, failures_after};
 ghost use Rattle.book_office.specs.declared.edits.Edit.TheVariants.{Adopt};
-ghost use Rattle.book_rows.specs.Adopting.{adopting, joined, listed, placed};
-ghost use Rattle.book_rows.specs.Steps.{Commits, MayLeave, Stays};
+ghost use Rattle.book_tables_rows.specs.Adopting.{adopting, joined, listed_row, placed_row};
+ghost use Rattle.book_tables_rows.specs.Steps.{Commits, MayLeave, Stays};
 ghost use Rattle.book_tables.specs.Adopting.{AreDifferences, Rests};
 ghost use Rattle.book_tables.specs.Keeps.{standing_of};
 
@@ -16,11 +16,11 @@ use crate::differences::{Differences, compare_offices};
 use crate::faults::fault_of;
 use crate::reading::shown_epoch;
 use crate::tables::Tables;
-use book_adopting::{adoption_of, office_under};
 use book_office::StoreFault;
-use book_policies::Policy;
-use book_rows::adopt;
-use book_values::Office;
+use book_office_adopting::{adoption_of, office_under};
+use book_office_values::Office;
+use book_policy_values::Policy;
+use book_tables_rows::adopt_rows;
 use sqlite::{Alter, Connection, Error, ErrorCode};
 use std::alloc::{AllocError, Global};
 
@@ -48,8 +48,8 @@ fn differences_under(
 ) -> Result<Option<Differences>, AllocError>
     ensures { IfOk result (λ d. MatchOption d ((adoption_told policy.now office.now).changed ≡ false)
         (λ d. ((adoption_told policy.now office.now).changed ≡ true)
-        × AreDifferences office.now (bare (taken_over policy.now office.now)) (map placed d.places.items)
-        (map listed d.lists.items) (map joined d.groups.items))) }
+        × AreDifferences office.now (bare (taken_over policy.now office.now)) (map placed_row d.places.items)
+        (map listed_row d.lists.items) (map joined d.groups.items))) }
 {
     if !adoption_of(alloc, office, policy)?.changed {
         return Ok(None);
@@ -78,17 +78,17 @@ impl<S: Alter> Tables<S> {
     fn write(&mut self, written: &Differences) -> Result<(), StoreFault>
         ensures made { HasCleanDisk (state S.Store self.new.connection)
             → OnOk result (Commits (state S.Store self.old.connection) (state S.Store self.new.connection)
-            (adopting (map placed written.now.places.items) (map listed written.now.lists.items)
+            (adopting (map placed_row written.now.places.items) (map listed_row written.now.lists.items)
             (map joined written.now.groups.items))) }
         ensures kept { HasCleanDisk (state S.Store self.new.connection)
             → OnErr result (Stays (state S.Store self.old.connection) (state S.Store self.new.connection)) }
         ensures left { Survives (state S.Store self.old.connection) (state S.Store self.new.connection)
             (MayLeave (state S.Store self.old.connection)
-            (adopting (map placed written.now.places.items) (map listed written.now.lists.items)
+            (adopting (map placed_row written.now.places.items) (map listed_row written.now.lists.items)
             (map joined written.now.groups.items))) }
         ensures counted { self.new.failures ≡ failures_after result self.old.failures }
     {
-        match adopt(
+        match adopt_rows(
             &mut self.connection,
             written.places.as_slice(),
             written.lists.as_slice(),

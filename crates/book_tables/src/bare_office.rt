@@ -2,23 +2,23 @@
 
 ghost use Rattle.std.specs.Prelude.{◌≡◌};
 ghost use Rattle.sqlite.specs.Held.{state};
-ghost use Rattle.book_adopting.specs.Adopting.{adoption_of as adoption_told};
-ghost use Rattle.book_adopting.specs.TakingOver.{bare, bare_books};
+ghost use Rattle.book_office_adopting.specs.Adopting.{adoption_of as adoption_told};
+ghost use Rattle.book_office_adopting.specs.TakingOver.{bare, bare_books};
 ghost use Rattle.book_office.specs.Keeping.{Reads};
 ghost use Rattle.book_office.specs.Levels.{lists_at};
 ghost use Rattle.book_office.specs.Resources.{node_at};
-ghost use Rattle.book_values.specs.declared.paths.Path.TheVariants as path;
+ghost use Rattle.book_office_values.specs.declared.paths.Path.TheVariants as path;
 ghost use Rattle.book_tables.specs.BareOffice.{homes_of as homes_in, places_of};
 ghost use Rattle.book_tables.specs.Keeps.{standing_of};
 
 use crate::faults::fault_of;
 use crate::places::{Homes, Places, books_of, homes_of, office_of, principals_of, root_of};
 use crate::tables::Tables;
-use book_adopting::{Adoption, adoption_of};
 use book_lists::Pairs;
 use book_office::{Lists, Node, StoreFault};
-use book_policies::Policy;
-use book_values::{Book, NameMap, Office, Path, Properties};
+use book_office_adopting::{Adoption, adoption_of};
+use book_office_values::{Book, NameMap, Office, Path, Properties};
+use book_policy_values::Policy;
 use sqlite::{Alter, Error, ErrorCode};
 use std::alloc::Global;
 

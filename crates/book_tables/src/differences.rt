@@ -4,17 +4,17 @@ ghost use Rattle.std.specs.Prelude.{◌≡◌, ◌↔◌, [], map, option_map, s
 ghost use Rattle.std.specs.FinMap.{entries};
 ghost use Rattle.std.specs.Option.{option_copied};
 ghost use Rattle.book_lists.specs.Principals.{group_path};
-ghost use Rattle.book_rows.specs.Adopting.{joined, listed, placed};
-ghost use Rattle.book_values.specs.Paths.{parent_of};
-ghost use Rattle.book_values.specs.declared.paths.Path.TheVariants as path;
+ghost use Rattle.book_tables_rows.specs.Adopting.{joined, listed_row, placed_row};
+ghost use Rattle.book_office_values.specs.Paths.{parent_of};
+ghost use Rattle.book_office_values.specs.declared.paths.Path.TheVariants as path;
 ghost use Rattle.book_tables.specs.Adopting.{Adds, AddsGroups, AddsLists, AddsPlaces, AreDifferences, HasLists, HasPlace, compared_books, compared_homes, compared_in, group_said, lists_said, members_in, place_said, properties_of, text_or_empty};
 ghost use Rattle.book_tables.specs.Rows.{kind_code};
 
 use crate::settings::rows_of;
-use book_adopting::{same_lists, same_place};
 use book_lists::{Membership, Name, Principal};
-use book_rows::{GroupRow, ListsRow, PlaceRow};
-use book_values::{Book, Kind, NameMap, Office, Path, Properties};
+use book_office_adopting::{same_lists, same_place};
+use book_office_values::{Book, Kind, NameMap, Office, Path, Properties};
+use book_tables_rows::{GroupRow, ListsRow, PlaceRow};
 use std::alloc::{AllocError, Global};
 
 /// The rows that are to be written where an Office becomes another.
@@ -64,7 +64,7 @@ fn owner_text(alloc: Global, owner: &Option<Principal>) -> Result<Option<String>
 
 /// The row of a place.
 fn place_row(alloc: Global, path: &Path, properties: &Properties) -> Result<PlaceRow, AllocError>
-    ensures { IfOk result (λ row. placed row ≡ place_said path.now properties.now) }
+    ensures { IfOk result (λ row. placed_row row ≡ place_said path.now properties.now) }
 {
     Ok(PlaceRow {
         path: path.text(alloc)?,
@@ -77,7 +77,7 @@ fn place_row(alloc: Global, path: &Path, properties: &Properties) -> Result<Plac
 
 /// The rows of its lists.
 fn lists_row(alloc: Global, path: &Path, properties: &Properties) -> Result<ListsRow, AllocError>
-    ensures { IfOk result (λ row. listed row ≡ lists_said path.now properties.now) }
+    ensures { IfOk result (λ row. listed_row row ≡ lists_said path.now properties.now) }
 {
     Ok(ListsRow {
         path: path.text(alloc)?,
@@ -115,7 +115,7 @@ fn add_place(
     new: &Properties,
 ) -> Result<(), AllocError>
     ensures { OnOk result (Adds (place_said path.now new.now) (HasPlace (option_copied old.entry) new.now)
-        (map placed places.old.items) (map placed places.new.items)) }
+        (map placed_row places.old.items) (map placed_row places.new.items)) }
 {
     if !has_place(old, new) {
         places.push(place_row(alloc, path, new)?)?;
@@ -132,7 +132,7 @@ fn add_lists(
     new: &Properties,
 ) -> Result<(), AllocError>
     ensures { OnOk result (Adds (lists_said path.now new.now) (HasLists (option_copied old.entry) new.now)
-        (map listed lists.old.items) (map listed lists.new.items)) }
+        (map listed_row lists.old.items) (map listed_row lists.new.items)) }
 {
     if !has_lists(old, new) {
         lists.push(lists_row(alloc, path, new)?)?;
@@ -150,9 +150,9 @@ fn compare(
     new: &Properties,
 ) -> Result<(), AllocError>
     ensures places { OnOk result (Adds (place_said path.now new.now) (HasPlace (option_copied old.entry) new.now)
-        (map placed places.old.items) (map placed places.new.items)) }
+        (map placed_row places.old.items) (map placed_row places.new.items)) }
     ensures lists { OnOk result (Adds (lists_said path.now new.now) (HasLists (option_copied old.entry) new.now)
-        (map listed lists.old.items) (map listed lists.new.items)) }
+        (map listed_row lists.old.items) (map listed_row lists.new.items)) }
 {
     add_place(alloc, places, path, old, new)?;
     add_lists(alloc, lists, path, old, new)
@@ -167,9 +167,9 @@ fn compare_homes(
     new: &Office,
 ) -> Result<(), AllocError>
     ensures places { OnOk result (AddsPlaces (compared_homes old.now new.now)
-        (map placed places.old.items) (map placed places.new.items)) }
+        (map placed_row places.old.items) (map placed_row places.new.items)) }
     ensures lists { OnOk result (AddsLists (compared_homes old.now new.now)
-        (map listed lists.old.items) (map listed lists.new.items)) }
+        (map listed_row lists.old.items) (map listed_row lists.new.items)) }
 {
     compare(
         alloc,
@@ -215,9 +215,9 @@ fn compare_persons(
     new: &NameMap<Properties>,
 ) -> Result<(), AllocError>
     ensures places { OnOk result (AddsPlaces (compared_in path.Person old.now (entries new.now))
-        (map placed places.old.items) (map placed places.new.items)) }
+        (map placed_row places.old.items) (map placed_row places.new.items)) }
     ensures lists { OnOk result (AddsLists (compared_in path.Person old.now (entries new.now))
-        (map listed lists.old.items) (map listed lists.new.items)) }
+        (map listed_row lists.old.items) (map listed_row lists.new.items)) }
 {
     for (name, properties) in new.iter() {
         let path = Path::Person(name.clone()?);
@@ -235,9 +235,9 @@ fn compare_groups(
     new: &NameMap<Properties>,
 ) -> Result<(), AllocError>
     ensures places { OnOk result (AddsPlaces (compared_in path.Group old.now (entries new.now))
-        (map placed places.old.items) (map placed places.new.items)) }
+        (map placed_row places.old.items) (map placed_row places.new.items)) }
     ensures lists { OnOk result (AddsLists (compared_in path.Group old.now (entries new.now))
-        (map listed lists.old.items) (map listed lists.new.items)) }
+        (map listed_row lists.old.items) (map listed_row lists.new.items)) }
 {
     for (name, properties) in new.iter() {
         let path = Path::Group(name.clone()?);
@@ -257,10 +257,10 @@ fn compare_book(
 ) -> Result<(), AllocError>
     ensures places { OnOk result (Adds (place_said (path.Book name.now) new.now.properties)
         (HasPlace (option_map properties_of (option_copied old.entry)) new.now.properties)
-        (map placed places.old.items) (map placed places.new.items)) }
+        (map placed_row places.old.items) (map placed_row places.new.items)) }
     ensures lists { OnOk result (Adds (lists_said (path.Book name.now) new.now.properties)
         (HasLists (option_map properties_of (option_copied old.entry)) new.now.properties)
-        (map listed lists.old.items) (map listed lists.new.items)) }
+        (map listed_row lists.old.items) (map listed_row lists.new.items)) }
 {
     let path = Path::Book(name.clone()?);
     match old {
@@ -285,9 +285,9 @@ fn compare_books(
     new: &NameMap<Book>,
 ) -> Result<(), AllocError>
     ensures places { OnOk result (AddsPlaces (compared_books old.now (entries new.now))
-        (map placed places.old.items) (map placed places.new.items)) }
+        (map placed_row places.old.items) (map placed_row places.new.items)) }
     ensures lists { OnOk result (AddsLists (compared_books old.now (entries new.now))
-        (map listed lists.old.items) (map listed lists.new.items)) }
+        (map listed_row lists.old.items) (map listed_row lists.new.items)) }
 {
     for (name, book) in new.iter() {
         compare_book(alloc, places, lists, name, old.get(name), book)?;
@@ -375,7 +375,7 @@ pub(crate) fn compare_offices(
     old: &Office,
     new: &Office,
 ) -> Result<Differences, AllocError>
-    ensures { IfOk result (λ d. AreDifferences old.now new.now (map placed d.places.items) (map listed d.lists.items)
+    ensures { IfOk result (λ d. AreDifferences old.now new.now (map placed_row d.places.items) (map listed_row d.lists.items)
         (map joined d.groups.items)) }
 {
     let mut places = Vec::new(alloc);

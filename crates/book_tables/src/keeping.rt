@@ -1,11 +1,11 @@
 //! The keeper of an Office over tables.
 
 use crate::tables::Tables;
-use book_adopting::Adoption;
 use book_lists::{Caller, Circle, Name, Pairs};
 use book_office::{Changed, Edit, Keeper, Level, Listed, Lists, Node, StoreFault};
-use book_policies::Policy;
-use book_values::{Items, Path};
+use book_office_adopting::Adoption;
+use book_office_values::{Items, Path};
+use book_policy_values::Policy;
 use sqlite::Alter;
 use std::alloc::Global;
 

@@ -5,7 +5,7 @@ ghost use Rattle.sqlite.specs.Held.{state};
 ghost use Rattle.sqlite.specs.State.{HasCleanDisk, Survives};
 ghost use Rattle.book_office.specs.Keeping.{Reads};
 ghost use Rattle.book_office.specs.Levels.{level_at, lists_at};
-ghost use Rattle.book_rows.specs.Steps.{Keeps, Spares, Stays};
+ghost use Rattle.book_tables_rows.specs.Steps.{Keeps, Spares, Stays};
 ghost use Rattle.book_tables.specs.Keeps.{standing_of};
 ghost use Rattle.book_tables.specs.Levels.{ShowsLevel, ShowsLists};
 
@@ -13,8 +13,8 @@ use crate::faults::fault_of;
 use crate::shares::list_told;
 use crate::tables::Tables;
 use book_office::{Level, Lists, StoreFault};
-use book_rows::entry_rows_at;
-use book_values::{Items, Path};
+use book_office_values::{Items, Path};
+use book_tables_rows::entry_rows_at;
 use sqlite::{Alter, Connection, Error, ErrorCode, Transaction};
 use std::alloc::{AllocError, Global};
 

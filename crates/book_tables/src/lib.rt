@@ -1,6 +1,6 @@
 //! The tables of an Office: the keeper of an Office over the tables of a SQL store.
 //!
-//! It stands on `book_rows`, which knows the tables as lists of rows and nothing of an Office, and on `book_office`,
+//! It stands on `book_tables_rows`, which knows the tables as lists of rows and nothing of an Office, and on `book_office`,
 //! which says what an Office is and what an edit leaves. Read first `specs/Rows`, what rows tell, and `specs/Stands`,
 //! for which Office they stand. The rows of an open connection stand for one sound Office at most, so what a stop
 //! leaves is one Office or none. Each edit is one transaction, and meets the clause that `Keeper::act` has for it: at

@@ -5,14 +5,13 @@ ghost use Rattle.std.specs.FinSet as set;
 ghost use Rattle.std.specs.List.{list_any};
 ghost use Rattle.sqlite.specs.declared.types.Value.TheVariants.{Text};
 ghost use Rattle.sqlite.specs.Held.{state};
-ghost use Rattle.sqlite.specs.Order.{column};
 ghost use Rattle.sqlite.specs.State.{HasCleanDisk, Survives};
 ghost use Rattle.book_lists.specs.Callers.{IsCircle};
 ghost use Rattle.book_lists.specs.declared.memberships.Membership.{Membership};
 ghost use Rattle.book_office.specs.Keeping.{Reads};
-ghost use Rattle.book_rows.specs.Lists.{ShowsRows};
-ghost use Rattle.book_rows.specs.Lists as lists;
-ghost use Rattle.book_rows.specs.Steps.{Stays};
+ghost use Rattle.book_tables_rows.specs.Lists.{ShowsRows, pair_group, pair_member};
+ghost use Rattle.book_tables_rows.specs.Lists as lists;
+ghost use Rattle.book_tables_rows.specs.Steps.{Stays};
 ghost use Rattle.book_tables.specs.Keeps.{standing_of};
 ghost use Rattle.book_tables.specs.Listing.{ShowsPairs, tells_member};
 
@@ -21,14 +20,14 @@ use crate::reading::principal_of;
 use crate::tables::Tables;
 use book_lists::{Caller, Circle, Membership, Pairs, expand};
 use book_office::StoreFault;
-use book_rows::member_rows;
+use book_tables_rows::member_rows;
 use sqlite::{Alter, Connection, Error, ErrorCode, Row};
 use std::alloc::Global;
 
 /// The pair of group and member that a row tells; an error where it tells none.
 fn membership_of(alloc: Global, row: &Row) -> Result<Membership, Error>
-    ensures group { IfOk result (λ m. column row.now 0 ≡ Text m.group) }
-    ensures member { IfOk result (λ m. column row.now 1 ≡ Text m.member) }
+    ensures group { IfOk result (λ m. pair_group row.now ≡ Text m.group) }
+    ensures member { IfOk result (λ m. pair_member row.now ≡ Text m.member) }
 {
     let group: String = row.get(0)?;
     let member: String = row.get(1)?;

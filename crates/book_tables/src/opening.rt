@@ -4,7 +4,7 @@ ghost use Rattle.std.specs.Prelude.{◌≡◌, ◌≢◌, ◌⊎◌, IfOk, IfErr
 ghost use Rattle.sqlite.specs.Held.{state};
 ghost use Rattle.sqlite.specs.State.{HasCleanDisk};
 ghost use Rattle.book_office.specs.Edits.{empty_office};
-ghost use Rattle.book_store.specs.Founding.{no_schema};
+ghost use Rattle.book_tables_schema.specs.Founding.{no_schema};
 ghost use Rattle.book_tables.specs.Opened.{StandsAlone, IsUnfounded, open_fault};
 
 use crate::tables::Tables;
@@ -51,7 +51,7 @@ impl<S: Alter> Tables<S> {
         ensures kept { IfErr result (λ e. HasCleanDisk (state S.Store e.1)
             → IsUnfounded (state S.Store connection) (state S.Store e.1) empty_office) }
     {
-        match book_store::create(&mut connection) {
+        match book_tables_schema::create(&mut connection) {
             Ok(()) => Ok(Tables {
                 connection,
                 failures: 0,

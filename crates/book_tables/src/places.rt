@@ -2,16 +2,16 @@
 
 ghost use Rattle.std.specs.Prelude.{◌≡◌, map, IfOk, IfSome};
 ghost use Rattle.std.specs.FinMap.{empty};
-ghost use Rattle.book_values.specs.declared.offices.Office.{Office as OfficeValue};
-ghost use Rattle.book_values.specs.declared.paths.Path.TheVariants as path;
-ghost use Rattle.book_policies.specs.Policies.{added};
+ghost use Rattle.book_office_values.specs.declared.offices.Office.{Office as OfficeValue};
+ghost use Rattle.book_office_values.specs.declared.paths.Path.TheVariants as path;
+ghost use Rattle.book_policy_values.specs.Policies.{added};
 ghost use Rattle.book_office.specs.Levels.{lists_at};
 ghost use Rattle.book_office.specs.Resources.{listed_homes, node_at};
 ghost use Rattle.book_tables.specs.BareOffice.{place_told, book_told, homes_of as homes_in, office_told};
 
 use book_lists::{Name, Pairs};
 use book_office::{Listed, Lists, Node};
-use book_values::{Book, Changes, Items, NameMap, Office, Properties};
+use book_office_values::{Book, Changes, Items, NameMap, Office, Properties};
 use std::alloc::{AllocError, Global};
 
 /// The homes.

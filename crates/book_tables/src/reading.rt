@@ -3,15 +3,15 @@
 ghost use Rattle.std.specs.Prelude.{◌≡◌, IfOk, option_map, string_bytes};
 ghost use Rattle.sqlite.specs.Held.{state};
 ghost use Rattle.sqlite.specs.State.{HasCleanDisk, Survives};
-ghost use Rattle.book_rows.specs.Nodes.{Finds, ShowsEpoch, told};
-ghost use Rattle.book_rows.specs.Steps.{Stays};
+ghost use Rattle.book_tables_rows.specs.Nodes.{Finds, ShowsEpoch, told};
+ghost use Rattle.book_tables_rows.specs.Steps.{Stays};
 ghost use Rattle.book_tables.specs.Reading.{ShowsNode, node_told};
 ghost use Rattle.book_tables.specs.Rows.{kind_numbered};
 
 use book_lists::Principal;
 use book_office::Node;
-use book_rows::{Found, look_up, read_epoch};
-use book_values::{Kind, Text};
+use book_office_values::{Kind, Text};
+use book_tables_rows::{FoundNode, look_up, read_epoch};
 use sqlite::{Alter, Connection, Error, ErrorCode};
 use std::alloc::Global;
 
@@ -54,7 +54,7 @@ pub(crate) fn owner_of(alloc: Global, path: Option<String>) -> Result<Option<Pri
 }
 
 /// The resource that a row tells.
-fn node_of(alloc: Global, found: Found) -> Result<Node, Error>
+fn node_of(alloc: Global, found: FoundNode) -> Result<Node, Error>
     ensures { IfOk result (λ node. node ≡ node_told (told found)) }
 {
     let kind = kind_of(found.kind)?;
@@ -69,7 +69,10 @@ fn node_of(alloc: Global, found: Found) -> Result<Node, Error>
 }
 
 /// The row at a path, looked up in a transaction of its own.
-fn shown_row<S: Alter>(connection: &mut Connection<S>, path: &str) -> Result<Option<Found>, Error>
+fn shown_row<S: Alter>(
+    connection: &mut Connection<S>,
+    path: &str,
+) -> Result<Option<FoundNode>, Error>
     ensures stays { HasCleanDisk (state S.Store connection.new)
         → Stays (state S.Store connection.old) (state S.Store connection.new) }
     ensures survives { Survives (state S.Store connection.old) (state S.Store connection.new) (λ _. ⊥) }

@@ -4,7 +4,7 @@ ghost use Rattle.std.specs.Prelude.{◌≡◌, map, option_map, string_bytes, If
 ghost use Rattle.sqlite.specs.Held.{state};
 ghost use Rattle.book_office.specs.Keeping.{Edits};
 ghost use Rattle.book_office.specs.declared.edits.Edit.TheVariants.{SetList, SetMembers};
-ghost use Rattle.book_rows.specs.Nodes.{said};
+ghost use Rattle.book_tables_rows.specs.Nodes.{said};
 ghost use Rattle.book_tables.specs.Keeps.{standing_of};
 ghost use Rattle.book_tables.specs.Rows.{form_code};
 ghost use Rattle.book_tables.specs.Settings.{entry_said, principal_said};
@@ -13,8 +13,8 @@ use crate::faults::fault_of;
 use crate::tables::{Tables, text_of};
 use book_lists::{Entry, Principal, Who};
 use book_office::StoreFault;
-use book_rows::{EntryRow, set_list, set_members};
-use book_values::{Items, Path};
+use book_office_values::{Items, Path};
+use book_tables_rows::{EntryRow, set_list, set_members};
 use sqlite::Alter;
 use std::alloc::{AllocError, Global};
 

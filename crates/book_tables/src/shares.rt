@@ -8,7 +8,7 @@ ghost use Rattle.book_tables.specs.Shares.{DoNotFall, list_among, node_in};
 
 use crate::entries::entry_at;
 use book_lists::Entry;
-use book_values::Items;
+use book_office_values::Items;
 use sqlite::types::ValueRef;
 use sqlite::{Error, Row};
 use std::alloc::Global;

@@ -13,19 +13,19 @@ ghost use Rattle.book_office.specs.declared.edits.Edit.TheVariants.{
   RemoveBook,
   SetLabel,
 };
-ghost use Rattle.book_values.specs.declared.paths.Kind.TheVariants.{Card};
-ghost use Rattle.book_values.specs.declared.paths.Path.TheVariants as path;
-ghost use Rattle.book_values.specs.Paths.{book_path, card_path, path_text, kind_of};
+ghost use Rattle.book_office_values.specs.declared.paths.Kind.TheVariants.{Card};
+ghost use Rattle.book_office_values.specs.declared.paths.Path.TheVariants as path;
+ghost use Rattle.book_office_values.specs.Paths.{book_path, card_path, path_text, kind_of};
 ghost use Rattle.book_tables.specs.Keeps.{standing_of};
 
 use crate::faults::fault_of;
 use crate::reading::{shown_epoch, shown_node};
 use book_lists::{Name, Principal};
 use book_office::{Node, StoreFault};
-use book_rows::{
+use book_office_values::{Path, Text};
+use book_tables_rows::{
     add_book, copy_card, label_card, label_node, move_card, put_card, remove_book, remove_card,
 };
-use book_values::{Path, Text};
 use sqlite::{Alter, Connection};
 use std::alloc::{AllocError, Global};
 

@@ -1,10 +1,12 @@
 -- The members of a list with commas, a byte at a time.
-use Rattle.std.proofs.Common.{◌≡◌, ◌==◌, ℕ, ◌+◌, ◌-◌, ◌<◌, ◌≤◌, Bool, true, false, ◌||◌, cond, List, [], ◌∷◌, ◌++◌, length, get_or, take, drop, refl, sym, ap, ◌∙◌, append_assoc, append-nil, arith, eq-eqb}
+use Rattle.book_wire.proofs.Common.{◌≡◌, ℕ, ◌+◌, ◌-◌, ◌<◌, ◌≤◌, Bool, true, false, List, [], ◌∷◌, ◌++◌, length, take, drop, refl, sym, ap, ◌∙◌, append_assoc, append-nil, arith, length-take-le, has_close}
+use mathlib.Core.Bool.{or-false}
+use Rattle.std.proofs.Common.{◌==◌, ◌||◌, cond, get_or, eq-eqb}
 use Rattle.std.proofs.lemmas.Slice.{between_is}
-use Rattle.std.proofs.lemmas.List.{take_more, drop-append-le, drop_more, take_all, drop_all, length-take-le}
+use Rattle.std.proofs.lemmas.List.{take_more, drop-append-le, drop_more, take_all, drop_all}
 use Rattle.std.proofs.lemmas.Bool.Decides.{nat_tests}
 use Rattle.std.specs.List.{list_any}
-use Rattle.book_wire.specs.Members.{members_of, with_first, is_close, has_close}
+use Rattle.book_wire.specs.Members.{members_of, with_first, is_close}
 
 -- the members that follow, the first of them begun before
 abbrev pub with_front : List ℕ → List (List ℕ) → List (List ℕ)
@@ -63,16 +65,12 @@ left_other value start i s h e =
     ∙ ap (list_any is_close) (front_other xs b rest e)
     ∙ ap (λ (t : List ℕ). list_any is_close (with_front t (members_of rest))) (sym begun)
 
-or_none : (b : Bool) → (b || false) ≡ b
-or_none true = refl
-or_none false = refl
-
 pub left_last : (value : List ℕ) (start i : ℕ) → length value ≤ i → left_at value start i ≡ is_close (drop start value)
 left_last value start i h =
     ap (λ (t : List ℕ). list_any is_close (with_front (drop start t) (members_of (drop i value)))) (take_all i value h)
     ∙ ap (λ (t : List ℕ). list_any is_close (with_front (drop start value) (members_of t))) (drop_all i value h)
     ∙ ap (λ (t : List ℕ). is_close t || false) (append-nil (drop start value))
-    ∙ or_none (is_close (drop start value))
+    ∙ or-false (is_close (drop start value))
 
 -- the member that ends at a comma is `close`
 pub found_close : (value : List ℕ) (start i : ℕ) → i < length value → get_or value i 0 ≡ 44 → is_close (take (i - start) (drop start value)) ≡ true

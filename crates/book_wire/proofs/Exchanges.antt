@@ -1,15 +1,10 @@
 -- A whole request at the front, and its exchange.
-use Rattle.std.proofs.Common.{◌≡◌, ℕ, ◌+◌, ◌-◌, ◌<◌, ◌≤◌, List, ◌++◌, length, take, drop, Option, Ok, refl, sym, ap, ◌∙◌, arith}
-use Rattle.std.proofs.lemmas.List.{take-append-drop, take_at, length-take, length-take-le, length-drop}
-use Rattle.httparse.specs.Grammar.{RequestHead, print_request}
-use Rattle.book_office.specs.Keeping.{Standing}
-use Rattle.book_machine.specs.declared.messages.Reply.{Reply}
-use Rattle.book_machine.specs.declared.messages.Request.{Request}
+use Rattle.book_wire.proofs.Common.{◌≡◌, ℕ, ◌+◌, ◌-◌, ◌<◌, ◌≤◌, List, ◌++◌, length, take, drop, Option, refl, sym, ap, ◌∙◌, arith, take-append-drop, take_at, length-take, length-take-le, length-drop, RequestHead, print_request, Standing, Reply, Request, Asked, Exchange, reply_text, Takes}
+use Rattle.std.proofs.Common.{Ok}
 use Rattle.book_wire.specs.Requests.{caller_name}
 use Rattle.book_wire.specs.Serving.{ServesAny}
-use Rattle.book_wire.specs.Head.{Asked, asked_of_head}
-use Rattle.book_wire.specs.Stream.{IsAskedBy, IsHead, Exchange, IsExchange, reply_text}
-use Rattle.book_wire.specs.Turn.{Takes}
+use Rattle.book_wire.specs.Head.{asked_of_head}
+use Rattle.book_wire.specs.Stream.{IsAskedBy, IsHead, IsExchange}
 use Rattle.book_wire.proofs.Known.{take_further}
 
 abbrev pub body_in : List ℕ → ℕ → Asked → List ℕ

@@ -1,13 +1,11 @@
 -- Heads that the parser found in the front of what is unread.
-use Rattle.std.proofs.Common.{◌≡◌, ℕ, ◌-◌, ◌<◌, ◌≤◌, List, ◌++◌, map, length, take, drop, sym, ap, ◌∙◌, append_assoc, arith, refl}
-use Rattle.std.proofs.lemmas.List.{take-append-drop, drop_at, length-take, length-map}
-use Rattle.httparse.specs.Grammar.{RequestHead}
-use Rattle.httparse.specs.Spans.{IsRequestAt, IsRequestWithin, header_bytes, span_bytes, name_and_value}
+use Rattle.book_wire.proofs.Common.{◌≡◌, ℕ, ◌-◌, ◌<◌, ◌≤◌, List, ◌++◌, map, length, take, drop, sym, ap, ◌∙◌, append_assoc, arith, refl, take-append-drop, length-take, RequestHead, header_bytes, name_and_value, WireRefusal, Asked}
+use Rattle.std.proofs.lemmas.List.{drop_at, length-map}
+use Rattle.httparse.specs.Spans.{IsRequestAt, IsRequestWithin, span_bytes}
 use Rattle.httparse.specs.declared.spans.HeaderSpan.{HeaderSpan}
 use Rattle.httparse.specs.declared.spans.RequestSpans.{RequestSpans}
-use Rattle.book_wire.specs.declared.head.WireRefusal.{WireRefusal}
 use Rattle.std.specs.Prelude.{Result}
-use Rattle.book_wire.specs.Head.{Asked, asked_of, asked_of_head}
+use Rattle.book_wire.specs.Head.{asked_by_head, asked_of_head}
 use Rattle.book_wire.specs.Stream.{IsHead}
 
 -- what stands at the front of a front stands at the front
@@ -45,6 +43,6 @@ is_not_empty buf headers r h within at =
 
 pub asked_at : (buf : List ℕ) (headers : List HeaderSpan) (r : RequestSpans) (h : RequestHead) (x : Result Asked WireRefusal)
     → IsRequestAt buf headers r h
-    → asked_of (span_bytes buf r.method) (span_bytes buf r.path) r.version (map (header_bytes buf) (take r.headers headers)) ≡ x
+    → asked_by_head (span_bytes buf r.method) (span_bytes buf r.path) r.version (map (header_bytes buf) (take r.headers headers)) ≡ x
     → asked_of_head h ≡ x
 asked_at buf headers r h x at e = cc (at.method, at.path, at.version, at.fields, e)

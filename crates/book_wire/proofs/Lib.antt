@@ -1,3 +1,4 @@
+pub mod Common
 pub mod Known
 pub mod CommaLists
 pub mod Servings

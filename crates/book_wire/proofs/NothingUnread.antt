@@ -1,8 +1,9 @@
 -- Where nothing is unread, a head may still come.
-use Rattle.std.proofs.Common.{Bool, true, ◌≡◌, ℕ, zero, suc, ◌<◌, List, [], ◌∷◌, ◌++◌, length, sym, ap, arith, refl, inl, length-append, append-nil}
+use Rattle.book_wire.proofs.Common.{Bool, true, ◌≡◌, ℕ, ◌<◌, List, [], ◌∷◌, ◌++◌, length, sym, ap, arith, refl, inl, append-nil, RequestHead, print_request}
+use Rattle.std.proofs.Common.{zero, suc, length-append}
 use lib.Utf8.{encode}
 use Rattle.httparse.proofs.GrammarLemmas.{print_request-append}
-use Rattle.httparse.specs.Grammar.{RequestHead, print_request, print_blank, crlf, HasNoRequest, MayBecomeRequest, is_uri_byte, is_token_byte, AllPass}
+use Rattle.httparse.specs.Grammar.{print_blank, crlf, HasNoRequest, MayBecomeRequest, is_uri_byte, is_token_byte, AllPass}
 use Rattle.book_wire.specs.Stream.{IsPartOfHead}
 
 in_front : (front rest : List ℕ) → 0 < length front → 0 < length (front ++ rest)

@@ -1,12 +1,10 @@
 -- Runs, a request at a time.
-use Rattle.std.proofs.Common.{◌≡◌, ℕ, List, [], ◌∷◌, ◌++◌, Option, Some, None, refl, sym, subst, inl, inr}
+use Rattle.book_wire.proofs.Common.{◌≡◌, ℕ, List, [], ◌∷◌, ◌++◌, Option, Some, None, refl, sym, subst, inl, inr, Standing, Reply, Request}
 use Rattle.std.proofs.lemmas.List.Concat.{flat_map-append}
-use Rattle.book_office.specs.Keeping.{Leftover, Standing}
-use Rattle.book_values.specs.declared.offices.Office.{Office}
+use Rattle.book_office.specs.Keeping.{Leftover}
+use Rattle.book_office_values.specs.declared.offices.Office.{Office}
 use Rattle.book_machine.specs.Runs.{Call, Run, last_office, MayLeave, MayLeaveAfter}
-use Rattle.book_machine.specs.declared.messages.Reply.{Reply}
-use Rattle.book_machine.specs.declared.messages.Request.{Request}
-use Rattle.book_wire.specs.Serving.{Stays, ServesAny, Answered, Runs, calls_in, calls_of, replies_in, replies_of}
+use Rattle.book_wire.specs.Serving.{Stays, ServesAny, Answered, Runs, calls_in, calls_answered, replies_in, replies_of}
 
 pub stays : (s : Standing) → Stays s s
 stays s = record { was_honest = λ h. h; kept = λ h o stands. stands; left = λ h x left. left; counted = refl }
@@ -77,7 +75,7 @@ runs_then old mid new answered more r s = record {
   was_honest = λ h. r.was_honest (s.was_honest h);
   run = λ h.
       let P : List Call → Type 0 = λ calls. IsRun old new calls (replies_of (answered ++ more)) in
-      let Q : List Reply → Type 0 = λ replies. IsRun old new (calls_of answered ++ calls_of more) replies in
+      let Q : List Reply → Type 0 = λ replies. IsRun old new (calls_answered answered ++ calls_answered more) replies in
       subst P (sym (flat_map-append calls_in answered more))
       (subst Q (sym (flat_map-append replies_in answered more))
       (λ o stands.
@@ -85,9 +83,9 @@ runs_then old mid new answered more r s = record {
       let next = s.run h (last_office o so.0) so.1 in (
         so.0 ++ next.0,
         rw (last_then o so.0 next.0) next.1,
-        run_then o (calls_of answered) (calls_of more) (replies_of answered) (replies_of more) so.0 next.0 so.2 next.2,
+        run_then o (calls_answered answered) (calls_answered more) (replies_of answered) (replies_of more) so.0 next.0 so.2 next.2,
         λ x left.
-            leave_then old.left mid.left o (calls_of answered) (calls_of more) (replies_of answered) (replies_of more) so.0 next.0 x so.2 so.3
+            leave_then old.left mid.left o (calls_answered answered) (calls_answered more) (replies_of answered) (replies_of more) so.0 next.0 x so.2 so.3
             (next.3 x left),
       )));
 }

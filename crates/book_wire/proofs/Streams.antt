@@ -1,26 +1,23 @@
 -- Streams, an exchange at a time.
-use Rattle.std.proofs.Common.{◌≡◌, ◌≢◌, ℕ, ◌+◌, ◌<◌, ◌≤◌, ◌⊎◌, Bool, true, false, List, [], ◌∷◌, ◌++◌, map, length, Option, Some, None, refl, sym, ap, subst, ◌∙◌, inl, inr, append_assoc, append-nil, length-append, arith}
+use Rattle.book_wire.proofs.Common.{◌≡◌, ◌≢◌, ℕ, ◌+◌, ◌<◌, ◌≤◌, Bool, true, false, List, [], ◌∷◌, ◌++◌, map, length, Option, Some, None, refl, sym, ap, subst, ◌∙◌, inl, inr, append_assoc, append-nil, arith, Consumes, print_request, name_and_value, Standing, WireRefusal, Exchange, SoFar, Refuses, reply_text, Takes, Asked}
+use Rattle.std.proofs.Common.{◌⊎◌, length-append}
 use Rattle.std.proofs.lemmas.List.{map-append}
 use Rattle.std.proofs.lemmas.List.Concat.{flat_map-append}
 use Rattle.std.specs.List.{flat_map, AllByRecursion}
-use Rattle.std.specs.Io.KnownBytes.{Consumes, IsAtEnd}
+use Rattle.std.specs.Io.KnownBytes.{IsAtEnd}
 use Rattle.std.specs.Prelude.{codes, Result, Ok, Err}
 use Rattle.std.proofs.lemmas.Bool.{false≢true}
 use Rattle.std.proofs.lemmas.Bool.Decides.{nat_tests}
-use Rattle.httparse.specs.Grammar.{print_request}
-use Rattle.httparse.specs.Spans.{name_and_value}
-use Rattle.book_office.specs.Keeping.{Standing}
-use Rattle.book_targets.specs.Targets.{method_named}
-use Rattle.book_wire.specs.declared.head.WireRefusal.{WireRefusal}
+use Rattle.book_wire_targets.specs.Targets.{method_named}
 use Rattle.book_wire.specs.declared.head.WireRefusal.TheVariants.{BadHead, HeadTooLarge, BodyTooLarge, NotImplemented}
 use Rattle.book_wire.specs.declared.stream.Ended.{Ended}
 use Rattle.book_wire.specs.declared.stream.Ended.TheVariants.{Clean, Cut, Closed}
 use Rattle.book_wire.specs.Requests.{caller_name}
 use Rattle.book_wire.specs.Serving.{Answered, Runs, Stays}
 use Rattle.book_wire.specs.Spelling.{refusal_text}
-use Rattle.book_wire.specs.Stream.{Exchange, IsOpen, IsLast, Answers, SoFar, IsServed, Ends, EndsOpen, IsPartial, IsPartOfBodyOf, IsInput, Waits, WaitsFor, Refuses, FrontRefuses, text_of, reply_text, answered_of}
-use Rattle.book_wire.specs.Turn.{Takes, IsPending, IsProgress, StopsAt, StopsWriting}
-use Rattle.book_wire.specs.Head.{Asked, Fields, ◌>>=◌, lone, values_of, length_of, implemented, within, asked_of}
+use Rattle.book_wire.specs.Stream.{IsOpen, IsLast, Answers, IsServed, Ends, EndsOpen, IsPartial, IsPartOfBodyOf, IsInput, Waits, WaitsFor, FrontRefuses, text_of, answered_of}
+use Rattle.book_wire.specs.Turn.{IsPending, IsProgress, StopsAt, StopsWriting}
+use Rattle.book_wire.specs.Head.{Fields, ◌>>=◌, lone, values_of, length_of, implemented, within, asked_by_head}
 use Rattle.book_wire.proofs.Servings.{stays, runs_none, runs_one, runs_then, runs_stay}
 
 all_append : {X : Type 0} (P : X → Type 0) (xs ys : List X) → AllByRecursion P xs → AllByRecursion P ys → AllByRecursion P (xs ++ ys)
@@ -359,8 +356,8 @@ length_in (Ok asked) = asked.length
 length_in (Err e) = 0
 
 pub asked_length : (method target : List ℕ) (minor : ℕ) (fields : Fields) (asked : Asked)
-    → asked_of method target minor fields ≡ Ok asked → asked.length ≤ 262144
-unfolding asked_of length_in
+    → asked_by_head method target minor fields ≡ Ok asked → asked.length ≤ 262144
+unfolding asked_by_head length_in
 asked_length method target minor fields asked e =
     let a = bind_ok (lone (values_of (codes "x-office-caller") fields)) _ asked e in
     let d = bind_ok (lone (values_of (codes "destination") fields)) _ asked a.2 in

@@ -1,14 +1,11 @@
 -- A reply that can't be spelled is told as unavailable: it changed nothing.
-use Rattle.std.proofs.Common.{◌≡◌, ◌≢◌, ℕ, List, Option, refl, sym, subst, inl, inr}
-use Rattle.book_office.specs.Keeping.{Standing}
-use Rattle.book_values.specs.declared.offices.Office.{Office}
+use Rattle.book_wire.proofs.Common.{◌≡◌, ◌≢◌, ℕ, List, Option, refl, sym, subst, inl, inr, Standing, Reply, Request}
+use Rattle.book_office_values.specs.declared.offices.Office.{Office}
 use Rattle.book_machine.specs.Laws.{TellingRepliesChangeNothing}
 use Rattle.book_machine.specs.Promises.{ServePromise}
 use Rattle.book_machine.specs.Refusals.{refused}
 use Rattle.book_machine.specs.Steps.{Serves}
 use Rattle.book_machine.specs.declared.messages.Content.TheVariants as content
-use Rattle.book_machine.specs.declared.messages.Reply.{Reply}
-use Rattle.book_machine.specs.declared.messages.Request.{Request}
 use Rattle.book_machine.specs.declared.refusals.Refusal.TheVariants.{Unavailable}
 use Rattle.book_wire.specs.Sending.{IsSent}
 

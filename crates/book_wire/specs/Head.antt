@@ -11,7 +11,7 @@ use Rattle.book_machine.specs.declared.messages.Flag.{Flag}
 use Rattle.book_machine.specs.declared.messages.Flag.TheVariants as flag
 use Rattle.book_machine.specs.declared.messages.Depth.{Depth}
 use Rattle.book_machine.specs.declared.messages.Depth.TheVariants as depth
-use Rattle.book_targets.specs.Targets.{method_named}
+use Rattle.book_wire_targets.specs.Targets.{method_named}
 use Rattle.book_wire.specs.Members.{same_name, has_close}
 use Rattle.book_wire.specs.declared.head.WireRefusal.{WireRefusal}
 use Rattle.book_wire.specs.declared.head.WireRefusal.TheVariants.{BadHead, BodyTooLarge, NotImplemented}
@@ -85,8 +85,8 @@ abbrev pub ◌>>=◌ : {A B : Type 0} → Result A WireRefusal → (A → Result
 (Err e) >>= f = Err e
 
 -- bad fields come first, then what is not implemented, then a body that is too long
-unfoldable pub asked_of : List ℕ → List ℕ → ℕ → Fields → Result Asked WireRefusal
-asked_of method target minor fields = do
+unfoldable pub asked_by_head : List ℕ → List ℕ → ℕ → Fields → Result Asked WireRefusal
+asked_by_head method target minor fields = do
   caller ← lone (values_of (codes "x-office-caller") fields)
   destination ← lone (values_of (codes "destination") fields)
   overwrite ← lone (values_of (codes "overwrite") fields)
@@ -108,7 +108,7 @@ asked_of method target minor fields = do
   })
 
 abbrev pub asked_of_head : RequestHead → Result Asked WireRefusal
-asked_of_head h = asked_of h.method h.target h.minor (map name_and_value h.fields)
+asked_of_head h = asked_by_head h.method h.target h.minor (map name_and_value h.fields)
 
 -- the head's method is HEAD, so that no body is sent
 abbrev pub is_bare_head : List ℕ → Bool

@@ -3,10 +3,10 @@ use Rattle.std.specs.Prelude.{◌≡◌, ℕ, Bool, true, false, if◌then◌els
 use Rattle.std.specs.Str.{is_utf8}
 use Rattle.book_rights.specs.declared.methods.Method.{Method}
 use Rattle.book_rights.specs.declared.methods.Method.TheVariants as method
-use Rattle.book_values.specs.declared.paths.Path.{Path}
+use Rattle.book_office_values.specs.declared.paths.Path.{Path}
 use Rattle.book_machine.specs.declared.messages.Request.{Request}
-use Rattle.book_bodies.specs.Bodies.{IsBody}
-use Rattle.book_targets.specs.Targets.{IsPathOf}
+use Rattle.book_wire_json.specs.Bodies.{IsBody}
+use Rattle.book_wire_targets.specs.Targets.{IsPathOf}
 use Rattle.book_wire.specs.Head.{Asked}
 
 -- a value that is not UTF-8 is no name, as the empty text is none

@@ -2,7 +2,7 @@
 use Rattle.std.specs.Prelude.{◌≡◌, ℕ, List, [], ◌∷◌, Option, Some, None}
 use Rattle.std.specs.List.{flat_map}
 use Rattle.book_office.specs.Keeping.{Leftover, Standing}
-use Rattle.book_values.specs.declared.offices.Office.{Office}
+use Rattle.book_office_values.specs.declared.offices.Office.{Office}
 use Rattle.book_machine.specs.Promises.{ServePromise}
 use Rattle.book_machine.specs.Runs.{Call, Run, last_office, MayLeaveAfter}
 use Rattle.book_machine.specs.declared.messages.Reply.{Reply}
@@ -42,8 +42,8 @@ abbrev pub replies_in : Answered → List Reply
 replies_in a = reply_in a.request a.reply
 
 -- the calls that the machine was given, and their replies
-abbrev pub calls_of : List Answered → List Call
-calls_of answered = flat_map calls_in answered
+abbrev pub calls_answered : List Answered → List Call
+calls_answered answered = flat_map calls_in answered
 
 abbrev pub replies_of : List Answered → List Reply
 replies_of answered = flat_map replies_in answered
@@ -52,5 +52,5 @@ replies_of answered = flat_map replies_in answered
 pub record Runs (old new : Standing) (answered : List Answered) : Type 0 where
   pub was_honest : new.honest → old.honest
   pub run : new.honest → (o : Office) → old.stands o
-      → (offices : List Office) × new.stands (last_office o offices) × Run o (calls_of answered) (replies_of answered) offices
-      × ((x : Leftover) → new.left x → MayLeaveAfter old.left o (calls_of answered) (replies_of answered) offices x)
+      → (offices : List Office) × new.stands (last_office o offices) × Run o (calls_answered answered) (replies_of answered) offices
+      × ((x : Leftover) → new.left x → MayLeaveAfter old.left o (calls_answered answered) (replies_of answered) offices x)

@@ -7,12 +7,12 @@ use Rattle.book_machine.specs.declared.messages.Content.TheVariants as content
 use Rattle.book_machine.specs.declared.messages.Reply.{Reply}
 use Rattle.book_machine.specs.declared.refusals.Refusal.{Refusal}
 use Rattle.book_machine.specs.declared.refusals.Refusal.TheVariants as refusal
-use Rattle.book_bodies.specs.Refusals.{refusal_data}
-use Rattle.book_replies.specs.Listings.{listing_data}
-use Rattle.book_replies.specs.Members.{members_data}
-use Rattle.book_replies.specs.Reports.{report_data}
-use Rattle.book_replies.specs.Rulings.{rulings_data}
-use Rattle.book_targets.specs.Targets.{phrase_of}
+use Rattle.book_wire_json.specs.Refusals.{refusal_data}
+use Rattle.book_wire_json.specs.Listings.{listing_data}
+use Rattle.book_wire_json.specs.Members.{members_data}
+use Rattle.book_wire_json.specs.SyncReports.{report_data}
+use Rattle.book_wire_json.specs.Rulings.{rulings_data}
+use Rattle.book_wire_targets.specs.Targets.{phrase_of}
 use Rattle.book_wire.specs.declared.head.WireRefusal.{WireRefusal}
 use Rattle.book_wire.specs.declared.head.WireRefusal.TheVariants as wire
 

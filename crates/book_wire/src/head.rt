@@ -11,7 +11,7 @@ use crate::members::{has_close, has_name};
 use book_limits::{MAX_BODY, MAX_FIELDS, MAX_HEAD};
 use book_machine::{Depth, Flag};
 use book_rights::Method;
-use book_targets::method_named;
+use book_wire_targets::method_named;
 use httparse::spans::{HeaderSpan, RequestSpans, parse_request};
 use httparse::{Error, Status};
 
@@ -30,7 +30,7 @@ pub(crate) enum WireRefusal {
 
 /// What a head asks for.
 #[derive(Clone, Copy, Debug)]
-pub(crate) struct Asked<'b> {
+pub(crate) struct AskedByHead<'b> {
     /// The field `x-office-caller`, which the gateway sets (own profile).
     pub(crate) caller: Option<&'b [u8]>,
     /// The method.
@@ -57,7 +57,7 @@ pub(crate) enum Reading<'b> {
     /// No request; and whether its reply is bare, since its method is HEAD.
     Refused(WireRefusal, bool),
     /// A whole head, and its length.
-    Whole(Asked<'b>, usize),
+    Whole(AskedByHead<'b>, usize),
 }
 
 /// The value of a field that may come once.
@@ -199,19 +199,19 @@ fn closes(bytes: &[u8], headers: &[HeaderSpan], minor: u8) -> bool
 }
 
 /// What the fields of a head ask for.
-#[tactic(auto, unfolding(crate::specs::Head::asked_of))]
+#[tactic(auto, unfolding(crate::specs::Head::asked_by_head))]
 fn read_fields<'b>(
     bytes: &'b [u8],
     spans: &RequestSpans,
     headers: &[HeaderSpan],
-) -> Result<Asked<'b>, WireRefusal>
+) -> Result<AskedByHead<'b>, WireRefusal>
     requires method { IsWithin (length bytes.now) spans.now.method }
     requires path { IsWithin (length bytes.now) spans.now.path }
     requires headers { All (IsHeaderWithin (length bytes.now)) headers.now }
     ensures { MatchResult result
-        (λ a. spec.asked_of (span_bytes bytes.now spans.now.method) (span_bytes bytes.now spans.now.path) spans.now.version
+        (λ a. spec.asked_by_head (span_bytes bytes.now spans.now.method) (span_bytes bytes.now spans.now.path) spans.now.version
         (map (header_bytes bytes.now) headers.now) ≡ Ok (asked_view a))
-        (λ e. spec.asked_of (span_bytes bytes.now spans.now.method) (span_bytes bytes.now spans.now.path) spans.now.version
+        (λ e. spec.asked_by_head (span_bytes bytes.now spans.now.method) (span_bytes bytes.now spans.now.path) spans.now.version
         (map (header_bytes bytes.now) headers.now) ≡ Err e) }
 {
     let caller = lone(bytes, headers, b"x-office-caller")?;
@@ -223,7 +223,7 @@ fn read_fields<'b>(
     let size = length_of(text)?;
     let method = implemented(coding, method_named(spans.method.of(bytes)))?;
     let length = within(size)?;
-    Ok(Asked {
+    Ok(AskedByHead {
         caller,
         method,
         target: spans.path.of(bytes),

@@ -1,7 +1,7 @@
 //! The wire: requests of the machine as HTTP/1.1 (RFC 9112) over any reader and writer.
 //!
-//! It stands on `book_machine`, whose run it shows in bytes; on `book_targets` for targets, methods and phrases; on
-//! `book_bodies` and `book_replies` for JSON; and on `httparse`, whose grammar says what a head is. The crate above uses
+//! It stands on `book_machine`, whose run it shows in bytes; on `book_wire_targets` for targets, methods and phrases; on
+//! `book_wire_json` and `book_wire_json` for JSON; and on `httparse`, whose grammar says what a head is. The crate above uses
 //! that `serve_stream` writes the replies of a run of the machine over the requests that the input spells, however the
 //! input was cut into pieces, and what stands where a read or a write fails.
 //!

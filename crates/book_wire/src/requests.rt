@@ -2,16 +2,16 @@
 
 ghost use Rattle.std.specs.Prelude.{◌≡◌, true, false, IfOk, IfSome, IfNone, option_copied};
 ghost use Rattle.std.specs.Str.{is_utf8};
-ghost use Rattle.book_targets.specs.Targets.{HasHomes};
+ghost use Rattle.book_wire_targets.specs.Targets.{HasHomes};
 ghost use Rattle.book_wire.specs.Reading.{asked_view};
 ghost use Rattle.book_wire.specs.Requests.{IsDestination, IsPathAt, IsRequest, caller_name, has_destination};
 
-use crate::head::Asked;
-use book_bodies::body_of;
+use crate::head::AskedByHead;
 use book_machine::Request;
+use book_office_values::Path;
 use book_rights::Method;
-use book_targets::{Home, target_path};
-use book_values::Path;
+use book_wire_json::body_of;
+use book_wire_targets::{Home, target_path};
 use matchit::Router;
 use std::alloc::{AllocError, Global};
 
@@ -92,7 +92,7 @@ fn destination(
 pub(crate) fn request_of(
     alloc: Global,
     router: &Router<Home>,
-    asked: &Asked<'_>,
+    asked: &AskedByHead<'_>,
     text: &[u8],
 ) -> Result<Request, AllocError>
     requires { HasHomes router.now }

@@ -2,7 +2,7 @@
 
 ghost use Rattle.std.specs.Prelude.{◌≡◌, ◌≢◌, ◌⊎◌, ℕ, ◌+◌, ◌-◌, ◌^◌, min, List, [], ◌++◌, length, IfOk, IfErr, OnOk, OnErr, Err};
 ghost use Rattle.std.specs.Io.KnownBytes.{Appends, Consumes, Keeps, IsAtEnd};
-ghost use Rattle.book_targets.specs.Targets.{HasHomes};
+ghost use Rattle.book_wire_targets.specs.Targets.{HasHomes};
 ghost use Rattle.book_wire.specs.Serving.{Stays};
 ghost use Rattle.book_wire.specs.Stream.{IsStream, IsInput};
 ghost use Rattle.book_wire.specs.Turn.{IsProgress, StopsReading, StopsWriting};
@@ -13,7 +13,7 @@ use crate::turns::{Turn, answer_one};
 use book_limits::MAX_FIELDS;
 use book_machine::Machine;
 use book_office::Keeper;
-use book_targets::{Home, homes};
+use book_wire_targets::{Home, homes};
 use httparse::spans::EMPTY_HEADER_SPAN;
 use matchit::Router;
 use std::alloc::Global;

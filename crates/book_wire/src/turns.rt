@@ -4,7 +4,7 @@ ghost use Rattle.std.specs.Prelude.{◌≡◌, ℕ, Option, Some, List, ◌++◌
 ghost use Rattle.std.specs.Io.KnownBytes.{Appends};
 ghost use Rattle.book_machine.specs.declared.messages.Reply.{Reply as ReplyOf};
 ghost use Rattle.book_machine.specs.declared.messages.Request.{Request as RequestOf};
-ghost use Rattle.book_targets.specs.Targets.{HasHomes};
+ghost use Rattle.book_wire_targets.specs.Targets.{HasHomes};
 ghost use Rattle.book_wire.specs.Reading.{asked_view};
 ghost use Rattle.book_wire.specs.Requests.{caller_name};
 ghost use Rattle.book_machine.specs.Laws.{TellingRepliesChangeNothing};
@@ -14,14 +14,14 @@ ghost use Rattle.book_wire.specs.Stream.{IsAskedBy, is_head_method};
 ghost use Rattle.book_wire.specs.Turn.{IsTurn, IsPending};
 
 use crate::buffer::Buffer;
-use crate::head::{Asked, FieldSpans, Reading, read_head};
+use crate::head::{AskedByHead, FieldSpans, Reading, read_head};
 use crate::reply::{refuse, send, write_unavailable};
 use crate::requests::{caller_name, request_of};
 use crate::stream::StreamFault;
 use book_machine::{Machine, Request, refusals_change_nothing};
 use book_office::Keeper;
 use book_rights::Method;
-use book_targets::Home;
+use book_wire_targets::Home;
 use matchit::Router;
 use std::alloc::Global;
 use std::io::Write;
@@ -72,7 +72,7 @@ fn reply_to<K: Keeper, W: Write>(
     machine: &mut Machine<K>,
     writer: &mut W,
     out: &mut [u8],
-    asked: Asked<'_>,
+    asked: AskedByHead<'_>,
     request: &Request,
 ) -> Result<(), StreamFault>
     ensures ok { OnOk result ((reply : ReplyOf)
@@ -103,7 +103,7 @@ fn answer<K: Keeper, W: Write>(
     router: &Router<Home>,
     writer: &mut W,
     out: &mut [u8],
-    asked: Asked<'_>,
+    asked: AskedByHead<'_>,
     body: &[u8],
 ) -> Result<(), StreamFault>
     requires { HasHomes router.now }

@@ -1,6 +1,4 @@
-use Rattle.std.proofs.Common.{◌≡◌, ◌+◌, ◌≤◌, length}
-use denote.Text.{Utf8}
-use denote.Shadow.{shadow}
+use Rattle.book_cards.proofs.Common.{◌≡◌, ◌+◌, ◌≤◌, length, Utf8, shadow}
 use Rattle.book_cards.specs.CardText.{card_lines}
 use Rattle.book_cards.proofs.card.count_lines.Given as goal
 

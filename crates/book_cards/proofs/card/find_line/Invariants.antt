@@ -1,10 +1,4 @@
-use Rattle.std.proofs.Common.{◌≡◌, length}
-use denote.Text.{Utf8}
-use denote.Shadow.{shadow}
-use Rattle.std.specs.List.{slice_get}
-use Rattle.std.specs.Option.{option_and_then}
-use Rattle.std.specs.Str.Lines.{lines}
-use Rattle.book_cards.specs.Reading.{fields_of}
+use Rattle.book_cards.proofs.Common.{◌≡◌, length, Utf8, shadow, slice_get, option_and_then, lines, fields_of}
 use Rattle.book_cards.proofs.card.find_line.Given as goal
 
 abbrev pub invariant-loop-line : goal.invariant-loop-line

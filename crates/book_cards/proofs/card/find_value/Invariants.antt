@@ -1,7 +1,4 @@
-use Rattle.std.proofs.Common.{◌≡◌, length}
-use denote.Text.{Utf8}
-use denote.Shadow.{shadow}
-use Rattle.std.specs.Str.Lines.{lines}
+use Rattle.book_cards.proofs.Common.{◌≡◌, length, Utf8, shadow, lines}
 use Rattle.book_cards.specs.Properties.{first_value, is_property}
 use Rattle.book_cards.proofs.card.find_value.Given as goal
 

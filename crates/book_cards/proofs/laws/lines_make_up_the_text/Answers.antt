@@ -1,4 +1,4 @@
-use Rattle.std.proofs.Common.{ℕ, List, subst, sym}
+use Rattle.book_cards.proofs.Common.{ℕ, List, subst, sym}
 use Rattle.book_cards.specs.TextLines.{MakeUp}
 use Rattle.book_cards.proofs.MadeUp.{relates, related}
 use Rattle.book_cards.proofs.laws.lines_make_up_the_text.Goals as goal

@@ -1,5 +1,4 @@
-use Rattle.std.proofs.Common.{◌≡◌, ◌+◌, drop}
-use Rattle.book_cards.specs.Reading.{name_length}
+use Rattle.book_cards.proofs.Common.{◌≡◌, ◌+◌, drop, name_length}
 use Rattle.book_cards.proofs.line.count_name.Given as goal
 
 abbrev pub invariant-loop-i : goal.invariant-loop-i

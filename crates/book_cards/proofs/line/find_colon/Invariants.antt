@@ -1,7 +1,4 @@
-use Rattle.std.proofs.Common.{◌≡◌, ◌+◌, drop}
-use Rattle.std.specs.Option.{option_map}
-use Rattle.book_cards.specs.Reading.{colon_from}
-use Rattle.book_cards.specs.declared.line.Position.TheVariants.{Start}
+use Rattle.book_cards.proofs.Common.{◌≡◌, ◌+◌, drop, option_map, colon_from, Start}
 use Rattle.book_cards.proofs.line.find_colon.Given as goal
 
 -- the colon of the rest is that of the text

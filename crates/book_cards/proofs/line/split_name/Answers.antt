@@ -1,4 +1,4 @@
-use Rattle.std.proofs.Common.{sym, subst}
+use Rattle.book_cards.proofs.Common.{sym, subst}
 use Rattle.std.specs.Str.{IsCharBoundary}
 use Rattle.book_cards.proofs.Names.{name_boundary}
 use Rattle.book_cards.proofs.line.split_name.Goals as goal

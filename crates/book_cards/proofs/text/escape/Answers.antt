@@ -1,5 +1,4 @@
-use Rattle.std.proofs.Common.{arith, ◌<◌, sym}
-use Rattle.std.proofs.lemmas.Str.{IsCharBoundary-after_ascii}
+use Rattle.book_cards.proofs.Common.{arith, ◌<◌, sym, IsCharBoundary-after_ascii}
 use Rattle.book_cards.proofs.Escapes.{escape_small, first_byte}
 use Rattle.book_cards.proofs.text.escape.Goals as goal
 

@@ -1,5 +1,5 @@
-use Rattle.std.proofs.Common.{lit<, arith, sym, ◌∙◌, ap, length, length-append}
-use Rattle.std.proofs.lemmas.Str.Pattern.{split_parts, strip_suffix_char}
+use Rattle.book_cards.proofs.Common.{lit<, arith, sym, ◌∙◌, ap, length, length-append, split_parts}
+use Rattle.std.proofs.lemmas.Str.Pattern.{strip_suffix_char}
 use Rattle.book_cards.proofs.LineEnds.{line_at, last_line, positive}
 use Rattle.book_cards.proofs.text.split_line.Goals as goal
 

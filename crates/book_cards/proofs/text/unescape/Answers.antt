@@ -1,9 +1,7 @@
-use Rattle.std.proofs.Common.{rules, arith, ◌≡◌, ◌∷◌, length, [], ◌++◌, lit<, ap, sym, ◌∙◌, append_assoc, length-append}
-use Rattle.std.specs.String.{string_bytes}
-use Rattle.book_cards.specs.Escaping.{unescaped}
+use Rattle.book_cards.proofs.Common.{arith, ◌≡◌, ◌∷◌, length, [], ◌++◌, lit<, ap, sym, ◌∙◌, append_assoc, length-append, string_bytes, unescaped, split_parts}
+use Rattle.std.proofs.Common.{rules}
 use Rattle.book_cards.proofs.FoldSteps.{joined_step}
 use Rattle.book_cards.proofs.Escapes.{at_escape, at_backslash, at_end, meaning_small}
-use Rattle.std.proofs.lemmas.Str.Pattern.{split_parts}
 use Rattle.book_cards.proofs.text.unescape.Goals as goal
 
 pub loop-before-smaller-in-Some-escape : goal.loop-before-smaller-in-Some-escape

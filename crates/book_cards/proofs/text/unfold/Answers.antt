@@ -1,8 +1,7 @@
-use Rattle.std.proofs.Common.{rules, arith, ◌≡◌, ◌∷◌, length, [], ◌++◌, lit<, ap, sym, ◌∙◌, append_assoc, length-append}
-use Rattle.std.specs.String.{string_bytes}
-use Rattle.book_cards.specs.Folding.{unfolded}
+use Rattle.book_cards.proofs.Common.{arith, ◌≡◌, ◌∷◌, length, [], ◌++◌, lit<, ap, sym, ◌∙◌, append_assoc, length-append, string_bytes, unfolded, split_parts}
+use Rattle.std.proofs.Common.{rules}
 use Rattle.book_cards.proofs.FoldSteps.{joined_step, at_fold, at_line_end, at_end}
-use Rattle.std.proofs.lemmas.Str.Pattern.{split_parts, strip_suffix_char}
+use Rattle.std.proofs.lemmas.Str.Pattern.{strip_suffix_char}
 use Rattle.book_cards.proofs.text.unfold.Goals as goal
 
 pub loop-line-smaller-in-Some-strip_blank : goal.loop-line-smaller-in-Some-strip_blank

@@ -1,4 +1,4 @@
-use Rattle.std.proofs.Common.{refl}
+use Rattle.book_lists.proofs.Common.{refl}
 use Rattle.book_lists.proofs.Searches.{alone}
 use Rattle.book_lists.proofs.circles.reached_of.Goals as goal
 

@@ -1,4 +1,4 @@
-use Rattle.std.proofs.Common.{[], ◌<◌, ◌^◌, subst, sym}
+use Rattle.book_lists.proofs.Common.{[], ◌<◌, ◌^◌, subst, sym}
 use Rattle.std.proofs.lemmas.List.{length-map}
 use Rattle.book_lists.proofs.OneReader.{allowed_one, denied_one}
 use Rattle.book_lists.proofs.decisions.decide.Goals as goal

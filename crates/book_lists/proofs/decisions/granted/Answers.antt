@@ -1,4 +1,4 @@
-use Rattle.std.proofs.Common.{[]}
+use Rattle.book_lists.proofs.Common.{[]}
 use Rattle.book_lists.proofs.OneReader.{granted_one}
 use Rattle.book_lists.proofs.decisions.granted.Goals as goal
 

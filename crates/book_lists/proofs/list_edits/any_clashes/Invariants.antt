@@ -1,5 +1,4 @@
-use Rattle.std.proofs.Common.{◌≡◌, ◌<◌, ℕ, Some, slice_get}
-use Rattle.book_lists.specs.declared.entries.Entry.{Entry}
+use Rattle.book_lists.proofs.Common.{◌≡◌, ◌<◌, ℕ, Some, slice_get, Entry}
 use Rattle.book_lists.specs.ListEdits.{Clashes}
 use Rattle.book_lists.proofs.list_edits.any_clashes.Given as goal
 

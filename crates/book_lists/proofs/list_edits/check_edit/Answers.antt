@@ -1,5 +1,5 @@
-use Rattle.std.proofs.Common.{arith, refl, length}
-use Rattle.std.proofs.lemmas.Option.{slice_get_read, slice_get_within}
+use Rattle.book_lists.proofs.Common.{arith, refl, length, slice_get_within}
+use Rattle.std.proofs.lemmas.Option.{slice_get_read}
 use Rattle.book_lists.specs.ListEdits.{IsFaultless}
 use Rattle.book_lists.proofs.Passed.{each_passed}
 use Rattle.book_lists.proofs.list_edits.check_edit.Goals as goal

@@ -1,4 +1,4 @@
-use Rattle.std.proofs.Common.{◌≡◌, ◌<◌, ℕ, Some, slice_get}
+use Rattle.book_lists.proofs.Common.{◌≡◌, ◌<◌, ℕ, Some, slice_get}
 use Rattle.book_lists.specs.declared.submitted.Submitted.{Submitted}
 use Rattle.book_lists.specs.ListEdits.{IsFaultless}
 use Rattle.book_lists.proofs.list_edits.check_edit.Given as goal

@@ -1,9 +1,6 @@
-use Rattle.std.proofs.Common.{◌≡◌, Some, IsSome, sym, ap, ◌∙◌, cond, unwrap_or, subst, refl, Result, Ok, Err, OnErr}
-use Rattle.std.specs.BTreeMap.{is_at}
-use Rattle.std.specs.Map.{lookup}
+use Rattle.book_lists.proofs.Common.{◌≡◌, Some, sym, ap, ◌∙◌, cond, unwrap_or, subst, refl, Ok, is_at, lookup, groups_at, path_cmp}
+use Rattle.std.proofs.Common.{IsSome, Result, Err, OnErr}
 use Rattle.std.specs.FinSet as set
-use Rattle.book_lists.specs.GroupEntries.{groups_at}
-use Rattle.book_lists.specs.Principals.{path_cmp}
 use Rattle.book_lists.proofs.GroupLists.{added_is_insert, same_pairs, written_back}
 use Rattle.book_lists.proofs.memberships.add_group.Goals as goal
 

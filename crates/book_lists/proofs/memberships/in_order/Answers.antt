@@ -1,9 +1,8 @@
+use Rattle.book_lists.proofs.Common.{◌≡◌, ℕ, Ok, length, arith, membership_cmp}
 use Rattle.std.specs.BTreeSet.{IsFromIterResult}
-use Rattle.std.proofs.Common.{◌≡◌, ℕ, Ok, length, arith}
 use Rattle.std.proofs.lemmas.Iterator.{items_from_collect}
 use Rattle.std.proofs.lemmas.Iterator.Adapters.{fact_from_collect, YieldsList-from_vec}
 use Rattle.std.proofs.lemmas.Iterator.Consumers.{YieldsList-from_rest}
-use Rattle.book_lists.specs.Memberships.{membership_cmp}
 use Rattle.book_lists.proofs.Pairing.{collected_in}
 use Rattle.book_lists.proofs.memberships.in_order.Goals as goal
 

@@ -1,7 +1,5 @@
-use Rattle.std.proofs.Common.{◌≡◌, [], sym, ap, append-nil, unwrap_or}
+use Rattle.book_lists.proofs.Common.{◌≡◌, [], sym, ap, append-nil, unwrap_or, groups_at, path_cmp}
 use Rattle.std.specs.FinSet as set
-use Rattle.book_lists.specs.GroupEntries.{groups_at}
-use Rattle.book_lists.specs.Principals.{path_cmp}
 use Rattle.book_lists.proofs.memberships.push_groups.Goals as goal
 
 pub returns-in-None : goal.returns-in-None

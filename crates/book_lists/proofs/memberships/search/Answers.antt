@@ -1,8 +1,7 @@
-use Rattle.std.proofs.Common.{◌≡◌, ◌↔◌, ◌++◌, ◌≤◌, ◌+◌, ◌∷◌, [], ℕ, List, map, length, true, sym, ap, ◌∙◌, subst, arith, append-nil, length-append, rules}
-use Rattle.std.proofs.lemmas.List.{map-append, length-map}
+use Rattle.book_lists.proofs.Common.{◌≡◌, ◌↔◌, ◌++◌, ◌≤◌, ◌+◌, ◌∷◌, [], ℕ, List, map, length, true, sym, ap, ◌∙◌, subst, arith, append-nil, length-append, map-append, has_path, pairs_in, groups_at}
+use Rattle.std.proofs.Common.{rules}
+use Rattle.std.proofs.lemmas.List.{length-map}
 use Rattle.std.specs.FinSet as set
-use Rattle.book_lists.specs.Circles.{has_path}
-use Rattle.book_lists.specs.GroupEntries.{pairs_in, groups_at}
 use Rattle.book_lists.specs.Memberships.{IsDirect}
 use Rattle.book_lists.proofs.GroupLists.{contains-pairs_in}
 use Rattle.book_lists.proofs.Searches.{Searches, ahead, search_begins, seen_again, seen_first, search_ends_alone, ahead_spent}

@@ -1,5 +1,4 @@
-use Rattle.std.proofs.Common.{◌+◌, ◌∷◌, [], map, length}
-use Rattle.book_lists.specs.GroupEntries.{pairs_in}
+use Rattle.book_lists.proofs.Common.{◌+◌, ◌∷◌, [], map, length, pairs_in}
 use Rattle.book_lists.proofs.Searches.{Searches, ahead}
 use Rattle.book_lists.proofs.memberships.search.Given as goal
 

@@ -1,6 +1,4 @@
-use Rattle.std.proofs.Common.{◌≡◌, ◌∙◌, ap, refl, Bool, true, false, not, ◌&&◌}
-use Rattle.book_rights.specs.declared.privileges.Leaf.{Leaf}
-use Rattle.book_rights.specs.Leaves.{difference}
+use Rattle.book_lists.proofs.Common.{◌≡◌, ◌∙◌, ap, refl, Bool, true, false, not, ◌&&◌, Leaf, difference}
 use Rattle.book_lists.proofs.scans.intersection.Goals as goal
 
 both : (a b : Bool) → (a && not (a && not b)) ≡ (a && b)

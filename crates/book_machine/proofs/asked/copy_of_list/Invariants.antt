@@ -1,4 +1,4 @@
-use Rattle.std.proofs.Common.{◌≡◌, take}
+use Rattle.book_machine.proofs.Common.{◌≡◌, take}
 use Rattle.book_machine.proofs.asked.copy_of_list.Given as goal
 
 -- the entries so far

@@ -1,5 +1,4 @@
-use Rattle.std.proofs.Common.{◌≡◌, take}
-use Rattle.book_machine.specs.Asked.{each_once}
+use Rattle.book_machine.proofs.Common.{◌≡◌, take, each_once}
 use Rattle.book_machine.proofs.asked.each_once.Given as goal
 
 -- the members so far, each once

@@ -1,4 +1,4 @@
-use Rattle.std.proofs.Common.{◌≡◌, ◌++◌}
+use Rattle.book_machine.proofs.Common.{◌≡◌, ◌++◌}
 use Rattle.book_machine.proofs.asked.in_order.Given as goal
 
 -- the principals so far and those to come are those of the set

@@ -1,7 +1,5 @@
-use Rattle.std.proofs.Common.{◌≡◌, ◌++◌, length}
-use Rattle.std.specs.List.{flat_map}
+use Rattle.book_machine.proofs.Common.{◌≡◌, ◌++◌, length, flat_map, Level}
 use Rattle.std.specs.Vec.Iter.{into_iter_items, into_iter_len}
-use Rattle.book_office.specs.declared.nodes.Level.{Level}
 use Rattle.book_machine.proofs.entries_in_force.protected_in.Given as goal
 
 -- the entries so far and those to come are those of all levels

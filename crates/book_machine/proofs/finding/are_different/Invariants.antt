@@ -1,4 +1,4 @@
-use Rattle.std.proofs.Common.{◌≡◌, length}
+use Rattle.book_machine.proofs.Common.{◌≡◌, length}
 use Rattle.book_machine.specs.Finding.{are_different}
 use Rattle.book_machine.proofs.finding.are_different.Given as goal
 

@@ -1,4 +1,4 @@
-use Rattle.std.proofs.Common.{◌≡◌, take}
+use Rattle.book_machine.proofs.Common.{◌≡◌, take}
 use Rattle.book_machine.proofs.finding.copy_of.Given as goal
 
 -- the properties so far

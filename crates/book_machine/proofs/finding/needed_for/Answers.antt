@@ -1,7 +1,5 @@
-use Rattle.std.proofs.Common.{List, [], ◌∷◌, Bool, false, ap, ◌∙◌}
+use Rattle.book_machine.proofs.Common.{List, [], ◌∷◌, Bool, false, ap, ◌∙◌, Need, Leaf}
 use Rattle.book_rights.specs.Needs.{read_and}
-use Rattle.book_rights.specs.declared.places.Need.{Need}
-use Rattle.book_rights.specs.declared.privileges.Leaf.{Leaf}
 use Rattle.book_machine.proofs.finding.needed_for.Goals as goal
 
 -- the set of the first need

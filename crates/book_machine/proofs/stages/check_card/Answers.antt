@@ -1,11 +1,8 @@
-use Rattle.std.proofs.Common.{◌≡◌, ℕ, List, Result, Ok, Err, IfOk, inl, inr, ap, sym, refl, subst, ◌∙◌}
+use Rattle.book_machine.proofs.Common.{◌≡◌, ℕ, List, Result, Ok, Err, inl, inr, ap, sym, refl, subst, ◌∙◌, card_fault, CardFault, Meets, bad_card}
+use Rattle.std.proofs.Common.{IfOk}
 use Rattle.book_cards.proofs.ValidLaws.{card_complete}
-use Rattle.book_cards.specs.CardText.{card_fault}
-use Rattle.book_cards.specs.declared.fault.CardFault.{CardFault}
 use Rattle.book_cards.specs.Folding.{unfolded}
 use Rattle.book_cards.specs.Valid.{IsCard}
-use Rattle.book_machine.specs.Asking.{Meets}
-use Rattle.book_machine.specs.Stages.{bad_card}
 use Rattle.book_machine.proofs.stages.check_card.Goals as goal
 
 card_of : (r : Result (List ℕ) CardFault) (text : List ℕ) → ((fault : CardFault) → r ≡ Err fault → ⊥)

@@ -1,6 +1,5 @@
-use Rattle.std.proofs.Common.{◌≡◌, ◌++◌, length}
+use Rattle.book_machine.proofs.Common.{◌≡◌, ◌++◌, length, entries_of}
 use Rattle.std.specs.Vec.Iter.{into_iter_items, into_iter_len}
-use Rattle.book_lists.specs.ListEdits.{entries_of}
 use Rattle.book_machine.proofs.stages.entries_of.Given as goal
 
 -- the entries so far and those to come are those of the whole list

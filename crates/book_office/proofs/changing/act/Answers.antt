@@ -1,8 +1,4 @@
-use Rattle.std.proofs.Common.{◌≤◌, sym, arith}
-use Rattle.std.proofs.lemmas.Result.{on_ok_weaker, on_err_weaker}
-use Rattle.book_limits.specs.declared.TheConstants.{LAST_NUMBER}
-use Rattle.book_office.specs.Edits.{put_card, remove_card}
-use Rattle.book_values.proofs.NameMapLaws.{at_some}
+use Rattle.book_office.proofs.Common.{◌≤◌, sym, arith, on_ok_weaker, on_err_weaker, LAST_NUMBER, put_card, remove_card, at_some}
 use Rattle.book_office.proofs.OfficeEdits.{edited, kept}
 use Rattle.book_office.proofs.changing.act.Goals as goal
 

@@ -1,6 +1,5 @@
-use Rattle.std.proofs.Common.{◌≡◌, refl, ap, ◌∙◌, rules}
-use Rattle.std.specs.FinMap.{insert, remove}
-use Rattle.book_values.proofs.NameMapLaws.{undone}
+use Rattle.book_office.proofs.Common.{◌≡◌, refl, ap, ◌∙◌, rules, insert, remove}
+use Rattle.book_office_values.proofs.NameMapLaws.{undone}
 use Rattle.book_office.proofs.changing.add_card.Goals as goal
 
 pub returns-in-Err-clause-err : goal.returns-in-Err-clause-err

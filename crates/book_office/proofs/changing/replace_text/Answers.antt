@@ -1,6 +1,5 @@
-use Rattle.std.proofs.Common.{ap, ◌∙◌}
-use Rattle.book_office.specs.Edits.{changed_if, with_text}
-use Rattle.book_values.proofs.NameMapLaws.{at_some}
+use Rattle.book_office.proofs.Common.{ap, ◌∙◌, changed_if, at_some}
+use Rattle.book_office.specs.Edits.{with_text}
 use Rattle.book_office.proofs.changing.replace_text.Goals as goal
 
 pub returns-in-Some : goal.returns-in-Some

@@ -1,6 +1,4 @@
-use Rattle.std.proofs.Common.{◌++◌, [], true, subst}
-use Rattle.book_lists.specs.Scans.{IsScan, read_by}
-use Rattle.book_office.specs.InForce.{in_force, lists_in}
+use Rattle.book_office.proofs.Common.{◌++◌, [], true, subst, IsScan, read_by, in_force, lists_in}
 use Rattle.book_office.proofs.ReadLists.{reads_in_force, tells_allowed}
 use Rattle.book_office.proofs.granting.grant.Goals as goal
 

@@ -1,6 +1,4 @@
-use Rattle.std.proofs.Common.{◌≡◌, ◌↔◌, true, sym, subst}
-use Rattle.book_lists.specs.Decisions.{IsAllowed}
-use Rattle.book_office.specs.InForce.{in_force_at}
+use Rattle.book_office.proofs.Common.{◌≡◌, ◌↔◌, true, sym, subst, IsAllowed, in_force_at}
 use Rattle.book_office.proofs.granting.grant_at.Goals as goal
 
 pub returns-in-Card : goal.returns-in-Card

@@ -1,7 +1,5 @@
-use Rattle.std.proofs.Common.{◌≡◌, ◌↔◌, Some, true, sym, ap, ◌∙◌, subst}
-use Rattle.std.specs.FinMap.{get}
+use Rattle.book_office.proofs.Common.{◌≡◌, ◌↔◌, Some, true, sym, ap, ◌∙◌, subst, get, IsAllowed}
 use Rattle.std.specs.Option.{option_copied}
-use Rattle.book_lists.specs.Decisions.{IsAllowed}
 use Rattle.book_office.proofs.ReadLists.{card_in_force}
 use Rattle.book_office.proofs.granting.grant_at_card.Goals as goal
 

@@ -1,6 +1,4 @@
-use Rattle.std.proofs.Common.{◌++◌, [], subst}
-use Rattle.std.specs.List.{flat_map}
-use Rattle.book_lists.specs.Scans.{IsScan, read_by}
+use Rattle.book_office.proofs.Common.{◌++◌, [], subst, flat_map, IsScan, read_by}
 use Rattle.book_office.proofs.ReadLists.{reads_both, tells_allowed}
 use Rattle.book_office.proofs.granting.grant_in.Goals as goal
 

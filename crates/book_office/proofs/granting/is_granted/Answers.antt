@@ -1,4 +1,4 @@
-use Rattle.std.proofs.Common.{refl, sym, ◌∙◌}
+use Rattle.book_office.proofs.Common.{refl, sym, ◌∙◌}
 use Rattle.book_office.proofs.granting.is_granted.Goals as goal
 
 pub returns-in-Allowed : goal.returns-in-Allowed

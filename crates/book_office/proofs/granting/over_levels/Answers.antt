@@ -1,7 +1,6 @@
-use Rattle.std.proofs.Common.{◌++◌, take, ap, ◌∙◌, subst, arith}
+use Rattle.book_office.proofs.Common.{◌++◌, take, ap, ◌∙◌, subst, arith, IsScan, read_by, lists_in}
 use Rattle.std.proofs.lemmas.List.{take_all}
-use Rattle.book_lists.specs.Scans.{IsScan, read_by}
-use Rattle.book_office.specs.InForce.{list_in, lists_in}
+use Rattle.book_office.specs.InForce.{list_in}
 use Rattle.book_office.proofs.ReadLists.{reads_more}
 use Rattle.book_office.proofs.granting.over_levels.Goals as goal
 

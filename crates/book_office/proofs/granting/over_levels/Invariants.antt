@@ -1,7 +1,4 @@
-use Rattle.std.proofs.Common.{◌++◌, take, Bool, List}
-use Rattle.book_rights.specs.declared.privileges.Leaf.{Leaf}
-use Rattle.book_lists.specs.Scans.{IsScan, Reading, read_by}
-use Rattle.book_office.specs.InForce.{lists_in}
+use Rattle.book_office.proofs.Common.{◌++◌, take, Bool, List, Leaf, IsScan, Reading, read_by, lists_in}
 use Rattle.book_office.proofs.granting.over_levels.Given as goal
 
 -- the levels so far are gone over

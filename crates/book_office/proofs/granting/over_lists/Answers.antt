@@ -1,7 +1,5 @@
-use Rattle.std.proofs.Common.{◌++◌, take, subst, arith}
-use Rattle.std.specs.List.{flat_map}
+use Rattle.book_office.proofs.Common.{◌++◌, take, subst, arith, flat_map, IsScan, read_by}
 use Rattle.std.proofs.lemmas.List.{take_all}
-use Rattle.book_lists.specs.Scans.{IsScan, read_by}
 use Rattle.book_office.proofs.ReadLists.{reads_more}
 use Rattle.book_office.proofs.granting.over_lists.Goals as goal
 

@@ -1,7 +1,4 @@
-use Rattle.std.proofs.Common.{◌++◌, take, Bool, List}
-use Rattle.std.specs.List.{flat_map}
-use Rattle.book_rights.specs.declared.privileges.Leaf.{Leaf}
-use Rattle.book_lists.specs.Scans.{IsScan, Reading, read_by}
+use Rattle.book_office.proofs.Common.{◌++◌, take, Bool, List, flat_map, Leaf, IsScan, Reading, read_by}
 use Rattle.book_office.proofs.granting.over_lists.Given as goal
 
 -- the lists so far are gone over

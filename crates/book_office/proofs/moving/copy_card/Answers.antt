@@ -1,9 +1,4 @@
-use Rattle.std.proofs.Common.{rules, ◌≡◌, None, Some, sym, ◌∙◌}
-use Rattle.std.proofs.lemmas.Result.{on_ok_weaker, on_err_weaker}
-use Rattle.book_office.specs.Edits.{copy_from}
-use Rattle.book_office.specs.Resources.{card_at}
-use Rattle.book_values.specs.declared.offices.StoredCard.{StoredCard}
-use Rattle.book_values.proofs.NameMapLaws.{at_some}
+use Rattle.book_office.proofs.Common.{rules, ◌≡◌, None, Some, sym, ◌∙◌, on_ok_weaker, on_err_weaker, copy_from, card_at, StoredCard, at_some}
 use Rattle.book_office.proofs.OfficeEdits.{edited, kept}
 use Rattle.book_office.proofs.MovedCards.{copied_nothing, copy_is}
 use Rattle.book_office.proofs.moving.copy_card.Goals as goal

@@ -1,7 +1,5 @@
-use Rattle.std.proofs.Common.{ap, ◌∙◌}
-use Rattle.book_values.specs.Names.{changed_if}
-use Rattle.book_values.specs.declared.offices.Book.{Book}
-use Rattle.book_values.proofs.NameMapLaws.{at_some}
+use Rattle.book_office.proofs.Common.{ap, ◌∙◌, Book, at_some}
+use Rattle.book_office_values.specs.Names.{changed_if}
 use Rattle.book_office.proofs.moving.give_back.Goals as goal
 
 pub returns-in-Some : goal.returns-in-Some

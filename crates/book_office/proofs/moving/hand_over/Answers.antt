@@ -1,7 +1,5 @@
-use Rattle.std.proofs.Common.{ap, ◌∙◌}
-use Rattle.book_values.specs.Names.{changed_if}
-use Rattle.book_values.specs.declared.offices.StoredCard.{StoredCard}
-use Rattle.book_values.proofs.NameMapLaws.{at_some}
+use Rattle.book_office.proofs.Common.{ap, ◌∙◌, StoredCard, at_some}
+use Rattle.book_office_values.specs.Names.{changed_if}
 use Rattle.book_office.proofs.moving.hand_over.Goals as goal
 
 pub returns-in-Some : goal.returns-in-Some

@@ -1,18 +1,13 @@
-use Rattle.std.proofs.Common.{◌≡◌, ◌≢◌, Some, None, sym, ap, ◌∙◌, subst}
-use Rattle.std.proofs.lemmas.Result.{on_ok_weaker, on_err_weaker}
-use Rattle.std.specs.FinMap.{get, insert}
-use Rattle.book_values.specs.Names.{changed_at}
-use Rattle.book_office.specs.Edits.{move_to, remove_card}
+use Rattle.book_office.proofs.Common.{◌≡◌, ◌≢◌, Some, None, sym, ap, ◌∙◌, subst, on_ok_weaker, on_err_weaker, get, insert, same_Some, move_to, remove_card, Book}
+use Rattle.book_office_values.specs.Names.{changed_at}
 use Rattle.book_office.specs.Moving.{bare_book}
-use Rattle.book_values.specs.declared.offices.Book.{Book}
-use Rattle.book_values.proofs.OneName.{same_some}
 use Rattle.book_office.proofs.MovedCards.{other_book, across, alone_kept}
 use Rattle.book_office.proofs.moving.move_across.Goals as goal
 
 pub returns-clause-ok : goal.returns-clause-ok
 returns-clause-ok c = on_ok_weaker c.move_into-moved.result (λ h numbered source target at beside there.
     let was : get c.args.books.now c.args.from_book.now ≡ Some c.in-Some.source = sym c.in-Some.ensures.found in
-    let is : c.in-Some.source ≡ source = same_some c.in-Some.source source (sym was ∙ at) in
+    let is : c.in-Some.source ≡ source = same_Some c.in-Some.source source (sym was ∙ at) in
     let r = h (numbered c.args.from_book.now c.in-Some.source was) target (ap (λ m. get m c.args.to_book.now) c.in-Some.ensures.left ∙ other_book c.args.books.now c.args.from_book.now c.args.to_book.now c.requires bare_book c.in-Some.source was ∙ beside)
     (numbered c.args.to_book.now target beside)
     (subst (λ (b : Book). get b.cards c.args.from.now ≢ None) (sym is) there) in

@@ -1,7 +1,4 @@
-use Rattle.std.proofs.Common.{◌≡◌, Some, sym, ap, ◌∙◌}
-use Rattle.std.specs.FinMap.{get, insert}
-use Rattle.book_office.specs.Edits.{move_to}
-use Rattle.book_office.specs.Moving.{handed, unroomed}
+use Rattle.book_office.proofs.Common.{◌≡◌, Some, sym, ap, ◌∙◌, get, insert, move_to, handed, unroomed}
 use Rattle.book_office.proofs.MovedCards.{handed_roomed, unroomed_roomed}
 use Rattle.book_office.proofs.moving.move_between.Goals as goal
 

@@ -1,5 +1,4 @@
-use Rattle.std.proofs.Common.{rules, ◌≡◌, ◌≢◌}
-use Rattle.std.proofs.lemmas.Result.{on_ok_weaker}
+use Rattle.book_office.proofs.Common.{rules, ◌≡◌, ◌≢◌, on_ok_weaker}
 use Rattle.book_office.proofs.MovedCards.{moved_within, moved_across}
 use Rattle.book_office.proofs.moving.move_card.Goals as goal
 

@@ -1,8 +1,4 @@
-use Rattle.std.proofs.Common.{◌≡◌, sym, ap, ◌∙◌}
-use Rattle.std.specs.FinMap.{get, insert}
-use Rattle.book_office.specs.Edits.{move_to}
-use Rattle.book_values.proofs.NameMapLaws.{at_some, insert_same}
-use Rattle.book_values.proofs.OneName.{same_some}
+use Rattle.book_office.proofs.Common.{◌≡◌, sym, ap, ◌∙◌, get, insert, move_to, at_some, insert_same, same_Some}
 use Rattle.book_office.proofs.moving.move_into.Goals as goal
 use Rattle.std.specs.Prelude.{Result, Ok, Err, OnOk, OnErr}
 
@@ -16,7 +12,7 @@ both_err (Err e) p q f = f p q
 
 pub returns-in-Some-clause-ok : goal.returns-in-Some-clause-ok
 returns-in-Some-clause-ok c = both_ok c.move_between.result c.move_between.ensures.ok c.move_between.ensures.ok_target (λ source into low target at within there.
-    let is : c.in-Some.target.now ≡ target = same_some c.in-Some.target.now target (c.in-Some.ensures.value ∙ at) in (
+    let is : c.in-Some.target.now ≡ target = same_Some c.in-Some.target.now target (c.in-Some.ensures.value ∙ at) in (
       source,
       at_some c.get_mut.result _ c.in-Some.is (c.get_mut.follows.holds c.move_between.new.target)
           ∙ ap (insert c.args.books.now c.args.to_book.now) (into there ∙ ap (move_to (get c.args.source.now.cards c.args.from.now) c.args.to.now) is),

@@ -1,7 +1,4 @@
-use Rattle.std.proofs.Common.{◌≡◌, Some, sym, ap, ◌∙◌}
-use Rattle.std.specs.FinMap.{get, insert, remove}
-use Rattle.book_office.specs.Edits.{move_to, remove_card}
-use Rattle.book_office.specs.Moving.{handed, unroomed}
+use Rattle.book_office.proofs.Common.{◌≡◌, Some, sym, ap, ◌∙◌, get, insert, remove, move_to, remove_card, handed, unroomed}
 use Rattle.book_office.proofs.MovedCards.{handed_away, roomed_elsewhere, unroomed_roomed}
 use Rattle.book_office.proofs.moving.move_within.Goals as goal
 

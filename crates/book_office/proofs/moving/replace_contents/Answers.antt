@@ -1,7 +1,6 @@
-use Rattle.std.proofs.Common.{ap, ◌∙◌}
-use Rattle.book_values.specs.Names.{changed_if}
+use Rattle.book_office.proofs.Common.{ap, ◌∙◌, at_some}
+use Rattle.book_office_values.specs.Names.{changed_if}
 use Rattle.book_office.specs.Moving.{relabelled}
-use Rattle.book_values.proofs.NameMapLaws.{at_some}
 use Rattle.book_office.proofs.moving.replace_contents.Goals as goal
 
 pub returns-in-Some : goal.returns-in-Some

@@ -1,9 +1,6 @@
-use Rattle.std.proofs.Common.{rules, ◌≡◌, ap, ◌∙◌}
-use Rattle.std.specs.FinMap.{insert}
-use Rattle.book_values.specs.Names.{changed_if}
+use Rattle.book_office.proofs.Common.{rules, ◌≡◌, ap, ◌∙◌, insert, Book, at_some}
+use Rattle.book_office_values.specs.Names.{changed_if}
 use Rattle.book_office.specs.Moving.{bare_book}
-use Rattle.book_values.specs.declared.offices.Book.{Book}
-use Rattle.book_values.proofs.NameMapLaws.{at_some}
 use Rattle.book_office.proofs.moving.take_book.Goals as goal
 
 pub returns-in-Some-clause-left : goal.returns-in-Some-clause-left

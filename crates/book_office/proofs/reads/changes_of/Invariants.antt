@@ -1,5 +1,4 @@
-use Rattle.std.proofs.Common.{◌≡◌, ◌++◌, length}
-use Rattle.std.specs.Vec.Iter.{into_iter_items, into_iter_len}
+use Rattle.book_office.proofs.Common.{◌≡◌, ◌++◌, length, into_iter_items, into_iter_len}
 use Rattle.book_office.specs.Resources.{changed_in}
 use Rattle.book_office.proofs.reads.changes_of.Given as goal
 

@@ -1,4 +1,4 @@
-use Rattle.std.proofs.Common.{◌≡◌, ◌++◌}
+use Rattle.book_office.proofs.Common.{◌≡◌, ◌++◌}
 use Rattle.book_office.specs.Resources.{listed_books}
 use Rattle.book_office.proofs.reads.list_books.Given as goal
 

@@ -1,5 +1,5 @@
-use Rattle.std.proofs.Common.{◌≡◌, ◌++◌}
-use Rattle.book_office.specs.Resources.{listed_in}
+use Rattle.book_office.proofs.Common.{◌≡◌, ◌++◌}
+use Rattle.book_office.specs.Resources.{listed_of_book}
 use Rattle.book_office.proofs.reads.list_cards.Given as goal
 
 -- the children so far and those to come are those of the book
@@ -7,5 +7,5 @@ abbrev pub invariant-loop-name : goal.invariant-loop-name
 invariant-loop-name l = record {
   next : (goal.iterator-loop-name).can_next l.name-iterator;
   finite : (goal.iterator-loop-name).is_finite l.name-iterator;
-  parts : l.children.items ++ listed_in l.book l.name-iterator ≡ listed_in l.book l.initial.name-iterator;
+  parts : l.children.items ++ listed_of_book l.book l.name-iterator ≡ listed_of_book l.book l.initial.name-iterator;
 }

@@ -1,4 +1,4 @@
-use Rattle.std.proofs.Common.{◌≡◌, ◌++◌}
+use Rattle.book_office.proofs.Common.{◌≡◌, ◌++◌}
 use Rattle.book_office.specs.Resources.{listed_principals}
 use Rattle.book_office.proofs.reads.list_principals.Given as goal
 

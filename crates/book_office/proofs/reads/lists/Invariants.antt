@@ -1,5 +1,4 @@
-use Rattle.std.proofs.Common.{◌≡◌, ◌++◌, length, map}
-use Rattle.std.specs.Vec.Iter.{into_iter_items, into_iter_len}
+use Rattle.book_office.proofs.Common.{◌≡◌, ◌++◌, length, map, into_iter_items, into_iter_len}
 use Rattle.book_office.specs.Levels.{level_at}
 use Rattle.book_office.proofs.reads.lists.Given as goal
 

@@ -1,4 +1,5 @@
-use Rattle.std.proofs.Common.{◌≡◌, drop}
+use Rattle.book_office.proofs.Common.{◌≡◌}
+use Rattle.std.proofs.Common.{drop}
 use Rattle.std.specs.FinSet as set
 use Rattle.book_office.proofs.GroupMembers.{members_added, pairs_of}
 use Rattle.book_office.proofs.setting.add_members.Given as goal

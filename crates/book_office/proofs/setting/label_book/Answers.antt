@@ -1,9 +1,7 @@
-use Rattle.std.proofs.Common.{ap, ◌∙◌}
-use Rattle.book_office.specs.Edits.{changed_if, labelled, with_book_properties}
-use Rattle.book_values.proofs.NameMapLaws.{at_some}
+use Rattle.book_office.proofs.Common.{ap, ◌∙◌, changed_if, label_set, with_book_properties, at_some}
 use Rattle.book_office.proofs.setting.label_book.Goals as goal
 
 pub returns-in-Some : goal.returns-in-Some
 returns-in-Some c =
     at_some c.get_mut.result _ c.in-Some.is (c.get_mut.follows.holds _)
-    ∙ ap (changed_if (with_book_properties (labelled c.args.label)) c.args.books.now c.args.name.now) c.in-Some.ensures.value
+    ∙ ap (changed_if (with_book_properties (label_set c.args.label)) c.args.books.now c.args.name.now) c.in-Some.ensures.value

@@ -1,9 +1,4 @@
-use Rattle.std.proofs.Common.{sym, ap, ◌∙◌}
-use Rattle.std.proofs.lemmas.Result.{on_ok_weaker, on_err_weaker}
-use Rattle.std.specs.FinMap.{get, insert}
-use Rattle.book_values.specs.declared.offices.Book.{Book}
-use Rattle.book_office.specs.Edits.{changed_if, label_card}
-use Rattle.book_values.proofs.NameMapLaws.{at_some, insert_same}
+use Rattle.book_office.proofs.Common.{sym, ap, ◌∙◌, on_ok_weaker, on_err_weaker, get, insert, Book, changed_if, label_card, at_some, insert_same}
 use Rattle.book_office.proofs.setting.label_card_in.Goals as goal
 
 pub returns-in-Some-clause-ok : goal.returns-in-Some-clause-ok

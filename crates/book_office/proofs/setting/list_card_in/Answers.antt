@@ -1,7 +1,4 @@
-use Rattle.std.proofs.Common.{ap, ◌∙◌}
-use Rattle.std.specs.FinMap.{insert}
-use Rattle.book_office.specs.Edits.{changed_at, changed_if, listed_card, with_cards}
-use Rattle.book_values.proofs.NameMapLaws.{at_some}
+use Rattle.book_office.proofs.Common.{ap, ◌∙◌, insert, changed_at, changed_if, listed_card, with_cards, at_some}
 use Rattle.book_office.proofs.setting.list_card_in.Goals as goal
 
 pub returns-in-Some : goal.returns-in-Some

@@ -1,9 +1,7 @@
-use Rattle.std.proofs.Common.{ap, ◌∙◌}
-use Rattle.book_office.specs.Edits.{changed_if, listed}
-use Rattle.book_values.proofs.NameMapLaws.{at_some}
+use Rattle.book_office.proofs.Common.{ap, ◌∙◌, changed_if, list_set, at_some}
 use Rattle.book_office.proofs.setting.list_principal.Goals as goal
 
 pub returns-in-Some : goal.returns-in-Some
 returns-in-Some c =
     at_some c.get_mut.result _ c.in-Some.is (c.get_mut.follows.holds _)
-    ∙ ap (changed_if (listed c.args.own) c.args.principals.now c.args.name.now) c.in-Some.ensures.value
+    ∙ ap (changed_if (list_set c.args.own) c.args.principals.now c.args.name.now) c.in-Some.ensures.value

@@ -1,6 +1,5 @@
-use Rattle.std.proofs.Common.{◌≡◌, length}
+use Rattle.book_office.proofs.Common.{◌≡◌, length, into_iter_items, into_iter_len}
 use Rattle.std.specs.FinSet as set
-use Rattle.std.specs.Vec.Iter.{into_iter_items, into_iter_len}
 use Rattle.book_lists.specs.Memberships.{set_of}
 use Rattle.book_office.proofs.GroupMembers.{is_of_others, others_added}
 use Rattle.book_office.proofs.setting.pairs_of_others.Given as goal

@@ -1,6 +1,4 @@
-use Rattle.std.proofs.Common.{ap, ◌∙◌}
-use Rattle.book_office.specs.Edits.{changed_if, card_labelled}
-use Rattle.book_values.proofs.NameMapLaws.{at_some}
+use Rattle.book_office.proofs.Common.{ap, ◌∙◌, changed_if, card_labelled, at_some}
 use Rattle.book_office.proofs.setting.replace_label.Goals as goal
 
 pub returns-in-Some : goal.returns-in-Some

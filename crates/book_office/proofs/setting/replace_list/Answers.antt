@@ -1,6 +1,4 @@
-use Rattle.std.proofs.Common.{ap, ◌∙◌}
-use Rattle.book_office.specs.Edits.{changed_if, listed_card}
-use Rattle.book_values.proofs.NameMapLaws.{at_some}
+use Rattle.book_office.proofs.Common.{ap, ◌∙◌, changed_if, listed_card, at_some}
 use Rattle.book_office.proofs.setting.replace_list.Goals as goal
 
 pub returns-in-Some : goal.returns-in-Some

@@ -1,6 +1,4 @@
-use Rattle.std.proofs.Common.{◌≡◌, ◌++◌, length}
-use Rattle.std.specs.List.{flat_map}
-use Rattle.std.specs.Vec.Iter.{into_iter_items, into_iter_len}
+use Rattle.book_office.proofs.Common.{◌≡◌, ◌++◌, length, flat_map, into_iter_items, into_iter_len}
 use Rattle.book_office.specs.Levels.{protected_entries, own_entries}
 use Rattle.book_office.proofs.views.effective_entries.Given as goal
 

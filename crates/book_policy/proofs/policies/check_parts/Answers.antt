@@ -1,4 +1,4 @@
-use Rattle.std.proofs.Common.{inr, sym, ◌∙◌}
+use Rattle.book_policy.proofs.Common.{inr, sym, ◌∙◌}
 use Rattle.std.proofs.lemmas.Bool.{false≢true}
 use Rattle.book_policy.proofs.Labelled.{are_known, are_places, known_there, places_there}
 use Rattle.book_policy.proofs.Least.{unknown_principal, unknown_resource}

@@ -1,4 +1,4 @@
-use Rattle.std.proofs.Common.{inr, inl, refl}
+use Rattle.book_policy.proofs.Common.{inr, inl, refl}
 use Rattle.book_policy.proofs.Whole.{not_readable, whole_is}
 use Rattle.book_policy.proofs.policies.made.Goals as goal
 

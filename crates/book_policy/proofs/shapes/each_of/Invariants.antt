@@ -1,4 +1,4 @@
-use Rattle.std.proofs.Common.{◌≡◌, drop}
+use Rattle.book_policy.proofs.Common.{◌≡◌, drop}
 use Rattle.toml.specs.View.{items_view}
 use Rattle.book_policy.specs.Shapes.{each, each_after}
 use Rattle.book_policy.proofs.shapes.each_of.Given as goal

@@ -1,5 +1,4 @@
-use Rattle.std.proofs.Common.{◌≡◌, map, take}
-use Rattle.book_tables.specs.Shares.{DoNotFall, card_among}
+use Rattle.book_tables.proofs.Common.{◌≡◌, map, take, DoNotFall, card_among}
 use Rattle.book_tables.proofs.changes.cards_joined.Given as goal
 
 -- the changes so far are those of the rows so far

@@ -1,11 +1,7 @@
-use Rattle.std.proofs.Common.{◌≡◌, get_or, sym, subst, ap, ◌∙◌, map, arith, rules, IsTrue}
+use Rattle.book_tables.proofs.Common.{◌≡◌, get_or, sym, subst, ap, ◌∙◌, map, arith, rules, IsTrue, state, HasCleanDisk, rows_of, unseen_then, card_shown}
 use Rattle.std.proofs.lemmas.List.{take_all}
-use Rattle.sqlite.specs.Held.{state}
-use Rattle.sqlite.specs.State.{HasCleanDisk}
-use Rattle.book_rows.specs.Rows.{rows_of}
-use Rattle.book_rows.proofs.Keeping.{looks_then, unseen_then}
-use Rattle.book_rows.proofs.ListSettings.{commit_stays}
-use Rattle.book_tables.specs.LastChanges.{card_shown}
+use Rattle.book_tables_rows.proofs.Keeping.{looks_then}
+use Rattle.book_tables_rows.proofs.ListSettings.{commit_stays}
 use Rattle.book_tables.proofs.ToldRows.{card_before, told_next}
 use Rattle.book_tables.proofs.changes.changed_cards.Goals as goal
 

@@ -1,9 +1,5 @@
-use Rattle.std.proofs.Common.{◌≡◌, map, take}
-use Rattle.sqlite.specs.Held.{state}
-use Rattle.sqlite.specs.State.{HasCleanDisk, Survives}
-use Rattle.book_rows.specs.Rows.{rows_of, IsBook}
-use Rattle.book_rows.specs.Steps.{Keeps, Looks}
-use Rattle.book_tables.specs.LastChanges.{card_shown}
+use Rattle.book_tables.proofs.Common.{◌≡◌, map, take, state, HasCleanDisk, Survives, rows_of, IsBook, Looks, card_shown}
+use Rattle.book_tables_rows.specs.Steps.{Keeps}
 use Rattle.book_tables.proofs.changes.changed_cards.Given as goal
 
 -- the changes so far are those of the rows so far

@@ -1,10 +1,6 @@
-use mir.Syntax.{w64}
-use Rattle.std.proofs.Common.{◌≡◌, ◌++◌, [], None, map, codes, FitsSigned, arith, rules, sym, ap, subst, ◌∙◌}
-use Rattle.std.proofs.lemmas.Int.{to_z-of_z}
-use Rattle.sqlite.specs.Held.{state}
-use Rattle.sqlite.specs.State.{HasCleanDisk}
-use Rattle.book_rows.proofs.Keeping.{unseen_then}
-use Rattle.book_tables.specs.LastChanges.{ShowsCards, ShowsChanges, removed_shown}
+use Rattle.book_tables.proofs.Common.{w64, ◌≡◌, ◌++◌, [], None, map, codes, arith, rules, sym, ap, subst, ◌∙◌, to_z-of_z, state, HasCleanDisk, unseen_then, ShowsChanges, removed_shown}
+use Rattle.std.proofs.Common.{FitsSigned}
+use Rattle.book_tables.specs.LastChanges.{ShowsCards}
 use Rattle.book_tables.proofs.ToldRows.{none_changed, all_changed}
 use Rattle.book_tables.proofs.changes.changes_at.Goals as goal
 

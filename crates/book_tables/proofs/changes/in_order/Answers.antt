@@ -1,7 +1,7 @@
-use Rattle.std.proofs.Common.{◌≡◌, nat_lt, rules, subst, sym, ◌∙◌}
+use Rattle.book_tables.proofs.Common.{◌≡◌, rules, subst, sym, ◌∙◌, IsAscending}
+use Rattle.std.proofs.Common.{nat_lt}
 use Rattle.std.specs.List.{IsAllAdjacentAnswer}
 use Rattle.std.proofs.lemmas.Fn.{always_returns_same}
-use Rattle.sqlite_trees.specs.Tree.{IsAscending}
 use Rattle.book_tables.proofs.BookChanges.{IsEarlier, neighbours_rise}
 use Rattle.book_tables.proofs.changes.in_order.Goals as goal
 

@@ -1,5 +1,4 @@
-use Rattle.std.proofs.Common.{◌≡◌, ◌++◌, map, take}
-use Rattle.book_tables.specs.LastChanges.{removed_shown}
+use Rattle.book_tables.proofs.Common.{◌≡◌, ◌++◌, map, take, removed_shown}
 use Rattle.book_tables.proofs.changes.push_removed.Given as goal
 
 -- the changes of the rows so far are added

@@ -1,5 +1,4 @@
-use Rattle.std.proofs.Common.{List, map}
-use Rattle.book_rows.specs.Adopting.{Joined, joined}
+use Rattle.book_tables.proofs.Common.{List, map, Joined, joined}
 use Rattle.book_tables.specs.Adopting.{AddsGroups}
 use Rattle.book_tables.proofs.differences.compare_members.Given as goal
 

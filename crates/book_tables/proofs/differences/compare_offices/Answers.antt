@@ -1,8 +1,7 @@
-use Rattle.std.proofs.Common.{rules, ◌≡◌, ℕ, List, [], ◌++◌, map, ap, subst}
-use Rattle.std.specs.FinMap.{entries}
-use Rattle.book_rows.specs.Adopting.{Place, Listed, Joined, placed, listed, joined}
-use Rattle.book_values.specs.declared.paths.Path.TheVariants as path
-use Rattle.book_tables.specs.Adopting.{AddsGroups, AddsPlaces, AddsLists, Compared, HasLists, HasPlace, compared_homes, compared_in, compared_books, lists_said, place_said}
+use Rattle.book_tables.proofs.Common.{rules, ◌≡◌, ℕ, List, [], ◌++◌, map, ap, subst, entries, Place, Joined, placed_row, listed_row, joined, AddsPlaces, AddsLists, Compared, HasLists, HasPlace, compared_in, compared_books, lists_said, place_said}
+use Rattle.book_tables_rows.specs.Adopting.{Listed}
+use Rattle.book_office_values.specs.declared.paths.Path.TheVariants as path
+use Rattle.book_tables.specs.Adopting.{AddsGroups, compared_homes}
 use Rattle.book_tables.proofs.Comparisons.{adds_both}
 use Rattle.book_tables.proofs.differences.compare_offices.Goals as goal
 
@@ -18,20 +17,20 @@ returns c =
     let has_place = λ (k : Compared). HasPlace k.old k.new in
     let lists = λ (k : Compared). lists_said k.path k.new in
     let has_lists = λ (k : Compared). HasLists k.old k.new in
-    let no_places : map placed c.new-places.result.items ≡ [] = ap (map placed) c.new-places.ensures.items in
-    let no_lists : map listed c.new-lists.result.items ≡ [] = ap (map listed) c.new-lists.ensures.items in
+    let no_places : map placed_row c.new-places.result.items ≡ [] = ap (map placed_row) c.new-places.ensures.items in
+    let no_lists : map listed_row c.new-lists.result.items ≡ [] = ap (map listed_row) c.new-lists.ensures.items in
     let before_is : c.as_slice.result.now ≡ c.in_ok-before.before.items = search rules in
     let after_is : c.as_slice-2.result.now ≡ c.in_ok-after.after.items = search rules in
-    let p0 : List Place = map placed c.new-places.result.items in
-    let p1 : List Place = map placed c.compare_homes.new.places.items in
-    let p2 : List Place = map placed c.compare_persons.new.places.items in
-    let p3 : List Place = map placed c.compare_groups.new.places.items in
-    let p4 : List Place = map placed c.compare_books.new.places.items in
-    let l0 : List Listed = map listed c.new-lists.result.items in
-    let l1 : List Listed = map listed c.compare_homes.new.lists.items in
-    let l2 : List Listed = map listed c.compare_persons.new.lists.items in
-    let l3 : List Listed = map listed c.compare_groups.new.lists.items in
-    let l4 : List Listed = map listed c.compare_books.new.lists.items in
+    let p0 : List Place = map placed_row c.new-places.result.items in
+    let p1 : List Place = map placed_row c.compare_homes.new.places.items in
+    let p2 : List Place = map placed_row c.compare_persons.new.places.items in
+    let p3 : List Place = map placed_row c.compare_groups.new.places.items in
+    let p4 : List Place = map placed_row c.compare_books.new.places.items in
+    let l0 : List Listed = map listed_row c.new-lists.result.items in
+    let l1 : List Listed = map listed_row c.compare_homes.new.lists.items in
+    let l2 : List Listed = map listed_row c.compare_persons.new.lists.items in
+    let l3 : List Listed = map listed_row c.compare_groups.new.lists.items in
+    let l4 : List Listed = map listed_row c.compare_books.new.lists.items in
     let names : List (List ℕ) = map (λ e. e.0) (entries new.groups) in
     let written : List Joined = map joined c.in_ok-compare_members.field-0.items in
     record {

@@ -1,4 +1,4 @@
-use Rattle.std.proofs.Common.{string_bytes}
+use Rattle.book_tables.proofs.Common.{string_bytes}
 use Rattle.book_tables.proofs.FoundMembers.{AreFound}
 use Rattle.book_tables.proofs.differences.members_of.Given as goal
 

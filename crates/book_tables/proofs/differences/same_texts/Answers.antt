@@ -1,4 +1,5 @@
-use Rattle.std.proofs.Common.{◌≡◌, ℕ, ◌<◌, length, get_or, String, string_bytes, refl, rules, sym, ap, ◌∙◌}
+use Rattle.book_tables.proofs.Common.{◌≡◌, ℕ, ◌<◌, length, get_or, string_bytes, refl, rules, sym, ap, ◌∙◌}
+use Rattle.std.proofs.Common.{String}
 use Rattle.std.proofs.lemmas.Bool.{false≢true}
 use Rattle.std.specs.declared.alloc.Global.{Global}
 use Rattle.book_tables.proofs.FoundMembers.{same_told, same_at}

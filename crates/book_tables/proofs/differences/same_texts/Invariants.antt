@@ -1,4 +1,5 @@
-use Rattle.std.proofs.Common.{◌≡◌, ℕ, ◌<◌, get_or, String, string_bytes}
+use Rattle.book_tables.proofs.Common.{◌≡◌, ℕ, ◌<◌, get_or, string_bytes}
+use Rattle.std.proofs.Common.{String}
 use Rattle.std.specs.declared.alloc.Global.{Global}
 use Rattle.book_tables.proofs.differences.same_texts.Given as goal
 

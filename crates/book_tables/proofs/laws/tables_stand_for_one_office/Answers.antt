@@ -1,4 +1,4 @@
-use Rattle.book_rows.specs.Rows.{rows_of}
+use Rattle.book_tables.proofs.Common.{rows_of}
 use Rattle.book_tables.proofs.OneOffice.{one_office}
 use Rattle.book_tables.proofs.laws.tables_stand_for_one_office.Goals as goal
 

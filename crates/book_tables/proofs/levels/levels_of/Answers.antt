@@ -1,13 +1,7 @@
-use Rattle.std.proofs.Common.{◌≡◌, ◌∷◌, ◌++◌, [], map, rules, arith, inl, inr, IsTrue, sym, ap, subst, ◌∙◌}
-use Rattle.std.specs.Vec.Iter.{into_iter_items}
-use Rattle.sqlite.specs.Effect.{Database}
-use Rattle.sqlite.specs.Held.{state}
-use Rattle.sqlite.specs.State.{HasCleanDisk}
-use Rattle.book_values.specs.Paths.{levels}
-use Rattle.book_rows.specs.Rows.{rows_of, IsBook}
-use Rattle.book_rows.proofs.Keeping.{looks_then, unseen_then}
-use Rattle.book_rows.proofs.ListSettings.{commit_stays}
-use Rattle.book_tables.specs.Levels.{level_told, ShowsLevel}
+use Rattle.book_tables.proofs.Common.{◌≡◌, ◌∷◌, ◌++◌, [], map, rules, arith, inl, inr, IsTrue, sym, ap, subst, ◌∙◌, into_iter_items, Database, state, HasCleanDisk, levels, rows_of, IsBook, unseen_then, level_told}
+use Rattle.book_tables_rows.proofs.Keeping.{looks_then}
+use Rattle.book_tables_rows.proofs.ListSettings.{commit_stays}
+use Rattle.book_tables.specs.Levels.{ShowsLevel}
 use Rattle.book_tables.proofs.LevelsTold.{one_more_level}
 use Rattle.book_tables.proofs.levels.levels_of.Goals as goal
 

@@ -1,11 +1,5 @@
-use Rattle.std.proofs.Common.{◌≡◌, ◌++◌, ◌⊎◌, length, map, IsTrue}
-use Rattle.std.specs.Vec.Iter.{into_iter_items, into_iter_len}
-use Rattle.sqlite.specs.Held.{state}
-use Rattle.sqlite.specs.State.{HasCleanDisk, Survives}
-use Rattle.book_values.specs.Paths.{levels}
-use Rattle.book_rows.specs.Rows.{rows_of, IsBook}
-use Rattle.book_rows.specs.Steps.{Keeps, Looks}
-use Rattle.book_tables.specs.Levels.{level_told}
+use Rattle.book_tables.proofs.Common.{◌≡◌, ◌++◌, ◌⊎◌, length, map, IsTrue, into_iter_items, into_iter_len, state, HasCleanDisk, Survives, levels, rows_of, IsBook, Looks, level_told}
+use Rattle.book_tables_rows.specs.Steps.{Keeps}
 use Rattle.book_tables.proofs.levels.levels_of.Given as goal
 
 -- the levels so far and those to come are those of the path, and the connection was open once one is there

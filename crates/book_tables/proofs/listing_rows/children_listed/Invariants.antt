@@ -1,5 +1,4 @@
-use Rattle.std.proofs.Common.{◌≡◌, map, take}
-use Rattle.book_tables.specs.Shares.{DoNotFall, child_among}
+use Rattle.book_tables.proofs.Common.{◌≡◌, map, take, DoNotFall, child_among}
 use Rattle.book_tables.proofs.listing_rows.children_listed.Given as goal
 
 -- the children so far are those of the rows so far

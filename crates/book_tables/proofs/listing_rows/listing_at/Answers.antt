@@ -1,11 +1,5 @@
-use mir.Syntax.{w64}
-use Rattle.std.proofs.Common.{◌≡◌, [], None, FitsSigned, arith, rules, sym, subst, ◌∙◌, map, ap}
-use Rattle.std.proofs.lemmas.Int.{to_z-of_z}
-use Rattle.sqlite.specs.Held.{state}
-use Rattle.sqlite.specs.State.{HasCleanDisk}
-use Rattle.book_rows.proofs.Keeping.{if_ok}
-use Rattle.book_tables.specs.Children.{ShowsListing}
-use Rattle.book_tables.specs.Shares.{DoNotFall, child_among}
+use Rattle.book_tables.proofs.Common.{w64, ◌≡◌, [], None, arith, rules, sym, subst, ◌∙◌, map, to_z-of_z, IfOk-weaker, state, HasCleanDisk, ShowsListing, DoNotFall, child_among}
+use Rattle.std.proofs.Common.{FitsSigned}
 use Rattle.book_tables.proofs.ToldRows.{none_listed, all_listed}
 use Rattle.book_tables.proofs.listing_rows.listing_at.Goals as goal
 
@@ -25,7 +19,7 @@ returns-clause-shown g c clean =
     let clean_first : HasCleanDisk first = omega (arith, c.child_rows.ensures.survives.clean, clean_second) in
     let range : FitsSigned w64 c.in-Some.node.id = search rules in
     let id = to_z-of_z w64 c.in-Some.node.id range in
-    if_ok c.children_listed.result _ _ (λ children joined. all_listed old first second c.args.path.now c.args.front.now c.in-Some.node c.in_ok-node.field-0 c.in-Some.is (c.in_ok-node.ensures.found clean_first)
+    IfOk-weaker c.children_listed.result _ _ (λ children joined. all_listed old first second c.args.path.now c.args.front.now c.in-Some.node c.in_ok-node.field-0 c.in-Some.is (c.in_ok-node.ensures.found clean_first)
     (c.in_ok-node.ensures.stays clean_first) (c.in_ok-rows.ensures.stays clean_second) c.in_ok-rows.rows.items c.in_ok-entries.entries.items
     (rw id at (c.in_ok-rows.ensures.shown clean_second)) (rw id at (c.in_ok-entries.ensures.shown clean)) children.items
     (λ falls. joined (subst DoNotFall (sym c.deref-2.ensures.value) falls) ∙ (λ i. map (child_among (c.deref-2.ensures.value i) c.args.front.now) (c.deref.ensures.value i)))) c.children_listed.ensures

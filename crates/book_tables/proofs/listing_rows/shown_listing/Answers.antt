@@ -1,7 +1,4 @@
-use Rattle.std.proofs.Common.{◌≡◌, ◌≤◌, rules, arith, sym, subst}
-use Rattle.sqlite.specs.Held.{state}
-use Rattle.sqlite.specs.State.{HasCleanDisk}
-use Rattle.sqlite_trees.specs.View.{doubt}
+use Rattle.book_tables.proofs.Common.{◌≡◌, ◌≤◌, rules, arith, sym, subst, state, HasCleanDisk, doubt}
 use Rattle.book_tables.proofs.listing_rows.shown_listing.Goals as goal
 
 pub returns-clause-found : goal.returns-clause-found

@@ -1,7 +1,6 @@
-use Rattle.std.proofs.Common.{◌≡◌, get_or, rules, ap, ◌∙◌}
+use Rattle.book_tables.proofs.Common.{◌≡◌, get_or, rules, ap, ◌∙◌, Memberships, membership_cmp}
 use Rattle.std.specs.FinSet as set
 use Rattle.std.specs.FinSet.{contains-empty}
-use Rattle.book_lists.specs.Memberships.{Memberships, membership_cmp}
 use Rattle.book_tables.proofs.PairsTold.{one_more_told}
 use Rattle.book_tables.proofs.members.pairs_of.Goals as goal
 

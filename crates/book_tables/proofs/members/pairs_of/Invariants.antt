@@ -1,4 +1,4 @@
-use Rattle.std.proofs.Common.{take}
+use Rattle.book_tables.proofs.Common.{take}
 use Rattle.book_tables.proofs.PairsTold.{AreTold}
 use Rattle.book_tables.proofs.members.pairs_of.Given as goal
 

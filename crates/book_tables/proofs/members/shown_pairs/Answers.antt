@@ -1,7 +1,5 @@
-use Rattle.std.proofs.Common.{◌≡◌, IfOk, rules}
-use Rattle.sqlite.specs.Held.{state}
-use Rattle.book_lists.specs.Memberships.{Memberships}
-use Rattle.book_rows.proofs.Keeping.{if_ok}
+use Rattle.book_tables.proofs.Common.{◌≡◌, rules, IfOk-weaker, state, Memberships}
+use Rattle.std.proofs.Common.{IfOk}
 use Rattle.book_tables.proofs.PairsTold.{AreTold, pairs_shown}
 use Rattle.book_tables.proofs.members.shown_pairs.Goals as goal
 
@@ -11,4 +9,4 @@ returns-clause-found g c clean =
     let rows = c.in_ok-rows.rows.items in
     let same : c.deref.result.now ≡ rows = search rules in
     let told : IfOk c.pairs_of.result (λ (pairs : Memberships). AreTold pairs rows) = rw same at c.pairs_of.ensures in
-    if_ok c.pairs_of.result _ _ (λ pairs are. pairs_shown old rows pairs (c.in_ok-rows.ensures.found clean) are) told
+    IfOk-weaker c.pairs_of.result _ _ (λ pairs are. pairs_shown old rows pairs (c.in_ok-rows.ensures.found clean) are) told

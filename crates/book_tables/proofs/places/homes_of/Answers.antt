@@ -1,9 +1,6 @@
-use Rattle.std.proofs.Common.{◌≡◌, ℕ, ◌∷◌, [], List, codes, sym, ap, ◌∙◌}
+use Rattle.book_tables.proofs.Common.{◌≡◌, ℕ, ◌∷◌, [], List, codes, sym, ap, ◌∙◌, Listed, Properties, place_told}
 use Rattle.std.proofs.lemmas.List.{same_from_push}
-use Rattle.book_office.specs.declared.nodes.Listed.{Listed}
 use Rattle.book_office.specs.Resources.{listed_home}
-use Rattle.book_values.specs.declared.offices.Properties.{Properties}
-use Rattle.book_tables.specs.BareOffice.{place_told}
 use Rattle.book_tables.proofs.places.homes_of.Goals as goal
 
 abbrev place_in : List ℕ × Properties → Properties

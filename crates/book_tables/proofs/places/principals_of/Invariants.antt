@@ -1,7 +1,4 @@
-use Rattle.std.proofs.Common.{◌≡◌, length, map}
-use Rattle.std.specs.Vec.Iter.{into_iter_items, into_iter_len}
-use Rattle.book_policies.specs.Policies.{added}
-use Rattle.book_tables.specs.BareOffice.{place_told}
+use Rattle.book_tables.proofs.Common.{◌≡◌, length, map, into_iter_items, into_iter_len, added, place_told}
 use Rattle.book_tables.proofs.places.principals_of.Given as goal
 
 -- the principals so far with those to come are those of all

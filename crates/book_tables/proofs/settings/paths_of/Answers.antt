@@ -1,4 +1,4 @@
-use Rattle.std.proofs.Common.{◌≡◌, ◌+◌, ◌++◌, ◌∷◌, [], get_or, subst, rules, sym, string_bytes, ◌∙◌}
+use Rattle.book_tables.proofs.Common.{◌≡◌, ◌+◌, ◌++◌, ◌∷◌, [], get_or, subst, rules, sym, string_bytes, ◌∙◌}
 use Rattle.book_tables.proofs.PushedItems.{AreOnTheWay, one_pushed, all_pushed, map_nothing}
 use Rattle.book_tables.proofs.settings.paths_of.Goals as goal
 

@@ -1,4 +1,4 @@
-use Rattle.std.proofs.Common.{string_bytes}
+use Rattle.book_tables.proofs.Common.{string_bytes}
 use Rattle.book_tables.proofs.PushedItems.{AreOnTheWay}
 use Rattle.book_tables.proofs.settings.paths_of.Given as goal
 

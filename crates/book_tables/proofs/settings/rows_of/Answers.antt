@@ -1,6 +1,4 @@
-use Rattle.std.proofs.Common.{◌≡◌, ◌+◌, ◌++◌, ◌∷◌, [], get_or, subst, rules, sym}
-use Rattle.book_rows.specs.Nodes.{said}
-use Rattle.book_tables.specs.Settings.{entry_said}
+use Rattle.book_tables.proofs.Common.{◌≡◌, ◌+◌, ◌++◌, ◌∷◌, [], get_or, subst, rules, sym, said, entry_said}
 use Rattle.book_tables.proofs.PushedItems.{AreOnTheWay, one_pushed, all_pushed}
 use Rattle.book_tables.proofs.settings.rows_of.Goals as goal
 

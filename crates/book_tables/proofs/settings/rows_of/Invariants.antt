@@ -1,5 +1,4 @@
-use Rattle.book_rows.specs.Nodes.{said}
-use Rattle.book_tables.specs.Settings.{entry_said}
+use Rattle.book_tables.proofs.Common.{said, entry_said}
 use Rattle.book_tables.proofs.PushedItems.{AreOnTheWay}
 use Rattle.book_tables.proofs.settings.rows_of.Given as goal
 

@@ -1,4 +1,5 @@
-use Rattle.std.proofs.Common.{◌≡◌, ◌-◌, length, take, drop, length-drop, arith, rules}
+use Rattle.book_tables.proofs.Common.{◌≡◌, length, take, drop, arith, rules}
+use Rattle.std.proofs.Common.{◌-◌, length-drop}
 use Rattle.std.proofs.lemmas.List.{take_all}
 use Rattle.std.proofs.lemmas.List.Sorted.{IsPartitionPoint-from_clause}
 use Rattle.book_tables.proofs.NodeShares.{is_below, is_up_to, parted_below, parted_up_to, side_by_side}

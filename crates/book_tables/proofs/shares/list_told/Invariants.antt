@@ -1,5 +1,4 @@
-use Rattle.std.proofs.Common.{◌≡◌, take}
-use Rattle.book_tables.specs.Shares.{list_among}
+use Rattle.book_tables.proofs.Common.{◌≡◌, take, list_among}
 use Rattle.book_tables.proofs.shares.list_told.Given as goal
 
 -- the entries so far are those of the list among the rows so far

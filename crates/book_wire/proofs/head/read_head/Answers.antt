@@ -1,11 +1,11 @@
-use Rattle.std.proofs.Common.{◌≡◌, ℕ, List, [], ◌++◌, ◌≤◌, ◌<◌, length, drop, sym, ap, ◌∙◌, inl, inr, Err, false, refl, subst, arith}
+use Rattle.book_wire.proofs.Common.{◌≡◌, ℕ, List, [], ◌++◌, ◌≤◌, ◌<◌, length, drop, sym, ap, ◌∙◌, inl, inr, false, refl, subst, arith, length-take, take-append-drop, print_request, WireRefusal, Refuses}
+use Rattle.std.proofs.Common.{Err}
 use Rattle.std.proofs.lemmas.Bool.{eqb-true}
-use Rattle.std.proofs.lemmas.List.{length-take, nil_from_length, take-append-drop, take_all}
-use Rattle.httparse.specs.Grammar.{print_request, HasNoRequest, NeverHasRequest, MayBecomeRequest}
+use Rattle.std.proofs.lemmas.List.{nil_from_length, take_all}
+use Rattle.httparse.specs.Grammar.{HasNoRequest, NeverHasRequest, MayBecomeRequest}
 use Rattle.httparse.specs.Spans.{IsRequestOf, IsRequestWithin, RequestExceeds}
-use Rattle.book_wire.specs.declared.head.WireRefusal.{WireRefusal}
 use Rattle.book_wire.specs.Head.{is_bare_head}
-use Rattle.book_wire.specs.Stream.{IsPartOfHead, Refuses}
+use Rattle.book_wire.specs.Stream.{IsPartOfHead}
 use Rattle.book_wire.proofs.NothingUnread.{nothing_is_part}
 use Rattle.book_wire.proofs.Heads.{whole_from_front, is_head, is_not_empty, asked_at}
 use Rattle.book_wire.proofs.head.read_head.Goals as goal

@@ -1,5 +1,4 @@
-use Rattle.std.proofs.Common.{◌≡◌, ◌≤◌, ◌+◌, ℕ, sym, ◌∙◌, subst, arith}
-use Rattle.book_wire.specs.Members.{has_close}
+use Rattle.book_wire.proofs.Common.{◌≡◌, ◌≤◌, ◌+◌, ℕ, sym, ◌∙◌, subst, arith, has_close}
 use Rattle.book_wire.proofs.CommaLists.{left_at, found_close, comma_passed, byte_passed}
 use Rattle.book_wire.proofs.members.has_close.Goals as goal
 use Rattle.book_wire.proofs.members.has_close.Goals.{then-byte-eq44+else-is_close, else-byte-eq44}

@@ -1,5 +1,4 @@
-use Rattle.std.proofs.Common.{◌≡◌, ◌≤◌}
-use Rattle.book_wire.specs.Members.{has_close}
+use Rattle.book_wire.proofs.Common.{◌≡◌, ◌≤◌, has_close}
 use Rattle.book_wire.proofs.CommaLists.{left_at}
 use Rattle.book_wire.proofs.members.has_close.Given as goal
 

@@ -1,4 +1,5 @@
-use Rattle.std.proofs.Common.{codes, refl, ap, ◌∙◌}
+use Rattle.book_wire.proofs.Common.{refl, ap, ◌∙◌}
+use Rattle.std.proofs.Common.{codes}
 use Rattle.std.proofs.lemmas.Str.Ascii.{trim_ascii_is}
 use Rattle.book_wire.specs.Members.{same_name}
 use Rattle.book_wire.proofs.members.is_close.Goals as goal

@@ -1,5 +1,5 @@
 use Rattle.std.proofs.lemmas.Str.{is_utf8-from_IsUtf8}
-use Rattle.book_bodies.proofs.Utf8.{no_utf8}
+use Rattle.book_wire_json.proofs.Utf8.{no_utf8}
 use Rattle.book_wire.proofs.requests.text_of.Goals as goal
 
 pub returns-in-Ok : goal.returns-in-Ok

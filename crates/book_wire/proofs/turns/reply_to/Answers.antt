@@ -1,4 +1,4 @@
-use Rattle.std.proofs.lemmas.Result.{on_ok_weaker, IfErr-weaker}
+use Rattle.book_wire.proofs.Common.{on_ok_weaker, IfErr-weaker}
 use Rattle.book_wire.proofs.Unspelled.{sent_serves}
 use Rattle.book_wire.proofs.turns.reply_to.Goals as goal
 

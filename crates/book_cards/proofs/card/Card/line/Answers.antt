@@ -1,9 +1,4 @@
-use Rattle.std.proofs.Common.{arith, ◌-◌, ap, sym, ◌∙◌}
-use Rattle.std.specs.Option.{option_map, option_and_then}
-use Rattle.std.specs.List.{slice_get}
-use Rattle.std.specs.Str.Lines.{lines}
-use Rattle.book_cards.specs.Reading.{fields_of}
-use Rattle.book_cards.specs.CardText.{lines_fault}
+use Rattle.book_cards.proofs.Common.{arith, ◌-◌, ap, sym, ◌∙◌, option_map, option_and_then, slice_get, lines, fields_of, lines_fault}
 use Rattle.book_cards.specs.Views.{view}
 use Rattle.book_cards.proofs.Numbers.{line_has_fields, mapped_some}
 use Rattle.book_cards.proofs.card.Card.line.Goals as goal

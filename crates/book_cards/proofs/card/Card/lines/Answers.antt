@@ -1,6 +1,5 @@
-use Rattle.std.proofs.Common.{map, Some, ap, sym, ◌∙◌}
-use Rattle.std.specs.Str.Lines.{lines}
-use Rattle.book_cards.specs.CardText.{lines_fault, fields_in}
+use Rattle.book_cards.proofs.Common.{Some, ap, sym, ◌∙◌, lines, lines_fault, fields_in}
+use Rattle.std.proofs.Common.{map}
 use Rattle.book_cards.proofs.Numbers.{lines_have_fields}
 use Rattle.book_cards.proofs.card.Card.lines.Goals as goal
 

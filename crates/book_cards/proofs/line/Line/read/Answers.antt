@@ -1,4 +1,4 @@
-use Rattle.std.proofs.Common.{lit<}
+use Rattle.book_cards.proofs.Common.{lit<}
 use Rattle.std.proofs.lemmas.Str.Pattern.{strip_prefix_char}
 use Rattle.book_cards.proofs.Names.{ungrouped}
 use Rattle.book_cards.proofs.line.Line.read.Goals as goal

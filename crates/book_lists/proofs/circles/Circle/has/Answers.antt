@@ -1,4 +1,4 @@
-use Rattle.std.proofs.Common.{sym, ◌∙◌}
+use Rattle.book_lists.proofs.Common.{sym, ◌∙◌}
 use Rattle.book_lists.proofs.Searches.{contains_alone}
 use Rattle.book_lists.proofs.circles.Circle.has.Goals as goal
 

@@ -1,6 +1,5 @@
-use Rattle.std.proofs.Common.{◌≡◌, ◌+◌, sym, ap, ◌∙◌, cond, false, arith}
+use Rattle.book_lists.proofs.Common.{◌≡◌, ◌+◌, sym, ap, ◌∙◌, cond, false, arith, pairs_in}
 use Rattle.std.specs.FinSet as set
-use Rattle.book_lists.specs.GroupEntries.{pairs_in}
 use Rattle.book_lists.proofs.GroupLists.{inserted_again}
 use Rattle.book_lists.proofs.Pairing.{memberships_total}
 use Rattle.book_lists.proofs.memberships.Pairs.add.Goals as goal

@@ -1,6 +1,5 @@
-use Rattle.std.proofs.Common.{sym, ap, ◌∙◌, unwrap_or}
+use Rattle.book_lists.proofs.Common.{sym, ap, ◌∙◌, unwrap_or, path_cmp}
 use Rattle.std.specs.FinSet as set
-use Rattle.book_lists.specs.Principals.{path_cmp}
 use Rattle.book_lists.proofs.GroupLists.{contains-pairs_in}
 use Rattle.book_lists.proofs.memberships.Pairs.has.Goals as goal
 

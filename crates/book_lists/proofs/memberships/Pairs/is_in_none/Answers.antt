@@ -1,7 +1,5 @@
-use Rattle.std.proofs.Common.{◌≡◌, false, sym, ap, ◌∙◌, unwrap_or}
-use Rattle.std.proofs.lemmas.Bool.{false≢true}
+use Rattle.book_lists.proofs.Common.{◌≡◌, false, sym, ap, ◌∙◌, unwrap_or, false≢true, path_cmp}
 use Rattle.std.specs.FinSet as set
-use Rattle.book_lists.specs.Principals.{path_cmp}
 use Rattle.book_lists.proofs.GroupLists.{contains-pairs_in}
 use Rattle.book_lists.proofs.memberships.Pairs.is_in_none.Goals as goal
 

@@ -1,7 +1,5 @@
-use Rattle.std.proofs.Common.{◌≡◌, ◌∷◌, ◌++◌, rules, sym, ap, ◌∙◌}
-use Rattle.std.specs.List.{flat_map}
-use Rattle.book_lists.specs.GroupEntries.{pairs_of}
-use Rattle.book_lists.specs.Memberships.{set_of}
+use Rattle.book_lists.proofs.Common.{◌≡◌, ◌∷◌, ◌++◌, sym, ap, ◌∙◌, flat_map, pairs_of, set_of}
+use Rattle.std.proofs.Common.{rules}
 use Rattle.book_lists.proofs.GroupLists.{listed_next}
 use Rattle.book_lists.proofs.memberships.Pairs.list.Goals as goal
 

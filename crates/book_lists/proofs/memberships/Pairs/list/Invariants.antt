@@ -1,7 +1,4 @@
-use Rattle.std.proofs.Common.{◌≡◌, ◌++◌}
-use Rattle.std.specs.List.{flat_map}
-use Rattle.book_lists.specs.GroupEntries.{pairs_of}
-use Rattle.book_lists.specs.Memberships.{set_of}
+use Rattle.book_lists.proofs.Common.{◌≡◌, ◌++◌, flat_map, pairs_of, set_of}
 use Rattle.book_lists.proofs.memberships.Pairs.list.Given as goal
 
 -- the pairs so far and those to come are all pairs

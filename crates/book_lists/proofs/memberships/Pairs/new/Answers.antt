@@ -1,7 +1,6 @@
-use Rattle.std.proofs.Common.{◌-◌, ◌^◌, min, sym, ap, ◌∙◌}
+use Rattle.book_lists.proofs.Common.{◌-◌, ◌^◌, sym, ap, ◌∙◌, membership_cmp, pairs_in}
+use Rattle.std.proofs.Common.{min}
 use Rattle.std.specs.FinSet as set
-use Rattle.book_lists.specs.Memberships.{membership_cmp}
-use Rattle.book_lists.specs.GroupEntries.{pairs_in}
 use Rattle.book_lists.proofs.memberships.Pairs.new.Goals as goal
 
 pub invariant_of-result : goal.invariant_of-result

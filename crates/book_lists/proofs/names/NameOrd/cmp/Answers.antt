@@ -1,4 +1,4 @@
-use Rattle.std.proofs.Common.{◌∙◌}
+use Rattle.book_lists.proofs.Common.{◌∙◌}
 use Rattle.std.specs.String.{string_bytes}
 use Rattle.book_lists.specs.Names.{name_cmp}
 use Rattle.book_lists.proofs.Fronts.{fronts_decide}

@@ -1,4 +1,4 @@
-use Rattle.std.proofs.Common.{◌≡◌, ◌++◌}
+use Rattle.book_lists.proofs.Common.{◌≡◌, ◌++◌}
 use Rattle.book_lists.specs.GroupEntries.{memberships_in}
 use Rattle.book_lists.proofs.principal_sets.PrincipalSet.append_memberships.Given as goal
 

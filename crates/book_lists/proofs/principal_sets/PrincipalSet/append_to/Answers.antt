@@ -1,7 +1,6 @@
-use Rattle.std.proofs.Common.{sym, ap, ◌∙◌, map, ◌++◌}
+use Rattle.book_lists.proofs.Common.{sym, ap, ◌∙◌, map, ◌++◌, map-append}
 use Rattle.std.proofs.lemmas.Iterator.Consumers.{YieldsList-from_rest}
 use Rattle.std.proofs.lemmas.Iterator.Adapters.{fact_from_extend}
-use Rattle.std.proofs.lemmas.List.{map-append}
 use Rattle.book_lists.specs.PrincipalSets.{ListsAll}
 use Rattle.book_lists.proofs.PathSets.{contains-from_paths, len-from_keys}
 use Rattle.book_lists.proofs.principal_sets.PrincipalSet.append_to.Goals as goal

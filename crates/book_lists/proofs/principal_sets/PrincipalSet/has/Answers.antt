@@ -1,6 +1,5 @@
-use Rattle.std.proofs.Common.{sym, ap, ◌∙◌}
+use Rattle.book_lists.proofs.Common.{sym, ap, ◌∙◌, nat_list_cmp_total}
 use Rattle.std.specs.FinSet as set
-use Rattle.std.proofs.lemmas.Cmp.{nat_list_cmp_total}
 use Rattle.book_lists.proofs.principal_sets.PrincipalSet.has.Goals as goal
 
 pub returns : goal.returns

@@ -1,6 +1,5 @@
-use Rattle.std.proofs.Common.{sym, ap, ◌∙◌, not}
+use Rattle.book_lists.proofs.Common.{sym, ap, ◌∙◌, not, nat_list_cmp_total}
 use Rattle.std.specs.FinSet as set
-use Rattle.std.proofs.lemmas.Cmp.{nat_list_cmp_total}
 use Rattle.book_lists.proofs.PathSets.{updated_is_insert}
 use Rattle.book_lists.proofs.principal_sets.PrincipalSet.insert.Goals as goal
 

@@ -1,5 +1,4 @@
-use Rattle.std.proofs.Common.{◌≡◌, List, ℕ, subst}
-use Rattle.std.proofs.lemmas.Bool.{false≢true}
+use Rattle.book_lists.proofs.Common.{◌≡◌, List, ℕ, subst, false≢true}
 use Rattle.book_lists.specs.Principals.{IsPrincipal}
 use Rattle.book_lists.proofs.PathEnds.{ends_plain}
 use Rattle.book_lists.proofs.principals.Principal.parse.Goals as goal

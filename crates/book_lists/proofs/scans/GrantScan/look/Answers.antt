@@ -1,6 +1,4 @@
-use Rattle.std.proofs.Common.{sym, ap, ◌∙◌}
-use Rattle.book_rights.specs.Leaves.{difference}
-use Rattle.book_lists.specs.Scans.{Reading}
+use Rattle.book_lists.proofs.Common.{sym, ap, ◌∙◌, difference, Reading}
 use Rattle.book_lists.specs.declared.scans.GrantScan.{GrantScan}
 use Rattle.book_lists.proofs.GoingScans.{collect_passed, collect_denied, collect_granted, idle_unmet, idle_elsewhere}
 use Rattle.book_lists.proofs.scans.GrantScan.look.Goals as goal

@@ -1,5 +1,4 @@
-use Rattle.std.proofs.Common.{sym, subst, arith, append-nil}
-use Rattle.book_lists.specs.Scans.{IsGrantScan}
+use Rattle.book_lists.proofs.Common.{sym, subst, arith, append-nil, IsGrantScan}
 use Rattle.book_lists.proofs.OneReader.{read_more, read_all}
 use Rattle.book_lists.proofs.scans.GrantScan.over.Goals as goal
 

@@ -1,5 +1,4 @@
-use Rattle.std.proofs.Common.{List, ◌++◌, take}
-use Rattle.book_lists.specs.Scans.{Reading, read_by, IsGrantScan}
+use Rattle.book_lists.proofs.Common.{List, ◌++◌, take, Reading, read_by, IsGrantScan}
 use Rattle.book_lists.proofs.scans.GrantScan.over.Given as goal
 
 -- the scan has come over the entries so far

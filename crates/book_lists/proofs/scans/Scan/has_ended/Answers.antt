@@ -1,5 +1,5 @@
-use Rattle.std.proofs.Common.{◌≡◌, ◌∙◌, refl, sym, ap, not, Bool, true, false, Option, Some, None, is_some}
-use Rattle.std.proofs.lemmas.Bool.{both_ways}
+use Rattle.book_lists.proofs.Common.{◌≡◌, ◌∙◌, refl, sym, ap, not, Bool, true, false, Option, Some, None, both_ways}
+use Rattle.std.proofs.Common.{is_some}
 use Rattle.book_lists.proofs.GoingScans.{scan_ended}
 use Rattle.book_lists.proofs.scans.Scan.has_ended.Goals as goal
 

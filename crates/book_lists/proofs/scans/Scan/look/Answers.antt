@@ -1,5 +1,4 @@
-use Rattle.std.proofs.Common.{sym, ◌∙◌, ◌++◌, ◌∷◌, [], length, length-append, arith}
-use Rattle.book_lists.specs.Scans.{Reading}
+use Rattle.book_lists.proofs.Common.{sym, ◌∙◌, ◌++◌, ◌∷◌, [], length, length-append, arith, Reading}
 use Rattle.book_lists.proofs.GoingScans.{look_goes_on, at_none, going_passed, going_granted, going_denied, idle_unshared, idle_elsewhere}
 use Rattle.book_lists.proofs.scans.Scan.look.Goals as goal
 

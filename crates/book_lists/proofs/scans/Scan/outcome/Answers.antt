@@ -1,4 +1,4 @@
-use Rattle.std.proofs.Common.{refl, inl}
+use Rattle.book_lists.proofs.Common.{refl, inl}
 use Rattle.book_lists.proofs.GoingScans.{scan_denied, scan_denies, scan_undecided, scan_granted, scan_open}
 use Rattle.book_lists.proofs.scans.Scan.outcome.Goals as goal
 

@@ -1,6 +1,5 @@
-use Rattle.std.proofs.Common.{refl, sym, subst, arith, append-nil}
-use Rattle.std.proofs.lemmas.Bool.{both_ways}
-use Rattle.book_lists.specs.Scans.{IsScan, Settles}
+use Rattle.book_lists.proofs.Common.{refl, sym, subst, arith, append-nil, both_ways, IsScan}
+use Rattle.book_lists.specs.Scans.{Settles}
 use Rattle.book_lists.proofs.GoingScans.{settled_goes_on, settles_more}
 use Rattle.book_lists.proofs.OneReader.{read_more, read_parts, read_all}
 use Rattle.book_lists.proofs.scans.Scan.over.Goals as goal

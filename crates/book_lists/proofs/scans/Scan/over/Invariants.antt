@@ -1,6 +1,4 @@
-use Rattle.std.proofs.Common.{Bool, List, ◌++◌, take}
-use Rattle.book_rights.specs.declared.privileges.Leaf.{Leaf}
-use Rattle.book_lists.specs.Scans.{Reading, read_by, IsScan}
+use Rattle.book_lists.proofs.Common.{Bool, List, ◌++◌, take, Leaf, Reading, read_by, IsScan}
 use Rattle.book_lists.proofs.scans.Scan.over.Given as goal
 
 -- the scan has come over the entries so far

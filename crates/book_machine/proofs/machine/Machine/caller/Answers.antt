@@ -1,4 +1,4 @@
-use Rattle.std.proofs.Common.{rules, inr}
+use Rattle.book_machine.proofs.Common.{rules, inr}
 use Rattle.book_machine.proofs.StagesInTurn.{asks_nothing}
 use Rattle.book_machine.proofs.Planning.{strangers_are_unknown}
 use Rattle.book_machine.proofs.machine.Machine.caller.Goals as goal

@@ -1,10 +1,7 @@
-use Rattle.std.proofs.Common.{◌≡◌}
-use Rattle.book_listings.specs.Verdicts.{here_of}
+use Rattle.book_machine.proofs.Common.{◌≡◌, here_of, destination_in, JudgesNeeds}
 use Rattle.book_rights.specs.Needs.{listed_others}
 use Rattle.book_machine.proofs.StagesInTurn.{asks_then}
 use Rattle.book_machine.proofs.Judging.{then_needs}
-use Rattle.book_machine.specs.Asked.{destination_in}
-use Rattle.book_machine.specs.Verdicts.{JudgesNeeds}
 use Rattle.book_machine.proofs.machine.Machine.check_each.Goals as goal
 
 pub returns : goal.returns

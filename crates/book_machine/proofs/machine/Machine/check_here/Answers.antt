@@ -1,9 +1,7 @@
-use Rattle.std.proofs.Common.{◌≡◌, subst}
+use Rattle.book_machine.proofs.Common.{◌≡◌, subst, here_of, JudgesNeed}
 use Rattle.book_office.specs.InForce.{AreUnlessGranted}
-use Rattle.book_listings.specs.Verdicts.{here_of}
 use Rattle.book_machine.proofs.AskingEach.{asks_read}
 use Rattle.book_machine.proofs.Judging.{granted_at}
-use Rattle.book_machine.specs.Verdicts.{JudgesNeed}
 use Rattle.book_machine.proofs.machine.Machine.check_here.Goals as goal
 
 pub returns-in-None : goal.returns-in-None

@@ -1,11 +1,9 @@
-use Rattle.std.proofs.Common.{◌≡◌, ◌≤◌, length, Ok, Err, inl, inr, refl, subst, arith}
-use Rattle.std.specs.List.{AllZip}
+use Rattle.book_machine.proofs.Common.{◌≡◌, ◌≤◌, length, Ok, Err, inl, inr, refl, subst, arith, AllZip, MeetsAny, IsAclAnswer, IsChecked, protected_entries_at}
 use Rattle.book_limits.specs.declared.TheConstants.{MAX_ENTRIES}
 use Rattle.book_lists.specs.ListEdits.{IsAccepted, IsRefused}
 use Rattle.book_machine.proofs.AskingEach.{asked_first, asked_then, one_more_asked}
 use Rattle.book_machine.proofs.BodyAnswers.{acl_checked}
-use Rattle.book_machine.specs.Asking.{MeetsAny, MeetsItems, TellsChecked}
-use Rattle.book_machine.specs.Stages.{IsAclAnswer, IsChecked, protected_entries_at}
+use Rattle.book_machine.specs.Asking.{MeetsItems, TellsChecked}
 use Rattle.book_machine.proofs.machine.Machine.check_list.Goals as goal
 
 pub returns-in-Ok : goal.returns-in-Ok

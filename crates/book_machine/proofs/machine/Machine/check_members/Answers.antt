@@ -1,9 +1,7 @@
-use Rattle.std.proofs.Common.{◌+◌, rules, IsTrue, All, Ok, Err, take, take_all, inl, inr, refl, subst, sym}
+use Rattle.book_machine.proofs.Common.{◌+◌, rules, IsTrue, All, Ok, Err, take, inl, inr, refl, subst, sym, IsMapped, MeetsAny, TellsWhether, IsMembersAnswer}
+use Rattle.std.proofs.Common.{take_all}
 use Rattle.std.proofs.lemmas.List.Elements.{All-get_or, All-more}
-use Rattle.book_office.specs.Sound.{IsMapped}
 use Rattle.book_machine.proofs.AskingEach.{asked_then, one_more_asked}
-use Rattle.book_machine.specs.Asking.{MeetsAny, TellsWhether}
-use Rattle.book_machine.specs.Stages.{IsMembersAnswer}
 use Rattle.book_machine.proofs.machine.Machine.check_members.Goals as goal
 
 pub returns-then-not-branch : goal.returns-then-not-branch

@@ -1,5 +1,4 @@
-use Rattle.std.proofs.Common.{All, take}
-use Rattle.book_office.specs.Sound.{IsMapped}
+use Rattle.book_machine.proofs.Common.{All, take, IsMapped}
 use Rattle.book_machine.proofs.AskingEach.{HasAsked}
 use Rattle.book_machine.proofs.machine.Machine.check_members.Given as goal
 

@@ -1,8 +1,6 @@
-use Rattle.std.proofs.Common.{rules, ◌≡◌, inl, inr, sym, ap, subst}
+use Rattle.book_machine.proofs.Common.{rules, ◌≡◌, inl, inr, sym, ap, subst, destination_in, JudgesNeed, place_path}
 use Rattle.book_rights.specs.declared.places.Place.TheVariants as at
 use Rattle.book_machine.proofs.StagesInTurn.{asks_refused}
-use Rattle.book_machine.specs.Asked.{destination_in}
-use Rattle.book_machine.specs.Verdicts.{JudgesNeed, place_path}
 use Rattle.book_machine.proofs.machine.Machine.check_need.Goals as goal
 
 pub returns-then-eq : goal.returns-then-eq

@@ -1,9 +1,7 @@
-use Rattle.std.proofs.Common.{subst, ◌∙◌}
+use Rattle.book_machine.proofs.Common.{subst, ◌∙◌, destination_in, JudgesNeeds, target_seen}
 use Rattle.book_rights.specs.Needs.{needs_of}
 use Rattle.book_machine.proofs.Judging.{owned_again, owner_of_target}
-use Rattle.book_machine.specs.Asked.{destination_in}
-use Rattle.book_machine.specs.Verdicts.{JudgesNeeds, owned_by}
-use Rattle.book_machine.specs.Targets.{target_seen}
+use Rattle.book_machine.specs.Verdicts.{owned_by}
 use Rattle.book_machine.proofs.machine.Machine.check_needs.Goals as goal
 
 pub returns : goal.returns

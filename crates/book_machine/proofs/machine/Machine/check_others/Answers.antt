@@ -1,10 +1,7 @@
-use Rattle.std.proofs.Common.{◌≡◌, [], sym, subst}
-use Rattle.book_listings.specs.Verdicts.{here_of}
+use Rattle.book_machine.proofs.Common.{◌≡◌, [], sym, subst, here_of, destination_in, JudgesNeeds}
 use Rattle.book_rights.specs.Needs.{listed_others, listed_too}
 use Rattle.book_machine.proofs.StagesInTurn.{asks_then}
 use Rattle.book_machine.proofs.Judging.{then_needs}
-use Rattle.book_machine.specs.Asked.{destination_in}
-use Rattle.book_machine.specs.Verdicts.{JudgesNeeds}
 use Rattle.book_machine.proofs.machine.Machine.check_others.Goals as goal
 
 pub returns : goal.returns

@@ -1,6 +1,5 @@
-use Rattle.std.proofs.Common.{sym, subst}
-use Rattle.book_machine.specs.Asking.{Asks, MeetsAny}
-use Rattle.book_machine.specs.Stages.{IsMembersAnswer, IsPatchAnswer}
+use Rattle.book_machine.proofs.Common.{sym, subst, Asks, MeetsAny, IsMembersAnswer}
+use Rattle.book_machine.specs.Stages.{IsPatchAnswer}
 use Rattle.book_machine.proofs.machine.Machine.check_patch.Goals as goal
 
 pub returns-in-GroupMembers : goal.returns-in-GroupMembers

@@ -1,7 +1,6 @@
-use Rattle.std.proofs.Common.{IsTrue, None, inr, refl, ap}
-use Rattle.book_lists.specs.declared.submitted.Submitted.{Submitted}
+use Rattle.book_machine.proofs.Common.{IsTrue, None, inr, refl, ap, Submitted, TellsWhether}
 use Rattle.book_machine.proofs.AskingEach.{asked_first, asked_then}
-use Rattle.book_machine.specs.Asking.{TellsCheckedEntry, TellsWhether}
+use Rattle.book_machine.specs.Asking.{TellsCheckedEntry}
 use Rattle.book_machine.specs.Stages.{IsKnownWho}
 use Rattle.book_machine.proofs.machine.Machine.checked_entry.Goals as goal
 

@@ -1,10 +1,8 @@
-use Rattle.std.proofs.Common.{◌≡◌, ◌∙◌, ◌+◌, ◌∷◌, ◌++◌, [], take, ap, subst, sym}
+use Rattle.book_machine.proofs.Common.{◌≡◌, ◌∙◌, ◌+◌, ◌∷◌, ◌++◌, [], take, ap, subst, sym, AllZip, IsChecked}
 use Rattle.std.proofs.lemmas.List.{take_more}
 use Rattle.std.proofs.lemmas.List.Elements.{AllZip-push}
-use Rattle.std.specs.List.{AllZip}
 use Rattle.book_machine.proofs.AskingEach.{one_more_asked}
 use Rattle.book_machine.specs.Asking.{TellsCheckedEntry}
-use Rattle.book_machine.specs.Stages.{IsChecked}
 use Rattle.book_machine.proofs.machine.Machine.checked_list.Goals as goal
 
 pub loop-entry-preserved : goal.loop-entry-preserved

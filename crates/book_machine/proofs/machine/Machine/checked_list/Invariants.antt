@@ -1,7 +1,5 @@
-use Rattle.std.proofs.Common.{take}
-use Rattle.std.specs.List.{AllZip}
+use Rattle.book_machine.proofs.Common.{take, AllZip, IsChecked}
 use Rattle.book_machine.proofs.AskingEach.{HasAsked}
-use Rattle.book_machine.specs.Stages.{IsChecked}
 use Rattle.book_machine.proofs.machine.Machine.checked_list.Given as goal
 
 -- the entries so far are checked

@@ -1,11 +1,7 @@
-use Rattle.std.proofs.Common.{◌≡◌, Ok}
+use Rattle.book_machine.proofs.Common.{◌≡◌, Ok, Meets, MeetsAny, limits_of, IsBodyAnswer, IsGrantedPlan, IsSuccess, IsTarget, ready_seen}
 use Rattle.book_machine.proofs.AskingEach.{asked_first, asked_refused, one_more_asked}
 use Rattle.book_machine.proofs.Planning.{refused_by_body, refused_by_limits, granted_after_limits}
 use Rattle.book_machine.proofs.StagesInTurn.{asks_refused, asks_then}
-use Rattle.book_machine.specs.Asking.{Meets, MeetsAny}
-use Rattle.book_machine.specs.Stages.{limits_of, IsBodyAnswer, IsGrantedPlan, IsSuccess}
-use Rattle.book_machine.specs.Verdicts.{IsTarget}
-use Rattle.book_machine.specs.Targets.{ready_seen}
 use Rattle.book_machine.proofs.machine.Machine.granted.Goals as goal
 
 pub returns-in-Err : goal.returns-in-Err

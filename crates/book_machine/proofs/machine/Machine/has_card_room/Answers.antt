@@ -1,8 +1,5 @@
-use Rattle.std.proofs.Common.{◌≡◌, true, Ok, ap, subst, nat_lt}
-use Rattle.book_limits.specs.declared.TheConstants.{MAX_CARDS}
-use Rattle.book_office.specs.Resources.{count_at, node_at}
-use Rattle.book_values.specs.declared.paths.Path.TheVariants as path
-use Rattle.book_machine.specs.Asking.{Meets}
+use Rattle.book_machine.proofs.Common.{◌≡◌, true, Ok, ap, subst, nat_lt, MAX_CARDS, count_at, node_at, Meets}
+use Rattle.book_office_values.specs.declared.paths.Path.TheVariants as path
 use Rattle.book_machine.proofs.AskingEach.{asks_standing_read}
 use Rattle.book_machine.proofs.YoungBooks.{few_cards}
 use Rattle.book_machine.proofs.machine.Machine.has_card_room.Goals as goal

@@ -1,9 +1,6 @@
-use Rattle.std.proofs.Common.{◌≡◌, ◌↔◌, IsTrue, is_some, sym, subst}
-use Rattle.book_office.specs.Resources.{node_at}
-use Rattle.book_office.specs.Sound.{IsMapped}
+use Rattle.book_machine.proofs.Common.{◌≡◌, ◌↔◌, IsTrue, is_some, sym, subst, node_at, IsMapped, TellsWhether}
 use Rattle.book_machine.proofs.AskingEach.{asks_read}
 use Rattle.book_machine.proofs.FoundPrincipals.{mapped_principal}
-use Rattle.book_machine.specs.Asking.{TellsWhether}
 use Rattle.book_machine.proofs.machine.Machine.is_mapped.Goals as goal
 
 pub returns : goal.returns

@@ -1,11 +1,8 @@
-use Rattle.std.proofs.Common.{◌≡◌, Some, Ok, sym, ap, ◌∙◌}
-use Rattle.book_listings.specs.Listings.{AreResponses}
-use Rattle.book_office.specs.Resources.{node_at}
+use Rattle.book_machine.proofs.Common.{◌≡◌, Some, Ok, sym, ap, ◌∙◌, node_at, MeetsAny, IsListed}
+use Rattle.book_office_listings.specs.Listings.{AreResponses}
 use Rattle.book_machine.proofs.AskingEach.{asks_read}
 use Rattle.book_machine.proofs.Planning.{listed_at}
 use Rattle.book_machine.proofs.StagesInTurn.{asks_then}
-use Rattle.book_machine.specs.Asking.{MeetsAny}
-use Rattle.book_machine.specs.Stages.{IsListed}
 use Rattle.book_machine.proofs.machine.Machine.listed.Goals as goal
 
 pub returns : goal.returns

@@ -1,6 +1,4 @@
-use Rattle.std.proofs.Common.{sym, subst}
-use Rattle.book_machine.specs.Asking.{Asks, MeetsAny}
-use Rattle.book_machine.specs.Stages.{AreMembersTold}
+use Rattle.book_machine.proofs.Common.{sym, subst, Asks, MeetsAny, AreMembersTold}
 use Rattle.book_machine.proofs.machine.Machine.members_at.Goals as goal
 
 pub returns-in-Card : goal.returns-in-Card

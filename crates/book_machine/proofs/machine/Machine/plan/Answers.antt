@@ -1,14 +1,8 @@
-use Rattle.std.proofs.Common.{◌∙◌, Err, inl, inr, refl, ap, subst, option_copied}
+use Rattle.book_machine.proofs.Common.{◌∙◌, Err, inl, inr, refl, ap, subst, MeetsAny, MeetsPlan, Counted, IsGrantedPlan, IsTarget, Plan, Ready, ready_seen, Unavailable, one_more}
+use Rattle.std.proofs.Common.{option_copied}
 use Rattle.book_machine.proofs.Answering.{failed_once}
 use Rattle.book_machine.proofs.StagesInTurn.{counted_after, refused_on}
 use Rattle.book_machine.proofs.Planning.{refused_by_needs, planned, target_of_ready}
-use Rattle.book_machine.specs.Asking.{MeetsAny, MeetsPlan, Counted}
-use Rattle.book_machine.specs.Stages.{IsGrantedPlan}
-use Rattle.book_machine.specs.Verdicts.{IsTarget}
-use Rattle.book_machine.specs.declared.plans.Plan.{Plan}
-use Rattle.book_machine.specs.Targets.{Ready, ready_seen}
-use Rattle.book_machine.specs.declared.refusals.Refusal.TheVariants.{Unavailable}
-use Rattle.book_office.specs.Keeping.{one_more}
 use Rattle.book_machine.proofs.machine.Machine.plan.Goals as goal
 
 pub returns-in_default : goal.returns-in_default

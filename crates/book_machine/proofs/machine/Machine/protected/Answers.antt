@@ -1,12 +1,9 @@
-use Rattle.std.proofs.Common.{◌≡◌, ◌∙◌, ap}
-use Rattle.std.specs.List.{flat_map}
+use Rattle.book_machine.proofs.Common.{◌≡◌, ◌∙◌, ap, flat_map, Level, protected_entries_at}
 use Rattle.book_office.specs.Levels.{lists_at}
-use Rattle.book_office.specs.declared.nodes.Level.{Level}
 use Rattle.book_office.specs.declared.nodes.Lists.{Lists}
 use Rattle.book_machine.proofs.AskingEach.{asks_read}
 use Rattle.book_machine.proofs.ProtectedEntries.{protected_of_levels}
 use Rattle.book_machine.specs.Asking.{MeetsItems}
-use Rattle.book_machine.specs.Stages.{protected_entries_at}
 use Rattle.book_machine.proofs.machine.Machine.protected.Goals as goal
 
 pub returns : goal.returns

@@ -1,11 +1,9 @@
-use Rattle.std.proofs.Common.{◌≡◌, Ok, Err, inr, refl, sym, ap, ◌∙◌, subst, option_copied}
+use Rattle.book_machine.proofs.Common.{◌≡◌, Ok, Err, inr, refl, sym, ap, ◌∙◌, subst, destination_in, Meets, ◌>>=◌, caller_of, destination_of, target_of, ready_of, ready_seen, target_seen}
+use Rattle.std.proofs.Common.{option_copied}
 use Rattle.book_machine.proofs.AskingEach.{asked_first, asked_refused, asked_then, one_more_asked}
 use Rattle.book_machine.proofs.Planning.{at_its_destination, ready_asked, ready_at_target, ready_suited, ready_with, refused_by_kind}
 use Rattle.book_machine.proofs.StagesInTurn.{counted_same, first_refuses, refused_on}
-use Rattle.book_machine.specs.Asked.{destination_in}
-use Rattle.book_machine.specs.Asking.{Meets, MeetsSeen}
-use Rattle.book_machine.specs.Stages.{◌>>=◌, caller_of, destination_of, target_of, ready_of}
-use Rattle.book_machine.specs.Targets.{ready_seen, target_seen}
+use Rattle.book_machine.specs.Asking.{MeetsSeen}
 use Rattle.book_machine.proofs.machine.Machine.ready.Goals as goal
 
 pub returns-in_err-target : goal.returns-in_err-target

@@ -1,10 +1,9 @@
-use Rattle.std.proofs.Common.{◌≡◌, arith, rules, ◌∙◌, ap, subst, take}
+use Rattle.book_machine.proofs.Common.{◌≡◌, arith, rules, ◌∙◌, ap, subst, take, HavePaths, calls_of}
 use Rattle.std.proofs.lemmas.List.{take_all, take_more}
 use Rattle.book_machine.proofs.CopiesOfRuns.{synced}
 use Rattle.book_machine.proofs.LeadingRuns.{calls_more, paths_more}
 use Rattle.book_machine.proofs.RunLemmas.{no_calls, one_more_call}
-use Rattle.book_machine.specs.LeadingRuns.{HavePaths}
-use Rattle.book_machine.specs.Runs.{calls_of, call_of}
+use Rattle.book_machine.specs.Runs.{call_of}
 use Rattle.book_machine.proofs.machine.Machine.serve_all.Goals as goal
 
 pub loop-call-init : goal.loop-call-init

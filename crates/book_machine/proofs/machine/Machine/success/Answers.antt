@@ -1,10 +1,7 @@
-use Rattle.std.proofs.Common.{◌≡◌, sym, subst}
+use Rattle.book_machine.proofs.Common.{◌≡◌, sym, subst, Asks, MeetsAny, IsListed, IsReportOf, IsSuccessOf, IsTarget, ready_seen}
 use Rattle.book_machine.proofs.Planning.{listed_at_target, meets_any}
 use Rattle.book_machine.proofs.StagesInTurn.{asks_nothing}
-use Rattle.book_machine.specs.Asking.{Asks, MeetsAny}
-use Rattle.book_machine.specs.Stages.{IsListed, IsReportOf, IsSuccessOf, allow_plan, delete_plan, mkcol_plan}
-use Rattle.book_machine.specs.Verdicts.{IsTarget}
-use Rattle.book_machine.specs.Targets.{ready_seen}
+use Rattle.book_machine.specs.Stages.{allow_plan, delete_plan, mkcol_plan}
 use Rattle.book_machine.proofs.machine.Machine.success.Goals as goal
 
 pub returns-in-Propfind : goal.returns-in-Propfind

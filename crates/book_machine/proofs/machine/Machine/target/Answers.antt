@@ -1,8 +1,6 @@
-use Rattle.std.proofs.Common.{◌≡◌, sym, ap, ◌∙◌, subst}
+use Rattle.book_machine.proofs.Common.{◌≡◌, sym, ap, ◌∙◌, subst, at_node, target_of, target_seen}
 use Rattle.book_machine.proofs.StagesInTurn.{counted_after}
 use Rattle.book_machine.specs.Asking.{MeetsSeen}
-use Rattle.book_machine.specs.Stages.{at_node, target_of}
-use Rattle.book_machine.specs.Targets.{target_seen}
 use Rattle.book_machine.proofs.machine.Machine.target.Goals as goal
 
 pub returns : goal.returns

@@ -1,7 +1,5 @@
-use Rattle.std.proofs.Common.{false, sym, subst, ap, ◌∙◌}
-use Rattle.book_lists.specs.Decisions.{IsAllowed}
+use Rattle.book_office.proofs.Common.{false, sym, subst, ap, ◌∙◌, IsAllowed, in_force}
 use Rattle.book_office.specs.declared.nodes.Lists.{Lists}
-use Rattle.book_office.specs.InForce.{in_force}
 use Rattle.book_office.proofs.keepers.Keeper.unless_granted.Goals as goal
 
 pub returns : goal.returns

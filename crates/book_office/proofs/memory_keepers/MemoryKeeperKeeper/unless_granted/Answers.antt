@@ -1,6 +1,4 @@
-use Rattle.std.proofs.Common.{true, false, refl, sym, ◌∙◌, subst, ap}
-use Rattle.book_lists.specs.Decisions.{IsAllowed}
-use Rattle.book_office.specs.InForce.{in_force_at}
+use Rattle.book_office.proofs.Common.{true, false, refl, sym, ◌∙◌, subst, ap, IsAllowed, in_force_at}
 use Rattle.book_office.specs.Levels.{lists_at}
 use Rattle.book_office.proofs.memory_keepers.MemoryKeeperKeeper.unless_granted.Goals as goal
 

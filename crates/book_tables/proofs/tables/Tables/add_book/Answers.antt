@@ -1,13 +1,8 @@
-use Rattle.std.proofs.Common.{rules, ◌≡◌, codes}
-use Rattle.sqlite.specs.Held.{state}
-use Rattle.sqlite.specs.State.{HasCleanDisk, Survives}
+use Rattle.book_tables.proofs.Common.{rules, ◌≡◌, codes, state, HasCleanDisk, Survives, Commits, MayLeave, book_path, option_copied}
 use Rattle.book_office.specs.declared.edits.Edit.TheVariants.{AddBook}
-use Rattle.book_rows.specs.Steps.{Commits, MayLeave}
-use Rattle.book_rows.specs.Nodes.{adding_book}
+use Rattle.book_tables_rows.specs.Nodes.{adding_book}
 use Rattle.book_tables.proofs.Acting.{edit_made, edit_failed}
 use Rattle.book_tables.proofs.AddedBooks.{adds_book}
-use Rattle.book_values.specs.Paths.{book_path}
-use Rattle.std.specs.Option.{option_copied}
 use Rattle.book_tables.proofs.tables.Tables.add_book.Goals as goal
 
 pub returns-in-Ok : goal.returns-in-Ok

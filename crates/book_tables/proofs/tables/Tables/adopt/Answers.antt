@@ -1,16 +1,6 @@
-use Rattle.std.proofs.Common.{rules, ◌≡◌, true, false, not, List, map, Err, refl}
-use Rattle.sqlite.specs.Held.{state}
-use Rattle.sqlite.specs.State.{State}
-use Rattle.book_values.specs.declared.offices.Office.{Office}
-use Rattle.book_adopting.specs.Adopting.{adoption_of, taken_over}
-use Rattle.book_adopting.specs.TakingOver.{bare}
-use Rattle.book_office.specs.Keeping.{Standing, Reads}
-use Rattle.book_office.specs.declared.edits.Edit.{Edit}
-use Rattle.book_office.specs.declared.edits.Edit.TheVariants.{Adopt}
+use Rattle.book_tables.proofs.Common.{◌≡◌, true, false, List, map, Err, refl, state, State, Office, adoption_of, taken_over, bare, Standing, Reads, Adopt, Place, Joined, placed_row, listed_row, joined, AreDifferences, standing_of}
 use Rattle.book_office.specs.declared.keepers.StoreFault.TheVariants.{Memory}
-use Rattle.book_rows.specs.Adopting.{Place, Listed, Joined, adopting, placed, listed, joined}
-use Rattle.book_tables.specs.Adopting.{AreDifferences}
-use Rattle.book_tables.specs.Keeps.{standing_of}
+use Rattle.book_tables_rows.specs.Adopting.{Listed, adopting}
 use Rattle.book_tables.proofs.AdoptedOffices.{Changes, adopts_policy, told_stays, told_changes}
 use Rattle.book_tables.proofs.ReadActing.{read_then_edited, read_then_rested, read_fails_edit}
 use Rattle.book_tables.proofs.Readings.{then_gives_up}
@@ -40,8 +30,8 @@ returns-in-Some g c =
     let t = c.args.policy.now in
     let office = c.in_ok-office.office in
     let written = c.in-Some.written in
-    let places : List Place = map placed written.places.items in
-    let lists : List Listed = map listed written.lists.items in
+    let places : List Place = map placed_row written.places.items in
+    let lists : List Listed = map listed_row written.lists.items in
     let groups : List Joined = map joined written.groups.items in
     let told : ((adoption_of t office).changed ≡ true) × AreDifferences office (bare (taken_over t office)) places lists groups = rw c.in-Some.is at c.in_ok-written.ensures in
     let known : (o : Office) → Told o office → Changes t places lists groups o = λ o e. told_changes t o office e told.0 places lists groups told.1 in

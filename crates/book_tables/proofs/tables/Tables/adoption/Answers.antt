@@ -1,13 +1,7 @@
-use Rattle.std.proofs.Common.{◌≡◌, Err, refl, ap, ◌∙◌}
-use Rattle.sqlite.specs.Held.{state}
-use Rattle.book_office.specs.Keeping.{Standing, Reads}
-use Rattle.book_values.specs.declared.offices.Office.{Office}
+use Rattle.book_tables.proofs.Common.{◌≡◌, Err, refl, ap, ◌∙◌, state, Standing, Reads, Office, standing_of, adoption_of, bare}
 use Rattle.book_office.specs.declared.keepers.StoreFault.TheVariants.{Memory}
-use Rattle.book_tables.specs.Keeps.{standing_of}
-use Rattle.book_adopting.specs.Adopting.{adoption_of}
-use Rattle.book_adopting.specs.TakingOver.{bare}
-use Rattle.book_adopting.specs.declared.adopting.Adoption.{Adoption}
-use Rattle.book_adopting.proofs.BareAdoption.{adoption_told}
+use Rattle.book_office_adopting.specs.declared.adopting.Adoption.{Adoption}
+use Rattle.book_office_adopting.proofs.BareAdoption.{adoption_told}
 use Rattle.book_tables.proofs.Readings.{then_tells, then_gives_up, passed_on}
 use Rattle.book_tables.proofs.tables.Tables.adoption.Goals as goal
 

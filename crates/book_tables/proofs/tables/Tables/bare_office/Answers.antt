@@ -1,11 +1,4 @@
-use Rattle.std.proofs.Common.{◌≡◌, ℕ, Err, ◌∙◌}
-use Rattle.sqlite.specs.Held.{state}
-use Rattle.book_office.specs.Keeping.{Standing, Reads}
-use Rattle.book_values.specs.declared.offices.Office.{Office}
-use Rattle.book_tables.specs.Keeps.{standing_of}
-use Rattle.book_lists.specs.Memberships.{Memberships}
-use Rattle.book_values.specs.declared.offices.Properties.{Properties}
-use Rattle.book_adopting.specs.TakingOver.{bare}
+use Rattle.book_tables.proofs.Common.{◌≡◌, ℕ, Err, ◌∙◌, state, Standing, Reads, Office, standing_of, Memberships, Properties, bare}
 use Rattle.book_tables.specs.BareOffice.{homes_of, places_of, office_told}
 use Rattle.book_tables.specs.declared.places.Homes.{Homes}
 use Rattle.book_tables.specs.declared.places.Places.{Places}

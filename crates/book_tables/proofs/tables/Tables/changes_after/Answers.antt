@@ -1,12 +1,6 @@
-use Rattle.std.proofs.Common.{rules, ◌≡◌, List, min}
-use Rattle.sqlite.specs.Held.{state}
-use Rattle.sqlite.specs.State.{HasCleanDisk}
-use Rattle.book_limits.specs.declared.TheConstants.{LAST_NUMBER}
-use Rattle.book_values.specs.declared.offices.Office.{Office}
-use Rattle.book_values.specs.Paths.{book_path}
-use Rattle.book_office.specs.declared.nodes.Changed.{Changed}
+use Rattle.book_tables.proofs.Common.{rules, ◌≡◌, List, state, HasCleanDisk, LAST_NUMBER, Office, book_path, Changed, ShowsChanges}
+use Rattle.std.proofs.Common.{min}
 use Rattle.book_office.specs.Resources.{changed_after}
-use Rattle.book_tables.specs.LastChanges.{ShowsChanges}
 use Rattle.book_tables.proofs.Told.{read_made, read_failed}
 use Rattle.book_tables.proofs.ChangesTold.{changes_told_are}
 use Rattle.book_tables.proofs.tables.Tables.changes_after.Goals as goal

@@ -1,11 +1,4 @@
-use Rattle.std.proofs.Common.{rules, ◌≡◌, List}
-use Rattle.sqlite.specs.Held.{state}
-use Rattle.sqlite.specs.State.{HasCleanDisk}
-use Rattle.book_values.specs.declared.offices.Office.{Office}
-use Rattle.book_values.specs.Paths.{path_text}
-use Rattle.book_office.specs.declared.nodes.Listed.{Listed}
-use Rattle.book_office.specs.Resources.{children_at}
-use Rattle.book_tables.specs.Children.{ShowsListing, text_above}
+use Rattle.book_tables.proofs.Common.{rules, ◌≡◌, List, state, HasCleanDisk, Office, path_text, Listed, children_at, ShowsListing, text_above}
 use Rattle.book_tables.proofs.Told.{read_made, read_failed}
 use Rattle.book_tables.proofs.ChildrenTold.{children_told}
 use Rattle.book_tables.proofs.tables.Tables.children.Goals as goal

@@ -1,9 +1,4 @@
-use Rattle.std.proofs.Common.{rules, ◌≡◌, ℕ}
-use Rattle.sqlite.specs.Held.{state}
-use Rattle.sqlite.specs.State.{HasCleanDisk}
-use Rattle.book_values.specs.declared.offices.Office.{Office}
-use Rattle.book_values.specs.Paths.{path_text}
-use Rattle.book_office.specs.Resources.{count_at}
+use Rattle.book_tables.proofs.Common.{rules, ◌≡◌, ℕ, state, HasCleanDisk, Office, path_text, count_at}
 use Rattle.book_tables.specs.Children.{ShowsChildCount}
 use Rattle.book_tables.proofs.Told.{read_made, read_failed}
 use Rattle.book_tables.proofs.ChildCounts.{count_told}

@@ -1,5 +1,4 @@
-use Rattle.std.proofs.Common.{refl, ◌∙◌}
-use Rattle.sqlite.specs.Held.{state}
+use Rattle.book_tables.proofs.Common.{refl, ◌∙◌, state}
 use Rattle.book_tables.proofs.FoundedRows.{stands_founded, still_unfounded, either_is_store}
 use Rattle.book_tables.proofs.tables.Tables.create.Goals as goal
 

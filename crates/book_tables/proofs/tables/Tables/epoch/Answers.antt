@@ -1,6 +1,4 @@
-use Rattle.std.proofs.Common.{◌≡◌, ℕ}
-use Rattle.sqlite.specs.Held.{state}
-use Rattle.book_values.specs.declared.offices.Office.{Office}
+use Rattle.book_tables.proofs.Common.{◌≡◌, ℕ, state, Office}
 use Rattle.book_tables.proofs.Told.{read_made, epoch_told}
 use Rattle.book_tables.proofs.tables.Tables.epoch.Goals as goal
 

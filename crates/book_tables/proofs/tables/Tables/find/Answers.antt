@@ -1,10 +1,4 @@
-use Rattle.std.proofs.Common.{rules, ◌≡◌, Option}
-use Rattle.sqlite.specs.Held.{state}
-use Rattle.sqlite.specs.State.{HasCleanDisk}
-use Rattle.book_values.specs.declared.offices.Office.{Office}
-use Rattle.book_values.specs.Paths.{path_text}
-use Rattle.book_office.specs.declared.nodes.Node.{Node}
-use Rattle.book_office.specs.Resources.{node_at}
+use Rattle.book_tables.proofs.Common.{rules, ◌≡◌, Option, state, HasCleanDisk, Office, path_text, Node, node_at}
 use Rattle.book_tables.specs.Reading.{ShowsNode}
 use Rattle.book_tables.proofs.Told.{read_made, read_failed, node_is}
 use Rattle.book_tables.proofs.tables.Tables.find.Goals as goal

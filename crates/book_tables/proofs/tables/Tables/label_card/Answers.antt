@@ -1,13 +1,8 @@
-use Rattle.std.proofs.Common.{rules, ◌≡◌}
-use Rattle.sqlite.specs.Held.{state}
-use Rattle.sqlite.specs.State.{HasCleanDisk, Survives}
-use Rattle.book_office.specs.declared.edits.Edit.TheVariants.{SetLabel}
-use Rattle.book_rows.specs.Steps.{Commits, MayLeave}
-use Rattle.book_rows.specs.Nodes.{labelling_card}
+use Rattle.book_tables.proofs.Common.{rules, ◌≡◌, state, HasCleanDisk, Survives, SetLabel, Commits, MayLeave, book_path, card_path}
+use Rattle.book_tables_rows.specs.Nodes.{labelling_card}
 use Rattle.book_tables.proofs.Acting.{edit_made, edit_failed}
 use Rattle.book_tables.proofs.CardEdits.{labels_card}
-use Rattle.book_values.specs.Paths.{book_path, card_path}
-use Rattle.book_values.specs.declared.paths.Path.TheVariants as path
+use Rattle.book_office_values.specs.declared.paths.Path.TheVariants as path
 use Rattle.book_tables.proofs.tables.Tables.label_card.Goals as goal
 
 pub returns-in-Ok : goal.returns-in-Ok

@@ -1,13 +1,7 @@
-use Rattle.std.proofs.Common.{rules, ◌≡◌}
-use Rattle.sqlite.specs.Held.{state}
-use Rattle.sqlite.specs.State.{HasCleanDisk, Survives}
-use Rattle.book_office.specs.declared.edits.Edit.TheVariants.{SetLabel}
-use Rattle.book_rows.specs.Steps.{Commits, MayLeave}
-use Rattle.book_rows.specs.Nodes.{labelling_node}
+use Rattle.book_tables.proofs.Common.{rules, ◌≡◌, state, HasCleanDisk, Survives, SetLabel, Commits, MayLeave, ap, path_text, kind_of}
+use Rattle.book_tables_rows.specs.Nodes.{labelling_node}
 use Rattle.book_tables.proofs.Acting.{edit_made, edit_failed}
 use Rattle.book_tables.proofs.LabelledNodes.{labels_node}
-use Rattle.std.proofs.Common.{ap}
-use Rattle.book_values.specs.Paths.{path_text, kind_of}
 use Rattle.book_tables.proofs.tables.Tables.label_other.Goals as goal
 
 pub returns-in-Ok : goal.returns-in-Ok

@@ -1,6 +1,4 @@
-use Rattle.std.proofs.Common.{◌≡◌}
-use Rattle.sqlite.specs.Held.{state}
-use Rattle.book_values.specs.declared.offices.Office.{Office}
+use Rattle.book_tables.proofs.Common.{◌≡◌, state, Office}
 use Rattle.book_office.specs.Levels.{level_at}
 use Rattle.book_office.specs.declared.nodes.Level.{Level}
 use Rattle.book_tables.proofs.Told.{read_made}

@@ -1,8 +1,4 @@
-use Rattle.std.proofs.Common.{◌≡◌}
-use Rattle.sqlite.specs.Held.{state}
-use Rattle.book_values.specs.declared.offices.Office.{Office}
-use Rattle.book_office.specs.Levels.{lists_at}
-use Rattle.book_office.specs.declared.nodes.Lists.{Lists}
+use Rattle.book_tables.proofs.Common.{◌≡◌, state, Office, lists_at, Lists}
 use Rattle.book_tables.proofs.Told.{read_made}
 use Rattle.book_tables.proofs.LevelsTold.{lists_are}
 use Rattle.book_tables.proofs.tables.Tables.lists.Goals as goal

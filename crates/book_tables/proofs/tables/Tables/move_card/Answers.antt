@@ -1,10 +1,6 @@
-use Rattle.std.proofs.Common.{rules, ◌≡◌}
-use Rattle.sqlite.specs.Held.{state}
-use Rattle.sqlite.specs.State.{HasCleanDisk, Survives}
+use Rattle.book_tables.proofs.Common.{rules, ◌≡◌, state, HasCleanDisk, Survives, book_path, card_path, Commits, MayLeave}
 use Rattle.book_office.specs.declared.edits.Edit.TheVariants.{MoveCard}
-use Rattle.book_values.specs.Paths.{book_path, card_path}
-use Rattle.book_rows.specs.Steps.{Commits, MayLeave}
-use Rattle.book_rows.specs.Nodes.{moving_card}
+use Rattle.book_tables_rows.specs.Nodes.{moving_card}
 use Rattle.book_tables.proofs.Acting.{edit_made, edit_failed}
 use Rattle.book_tables.proofs.MovedCards.{moves_card}
 use Rattle.book_tables.proofs.tables.Tables.move_card.Goals as goal

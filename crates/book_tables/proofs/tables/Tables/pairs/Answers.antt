@@ -1,7 +1,4 @@
-use Rattle.std.proofs.Common.{◌≡◌}
-use Rattle.sqlite.specs.Held.{state}
-use Rattle.book_lists.specs.Memberships.{Memberships}
-use Rattle.book_values.specs.declared.offices.Office.{Office}
+use Rattle.book_tables.proofs.Common.{◌≡◌, state, Memberships, Office}
 use Rattle.book_tables.proofs.Told.{read_made}
 use Rattle.book_tables.proofs.PairsTold.{pairs_are}
 use Rattle.book_tables.proofs.tables.Tables.pairs.Goals as goal

@@ -1,16 +1,5 @@
-use Rattle.std.proofs.Common.{◌≡◌, List, map, ap, ◌∙◌}
-use Rattle.std.specs.FinMap.{empty, entries}
-use Rattle.sqlite.specs.Held.{state}
-use Rattle.book_office.specs.Keeping.{Standing}
-use Rattle.book_values.specs.declared.offices.Office.{Office}
-use Rattle.book_tables.specs.Keeps.{standing_of}
-use Rattle.book_values.specs.Names.{NamesTo}
-use Rattle.book_values.specs.declared.offices.Book.{Book}
-use Rattle.book_adopting.specs.TakingOver.{bare_books}
+use Rattle.book_tables.proofs.Common.{◌≡◌, List, map, ap, ◌∙◌, empty, entries, state, Standing, Office, standing_of, NamesTo, Book, bare_books, Listed, added, book_told}
 use Rattle.book_office.specs.Resources.{listed_books}
-use Rattle.book_office.specs.declared.nodes.Listed.{Listed}
-use Rattle.book_policies.specs.Policies.{added}
-use Rattle.book_tables.specs.BareOffice.{book_told}
 use Rattle.book_tables.proofs.Listings.{books_told}
 use Rattle.book_tables.proofs.Readings.{then_tells}
 use Rattle.book_tables.proofs.tables.Tables.read_books.Goals as goal

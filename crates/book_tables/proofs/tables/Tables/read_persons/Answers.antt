@@ -1,16 +1,5 @@
-use Rattle.std.proofs.Common.{◌≡◌, List, map, ap, ◌∙◌}
-use Rattle.std.specs.FinMap.{empty, entries}
-use Rattle.sqlite.specs.Held.{state}
-use Rattle.book_office.specs.Keeping.{Standing}
-use Rattle.book_values.specs.declared.offices.Office.{Office}
-use Rattle.book_tables.specs.Keeps.{standing_of}
-use Rattle.book_values.specs.Names.{NamesTo}
-use Rattle.book_values.specs.declared.offices.Properties.{Properties}
-use Rattle.book_values.specs.declared.paths.Kind.TheVariants as kind
-use Rattle.book_office.specs.Resources.{listed_principals}
-use Rattle.book_office.specs.declared.nodes.Listed.{Listed}
-use Rattle.book_policies.specs.Policies.{added}
-use Rattle.book_tables.specs.BareOffice.{place_told}
+use Rattle.book_tables.proofs.Common.{◌≡◌, List, map, ap, ◌∙◌, empty, entries, state, Standing, Office, standing_of, NamesTo, Properties, listed_principals, Listed, added, place_told}
+use Rattle.book_office_values.specs.declared.paths.Kind.TheVariants as kind
 use Rattle.book_tables.proofs.Listings.{principals_told}
 use Rattle.book_tables.proofs.Readings.{then_tells}
 use Rattle.book_tables.proofs.tables.Tables.read_persons.Goals as goal

@@ -1,12 +1,4 @@
-use Rattle.std.proofs.Common.{◌≡◌, Err}
-use Rattle.sqlite.specs.Held.{state}
-use Rattle.book_office.specs.Keeping.{Standing, Reads}
-use Rattle.book_values.specs.declared.offices.Office.{Office}
-use Rattle.book_tables.specs.Keeps.{standing_of}
-use Rattle.book_values.specs.Names.{NamesTo}
-use Rattle.book_values.specs.declared.offices.Book.{Book}
-use Rattle.book_values.specs.declared.offices.Properties.{Properties}
-use Rattle.book_adopting.specs.TakingOver.{bare_books}
+use Rattle.book_tables.proofs.Common.{◌≡◌, Err, state, Standing, Reads, Office, standing_of, NamesTo, Book, Properties, bare_books}
 use Rattle.book_tables.specs.BareOffice.{places_of}
 use Rattle.book_tables.specs.declared.places.Places.{Places}
 use Rattle.book_tables.proofs.Readings.{then_tells, then_reads, then_fails, passed_on}

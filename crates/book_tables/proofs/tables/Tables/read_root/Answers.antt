@@ -1,14 +1,5 @@
-use Rattle.std.proofs.Common.{◌≡◌, Option, ap}
-use Rattle.sqlite.specs.Held.{state}
-use Rattle.book_office.specs.Keeping.{Standing}
-use Rattle.book_values.specs.declared.offices.Office.{Office}
-use Rattle.book_tables.specs.Keeps.{standing_of}
-use Rattle.book_values.specs.declared.offices.Properties.{Properties}
-use Rattle.book_values.specs.declared.paths.Path.TheVariants as path
-use Rattle.book_office.specs.declared.nodes.Lists.{Lists}
-use Rattle.book_office.specs.declared.nodes.Node.{Node}
-use Rattle.book_office.specs.Levels.{lists_at}
-use Rattle.book_office.specs.Resources.{node_at}
+use Rattle.book_tables.proofs.Common.{◌≡◌, Option, ap, state, Standing, Office, standing_of, Properties, Lists, Node, lists_at, node_at}
+use Rattle.book_office_values.specs.declared.paths.Path.TheVariants as path
 use Rattle.book_tables.proofs.Readings.{then_tells}
 use Rattle.book_tables.proofs.tables.Tables.read_root.Goals as goal
 

@@ -1,12 +1,8 @@
-use Rattle.std.proofs.Common.{rules, ◌≡◌}
-use Rattle.sqlite.specs.Held.{state}
-use Rattle.sqlite.specs.State.{HasCleanDisk, Survives}
+use Rattle.book_tables.proofs.Common.{rules, ◌≡◌, state, HasCleanDisk, Survives, Commits, MayLeave, book_path, card_path}
 use Rattle.book_office.specs.declared.edits.Edit.TheVariants.{RemoveCard}
-use Rattle.book_rows.specs.Steps.{Commits, MayLeave}
-use Rattle.book_rows.specs.Nodes.{removing_card}
+use Rattle.book_tables_rows.specs.Nodes.{removing_card}
 use Rattle.book_tables.proofs.Acting.{edit_made, edit_failed}
 use Rattle.book_tables.proofs.RemovedCards.{removes_card}
-use Rattle.book_values.specs.Paths.{book_path, card_path}
 use Rattle.book_tables.proofs.tables.Tables.remove_card.Goals as goal
 
 pub returns-in-Ok : goal.returns-in-Ok

@@ -1,13 +1,8 @@
-use Rattle.std.proofs.Common.{rules, ◌≡◌, map}
-use Rattle.sqlite.specs.Held.{state}
-use Rattle.sqlite.specs.State.{HasCleanDisk, Survives}
+use Rattle.book_tables.proofs.Common.{rules, ◌≡◌, map, state, HasCleanDisk, Survives, Commits, MayLeave, said, entry_said, path_text}
 use Rattle.book_office.specs.declared.edits.Edit.TheVariants.{SetList}
-use Rattle.book_rows.specs.Steps.{Commits, MayLeave}
-use Rattle.book_rows.specs.Nodes.{said, setting_list}
-use Rattle.book_tables.specs.Settings.{entry_said}
+use Rattle.book_tables_rows.specs.Nodes.{setting_list}
 use Rattle.book_tables.proofs.Acting.{edit_made, edit_failed}
 use Rattle.book_tables.proofs.ListedRows.{lists_node}
-use Rattle.book_values.specs.Paths.{path_text}
 use Rattle.book_tables.proofs.tables.Tables.set_list.Goals as goal
 
 pub returns-in-Ok : goal.returns-in-Ok

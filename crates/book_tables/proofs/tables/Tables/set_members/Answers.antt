@@ -1,9 +1,6 @@
-use Rattle.std.proofs.Common.{rules, ◌≡◌, map, string_bytes}
-use Rattle.sqlite.specs.Held.{state}
-use Rattle.sqlite.specs.State.{HasCleanDisk, Survives}
+use Rattle.book_tables.proofs.Common.{rules, ◌≡◌, map, string_bytes, state, HasCleanDisk, Survives, Commits, MayLeave}
 use Rattle.book_office.specs.declared.edits.Edit.TheVariants.{SetMembers}
-use Rattle.book_rows.specs.Steps.{Commits, MayLeave}
-use Rattle.book_rows.specs.Nodes.{setting_members}
+use Rattle.book_tables_rows.specs.Nodes.{setting_members}
 use Rattle.book_tables.proofs.Acting.{edit_made, edit_failed}
 use Rattle.book_tables.proofs.JoinedMembers.{joins_members}
 use Rattle.book_tables.proofs.tables.Tables.set_members.Goals as goal

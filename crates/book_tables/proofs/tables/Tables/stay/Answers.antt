@@ -1,4 +1,4 @@
-use Rattle.std.proofs.Common.{refl}
+use Rattle.book_tables.proofs.Common.{refl}
 use Rattle.book_tables.proofs.tables.Tables.stay.Goals as goal
 
 pub returns-in-Ok : goal.returns-in-Ok

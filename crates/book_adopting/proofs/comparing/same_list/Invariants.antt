@@ -1,7 +1,0 @@
-use Rattle.std.proofs.Common.{◌≡◌, ℕ, ◌<◌, get_or}
-use Rattle.book_lists.specs.declared.entries.Entry.{Entry}
-use Rattle.book_adopting.proofs.comparing.same_list.Given as goal
-
--- the entries so far are equal
-abbrev pub invariant-loop-i : goal.invariant-loop-i
-invariant-loop-i l = (k : ℕ) (d : Entry) → k < l.i → get_or l.list k d ≡ get_or l.other k d

@@ -1,8 +1,0 @@
-use Rattle.std.proofs.Common.{◌≡◌, take}
-use Rattle.std.specs.List.{flat_map}
-use Rattle.book_audit.specs.Audits.{gathered, shelf_blocks}
-use Rattle.book_audit.proofs.audits.add_shelves.Given as goal
-
--- the blocks of the books so far
-abbrev pub invariant-loop-shelf : goal.invariant-loop-shelf
-invariant-loop-shelf l = l.blocks ≡ gathered l.fn.blocks (flat_map shelf_blocks (take l.shelf-index l.shelves))

@@ -1,8 +1,0 @@
-use Rattle.std.proofs.Common.{◌≡◌, [], map, drop}
-use Rattle.book_bodies.specs.Properties.{properties_after}
-use Rattle.book_bodies.proofs.properties.properties_of.Given as goal
-
--- the properties so far, and those of the names that are left, are those of all names
-abbrev pub invariant-loop-name : goal.invariant-loop-name
-invariant-loop-name l =
-    properties_after l.found.items (map (λ n. n.now) (drop l.name-index l.names)) ≡ properties_after [] (map (λ n. n.now) l.names)

@@ -1,8 +1,0 @@
-use Rattle.std.proofs.Common.{sym, ◌∙◌}
-use Rattle.std.proofs.lemmas.Bool.{false≢true}
-use Rattle.book_bodies.proofs.Naming.{no_report}
-use Rattle.book_bodies.proofs.reports.report.Goals as goal
-
-pub returns : goal.returns
-returns c = no_report _ c.in_default.ensures c.in_default-effective.ensures
-    (λ e. false≢true (sym c.if-is_group_members.false ∙ c.is_group_members.ensures.1 e))

@@ -1,9 +1,0 @@
-pub mod Forms
-pub mod Properties
-pub mod Principals
-pub mod Privileges
-pub mod Entries
-pub mod Patches
-pub mod Reports
-pub mod Bodies
-pub mod Refusals

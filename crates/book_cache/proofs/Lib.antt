@@ -1,3 +1,0 @@
-pub mod CardEdits
-pub mod Kept
-pub mod Readings

@@ -1,5 +1,0 @@
-use Rattle.book_cache.proofs.Kept.{no_books_remembered}
-use Rattle.book_cache.proofs.remembered.Remembered.make_room.Goals as goal
-
-pub returns-then-len-ge-MAX_BOOKS : goal.returns-then-len-ge-MAX_BOOKS
-returns-then-len-ge-MAX_BOOKS c = λ o remembers. no_books_remembered c.args.self.now o remembers c.new.result c.new.ensures

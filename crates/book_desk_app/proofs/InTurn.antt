@@ -1,0 +1,76 @@
+-- What connections did to the Office, however they ended, is what a run of requests does.
+use Rattle.book_desk_app.proofs.Common.{◌≡◌, ◌∷◌, [], ◌++◌, ℕ, List, true, Ok, Err, Option, refl, sym, subst, ◌∙◌, inl, inr, Consumes, Served, StreamFault}
+use Rattle.std.proofs.Common.{Bool, false, cond, Result, map, ap₂}
+use Rattle.std.proofs.KnownBytes.{Appends-kept, Appends-nil, Consumes-kept, Consumes-nil}
+use Rattle.std.specs.Io.KnownBytes.{Appends, Keeps}
+use Rattle.book_office.specs.Keeping.{Standing}
+use Rattle.book_wire.specs.Serving.{Answered, Runs, Stays}
+use Rattle.book_wire.specs.Stream.{answered_of}
+use Rattle.book_wire.specs.Turn.{StopsReading, StopsWriting}
+use Rattle.book_wire.specs.declared.stream.StreamFault.TheVariants.{Memory, Read, Write}
+use Rattle.book_wire.proofs.Servings.{runs_none, runs_then, stays}
+use Rattle.book_desk_app.specs.Connections.{AreConnections, IsConnection, ConnectionStops, had_no_fault, none_had_a_fault}
+
+abbrev Outcome : Type 0
+Outcome = Result Served StreamFault
+
+-- ---- one connection
+
+pub stopped : (old new : Standing) (before after out sent : Option (List ℕ)) (fault : StreamFault)
+    → (fault ≡ Memory → Stays old new × Keeps before after × Keeps out sent)
+    → (fault ≡ Read → (input : List ℕ) × (written : List ℕ) × Consumes before after input × Appends out sent written × StopsReading old input written new)
+    → (fault ≡ Write → (input : List ℕ) × (written : List ℕ) × Consumes before after input × Appends out sent written × StopsWriting old input written new)
+    → (input : List ℕ) × (written : List ℕ) × Consumes before after input × Appends out sent written × ConnectionStops old input written fault new
+stopped old new before after out sent Memory memory read write =
+    let m = memory refl in
+    ([], [], Consumes-kept before before after [] (Consumes-nil before) m.1, Appends-kept out out sent [] (Appends-nil out) m.2, (refl, refl, m.0))
+stopped old new before after out sent Read memory read write = read refl
+stopped old new before after out sent Write memory read write = write refl
+
+one_runs : (old new : Standing) (outcome : Outcome) → IsConnection old outcome new → (answered : List Answered) × Runs old new answered
+one_runs old new (Ok served) c = (map answered_of c.2.2.exchanges, c.2.2.answers.runs)
+one_runs old new (Err Memory) c = ([], runs_none old new c.2.2)
+one_runs old new (Err Read) c = (map answered_of c.2.so_far.exchanges, c.2.so_far.answers.runs)
+one_runs old new (Err Write) c = elim c.2.stops [
+  | inl x ↦ (map answered_of (c.2.exchanges ++ x.0 ∷ []), x.5)
+  | inr y ↦ (map answered_of c.2.exchanges, y.4)
+]
+
+-- ---- connections in turn
+
+module _ {K : Type 0} (standing : K → Standing) where
+  pub connections_run : (old new : K) (outcomes : List Outcome)
+      → AreConnections standing old outcomes new → (answered : List Answered) × Runs (standing old) (standing new) answered
+  connections_run old new [] same =
+      ([], runs_none (standing old) (standing new) (subst (λ k. Stays (standing old) (standing k)) (sym same) (stays (standing old))))
+  connections_run old new (outcome ∷ more) c =
+      let first = one_runs (standing old) (standing c.0) outcome c.1 in
+      let rest = connections_run c.0 new more c.2 in
+      (first.0 ++ rest.0, runs_then (standing old) (standing c.0) (standing new) first.0 rest.0 first.1 rest.1)
+
+  pub one_more : (old between new : K) (outcomes : List Outcome) (outcome : Outcome)
+      → AreConnections standing old outcomes between → IsConnection (standing between) outcome (standing new)
+      → AreConnections standing old (outcomes ++ outcome ∷ []) new
+  one_more old between new [] outcome same last = (new, subst (λ k. IsConnection (standing k) outcome (standing new)) same last, refl)
+  one_more old between new (first ∷ more) outcome c last = (c.0, c.1, one_more c.0 between new more outcome c.2 last)
+
+none_more : (outcomes : List Outcome) (outcome : Outcome)
+    → none_had_a_fault (outcomes ++ outcome ∷ []) ≡ cond (none_had_a_fault outcomes) (had_no_fault outcome) false
+none_more [] outcome = elim (had_no_fault outcome) as (λ b. cond b true false ≡ b) [ true ↦ refl | false ↦ refl ]
+none_more (first ∷ more) outcome =
+    elim (had_no_fault first) as (λ b. cond b (none_had_a_fault (more ++ outcome ∷ [])) false ≡ cond (cond b (none_had_a_fault more) false) (had_no_fault outcome) false) [
+      | true ↦ none_more more outcome
+      | false ↦ refl
+    ]
+
+both : (x y : Bool) → cond y x false ≡ cond x y false
+both true true = refl
+both true false = refl
+both false true = refl
+both false false = refl
+
+-- none had a fault so far, and the last one had none
+pub sound_after : (outcomes : List Outcome) (outcome : Outcome) (before sound : Bool)
+    → before ≡ none_had_a_fault outcomes → sound ≡ had_no_fault outcome → cond sound before false ≡ none_had_a_fault (outcomes ++ outcome ∷ [])
+sound_after outcomes outcome before sound b s =
+    both before sound ∙ ap₂ (λ x y. cond x y false) b s ∙ sym (none_more outcomes outcome)

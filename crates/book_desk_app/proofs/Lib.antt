@@ -1,0 +1,6 @@
+pub mod Common
+pub mod Answering
+pub mod ShortTexts
+pub mod Ending
+pub mod Behind
+pub mod InTurn

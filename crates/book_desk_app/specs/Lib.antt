@@ -1,0 +1,14 @@
+pub mod TextRuns
+pub mod CardSummaries
+pub mod TextFailures
+pub mod ShortTexts
+pub mod Tasks
+pub mod Works
+pub mod Policies
+pub mod Imports
+pub mod Audits
+pub mod Streams
+pub mod Failures
+pub mod Runs
+pub mod Connections
+pub mod ServingFailures

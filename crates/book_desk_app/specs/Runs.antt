@@ -1,0 +1,69 @@
+-- What a run over a store does (own profile).
+use Rattle.std.specs.Prelude.{◌≡◌, ◌≢◌, ◌⊎◌, ℕ, List, Option, Some, None, IsTrue}
+use Rattle.std.specs.Io.KnownBytes.{Keeps}
+use Rattle.sqlite.specs.State.{State, HasCleanDisk}
+use Rattle.book_office_values.specs.declared.offices.Office.{Office}
+use Rattle.book_office.specs.Edits.{empty_office}
+use Rattle.book_office.specs.Keeping.{Standing, in_memory}
+use Rattle.book_tables_schema.specs.Founding.{no_schema}
+use Rattle.book_tables.specs.Keeps.{standing_of}
+use Rattle.book_tables.specs.Opened.{StandsAlone}
+use Rattle.book_tables.specs.declared.opening.OpenFault.{OpenFault}
+use Rattle.book_tables.specs.declared.opening.OpenFault.TheVariants as faults
+use Rattle.book_tables_opening.specs.Reading.{StandsForItsOffice}
+use Rattle.book_desk_app.specs.Failures.{failure_status}
+use Rattle.book_desk_app.specs.Tasks.{Performs}
+use Rattle.book_desk_app.specs.Works.{GivesNoTask, SpellsTask}
+use Rattle.book_desk_app.specs.declared.failures.Failure.{Failure}
+use Rattle.book_desk_app.specs.declared.failures.StoreFailure.{StoreFailure}
+use Rattle.book_desk_app.specs.declared.failures.StoreFailure.TheVariants as stores
+use Rattle.book_desk_app.specs.declared.tasks.Task.{Task}
+use Rattle.book_desk_app.specs.declared.works.Work.{Work}
+
+-- the fault of an open as what is told of it
+abbrev pub store_failure : OpenFault → StoreFailure
+store_failure faults.OtherVersion = stores.OtherVersion
+store_failure faults.NoStore = stores.NoStore
+store_failure faults.Memory = stores.Memory
+store_failure faults.Store = stores.Store
+
+-- ---- the tables of a store
+
+-- a store without tables stands for the empty Office then; another for the Office of its rows, as its last commit left them
+pub record IsOpenedFrom (before after : State) : Type 0 where
+  pub made : before.now.schema ≡ no_schema → StandsAlone after empty_office
+  pub opened : before.now.schema ≢ no_schema → StandsForItsOffice after
+  pub same : before.now.schema ≢ no_schema → IsTrue after.is_open → after.now.trees ≡ before.committed.trees
+
+-- over connections with their state, and keepers with their connection and the number of their failures
+module _ {C K : Type 0} (state : C → State) (connection : K → C) (failures : K → ℕ) where
+  -- the keeper has the tables of the store, and none of its calls has failed
+  abbrev pub AreTablesOf : C → K → Type 0
+  AreTablesOf store tables = (failures tables ≡ 0) × (HasCleanDisk (state (connection tables)) → IsOpenedFrom (state store) (state (connection tables)))
+
+  -- ---- a task; what was read and is left to read, what the writer held and holds, the status, and the connection afterwards
+
+  abbrev pub standing_in : K → Standing
+  standing_in tables = standing_of (state (connection tables)) (failures tables)
+
+  -- the tables were not had, and nothing was read or written; or the task was done over them
+  abbrev pub RunsOver : Task → C → Option (List ℕ) → Option (List ℕ) → Option (List ℕ) → Option (List ℕ) → ℕ → Option C → Type 0
+  RunsOver task store before after held holds status back =
+      ((status ≡ 3) × (back ≡ None) × Keeps before after × Keeps held holds)
+      ⊎ ((old : K) × (new : K) × AreTablesOf store old × Performs standing_in task old before after held holds status new
+      × (back ≡ Some (connection new)))
+
+  -- without a store it is done over the empty Office in memory
+  abbrev pub RunsIn : Task → Option C → Option (List ℕ) → Option (List ℕ) → Option (List ℕ) → Option (List ℕ) → ℕ → Option C → Type 0
+  RunsIn task None before after held holds status back =
+      ((new : Office) × Performs in_memory task empty_office before after held holds status new) × (back ≡ None)
+  RunsIn task (Some store) before after held holds status back = RunsOver task store before after held holds status back
+
+  -- ---- a run, where the policy's file has such bytes
+
+  -- the file makes no task of the work, and nothing was touched; or its task was done
+  abbrev pub Runs : {F : Type 0} → (F → List ℕ) → Work → Option C → Option F → Option (List ℕ) → Option (List ℕ) → Option (List ℕ) → Option (List ℕ) → ℕ → Option C → Type 0
+  Runs bytes work store file before after held holds status back =
+      ((failure : Failure) × (status ≡ failure_status failure) × GivesNoTask bytes work file failure × (back ≡ store)
+      × Keeps before after × Keeps held holds)
+      ⊎ ((task : Task) × SpellsTask bytes work file task × RunsIn task store before after held holds status back)

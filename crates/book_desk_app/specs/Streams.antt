@@ -1,0 +1,46 @@
+-- What `pipe` and `serve` do, and the status that ends them (own profile).
+use Rattle.std.specs.Prelude.{◌≡◌, ℕ, List, ◌++◌, codes, true, length, Option, Result}
+use Rattle.std.specs.Io.KnownBytes.{Appends, Consumes}
+use Rattle.std.specs.declared.net.socket_addr.SocketAddr.{SocketAddr}
+use Rattle.std.specs.Net.Text.{socket_text}
+use Rattle.book_office.specs.Keeping.{Standing}
+use Rattle.book_desk_app.specs.Connections.{AreConnections, ConnectionStops, none_had_a_fault}
+use Rattle.book_wire.specs.Stream.{IsInput, IsStream}
+use Rattle.book_wire.specs.declared.stream.Ended.{Ended}
+use Rattle.book_wire.specs.declared.stream.Ended.TheVariants.{Clean, Cut, Closed}
+use Rattle.book_wire.specs.declared.stream.Served.{Served}
+use Rattle.book_wire.specs.declared.stream.StreamFault.{StreamFault}
+
+-- ---- requests on standard input
+
+-- 1 is an input that ends within a request
+abbrev pub ended_status : Ended → ℕ
+ended_status Clean = 0
+ended_status Cut = 1
+ended_status Closed = 0
+
+-- the input is a stream, and what was written are its replies
+abbrev pub Pipes : Standing → Option (List ℕ) → Option (List ℕ) → Option (List ℕ) → ℕ → Standing → Type 0
+Pipes old reads held holds status new =
+    (served : Served) × (status ≡ ended_status served.ended) × (input : List ℕ) × (written : List ℕ)
+    × IsInput reads input × Appends held holds written × IsStream old input written served new
+
+-- the stream stopped with a fault
+abbrev pub StopsToPipe : Standing → Option (List ℕ) → Option (List ℕ) → Option (List ℕ) → Option (List ℕ) → Standing → Type 0
+StopsToPipe old before after held holds new =
+    (fault : StreamFault) × (input : List ℕ) × (written : List ℕ)
+    × Consumes before after input × Appends held holds written × ConnectionStops old input written fault new
+
+-- ---- connections
+
+-- what is written before the first connection
+abbrev pub listening_line : SocketAddr → List ℕ
+listening_line address = codes "listening on " ++ (socket_text address ++ codes "\n")
+
+-- it said where it listens, and so many connections were served, none of which had a fault
+module _ {K : Type 0} (standing : K → Standing) where
+  abbrev pub ServesSoundly : K → Option (List ℕ) → Option (List ℕ) → ℕ → K → Type 0
+  ServesSoundly old held holds count new =
+      ((address : SocketAddr) × Appends held holds (listening_line address))
+      × ((outcomes : List (Result Served StreamFault)) × AreConnections standing old outcomes new
+      × (length outcomes ≡ count) × (none_had_a_fault outcomes ≡ true))

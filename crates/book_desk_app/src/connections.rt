@@ -1,0 +1,78 @@
+//! Connections, one after the other (RFC 9112, section 9).
+
+ghost use Rattle.std.specs.Prelude.{◌≡◌, IfOk, List, Result, length, true};
+ghost use Rattle.std.specs.Io.KnownBytes.{Keeps};
+ghost use Rattle.book_wire.specs.Serving.{Answered, Runs};
+ghost use Rattle.book_wire.specs.declared.stream.Served.{Served};
+ghost use Rattle.book_wire.specs.declared.stream.StreamFault.{StreamFault};
+ghost use Rattle.book_desk_app.specs.Connections.{AreConnections, IsConnection, had_no_fault, none_had_a_fault};
+
+use crate::serving_failures::StreamFailure;
+use book_machine::Machine;
+use book_office::Keeper;
+use book_wire::serve_stream;
+use std::alloc::Global;
+use std::io;
+use std::io::{Read, Write};
+use std::net::{OpenListener, OpenStream};
+
+/// Serves the requests of one connection. A fault is told on `errors`, as a line. True if it had none.
+fn serve_one<K: Keeper, R: Read, W: Write, E: Write>(
+    alloc: Global,
+    machine: &mut Machine<K>,
+    reader: &mut R,
+    writer: &mut W,
+    errors: &mut E,
+) -> bool
+    ensures served { (outcome : Result Served StreamFault) × (result ≡ had_no_fault outcome)
+        × IsConnection (K.standing machine.old.keeper) outcome (K.standing machine.new.keeper) }
+    ensures silent { result ≡ true → Keeps (E.contents errors.old) (E.contents errors.new) }
+{
+    match serve_stream(alloc, machine, reader, writer) {
+        Ok(_) => true,
+        Err(fault) => {
+            // Where this can't be written, the status of the program alone tells it.
+            let _ = writeln!(errors, "{}", StreamFailure { fault });
+            false
+        }
+    }
+}
+
+/// Serves so many connections of the listener, one after the other. One that is cut or fails ends no other; the fault
+/// of one that fails is told on `errors`, as a line. True if none failed.
+///
+/// The Office afterwards is that of the connections in turn, each a stream by itself, and so that of a run of requests.
+/// What a connection was sent is what the contract of `serve_stream` says of its bytes.
+///
+/// # Errors
+///
+/// Where a connection can't be accepted; those before it were served.
+pub fn serve_connections<
+    K: Keeper,
+    S: Read + Write + OpenStream + Drop,
+    L: OpenListener<Stream = S>,
+    E: Write,
+>(
+    alloc: Global,
+    machine: &mut Machine<K>,
+    listener: &L,
+    count: u16,
+    errors: &mut E,
+) -> io::Result<bool>
+    ensures served { (outcomes : List (Result Served StreamFault)) × AreConnections K.standing machine.old.keeper outcomes machine.new.keeper
+        × IfOk result (λ sound. (length outcomes ≡ count) × (sound ≡ none_had_a_fault outcomes)) }
+    ensures runs { (answered : List Answered) × Runs (K.standing machine.old.keeper) (K.standing machine.new.keeper) answered }
+    ensures silent { IfOk result (λ sound. sound ≡ true → Keeps (E.contents errors.old) (E.contents errors.new)) }
+{
+    let mut sound = true;
+    for _ in 0..count {
+        let (mut writer, _) = listener.accept()?;
+        let mut reader = writer.try_clone()?;
+        // Without it a reply in two writes waits for the client's acknowledgement of the first.
+        let _ = writer.set_nodelay(true);
+        if !serve_one(alloc, machine, &mut reader, &mut writer, errors) {
+            sound = false;
+        }
+    }
+    Ok(sound)
+}

@@ -1,0 +1,149 @@
+//! Why a command was not done: its text for standard error, and the status of the program.
+
+ghost use Rattle.std.specs.Prelude.{◌≡◌};
+ghost use Rattle.book_desk_app.specs.Failures.{adopt_status, failure_status, policy_status};
+
+use crate::serving_failures::{AdoptionFailure, StreamFailure};
+use crate::text_failures::{BROKEN, InputFault, REFUSED};
+use book_machine::AdoptFault;
+use book_office::StoreFault;
+use book_policy::PolicyFault;
+use std::error::Error;
+use std::fmt;
+use std::io::Write;
+
+/// Why a store was not opened, or could not be read (own profile). It prints as what is told on standard error.
+#[derive(Clone, Copy, Debug, PartialEq, Eq)]
+pub enum StoreFailure {
+    /// `store: other-version`: its tables are those of another version.
+    OtherVersion,
+    /// `store: no-store`: its tables are not there, or hold rows that stand for no Office.
+    NoStore,
+    /// `store: memory`: memory was refused.
+    Memory,
+    /// `store: store`: it failed.
+    Store,
+}
+
+impl From<StoreFault> for StoreFailure {
+    ghost use Rattle.book_desk_app.specs.Failures.{store_failure};
+
+    ghost from_gives = { λ fault failure. failure ≡ store_failure fault };
+
+    fn from(fault: StoreFault) -> StoreFailure {
+        match fault {
+            StoreFault::Memory => StoreFailure::Memory,
+            StoreFault::Store => StoreFailure::Store,
+        }
+    }
+}
+
+impl fmt::Display for StoreFailure {
+    ghost use Rattle.std.specs.Prelude.{Some};
+    ghost use Rattle.book_desk_app.specs.Failures.{store_text};
+
+    ghost output = { λ failure. Some (store_text failure) };
+
+    fn fmt<W: fmt::Write>(&self, f: &mut fmt::Formatter<W>) -> fmt::Result {
+        match self {
+            StoreFailure::OtherVersion => f.write_str("store: other-version"),
+            StoreFailure::NoStore => f.write_str("store: no-store"),
+            StoreFailure::Memory => f.write_str("store: memory"),
+            StoreFailure::Store => f.write_str("store: store"),
+        }
+    }
+}
+
+impl Error for StoreFailure {}
+
+/// Why a command was not done (own profile). It prints as what is told on standard error.
+#[derive(Clone, Copy, Debug, PartialEq, Eq)]
+pub enum Failure {
+    /// The policy's file gave no text.
+    Input(InputFault),
+    /// The output could not be written.
+    Output,
+    /// The port can't be had, or a connection can't be accepted.
+    Listen,
+    /// The text is no policy.
+    Policy(PolicyFault),
+    /// The store was not opened, or could not be read.
+    Store(StoreFailure),
+    /// The policy was not adopted.
+    Adoption(AdoptionFailure),
+    /// The requests of `pipe` were not served to their end.
+    Stream(StreamFailure),
+}
+
+impl Failure {
+    /// The status of the program: 1 where the input was refused, 3 where memory, the store, a read or a write failed.
+    pub fn status(&self) -> u8
+        ensures { result ≡ failure_status self.now }
+    {
+        match self {
+            Failure::Input(fault) => fault.status(),
+            Failure::Output => BROKEN,
+            Failure::Listen => BROKEN,
+            Failure::Policy(fault) => policy_status(*fault),
+            Failure::Store(_) => BROKEN,
+            Failure::Adoption(failure) => adopt_status(failure.fault),
+            Failure::Stream(_) => BROKEN,
+        }
+    }
+}
+
+fn policy_status(fault: PolicyFault) -> u8
+    ensures { result ≡ policy_status fault }
+{
+    match fault {
+        PolicyFault::NotToml
+        | PolicyFault::OtherVersion
+        | PolicyFault::BadKey
+        | PolicyFault::BadName
+        | PolicyFault::NameTwice
+        | PolicyFault::UnknownPrincipal
+        | PolicyFault::UnknownResource
+        | PolicyFault::UnknownPrivilege
+        | PolicyFault::TooMany => REFUSED,
+        PolicyFault::Memory => BROKEN,
+    }
+}
+
+fn adopt_status(fault: AdoptFault) -> u8
+    ensures { result ≡ adopt_status fault }
+{
+    match fault {
+        AdoptFault::Full => REFUSED,
+        AdoptFault::Unavailable => BROKEN,
+    }
+}
+
+impl fmt::Display for Failure {
+    ghost use Rattle.std.specs.Prelude.{Some};
+    ghost use Rattle.book_desk_app.specs.Failures.{failure_text};
+
+    ghost output = { λ failure. Some (failure_text failure) };
+
+    fn fmt<W: fmt::Write>(&self, f: &mut fmt::Formatter<W>) -> fmt::Result {
+        match self {
+            Failure::Input(fault) => write!(f, "{fault}"),
+            Failure::Output => f.write_str("output: write"),
+            Failure::Listen => f.write_str("listen: failed"),
+            Failure::Policy(fault) => write!(f, "policy: {fault}"),
+            Failure::Store(failure) => write!(f, "{failure}"),
+            Failure::Adoption(failure) => write!(f, "{failure}"),
+            Failure::Stream(failure) => write!(f, "{failure}"),
+        }
+    }
+}
+
+impl Error for Failure {}
+
+/// Tells a failure on `errors`, as a line, and gives the status of the program.
+pub fn tell<E: Write>(errors: &mut E, failure: &Failure) -> u8
+    ensures { result ≡ failure_status failure.now }
+{
+    // Where this can't be written, the status alone tells it.
+    let _ = writeln!(errors, "{failure}");
+    failure.status()
+}

@@ -1,0 +1,49 @@
+//! The tables of a store.
+
+ghost use Rattle.std.specs.Prelude.{◌≡◌, IfOk};
+ghost use Rattle.sqlite.specs.Held.{state};
+ghost use Rattle.book_desk_app.specs.Runs.{AreTablesOf, store_failure};
+
+use crate::failures::StoreFailure;
+use book_tables::{OpenFault, Tables};
+use book_tables_opening::open;
+use book_tables_schema::is_empty;
+use sqlite::{Alter, Connection};
+use std::alloc::Global;
+
+/// The fault of an open as what is told of it.
+fn store_failure(fault: OpenFault) -> StoreFailure
+    ensures { result ≡ store_failure fault }
+{
+    match fault {
+        OpenFault::OtherVersion => StoreFailure::OtherVersion,
+        OpenFault::NoStore => StoreFailure::NoStore,
+        OpenFault::Memory => StoreFailure::Memory,
+        OpenFault::Store => StoreFailure::Store,
+    }
+}
+
+/// The tables of a store: made where it has no table, index or view, so that they stand for the empty Office, and else
+/// opened as its last commit left it, where their rows stand for a sound Office. No call of them has failed yet.
+///
+/// # Errors
+///
+/// As `Tables::create` and `book_tables_opening::open`. The connection is let go.
+pub fn open_store<S: Alter + Drop>(
+    alloc: Global,
+    connection: Connection<S>,
+) -> Result<Tables<S>, StoreFailure>
+    ensures { IfOk result (AreTablesOf (state S.Store) (λ t. t.connection) (λ t. t.failures) connection) }
+{
+    if is_empty(&connection) {
+        match Tables::create(connection) {
+            Ok(tables) => Ok(tables),
+            Err((fault, _)) => Err(store_failure(fault)),
+        }
+    } else {
+        match open(alloc, connection) {
+            Ok(tables) => Ok(tables),
+            Err((fault, _)) => Err(store_failure(fault)),
+        }
+    }
+}

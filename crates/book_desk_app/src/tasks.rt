@@ -1,0 +1,86 @@
+//! One task over any keeper: what the program does, but for `serve`, once its files are read.
+
+ghost use Rattle.std.specs.Prelude.{◌≡◌, IfErr, OnOk};
+ghost use Rattle.std.specs.Io.KnownBytes.{Keeps};
+ghost use Rattle.book_desk_app.specs.Failures.{failure_status};
+ghost use Rattle.book_desk_app.specs.Tasks.{Performs, PipesAfter};
+
+use crate::auditing::audit;
+use crate::failures::{Failure, tell};
+use crate::importing::{adopt_given, import};
+use crate::piping::pipe;
+use crate::text_failures::DONE;
+use book_machine::Machine;
+use book_office::{Keeper, Policy};
+use std::alloc::Global;
+use std::io::{Read, Write};
+
+/// What is to be done over a store.
+#[derive(Drop)]
+pub enum Task {
+    /// Adopt the policy, and tell whether anything changed.
+    Import(Policy),
+    /// Tell who is in which group, and the access lists.
+    Audit,
+    /// Adopt the policy, if one is given, and serve the requests on standard input.
+    Pipe(Option<Policy>),
+}
+
+/// The status of what was done, or failed: a failure is told on `errors`.
+fn ended<E: Write>(errors: &mut E, outcome: Result<(), Failure>) -> u8
+    ensures done { OnOk outcome ((result ≡ 0) × Keeps (E.contents errors.old) (E.contents errors.new)) }
+    ensures failed { IfErr outcome (λ failure. result ≡ failure_status failure) }
+{
+    match outcome {
+        Ok(()) => DONE,
+        Err(failure) => tell(errors, &failure),
+    }
+}
+
+/// Adopts the policy, if one is given, and then serves the requests that the reader gives. Nothing is read or written
+/// where the policy was not adopted.
+fn pipe_after<K: Keeper, R: Read, W: Write, E: Write>(
+    alloc: Global,
+    machine: &mut Machine<K>,
+    policy: &Option<Policy>,
+    reader: &mut R,
+    writer: &mut W,
+    errors: &mut E,
+) -> u8
+    ensures ends { PipesAfter K.standing policy.now machine.old.keeper (R.remaining reader.old) (R.remaining reader.new)
+        (W.contents writer.old) (W.contents writer.new) result machine.new.keeper }
+    ensures silent { result ≡ 0 → Keeps (E.contents errors.old) (E.contents errors.new) }
+{
+    match adopt_given(alloc, machine, policy) {
+        Ok(()) => pipe(alloc, machine, reader, writer, errors),
+        Err(failure) => tell(errors, &failure),
+    }
+}
+
+/// Does the task over the machine, and gives the status of the program: 0 where it is done, 1 where the input was
+/// refused, 3 where memory was refused, or the store, a read or a write failed. A failure is told on `errors`, all else
+/// is written to `writer`.
+pub fn perform<K: Keeper, R: Read, W: Write, E: Write>(
+    alloc: Global,
+    task: &Task,
+    machine: &mut Machine<K>,
+    reader: &mut R,
+    writer: &mut W,
+    errors: &mut E,
+) -> u8
+    ensures ends { Performs K.standing task.now machine.old.keeper (R.remaining reader.old) (R.remaining reader.new)
+        (W.contents writer.old) (W.contents writer.new) result machine.new.keeper }
+    ensures silent { result ≡ 0 → Keeps (E.contents errors.old) (E.contents errors.new) }
+{
+    match task {
+        Task::Import(policy) => {
+            let outcome = import(alloc, machine, policy, writer);
+            ended(errors, outcome)
+        }
+        Task::Audit => {
+            let outcome = audit(alloc, &mut machine.keeper, writer);
+            ended(errors, outcome)
+        }
+        Task::Pipe(policy) => pipe_after(alloc, machine, policy, reader, writer, errors),
+    }
+}

@@ -1,0 +1,18 @@
+use Rattle.std.proofs.Common.{◌∙◌, ap, ap₂}
+use Rattle.std.proofs.lemmas.Result.{IfOk-weaker}
+use Rattle.clap.specs.Words.{App, Shape, with_subcommand}
+use Rattle.book_desk_words.proofs.programs.program.Goals as goal
+
+abbrev top_of : App → Shape
+top_of a = a.top
+
+-- each subcommand is one more of the command line
+pub returns : goal.returns
+returns c =
+    let one = c.in_ok-subcommand.ensures.shape c.explain.ensures.local ∙ ap₂ with_subcommand c.in_ok-top.ensures.0 (ap top_of c.explain.ensures.app) in
+    let two = c.in_ok-subcommand-2.ensures.shape c.card.ensures.local ∙ ap₂ with_subcommand one (ap top_of c.card.ensures.app) in
+    let three = c.in_ok-subcommand-3.ensures.shape c.in_ok-import.ensures.1 ∙ ap₂ with_subcommand two (ap top_of c.in_ok-import.ensures.0) in
+    let four = c.in_ok-subcommand-4.ensures.shape c.in_ok-audit.ensures.1 ∙ ap₂ with_subcommand three (ap top_of c.in_ok-audit.ensures.0) in
+    let five = c.in_ok-subcommand-5.ensures.shape c.in_ok-pipe.ensures.1 ∙ ap₂ with_subcommand four (ap top_of c.in_ok-pipe.ensures.0) in
+    IfOk-weaker c.subcommand-6.result _ _
+    (λ r h. h.shape c.in_ok-serve.ensures.1 ∙ ap₂ with_subcommand five (ap top_of c.in_ok-serve.ensures.0)) c.subcommand-6.ensures

@@ -1,0 +1,121 @@
+-- The command line (own profile): the words that it has, and the command that clap's matches of them give.
+use Rattle.std.specs.Prelude.{◌≡◌, ◌⊎◌, ℕ, ◌≤◌, pos, Bool, true, false, List, codes, Option, Some, None, is_some, String, option_map, string_bytes, bytes_eq}
+use Rattle.std.specs.declared.alloc.Global.{Global}
+use Rattle.std.specs.Str.Parse.{IsNumeral, digits_value, without_leading_plus}
+use Rattle.clap.specs.Words.{App, Row, Rule, Text, first_of, new_app, new_rule, one_of, with_rule, with_subcommand}
+use Rattle.clap.specs.Kinds.{Kinds, IsAmong}
+use Rattle.clap.specs.Simple.{on_top}
+use Rattle.clap.specs.declared.builder.action.ArgAction.TheVariants.{SetTrue}
+use Rattle.clap.specs.declared.builder.value_parser.ValueParser.TheVariants as parsers
+use Rattle.clap.specs.declared.error.kind.ErrorKind.TheVariants as kind
+use Rattle.book_desk_words.specs.declared.commands.Command.{Command}
+use Rattle.book_desk_words.specs.declared.commands.Command.TheVariants.{Explain, Card, Import, Audit, Pipe, Serve, Help}
+
+-- ---- the words that it has
+
+-- an option --NAME with one value
+abbrev pub option_rule : Text → Rule
+option_rule name = record (new_rule name) { long = Some name; value_names = 1 }
+
+-- one that is required, with a number from least to most
+abbrev pub number_rule : Text → ℕ → ℕ → Rule
+number_rule name least most = record (option_rule name) { required = true; parser = Some (parsers.Signed (pos least) (pos most)) }
+
+-- one that is required, with one value
+abbrev pub required_rule : Text → Rule
+required_rule name = record (option_rule name) { required = true }
+
+-- an option --NAME without a value
+abbrev pub flag_rule : Text → Rule
+flag_rule name = record (new_rule name) { long = Some name; action = Some SetTrue }
+
+-- a word that is required and follows no option's name
+abbrev pub word_rule : Text → Rule
+word_rule name = record (new_rule name) { value_names = 1; required = true }
+
+abbrev pub import_app : App
+import_app = with_rule (with_rule (new_app (codes "import")) (required_rule (codes "store"))) (word_rule (codes "policy"))
+
+abbrev pub audit_app : App
+audit_app = with_rule (with_rule (new_app (codes "audit")) (required_rule (codes "store"))) (flag_rule (codes "existing"))
+
+-- the options that name the files of the store and of the policy
+abbrev pub with_files : App → App
+with_files app = with_rule (with_rule app (option_rule (codes "store"))) (option_rule (codes "policy"))
+
+abbrev pub pipe_app : App
+pipe_app = with_files (new_app (codes "pipe"))
+
+abbrev pub serve_app : App
+serve_app =
+    with_files (with_rule (with_rule (with_rule (new_app (codes "serve"))
+    (number_rule (codes "port") 0 65535)) (number_rule (codes "connections") 1 10000)) (flag_rule (codes "existing")))
+
+-- the program, whose words have no name of a program before them
+abbrev pub top_app : App
+top_app = on_top (λ s. record s { no_binary_name = true; subcommand_required = true; has_version = true }) (new_app (codes "book_desk"))
+
+-- the whole command line
+abbrev pub program_app : App
+program_app =
+    with_subcommand (with_subcommand (with_subcommand (with_subcommand (with_subcommand (with_subcommand top_app
+    (new_app (codes "explain")).top) (new_app (codes "card")).top) import_app.top) audit_app.top) pipe_app.top) serve_app.top
+
+-- ---- the command that the matches give
+
+-- an option has this number, in decimal digits
+abbrev pub HasNumber : List Row → Text → ℕ → Type 0
+HasNumber rows id n =
+    (text : Text) × (one_of id rows ≡ Some text) × IsNumeral 10 (without_leading_plus text) × (digits_value 10 (without_leading_plus text) ≡ n)
+
+-- the file that an option or a word names, if it does
+abbrev pub NamesFile : List Row → Text → Option (String Global) → Type 0
+NamesFile rows id file = option_map string_bytes file ≡ first_of id rows
+
+-- whether an option without a value was given
+abbrev pub is_given : Option Text → Bool
+is_given (Some text) = bytes_eq text (codes "true")
+is_given None = false
+
+abbrev pub has_flag : List Row → Text → Bool
+has_flag rows id = is_given (first_of id rows)
+
+-- help or the version was asked for
+abbrev pub IsHelp : Command → Type 0
+IsHelp (Help text) = Unit {0}
+IsHelp Explain = ⊥
+IsHelp Card = ⊥
+IsHelp (Import store policy) = ⊥
+IsHelp (Audit store existing) = ⊥
+IsHelp (Pipe store policy) = ⊥
+IsHelp (Serve port connections store policy existing) = ⊥
+
+-- the command that a subcommand with these matches is
+abbrev pub ReadsAs : Text → List Row → Command → Type 0
+ReadsAs name rows Explain = name ≡ codes "explain"
+ReadsAs name rows Card = name ≡ codes "card"
+ReadsAs name rows (Import store policy) =
+    (name ≡ codes "import") × NamesFile rows (codes "store") (Some store) × NamesFile rows (codes "policy") (Some policy)
+ReadsAs name rows (Audit store existing) =
+    (name ≡ codes "audit") × NamesFile rows (codes "store") (Some store) × (existing ≡ has_flag rows (codes "existing"))
+ReadsAs name rows (Pipe store policy) =
+    (name ≡ codes "pipe") × NamesFile rows (codes "store") store × NamesFile rows (codes "policy") policy
+ReadsAs name rows (Serve port connections store policy existing) =
+    (name ≡ codes "serve") × HasNumber rows (codes "port") port × (port ≤ 65535)
+    × HasNumber rows (codes "connections") connections × (1 ≤ connections) × (connections ≤ 10000)
+    × NamesFile rows (codes "store") store × NamesFile rows (codes "policy") policy
+    × (existing ≡ has_flag rows (codes "existing")) × (existing ≡ true → is_some store ≡ true)
+ReadsAs name rows (Help text) = ⊥
+
+-- the command that the matches of the words give
+abbrev pub IsMatched : Option (Text × List Row) → Command → Type 0
+IsMatched (Some found) command = ReadsAs found.0 found.1 command
+IsMatched None command = ⊥
+
+-- the words ask for help or the version: of the kinds of error that they may have, one is that
+abbrev pub AskForHelp : Kinds → Type 0
+AskForHelp kinds = IsAmong kind.DisplayHelp kinds ⊎ IsAmong kind.DisplayVersion kinds
+
+-- the command is the one that the matches give, or help, where the words ask for it
+abbrev pub Reads : Option (Text × List Row) → Kinds → Command → Type 0
+Reads found kinds command = IsMatched found command ⊎ (IsHelp command × AskForHelp kinds)

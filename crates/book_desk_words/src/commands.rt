@@ -1,0 +1,294 @@
+//! The command that the words name.
+
+ghost use Rattle.std.specs.Prelude.{◌≡◌, ◌⊎◌, IfOk, IfSome, codes, map, string_bytes, option_map};
+ghost use Rattle.clap.specs.Faults.{fault_of};
+ghost use Rattle.clap.specs.Values.{kind_of};
+ghost use Rattle.clap.specs.Words.{found_of, rows_of, subcommand_of, subcommand_rows_of};
+ghost use Rattle.book_desk_words.specs.CommandLine.{program_app, has_flag, HasNumber, IsHelp, IsMatched, NamesFile, Reads, ReadsAs};
+ghost use Rattle.book_desk_words.specs.WordsFaults.{words_status};
+
+use crate::programs::program;
+use clap::ArgMatches;
+use clap::error::ErrorKind;
+use std::alloc::{AllocError, Global};
+use std::fmt;
+
+/// The status where the words name nothing to do.
+const USAGE: u8 = 2;
+/// The status where memory was refused.
+const BROKEN: u8 = 3;
+
+/// The most connections that one run serves.
+const MAX_CONNECTIONS: u16 = 10_000;
+
+/// What the program is to do.
+#[derive(Debug, Drop, PartialEq, Eq)]
+pub enum Command {
+    /// Decide the question on standard input.
+    Explain,
+    /// Tell what the card on standard input says.
+    Card,
+    /// Adopt a policy in a store.
+    Import {
+        /// The file of the store.
+        store: String,
+        /// The file of the policy.
+        policy: String,
+    },
+    /// Print who is in which group, and the access lists of a store.
+    Audit {
+        /// The file of the store.
+        store: String,
+        /// Whether the store has to be there already: a file that is missing or empty is no store.
+        existing: bool,
+    },
+    /// Serve the requests on standard input.
+    Pipe {
+        /// The file of the store; without one it is in memory.
+        store: Option<String>,
+        /// The file of a policy that is adopted first.
+        policy: Option<String>,
+    },
+    /// Serve connections.
+    Serve {
+        /// The port of 127.0.0.1; 0 for a free one.
+        port: u16,
+        /// How many connections are served, 1 to 10,000.
+        connections: u16,
+        /// The file of the store; without one it is in memory.
+        store: Option<String>,
+        /// The file of a policy that is adopted first.
+        policy: Option<String>,
+        /// Whether the store has to be there already: a file that is missing or empty is no store. Never without one.
+        existing: bool,
+    },
+    /// Print this text, which the words ask for: help, or the name and the version.
+    Help(String),
+}
+
+/// Why the words name nothing to do. It prints as what is told on standard error.
+#[derive(Debug, Drop)]
+pub enum WordsFault {
+    /// The words are no command: what is wrong with them, and the usage.
+    Usage(String),
+    /// Memory was refused.
+    Memory,
+}
+
+impl WordsFault {
+    /// The status of the program: 2 where the words are no command, 3 where memory was refused.
+    pub fn status(&self) -> u8
+        ensures { result ≡ words_status self.now }
+    {
+        match self {
+            WordsFault::Usage(_) => USAGE,
+            WordsFault::Memory => BROKEN,
+        }
+    }
+}
+
+impl From<AllocError> for WordsFault {
+    ghost use Rattle.std.specs.Prelude.{◌≡◌};
+    ghost use Rattle.book_desk_words.specs.declared.commands.WordsFault.TheVariants.{Memory};
+
+    ghost from_gives = { λ _ e. e ≡ Memory };
+
+    fn from(_error: AllocError) -> WordsFault {
+        WordsFault::Memory
+    }
+}
+
+impl fmt::Display for WordsFault {
+    ghost use Rattle.std.specs.Prelude.{Some};
+    ghost use Rattle.book_desk_words.specs.WordsFaults.{words_text};
+
+    ghost output = { λ fault. Some (words_text fault) };
+
+    fn fmt<W: fmt::Write>(&self, f: &mut fmt::Formatter<W>) -> fmt::Result {
+        match self {
+            WordsFault::Usage(text) => f.write_str(text.as_str()),
+            WordsFault::Memory => f.write_str("words: memory\n"),
+        }
+    }
+}
+
+/// The file that an option or a word names, if the words have it.
+fn file_in(alloc: Global, found: &ArgMatches<'_>, id: &str) -> Result<Option<String>, AllocError>
+    ensures { IfOk result (NamesFile (rows_of (found_of found.now)) id.now) }
+{
+    match found.get_str(id) {
+        Some(text) => Ok(Some(String::from_str(alloc, text)?)),
+        None => Ok(None),
+    }
+}
+
+/// The number that the words give to an option.
+fn number_in(found: &ArgMatches<'_>, id: &str) -> Option<u16>
+    ensures { IfSome result (λ n. HasNumber (rows_of (found_of found.now)) id.now n) }
+{
+    found.get_one::<u16>(id)
+}
+
+/// Whether the words have an option without a value.
+fn flag_in(found: &ArgMatches<'_>, id: &str) -> bool
+    ensures { result ≡ has_flag (rows_of (found_of found.now)) id.now }
+{
+    match found.get_str(id) {
+        Some(text) => text == "true",
+        None => false,
+    }
+}
+
+/// The command `serve` with what the words give it; none where a number is missing or out of range, or where a store
+/// that has to be there is not named.
+fn serve_of(alloc: Global, found: &ArgMatches<'_>) -> Result<Option<Command>, AllocError>
+    ensures { IfOk result (λ command. IfSome command (ReadsAs (codes "serve") (rows_of (found_of found.now)))) }
+{
+    let Some(port) = number_in(found, "port") else {
+        return Ok(None);
+    };
+    let Some(connections) = number_in(found, "connections") else {
+        return Ok(None);
+    };
+    if connections == 0 || connections > MAX_CONNECTIONS {
+        return Ok(None);
+    }
+    let store = file_in(alloc, found, "store")?;
+    let policy = file_in(alloc, found, "policy")?;
+    let existing = flag_in(found, "existing");
+    if existing && store.is_none() {
+        return Ok(None);
+    }
+    Ok(Some(Command::Serve {
+        port,
+        connections,
+        store,
+        policy,
+        existing,
+    }))
+}
+
+/// The command `pipe` with what the words give it.
+fn pipe_of(alloc: Global, found: &ArgMatches<'_>) -> Result<Option<Command>, AllocError>
+    ensures { IfOk result (λ command. IfSome command (ReadsAs (codes "pipe") (rows_of (found_of found.now)))) }
+{
+    let store = file_in(alloc, found, "store")?;
+    let policy = file_in(alloc, found, "policy")?;
+    Ok(Some(Command::Pipe { store, policy }))
+}
+
+/// The command `import` with what the words give it; none where a file is missing.
+fn import_of(alloc: Global, found: &ArgMatches<'_>) -> Result<Option<Command>, AllocError>
+    ensures { IfOk result (λ command. IfSome command (ReadsAs (codes "import") (rows_of (found_of found.now)))) }
+{
+    let Some(store) = file_in(alloc, found, "store")? else {
+        return Ok(None);
+    };
+    let Some(policy) = file_in(alloc, found, "policy")? else {
+        return Ok(None);
+    };
+    Ok(Some(Command::Import { store, policy }))
+}
+
+/// The command `audit` with what the words give it; none where the file is missing.
+fn audit_of(alloc: Global, found: &ArgMatches<'_>) -> Result<Option<Command>, AllocError>
+    ensures { IfOk result (λ command. IfSome command (ReadsAs (codes "audit") (rows_of (found_of found.now)))) }
+{
+    let Some(store) = file_in(alloc, found, "store")? else {
+        return Ok(None);
+    };
+    let existing = flag_in(found, "existing");
+    Ok(Some(Command::Audit { store, existing }))
+}
+
+/// The subcommand that was met, with its matches.
+fn met<'m, 'a>(matches: &'m ArgMatches<'a>) -> Option<(&'a str, &'m ArgMatches<'a>)>
+    ensures { option_map (λ p. (p.0.now, rows_of (found_of p.1.now))) result ≡ subcommand_rows_of matches.now }
+{
+    matches.subcommand()
+}
+
+/// The command of that name with what the words give it; none where it lacks something.
+fn command_named(
+    alloc: Global,
+    name: &str,
+    found: &ArgMatches<'_>,
+) -> Result<Option<Command>, AllocError>
+    ensures { IfOk result (λ command. IfSome command (ReadsAs name.now (rows_of (found_of found.now)))) }
+{
+    match name {
+        "explain" => Ok(Some(Command::Explain)),
+        "card" => Ok(Some(Command::Card)),
+        "import" => import_of(alloc, found),
+        "audit" => audit_of(alloc, found),
+        "pipe" => pipe_of(alloc, found),
+        "serve" => serve_of(alloc, found),
+        _ => Ok(None),
+    }
+}
+
+/// The command that the matches give; none where they give none, which clap lets come where a store that has to be there is
+/// not named, and nowhere else.
+fn read_command(alloc: Global, matches: &ArgMatches<'_>) -> Result<Option<Command>, AllocError>
+    ensures { IfOk result (λ command. IfSome command (IsMatched (subcommand_rows_of matches.now))) }
+{
+    match met(matches) {
+        Some((name, found)) => command_named(alloc, name, found),
+        None => Ok(None),
+    }
+}
+
+/// What clap says in place of a command: help or the version, which were asked for, or what is wrong.
+fn answer_of(alloc: Global, error: &clap::Error) -> Result<Command, WordsFault>
+    ensures { IfOk result (λ command. IsHelp command × ((kind_of error.now ≡ ErrorKind.DisplayHelp) ⊎ (kind_of error.now ≡ ErrorKind.DisplayVersion))) }
+{
+    match error.kind() {
+        ErrorKind::OutOfMemory => Err(WordsFault::Memory),
+        ErrorKind::DisplayHelp | ErrorKind::DisplayVersion => {
+            Ok(Command::Help(format!(in alloc; "{error}")?))
+        }
+        _ => Err(WordsFault::Usage(format!(in alloc; "{error}")?)),
+    }
+}
+
+/// What is wrong with the words, and the usage.
+fn usage_text(alloc: Global, wrong: &str) -> Result<String, AllocError> {
+    let mut program = program(alloc)?;
+    let error = program.error(ErrorKind::Format, wrong)?;
+    format!(in alloc; "{error}")
+}
+
+fn usage(alloc: Global, wrong: &str) -> WordsFault {
+    match usage_text(alloc, wrong) {
+        Ok(text) => WordsFault::Usage(text),
+        Err(_) => WordsFault::Memory,
+    }
+}
+
+/// Words that are not UTF-8 are no command.
+pub fn words_not_text(alloc: Global) -> WordsFault {
+    usage(alloc, "invalid UTF-8 was detected in one or more arguments")
+}
+
+/// Reads the words after the program's name. Help or the version that they ask for is a command of its own.
+///
+/// A command that it answers is the one that clap's matches of the words give: the subcommand that was met, its port
+/// from 0 to 65,535, its number of connections from 1 to 10,000, the files of its store and its policy, if they name them,
+/// and whether the store has to be there already. Help is answered only where clap takes the words to ask for it.
+///
+/// # Errors
+///
+/// `Usage` where the words name no command, and `Memory` where memory was refused.
+pub fn command_of(alloc: Global, words: &[String]) -> Result<Command, WordsFault>
+    ensures { let texts = map string_bytes words.now in IfOk result (Reads (subcommand_of program_app texts) (fault_of program_app texts)) }
+{
+    let matches = match program(alloc)?.try_get_matches_from(words) {
+        Ok(matches) => matches,
+        Err(error) => return answer_of(alloc, &error),
+    };
+    match read_command(alloc, &matches)? {
+        Some(command) => Ok(command),
+        // Clap requires a subcommand and what each one needs, but for the store of `serve --existing`.
+        None => Err(usage(alloc, "the option '--existing' wants '--store <FILE>'")),
+    }
+}

@@ -1,0 +1,181 @@
+//! What help tells of the commands.
+
+pub(crate) const ABOUT: &str =
+    "Shared contact books of an office: WebDAV access lists (RFC 3744) and vCards (RFC 6350)";
+
+pub(crate) const VERSION: &str = "0.1.0";
+
+pub(crate) const EXPLAIN: &str = "Reads a question from standard input and prints its decision";
+
+pub(crate) const QUESTION: &str = "\
+Input, a line for each. Words are separated by one space, lines end with LF alone, and empty lines and lines that begin
+with # are skipped. A file is given by <, as in: book_desk explain < question.txt
+  member GROUP MEMBER      a direct membership; at most 1,000
+  caller PERSON            who asks; or caller - for nobody; once
+  need NAME ..             the privileges that are needed; once
+  owner PRINCIPAL          who owns the resource; at most once
+  here PRINCIPAL           the resource is that principal; at most once
+  grant [not] WHO NAME ..  an entry of the access list, in order; at most 64
+  deny [not] WHO NAME ..   the same
+A PERSON is /people/NAME, a GROUP is /groups/NAME, and a PRINCIPAL or MEMBER is either. WHO is a PRINCIPAL or one of
+all, authenticated, unauthenticated, owner, self. The privileges are read, write-content, write-properties, bind,
+unbind, read-acl, write-acl, read-current-user-privilege-set, write (the second to the fifth) and all.
+
+Output:
+  allowed | denied NAME by N | denied NAME, none granted
+  granted: NAME ..         all that the list grants to the caller, or -
+N is the number of the entry that denies, from 1.
+
+A fault is told on standard error as 'line N: FAULT', for the first line that has one. In this order it is
+  bad-line           the line has none of these forms
+  bad-name           a word is no principal, or not a group or a person where one is wanted
+  unknown-privilege  a word is no privilege
+  twice              a second caller, need, owner or here
+  too-many           more than 1,000 members or 64 entries
+and then, at line 0, missing: there is no caller or no need; or at any time memory, at line 0.
+
+Status: 0 answered, 1 refused input, 2 usage, 3 memory, or a failed read or write.
+";
+
+pub(crate) const CARD: &str =
+    "Reads a card from standard input and prints what it says, or why it is refused";
+
+pub(crate) const CARD_TEXT: &str = "\
+Input: one vCard of version 4.0 in UTF-8, of at most 65,536 bytes, whose lines end with CRLF or LF. A file is given by
+<, as in: book_desk card < person.vcf
+  BEGIN:VCARD
+  VERSION:4.0
+  [GROUP.]NAME[;PARAMETER=VALUE,..]:VALUE   a content line; any number of them
+  END:VCARD
+A line end that one space or tab follows is a fold: both are removed first, and lines are counted after that.
+FN stands at least once, KIND and UID at most once, and MEMBER, which is a URI, only where KIND is group.
+
+Output, each value as written:
+  valid
+  kind: KIND      individual where the card names none
+  uid: UID        - where the card has none
+  fn: FN          the first
+  member: MEMBER  a line for each, in order
+
+A fault is told on standard error as 'line N: FAULT', with N from 1, or 0 for the whole text. In this order it is
+  too-long              the text has more than 65,536 bytes
+and then in the first line that has one
+  no-begin              the first line is not BEGIN:VCARD
+  no-version            the second line does not begin with VERSION:
+  other-version         the version is not 4.0
+  bad-line              it is no content line, has a control character, or is named BEGIN or END; or it is a KIND
+                        that is not letters, digits and hyphens, or a MEMBER that is no URI
+  twice                 it is a second KIND, UID or VERSION
+and then
+  no-end                no line is END:VCARD
+  after-end             a line after it is not empty
+  no-fn                 there is no FN; told at the line of END:VCARD
+  member-without-group  there is a MEMBER, and KIND is not group
+or at any time memory, at line 0.
+
+Status: 0 valid, 1 refused input, 2 usage, 3 memory, or a failed read or write.
+";
+
+pub(crate) const IMPORT: &str = "Adopts a policy in a store";
+
+pub(crate) const IMPORT_TEXT: &str = "\
+The policy says who belongs where and who may do what. As in:
+  book_desk import --store office.db examples/policies/office.toml
+What a policy leaves out stays in the store: to leave something out revokes nothing.
+
+Output:
+  changed, epoch N | unchanged, epoch N
+N is the epoch of the store. It rises with each policy that changes anything, each change of an own list or of a group's
+members, and each book that is removed; then every sync token that was given before is refused.
+
+Told on standard error, each on a line, where nothing was changed
+  input: read           the policy could not be read
+  store: FAULT          the store can't be had: other-version, no-store, memory, or store
+  input: not-utf-8      the policy is not UTF-8
+  policy: FAULT         the policy is refused: not-toml, other-version, bad-key, bad-name, name-twice,
+                        unknown-principal, unknown-resource, unknown-privilege, too-many, or memory
+  adopt: FAULT          the policy was not adopted: full, or unavailable
+or where it was adopted
+  output: write         it could not be told
+
+Status: 0 adopted; 1 the policy is refused; 2 usage; 3 the store, memory, or a failed read or write.
+";
+
+pub(crate) const EXISTING: &str =
+    "The store has to be there: a file that is missing or empty is no store, and none is made";
+
+pub(crate) const AUDIT: &str = "Prints the memberships and the access lists of a store";
+
+pub(crate) const AUDIT_TEXT: &str = "\
+As in: book_desk audit --store office.db
+
+Output:
+  epoch N
+  member GROUP MEMBER               a direct membership, in byte order of the lines
+  PATH owner OWNER                  a resource, in byte order of the paths; - where it has no owner
+    protected grant|deny [not] WHO NAME ..   its protected list, in order
+    own grant|deny [not] WHO NAME ..         its own list, in order
+WHO is a person, a group, or one of all, authenticated, unauthenticated, owner, self.
+
+Told on standard error, on a line
+  store: FAULT          the store can't be had or read: other-version, no-store, memory, or store
+  output: write         it could not be told
+
+Status: 0 printed; 2 usage; 3 the store, memory, or a failed write.
+";
+
+pub(crate) const PIPE: &str = "Serves the requests on standard input";
+
+pub(crate) const PIPE_TEXT: &str = "\
+Input: requests of HTTP/1.1 (RFC 9112), one after the other. A file is given by <, as in:
+  book_desk pipe --store office.db --policy examples/policies/office.toml < requests.txt
+The field x-office-caller has the bare name of the person who asks; without it, nobody asks. The policy, which says who
+belongs where and who may do what, is adopted before the first request; in a store that has had none nobody may do
+anything. Without --store the store is in memory: it is empty when the program starts, and is gone when it ends.
+
+Output: the replies, in order. A request that can't be read as one closes the stream after its reply.
+
+Told on standard error, each on a line
+  input: read           the policy could not be read
+  store: FAULT          the store can't be had: other-version, no-store, memory, or store
+  input: not-utf-8      the policy is not UTF-8
+  policy: FAULT         the policy is refused: not-toml, other-version, bad-key, bad-name, name-twice,
+                        unknown-principal, unknown-resource, unknown-privilege, too-many, or memory
+  adopt: FAULT          the policy was not adopted: full, or unavailable
+  stream: FAULT         serving ended: memory, read, or write
+
+Status: 0 each request was answered, or the stream closed after a reply; 1 the input ends within a request, or the
+policy is refused; 2 usage; 3 the store, memory, or a failed read or write.
+";
+
+pub(crate) const SERVE: &str = "Serves connections to 127.0.0.1";
+
+pub(crate) const SERVE_TEXT: &str = "\
+It listens on 127.0.0.1, prints 'listening on 127.0.0.1:PORT', and serves so many connections, one after the other, each
+as pipe serves its input. As in:
+  book_desk serve --port 8080 --connections 100 --store office.db --policy examples/policies/office.toml
+  curl -H 'x-office-caller: ann' -X OPTIONS -i http://127.0.0.1:8080/books/sales
+Who can reach the port can name any caller: it is for a gateway on the same machine, which sets the field
+x-office-caller to the person that it knows, and takes it out of what strangers send. Nothing else may reach the port.
+A store is copied while no server has it: stop the server, run audit, which folds the log in, and then copy FILE.
+
+Told on standard error, each on a line: what pipe tells, 'stream: FAULT' for each connection that failed, which ends no
+other, and 'listen: failed' where the port can't be had or a connection can't be taken.
+
+Status: 0 all connections were served, also those that ended within a request; 1 the policy is refused; 2 usage;
+3 the store, memory or a failed read or write, also in one connection, or listening failed.
+";
+
+pub(crate) const POLICY: &str = "The file of a policy in TOML, which is adopted first";
+
+pub(crate) const POLICY_WORD: &str = "The file of the policy, in TOML";
+
+pub(crate) const FOUNDED_STORE: &str =
+    "The file of the store, which has a log beside it, FILE-wal; an empty or missing one is founded";
+
+pub(crate) const KEPT_STORE: &str =
+    "The file of the store, which has a log beside it, FILE-wal; an empty or missing one is founded; without it the store is in memory";
+
+pub(crate) const PORT: &str = "The port, 0 to 65535; 0 takes a free one";
+
+pub(crate) const CONNECTIONS: &str = "How many connections are served, 1 to 10000";

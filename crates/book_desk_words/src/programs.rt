@@ -1,0 +1,169 @@
+//! The command line, as clap is told of it.
+
+ghost use Rattle.std.specs.Prelude.{◌≡◌, IfOk, false, codes};
+ghost use Rattle.clap.specs.Words.{app_of, new_app, rule_of};
+ghost use Rattle.clap.specs.declared.builder.command.Command.TheViews.{out-Command};
+ghost use Rattle.book_desk_words.specs.CommandLine.{program_app, top_app, audit_app, import_app, pipe_app, serve_app, flag_rule, option_rule, number_rule, required_rule, with_files, word_rule};
+
+use crate::helps::{
+    ABOUT, AUDIT, AUDIT_TEXT, CARD, CARD_TEXT, CONNECTIONS, EXISTING, EXPLAIN, FOUNDED_STORE,
+    IMPORT, IMPORT_TEXT, KEPT_STORE, PIPE, PIPE_TEXT, POLICY, POLICY_WORD, PORT, QUESTION, SERVE,
+    SERVE_TEXT, VERSION,
+};
+use clap::{Arg, ArgAction, value_parser};
+use std::alloc::{AllocError, Global};
+
+/// An option that names a file.
+fn file_option<'a>(alloc: Global, name: &'a str, help: &'a str) -> Arg<'a>
+    ensures rule { rule_of result ≡ option_rule name.entry.now }
+    ensures local { result.global ≡ false }
+{
+    Arg::new(alloc, name)
+        .long(name)
+        .value_name("FILE")
+        .help(help)
+}
+
+/// An option that names a file and is required.
+fn file_needed<'a>(alloc: Global, name: &'a str, help: &'a str) -> Arg<'a>
+    ensures rule { rule_of result ≡ required_rule name.entry.now }
+    ensures local { result.global ≡ false }
+{
+    Arg::new(alloc, name)
+        .long(name)
+        .value_name("FILE")
+        .help(help)
+        .required(true)
+}
+
+/// A word that is required and follows no option's name.
+fn word_needed<'a>(alloc: Global, name: &'a str, value_name: &'a str, help: &'a str) -> Arg<'a>
+    ensures rule { rule_of result ≡ word_rule name.entry.now }
+    ensures local { result.global ≡ false }
+{
+    Arg::new(alloc, name)
+        .value_name(value_name)
+        .help(help)
+        .required(true)
+}
+
+/// An option that gives a number and is required.
+fn number_needed<'a>(alloc: Global, name: &'a str, help: &'a str, least: u16, most: u16) -> Arg<'a>
+    ensures rule { rule_of result ≡ number_rule name.entry.now least most }
+    ensures local { result.global ≡ false }
+{
+    Arg::new(alloc, name)
+        .long(name)
+        .value_name("N")
+        .help(help)
+        .required(true)
+        .value_parser(value_parser!(u16).range(least as i64..=most as i64))
+}
+
+/// An option without a value.
+fn flag_option<'a>(alloc: Global, name: &'a str, help: &'a str) -> Arg<'a>
+    ensures rule { rule_of result ≡ flag_rule name.entry.now }
+    ensures local { result.global ≡ false }
+{
+    Arg::new(alloc, name)
+        .long(name)
+        .help(help)
+        .action(ArgAction::SetTrue)
+}
+
+fn explain<'a>(alloc: Global) -> clap::Command<'a>
+    ensures app { app_of result ≡ new_app (codes "explain") }
+    ensures local { (out-Command result).has_globals ≡ false }
+{
+    clap::Command::new(alloc, "explain")
+        .about(EXPLAIN)
+        .after_help(QUESTION)
+}
+
+fn card<'a>(alloc: Global) -> clap::Command<'a>
+    ensures app { app_of result ≡ new_app (codes "card") }
+    ensures local { (out-Command result).has_globals ≡ false }
+{
+    clap::Command::new(alloc, "card")
+        .about(CARD)
+        .after_help(CARD_TEXT)
+}
+
+fn import<'a>(alloc: Global) -> Result<clap::Command<'a>, AllocError>
+    ensures { IfOk result (λ c. (app_of c ≡ import_app) × ((out-Command c).has_globals ≡ false)) }
+{
+    clap::Command::new(alloc, "import")
+        .about(IMPORT)
+        .after_help(IMPORT_TEXT)
+        .arg(file_needed(alloc, "store", FOUNDED_STORE))?
+        .arg(word_needed(alloc, "policy", "POLICY", POLICY_WORD))
+}
+
+fn audit<'a>(alloc: Global) -> Result<clap::Command<'a>, AllocError>
+    ensures { IfOk result (λ c. (app_of c ≡ audit_app) × ((out-Command c).has_globals ≡ false)) }
+{
+    clap::Command::new(alloc, "audit")
+        .about(AUDIT)
+        .after_help(AUDIT_TEXT)
+        .arg(file_needed(alloc, "store", FOUNDED_STORE))?
+        .arg(flag_option(alloc, "existing", EXISTING))
+}
+
+/// The command with the options that name the files of the store and of the policy.
+fn with_files<'a>(
+    alloc: Global,
+    command: clap::Command<'a>,
+) -> Result<clap::Command<'a>, AllocError>
+    ensures app { IfOk result (λ c. app_of c ≡ with_files (app_of command.entry)) }
+    ensures local { (out-Command command.entry).has_globals ≡ false → IfOk result (λ c. (out-Command c).has_globals ≡ false) }
+{
+    command
+        .arg(file_option(alloc, "store", KEPT_STORE))?
+        .arg(file_option(alloc, "policy", POLICY))
+}
+
+fn pipe<'a>(alloc: Global) -> Result<clap::Command<'a>, AllocError>
+    ensures { IfOk result (λ c. (app_of c ≡ pipe_app) × ((out-Command c).has_globals ≡ false)) }
+{
+    let command = clap::Command::new(alloc, "pipe")
+        .about(PIPE)
+        .after_help(PIPE_TEXT);
+    with_files(alloc, command)
+}
+
+fn serve<'a>(alloc: Global) -> Result<clap::Command<'a>, AllocError>
+    ensures { IfOk result (λ c. (app_of c ≡ serve_app) × ((out-Command c).has_globals ≡ false)) }
+{
+    let command = clap::Command::new(alloc, "serve")
+        .about(SERVE)
+        .after_help(SERVE_TEXT)
+        .arg(number_needed(alloc, "port", PORT, 0, 65_535))?
+        .arg(number_needed(alloc, "connections", CONNECTIONS, 1, 10_000))?
+        .arg(flag_option(alloc, "existing", EXISTING))?;
+    with_files(alloc, command)
+}
+
+fn top<'a>(alloc: Global) -> Result<clap::Command<'a>, AllocError>
+    ensures { IfOk result (λ c. (app_of c ≡ top_app) × ((out-Command c).has_globals ≡ false)) }
+{
+    let command = clap::Command::new(alloc, "book_desk")
+        .about(ABOUT)
+        .version(VERSION)
+        .bin_name("book_desk")?
+        .no_binary_name(true)
+        .subcommand_required(true);
+    Ok(command)
+}
+
+/// The commands, their options and their help.
+pub(crate) fn program<'a>(alloc: Global) -> Result<clap::Command<'a>, AllocError>
+    ensures { IfOk result (λ c. app_of c ≡ program_app) }
+{
+    top(alloc)?
+        .subcommand(explain(alloc))?
+        .subcommand(card(alloc))?
+        .subcommand(import(alloc)?)?
+        .subcommand(audit(alloc)?)?
+        .subcommand(pipe(alloc)?)?
+        .subcommand(serve(alloc)?)
+}

@@ -1,9 +1,0 @@
-pub mod LineFaults
-pub mod Taken
-pub mod Readings
-pub mod Shorts
-pub mod Indexes
-pub mod OneMeaning
-pub mod OneReading
-pub mod OneAnswer
-pub mod OneExplanation

@@ -1,7 +1,0 @@
-use Rattle.std.proofs.Common.{◌≡◌, drop}
-use Rattle.book_listings.specs.Listings.{asks_members}
-use Rattle.book_listings.proofs.listings.asks_members.Given as goal
-
--- no earlier property asks for members
-abbrev pub invariant-loop-property : goal.invariant-loop-property
-invariant-loop-property l = asks_members (drop l.property-index l.asked) ≡ asks_members l.asked

@@ -1,7 +1,0 @@
-use Rattle.std.proofs.Common.{◌≡◌, drop}
-use Rattle.book_listings.specs.Listings.{asks_token}
-use Rattle.book_listings.proofs.listings.asks_token.Given as goal
-
--- no earlier property asks for a token
-abbrev pub invariant-loop-property : goal.invariant-loop-property
-invariant-loop-property l = asks_token (drop l.property-index l.asked) ≡ asks_token l.asked

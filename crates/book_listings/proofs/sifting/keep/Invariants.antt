@@ -1,8 +1,0 @@
-use Rattle.std.proofs.Common.{◌++◌, take, List}
-use Rattle.book_lists.specs.declared.entries.Entry.{Entry}
-use Rattle.book_listings.specs.Sifting.{AppliesAs}
-use Rattle.book_listings.proofs.sifting.keep.Given as goal
-
--- the entries so far that may apply are kept
-abbrev pub invariant-loop-entry : goal.invariant-loop-entry
-invariant-loop-entry l = (before : List Entry) → AppliesAs l.circle before l.initial.kept.items → AppliesAs l.circle (before ++ take l.entry-index l.list) l.kept.items

@@ -1,0 +1,4 @@
+pub mod Common
+pub mod Audited
+pub mod Gathering
+pub mod ReadsInTurn

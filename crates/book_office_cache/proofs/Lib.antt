@@ -1,0 +1,4 @@
+pub mod Common
+pub mod CardEdits
+pub mod Kept
+pub mod Readings

@@ -1,0 +1,63 @@
+-- What is remembered of an Office, and what stands behind it.
+use Rattle.std.specs.Prelude.{◌≡◌, ℕ, ◌+◌, ◌≤◌, Bool, true, List, [], Some, IfSome, is_some, option_and_then, Result}
+use Rattle.std.specs.FinMap.{get}
+use Rattle.book_office_cache.specs.declared.cached.Cached.{Cached}
+use Rattle.book_office_cache.specs.declared.remembered.Remembered.{Remembered}
+use Rattle.book_office.specs.Keeping.{Edits, Reads, Standing}
+use Rattle.book_office.specs.Levels.{level_at}
+use Rattle.book_office.specs.Resources.{count_at, node_at}
+use Rattle.book_office.specs.declared.edits.Edit.{Edit}
+use Rattle.book_office.specs.declared.keepers.StoreFault.{StoreFault}
+use Rattle.book_office.specs.declared.nodes.Level.{Level}
+use Rattle.book_office.specs.declared.nodes.Node.{Node}
+use Rattle.book_office_values.specs.Names.{NamesTo}
+use Rattle.book_office_values.specs.declared.offices.Office.{Office}
+use Rattle.book_office_values.specs.declared.paths.Path.{Path}
+use Rattle.book_office_values.specs.declared.paths.Path.TheVariants as path
+
+-- the lists at a path without entries
+abbrev pub bare_level : Path → Level
+bare_level p = record { path = p; protected = []; own = [] }
+
+-- names of a book of which no card has entries
+abbrev pub AreBare : Office → List ℕ → NamesTo (Unit {0}) → Type 0
+AreBare o b cards = (c : List ℕ) → is_some (get cards c) ≡ true → bare_level (path.Card b c) ≡ level_at o (path.Card b c)
+
+abbrev pub is_bare : NamesTo (NamesTo (Unit {0})) → List ℕ → List ℕ → Bool
+is_bare bare b c = is_some (option_and_then (λ (cards : NamesTo (Unit {0})). get cards c) (get bare b))
+
+-- a resource with the next number
+abbrev pub with_next_number : Node → Node
+with_next_number node = record node { number = node.number + 1 }
+
+-- a card more
+abbrev pub one_card_more : ℕ → ℕ
+one_card_more count = count + 1
+
+-- what is remembered is what the Office has
+pub record Remembers (r : Remembered) (o : Office) : Type 0 where
+  pub pairs : IfSome r.pairs (λ pairs. pairs ≡ o.pairs)
+  pub persons : (name : List ℕ) → IfSome (get r.persons name) (λ node. node_at o (path.Person name) ≡ Some node)
+  pub root : IfSome r.root (λ level. level ≡ level_at o path.Root)
+  pub home : IfSome r.home (λ level. level ≡ level_at o path.Books)
+  pub books : (name : List ℕ) → IfSome (get r.books name) (λ level. level ≡ level_at o (path.Book name))
+  pub book_nodes : (name : List ℕ) → IfSome (get r.book_nodes name) (λ node. node_at o (path.Book name) ≡ Some node)
+  pub bare : (name : List ℕ) → IfSome (get r.bare name) (AreBare o name)
+  pub counts : (name : List ℕ) → IfSome (get r.counts name) (λ count. count_at o (path.Book name) ≤ count)
+
+-- what the keeper stands for, where what is remembered of it is true
+abbrev pub remembering : Standing → Remembered → Standing
+remembering kept remembered = record {
+  honest = kept.honest;
+  stands = λ o. kept.stands o × Remembers remembered o;
+  sound = λ o stands. kept.sound o stands.0;
+  left = kept.left;
+  failures = kept.failures;
+}
+
+-- a read and an edit, by what stands behind what is remembered
+abbrev pub ReadsBehind : {K A : Type 0} → (K → Standing) → Cached K → Cached K → Result A StoreFault → (Office → A → Type 0) → Type 0
+ReadsBehind standing old new result Tells = Reads (remembering (standing old.keeper) old.remembered) (remembering (standing new.keeper) new.remembered) result Tells
+
+abbrev pub EditsBehind : {K : Type 0} → (K → Standing) → Cached K → Cached K → Result (Unit {0}) StoreFault → Edit → Type 0
+EditsBehind standing old new result edit = Edits (remembering (standing old.keeper) old.remembered) (remembering (standing new.keeper) new.remembered) result edit

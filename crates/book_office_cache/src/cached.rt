@@ -1,0 +1,335 @@
+//! A keeper that remembers.
+
+ghost use Rattle.std.specs.Prelude.{◌≡◌, ◌∷◌, [], IfOk, nat_lt};
+ghost use Rattle.book_office_adopting.specs.Adopting.{adoption_of};
+ghost use Rattle.book_office_cache.specs.Remembering.{EditsBehind, ReadsBehind, Remembers, remembering};
+ghost use Rattle.book_lists.specs.Callers.{IsCircle};
+ghost use Rattle.book_office.specs.Levels.{level_at, lists_at};
+ghost use Rattle.book_office.specs.Resources.{changed_after, children_at, count_at, node_at};
+ghost use Rattle.book_office_values.specs.declared.offices.Office.{Office as OfficeOf};
+ghost use Rattle.book_office_values.specs.declared.paths.Path.TheVariants as paths;
+
+use crate::remembered::{Remembered, bare_level};
+use book_lists::{Caller, Circle, Name, Pairs, expand};
+use book_office::{
+    Adoption, Changed, Edit, Items, Keeper, Level, Listed, Lists, Node, Path, Policy, StoreFault,
+};
+use std::alloc::{AllocError, Global};
+
+/// A keeper in front of another, which remembers what it was told: the members of the groups, persons and books, the lists
+/// of books and of what stands above them, which cards have no entries, and at most how many cards a book has.
+///
+/// It stands for what the keeper stands for. With an edit of cards what is remembered stays true, but a card that is moved
+/// or copied makes it forget books, and a card that is moved which cards have no entries. Any other edit forgets all, and
+/// one that fails too.
+#[derive(Drop)]
+pub struct Cached<K> {
+    pub(crate) keeper: K,
+    pub(crate) remembered: Remembered,
+}
+
+/// The lists of the books' home and of the root.
+type Top = (Level, Level);
+
+/// The lists of a book and of what stands above it.
+fn book_levels(alloc: Global, book: Level, top: Top) -> Result<Items<Level>, AllocError>
+    ensures { IfOk result (λ levels. levels ≡ book ∷ top.0 ∷ top.1 ∷ []) }
+{
+    let (home, root) = top;
+    let mut levels = Vec::with_capacity(alloc, 3)?;
+    levels.push(book)?;
+    levels.push(home)?;
+    levels.push(root)?;
+    Ok(Items::from_vec(levels))
+}
+
+/// The lists of a card and of what stands above it.
+fn card_levels(alloc: Global, card: Level, above: Items<Level>) -> Result<Items<Level>, AllocError>
+    ensures { IfOk result (λ levels. levels ≡ card ∷ above) }
+{
+    let mut levels = Vec::with_capacity(alloc, 4)?;
+    levels.push(card)?;
+    levels.append(&mut above.into_vec())?;
+    Ok(Items::from_vec(levels))
+}
+
+impl<K> Cached<K> {
+    /// The keeper, of which nothing is remembered yet. Takes no memory.
+    pub fn new(alloc: Global, keeper: K) -> Cached<K>
+        ensures keeper { result.keeper ≡ keeper }
+        ensures nothing { (o : OfficeOf) → Remembers result.remembered o }
+    {
+        Cached {
+            keeper,
+            remembered: Remembered::new(alloc),
+        }
+    }
+
+    /// Gives the keeper back. Takes no memory.
+    pub fn into_inner(self) -> K
+        ensures { result ≡ self.keeper }
+    {
+        let Cached { keeper, .. } = self;
+        keeper
+    }
+}
+
+impl<K: Keeper> Cached<K> {
+    /// The person of a name, if there is one.
+    fn person(&mut self, alloc: Global, name: &Name) -> Result<Option<Node>, StoreFault>
+        ensures { ReadsBehind K.standing self.old self.new result (λ o node. node ≡ node_at o (paths.Person name.now)) }
+    {
+        if let Some(node) = self.remembered.person(name)? {
+            return Ok(Some(node));
+        }
+        let path = Path::Person(name.clone()?);
+        let node = self.keeper.find(alloc, &path)?;
+        self.remembered.keep_person(name, &node);
+        Ok(node)
+    }
+
+    /// The book of a name, if there is one.
+    fn book_node(&mut self, alloc: Global, name: &Name) -> Result<Option<Node>, StoreFault>
+        ensures { ReadsBehind K.standing self.old self.new result (λ o node. node ≡ node_at o (paths.Book name.now)) }
+    {
+        if let Some(node) = self.remembered.book_node(name)? {
+            return Ok(Some(node));
+        }
+        let path = Path::Book(name.clone()?);
+        let node = self.keeper.find(alloc, &path)?;
+        self.remembered.keep_book_node(name, &node);
+        Ok(node)
+    }
+
+    /// Whether the book of a name has fewer cards than so many.
+    fn book_has_room(&mut self, alloc: Global, name: &Name, most: usize) -> Result<bool, StoreFault>
+        ensures { ReadsBehind K.standing self.old self.new result (λ o room. room ≡ nat_lt (count_at o (paths.Book name.now)) most) }
+    {
+        if self.remembered.has_room(name, most) {
+            return Ok(true);
+        }
+        let path = Path::Book(name.clone()?);
+        let count = self.keeper.count(alloc, &path)?;
+        self.remembered.keep_count(name, count);
+        Ok(count < most)
+    }
+
+    /// The lists of the root.
+    fn root(&mut self, alloc: Global) -> Result<Level, StoreFault>
+        ensures { ReadsBehind K.standing self.old self.new result (λ o level. level ≡ level_at o paths.Root) }
+    {
+        if let Some(level) = self.remembered.root()? {
+            return Ok(level);
+        }
+        let level = self.keeper.level(alloc, &Path::Root)?;
+        self.remembered.keep_root(&level);
+        Ok(level)
+    }
+
+    /// The lists of the books' home.
+    fn home(&mut self, alloc: Global) -> Result<Level, StoreFault>
+        ensures { ReadsBehind K.standing self.old self.new result (λ o level. level ≡ level_at o paths.Books) }
+    {
+        if let Some(level) = self.remembered.home()? {
+            return Ok(level);
+        }
+        let level = self.keeper.level(alloc, &Path::Books)?;
+        self.remembered.keep_home(&level);
+        Ok(level)
+    }
+
+    /// The lists of the book of a name.
+    fn book(&mut self, alloc: Global, name: &Name) -> Result<Level, StoreFault>
+        ensures { ReadsBehind K.standing self.old self.new result (λ o level. level ≡ level_at o (paths.Book name.now)) }
+    {
+        if let Some(level) = self.remembered.book(name)? {
+            return Ok(level);
+        }
+        let path = Path::Book(name.clone()?);
+        let level = self.keeper.level(alloc, &path)?;
+        self.remembered.keep_book(alloc, name, &level);
+        Ok(level)
+    }
+
+    /// The lists of the books' home and of the root.
+    fn top(&mut self, alloc: Global) -> Result<Top, StoreFault>
+        ensures { ReadsBehind K.standing self.old self.new result (λ o top. top ≡ (level_at o paths.Books, level_at o paths.Root)) }
+    {
+        let home = self.home(alloc)?;
+        let root = self.root(alloc)?;
+        Ok((home, root))
+    }
+
+    /// The lists of the book of a name and of what stands above it.
+    fn book_lists(&mut self, alloc: Global, name: &Name) -> Result<Lists, StoreFault>
+        ensures { ReadsBehind K.standing self.old self.new result (λ o lists. lists ≡ lists_at o (paths.Book name.now)) }
+    {
+        let book = self.book(alloc, name)?;
+        let top = self.top(alloc)?;
+        let levels = book_levels(alloc, book, top)?;
+        Ok(Lists { levels })
+    }
+
+    /// The lists of the card of a book at a path.
+    fn card(
+        &mut self,
+        alloc: Global,
+        book: &Name,
+        name: &Name,
+        path: &Path,
+    ) -> Result<Level, StoreFault>
+        requires { path.now ≡ paths.Card book.now name.now }
+        ensures { ReadsBehind K.standing self.old self.new result (λ o level. level ≡ level_at o path.now) }
+    {
+        if self.remembered.is_bare(book, name) {
+            return Ok(bare_level(alloc, path)?);
+        }
+        let level = self.keeper.level(alloc, path)?;
+        self.remembered.keep_bare(alloc, book, name, &level);
+        Ok(level)
+    }
+
+    /// The lists of the card of a book at a path, and of what stands above it.
+    fn card_lists(
+        &mut self,
+        alloc: Global,
+        book: &Name,
+        name: &Name,
+        path: &Path,
+    ) -> Result<Lists, StoreFault>
+        requires { path.now ≡ paths.Card book.now name.now }
+        ensures { ReadsBehind K.standing self.old self.new result (λ o lists. lists ≡ lists_at o path.now) }
+    {
+        let card = self.card(alloc, book, name, path)?;
+        let above = self.book_lists(alloc, book)?;
+        let levels = card_levels(alloc, card, above.levels)?;
+        Ok(Lists { levels })
+    }
+}
+
+impl<K: Keeper> Keeper for Cached<K> {
+    ghost standing = { λ k. remembering (K.standing k.keeper) k.remembered };
+
+    fn find(&mut self, alloc: Global, path: &Path) -> Result<Option<Node>, StoreFault>
+        ensures { ReadsBehind K.standing self.old self.new result (λ o node. node ≡ node_at o path.now) }
+    {
+        match path {
+            Path::Person(name) => self.person(alloc, name),
+            Path::Book(name) => self.book_node(alloc, name),
+            Path::Root
+            | Path::People
+            | Path::Groups
+            | Path::Books
+            | Path::Group(_)
+            | Path::Card(_, _) => self.keeper.find(alloc, path),
+        }
+    }
+
+    fn children(&mut self, alloc: Global, path: &Path) -> Result<Items<Listed>, StoreFault>
+        ensures { ReadsBehind K.standing self.old self.new result (λ o children. children ≡ children_at o path.now) }
+    {
+        self.keeper.children(alloc, path)
+    }
+
+    fn count(&mut self, alloc: Global, path: &Path) -> Result<usize, StoreFault>
+        ensures { ReadsBehind K.standing self.old self.new result (λ o count. count ≡ count_at o path.now) }
+    {
+        self.keeper.count(alloc, path)
+    }
+
+    fn has_room(&mut self, alloc: Global, path: &Path, most: usize) -> Result<bool, StoreFault>
+        ensures { ReadsBehind K.standing self.old self.new result (λ o room. room ≡ nat_lt (count_at o path.now) most) }
+    {
+        match path {
+            Path::Book(name) => self.book_has_room(alloc, name, most),
+            Path::Root
+            | Path::People
+            | Path::Groups
+            | Path::Books
+            | Path::Person(_)
+            | Path::Group(_)
+            | Path::Card(_, _) => self.keeper.has_room(alloc, path, most),
+        }
+    }
+
+    fn lists(&mut self, alloc: Global, path: &Path) -> Result<Lists, StoreFault>
+        ensures { ReadsBehind K.standing self.old self.new result (λ o lists. lists ≡ lists_at o path.now) }
+    {
+        match path {
+            Path::Card(book, card) => self.card_lists(alloc, book, card, path),
+            Path::Book(name) => self.book_lists(alloc, name),
+            Path::Root
+            | Path::People
+            | Path::Groups
+            | Path::Books
+            | Path::Person(_)
+            | Path::Group(_) => self.keeper.lists(alloc, path),
+        }
+    }
+
+    fn level(&mut self, alloc: Global, path: &Path) -> Result<Level, StoreFault>
+        ensures { ReadsBehind K.standing self.old self.new result (λ o level. level ≡ level_at o path.now) }
+    {
+        self.keeper.level(alloc, path)
+    }
+
+    fn changes_after(
+        &mut self,
+        alloc: Global,
+        book: &Name,
+        number: u64,
+    ) -> Result<Items<Changed>, StoreFault>
+        ensures { ReadsBehind K.standing self.old self.new result (λ o changes. changes ≡ changed_after o book.now number) }
+    {
+        self.keeper.changes_after(alloc, book, number)
+    }
+
+    fn pairs(&mut self, alloc: Global) -> Result<Pairs, StoreFault>
+        ensures { ReadsBehind K.standing self.old self.new result (λ o pairs. pairs ≡ o.pairs) }
+    {
+        self.keeper.pairs(alloc)
+    }
+
+    fn circle(&mut self, alloc: Global, caller: &Caller) -> Result<Circle, StoreFault>
+        ensures { ReadsBehind K.standing self.old self.new result (λ o circle. IsCircle o.pairs caller.now circle) }
+    {
+        if let Some(pairs) = &self.remembered.pairs {
+            return Ok(expand(pairs, caller)?);
+        }
+        let pairs = self.keeper.pairs(alloc)?;
+        let circle = expand(&pairs, caller)?;
+        self.remembered.pairs = Some(pairs);
+        Ok(circle)
+    }
+
+    fn epoch(&mut self) -> Result<u64, StoreFault>
+        ensures { ReadsBehind K.standing self.old self.new result (λ o epoch. epoch ≡ o.epoch) }
+    {
+        self.keeper.epoch()
+    }
+
+    fn adoption(&mut self, alloc: Global, policy: &Policy) -> Result<Adoption, StoreFault>
+        ensures { ReadsBehind K.standing self.old self.new result (λ o told. told ≡ adoption_of policy.now o) }
+    {
+        self.keeper.adoption(alloc, policy)
+    }
+
+    fn failures(&self) -> u64 {
+        self.keeper.failures()
+    }
+
+    fn act(&mut self, alloc: Global, edit: &Edit) -> Result<(), StoreFault>
+        ensures { EditsBehind K.standing self.old self.new result edit.now }
+    {
+        match self.keeper.act(alloc, edit) {
+            Ok(()) => {
+                self.remembered.follow(alloc, edit);
+                Ok(())
+            }
+            Err(fault) => {
+                self.remembered.forget(alloc);
+                Err(fault)
+            }
+        }
+    }
+}

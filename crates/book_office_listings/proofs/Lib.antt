@@ -1,0 +1,13 @@
+pub mod Common
+pub mod InTurn
+pub mod Leaves
+pub mod ReadingLaws
+pub mod ReadListings
+pub mod AlikeListings
+pub mod OneListing
+pub mod ToldResources
+pub mod ToldValues
+pub mod AppliedEntries
+pub mod SiftedLevels
+pub mod Looking
+pub mod ReadRulings

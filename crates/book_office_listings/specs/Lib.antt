@@ -1,0 +1,10 @@
+pub mod Properties
+pub mod Verdicts
+pub mod Values
+pub mod Listings
+pub mod Scanning
+pub mod Sifting
+pub mod Reading
+pub mod Laws
+pub mod Rulings
+pub mod RulingScans

@@ -1,0 +1,54 @@
+-- How a listing is read: the levels of the resource once, and its children once, each with its own lists.
+use Rattle.std.specs.Prelude.{List, [], ◌∷◌}
+use Rattle.std.specs.List.{AllZip}
+use Rattle.book_lists.specs.Circles.{CircleOf}
+use Rattle.book_office_values.specs.declared.offices.Office.{Office}
+use Rattle.book_office_values.specs.declared.paths.Path.{Path}
+use Rattle.book_office.specs.Levels.{effective_of}
+use Rattle.book_office.specs.Resources.{children_at}
+use Rattle.book_office.specs.declared.nodes.Level.{Level}
+use Rattle.book_office.specs.declared.nodes.Listed.{Listed}
+use Rattle.book_office.specs.declared.nodes.Node.{Node}
+use Rattle.book_office_listings.specs.Listings.{IsResponseTo, child_path}
+use Rattle.book_office_listings.specs.Verdicts.{principal_of}
+use Rattle.book_office_listings.specs.declared.messages.Extent.{Extent}
+use Rattle.book_office_listings.specs.declared.messages.Extent.TheVariants.{Resource as Alone, Children}
+use Rattle.book_office_listings.specs.declared.messages.Find.{Find}
+use Rattle.book_office_listings.specs.declared.messages.Response.{Response}
+use Rattle.book_office_listings.specs.declared.subjects.Subject.{Subject}
+use Rattle.book_office_listings.specs.declared.subjects.Whole.{Whole}
+
+-- the children that are read
+abbrev pub children_for : Office → Path → Extent → List Listed
+children_for o p Alone = []
+children_for o p Children = children_at o p
+
+-- the resource that was asked for
+abbrev pub node_subject : Path → Node → Subject
+node_subject p node = record { here = record { owner = node.owner; principal = principal_of p }; kind = node.kind; label = node.label; number = node.number }
+
+-- a child: its lists, and what entries and properties ask of it
+abbrev pub child_level : Path → Listed → Level
+child_level p child = record { path = child_path p child.name; protected = child.protected; own = child.own }
+
+abbrev pub child_subject : Path → Listed → Subject
+child_subject p child = record {
+  here = record { owner = child.owner; principal = principal_of (child_path p child.name) };
+  kind = child.kind;
+  label = child.label;
+  number = child.number;
+}
+
+module _ (find : Find) (circle : CircleOf) (whole : Whole) where
+  -- the response for a child below these levels
+  abbrev pub IsChildResponse : Path → List Level → Listed → Response → Type 0
+  IsChildResponse p levels child response =
+      IsResponseTo find circle whole (child_path p child.name) (child_subject p child) (effective_of (child_level p child ∷ levels)) response
+
+  -- the responses for the resource, by its levels, and for its children
+  abbrev pub AreRead : List Level → Node → List Listed → List Response → Type 0
+  AreRead [] node children responses = Unit {0}
+  AreRead (own ∷ above) node children [] = ⊥
+  AreRead (own ∷ above) node children (first ∷ rest) =
+      IsResponseTo find circle whole own.path (node_subject own.path node) (effective_of (own ∷ above)) first
+      × AllZip (IsChildResponse own.path (own ∷ above)) children rest

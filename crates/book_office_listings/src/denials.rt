@@ -1,0 +1,184 @@
+//! Decisions by one scan over several lists in turn, which are joined nowhere.
+
+ghost use Rattle.std.specs.Prelude.{◌≡◌, ◌+◌, ◌++◌, ◌∷◌, None, Some, Bool, List, MatchOption, map, slice_get, IfOk};
+ghost use Rattle.std.specs.List.{flat_map};
+ghost use Rattle.book_rights.specs.declared.privileges.Leaf.{Leaf};
+ghost use Rattle.book_office.specs.Levels.{effective_of, standing_at};
+ghost use Rattle.book_office.specs.declared.nodes.EffectiveEntry.{EffectiveEntry};
+ghost use Rattle.book_office_values.specs.declared.paths.Path.{Path as PathModel};
+ghost use Rattle.book_office.specs.InForce.{list_in};
+ghost use Rattle.book_office_listings.specs.Scanning.{IsTurn, IsVerdict, standing_in};
+ghost use Rattle.book_office_listings.specs.Verdicts.{deciding_entry, paths_of};
+
+use crate::messages::{DecidingEntry, Denial};
+use book_lists::{Circle, Entry, Here, Outcome, Scan};
+use book_office::Level;
+use book_office_values::Path;
+use book_rights::LeafSet;
+use std::alloc::AllocError;
+use std::slice;
+
+/// A scan over lists in turn, and how many entries they have.
+#[derive(Clone, Copy, Debug)]
+pub(crate) struct Turn {
+    scan: Scan,
+    passed: usize,
+}
+
+/// The sum. An error is a sum past the last `usize`, which no Office has entries for.
+fn sum(a: usize, b: usize) -> Result<usize, AllocError>
+    ensures { IfOk result (λ sum. sum ≡ a + b) }
+{
+    a.checked_add(b).ok_or(AllocError)
+}
+
+/// A copy of the path.
+fn copy_of(path: &Path) -> Result<Path, AllocError>
+    ensures { IfOk result (λ copy. copy ≡ path.now) }
+{
+    path.clone()
+}
+
+/// The protected list of a level, or its own list.
+pub(crate) fn list_in(level: &Level, protected: bool) -> &[Entry]
+    ensures { result.now ≡ list_in protected level.now }
+{
+    if protected {
+        level.protected.as_slice()
+    } else {
+        level.own.as_slice()
+    }
+}
+
+/// Goes over one more list, which stands at any path.
+fn go_over(list: &[Entry], circle: &Circle, here: &Here, turn: Turn) -> Result<Turn, AllocError>
+    ensures { IfOk result (λ next. (before : List EffectiveEntry) (p : PathModel) (protected : Bool) (set : Leaf → Bool)
+        → IsTurn before circle.now here.now set turn
+        → IsTurn (before ++ map (standing_at p protected) list.now) circle.now here.now set next) }
+{
+    let mut scan = turn.scan;
+    scan.over(list, circle, here);
+    let passed = sum(turn.passed, list.len())?;
+    Ok(Turn { scan, passed })
+}
+
+/// Goes over the protected lists of levels in turn, or over their own lists.
+fn go_over_levels(
+    levels: &[Level],
+    protected: bool,
+    circle: &Circle,
+    here: &Here,
+    turn: Turn,
+) -> Result<Turn, AllocError>
+    ensures { IfOk result (λ next. (before : List EffectiveEntry) (set : Leaf → Bool)
+        → IsTurn before circle.now here.now set turn
+        → IsTurn (before ++ flat_map (standing_in protected) levels.now) circle.now here.now set next) }
+{
+    let mut turn = turn;
+    for level in levels {
+        turn = go_over(list_in(level, protected), circle, here, turn)?;
+    }
+    Ok(turn)
+}
+
+/// Where the entry at an index stands, counted from the first of these lists. Where it stands in none of them, the
+/// index is then counted from the entries after them.
+fn place_among<'a>(levels: &'a [Level], protected: bool, index: &mut usize) -> Option<&'a Path>
+    ensures { (after : List EffectiveEntry) → MatchOption result
+        (slice_get (paths_of (flat_map (standing_in protected) levels.now ++ after)) index.old
+        ≡ slice_get (paths_of after) index.new)
+        (λ path. slice_get (paths_of (flat_map (standing_in protected) levels.now ++ after)) index.old
+        ≡ Some path.now) }
+{
+    for level in levels {
+        let count = list_in(level, protected).len();
+        if *index < count {
+            return Some(&level.path);
+        }
+        *index -= count;
+    }
+    None
+}
+
+/// Where the entry at an index of the effective list stands.
+fn place<'a>(own: &'a [Level], above: &'a [Level], index: usize) -> Option<&'a Path>
+    ensures { MatchOption result (slice_get (paths_of (effective_of (own.now ++ above.now))) index ≡ None)
+        (λ path. slice_get (paths_of (effective_of (own.now ++ above.now))) index ≡ Some path.now) }
+{
+    let mut rest = index;
+    if let Some(path) = place_among(own, true, &mut rest) {
+        return Some(path);
+    }
+    if let Some(path) = place_among(above, true, &mut rest) {
+        return Some(path);
+    }
+    if let Some(path) = place_among(own, false, &mut rest) {
+        return Some(path);
+    }
+    place_among(above, false, &mut rest)
+}
+
+/// The entry at an index of the effective list, if there is one, as a denial names it.
+fn deciding_entry(
+    own: &[Level],
+    above: &[Level],
+    index: Option<usize>,
+) -> Result<Option<DecidingEntry>, AllocError>
+    ensures { IfOk result (λ entry. entry ≡ deciding_entry (paths_of (effective_of (own.now ++ above.now))) index) }
+{
+    let Some(index) = index else {
+        return Ok(None);
+    };
+    match place(own, above, index) {
+        Some(path) => Ok(Some(DecidingEntry {
+            from: copy_of(path)?,
+            number: sum(index, 1)?,
+        })),
+        None => Ok(None),
+    }
+}
+
+/// The decision on a set at the resource at a path, by its levels in two parts, of which the first is nearer to it:
+/// none where the set is granted (RFC 3744, section 6). It is one scan, over the protected lists of all levels and then
+/// over their own lists; no list is joined, and no path copied but for a denial. An error is want of memory.
+pub fn verdict(
+    path: &Path,
+    own: &[Level],
+    above: &[Level],
+    circle: &Circle,
+    here: &Here,
+    set: LeafSet,
+) -> Result<Option<Denial>, AllocError>
+    ensures { IfOk result (IsVerdict (effective_of (own.now ++ above.now)) circle.now here.now path.now set) }
+{
+    let turn = Turn {
+        scan: Scan::start(set),
+        passed: 0,
+    };
+    let turn = go_over_levels(own, true, circle, here, turn)?;
+    let turn = go_over_levels(above, true, circle, here, turn)?;
+    let turn = go_over_levels(own, false, circle, here, turn)?;
+    let turn = go_over_levels(above, false, circle, here, turn)?;
+    match turn.scan.outcome() {
+        Outcome::Allowed => Ok(None),
+        Outcome::Denied { leaf, entry } => Ok(Some(Denial {
+            resource: copy_of(path)?,
+            privilege: leaf,
+            entry: deciding_entry(own, above, entry)?,
+        })),
+    }
+}
+
+/// The decision on a set at a resource, by its own level and those above it: none where the set is granted (RFC 3744,
+/// section 6). No list is joined, and no path copied but for a denial. An error is want of memory.
+pub(crate) fn judge(
+    own: &Level,
+    above: &[Level],
+    circle: &Circle,
+    here: &Here,
+    set: LeafSet,
+) -> Result<Option<Denial>, AllocError>
+    ensures { IfOk result (IsVerdict (effective_of (own.now ∷ above.now)) circle.now here.now own.now.path set) }
+{
+    verdict(&own.path, slice::from_ref(own), above, circle, here, set)
+}

@@ -1,0 +1,33 @@
+//! What the definitions imply.
+
+ghost use Rattle.book_office_listings.specs.Laws.{GrantedResourcesAreTold, ListingsHaveOneAnswer, UnreadResourcesStayUnseen};
+ghost use Rattle.book_office_listings.specs.Laws.{MembersToldAreDirect, PrivilegesToldAreGranted};
+ghost use Rattle.book_office_listings.specs.Rulings.{RulingsAreTheGrants};
+
+/// Contents stay unseen: of two Offices that differ only in what may not be read, a listing tells the same (own
+/// profile).
+pub fn unread_resources_stay_unseen()
+    ensures { UnreadResourcesStayUnseen }
+{}
+
+/// A listing is determined by the Office, the caller's circle and what is asked.
+pub fn listings_have_one_answer()
+    ensures { ListingsHaveOneAnswer }
+{}
+
+/// Where the needed leaves are granted at the resource itself, the first response tells it.
+pub fn granted_resources_are_told()
+    ensures { GrantedResourcesAreTold }
+{}
+
+/// What the values of properties are: the leaves of `current-user-privilege-set` are those that are granted, and the
+/// paths of `group-member-set` are the direct members, each once, in byte order.
+pub fn values_tell_grants_and_members()
+    ensures privileges { PrivilegesToldAreGranted }
+    ensures members { MembersToldAreDirect }
+{}
+
+/// The leaves that rulings grant are those that are granted (RFC 3744, sections 5.4 and 6).
+pub fn rulings_are_the_grants()
+    ensures { RulingsAreTheGrants }
+{}

@@ -1,0 +1,5 @@
+pub mod Common
+pub mod Linking
+pub mod Steps
+pub mod Determined
+pub mod Views

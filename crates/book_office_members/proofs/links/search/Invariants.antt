@@ -1,0 +1,10 @@
+use Rattle.book_office_members.proofs.Common.{◌+◌, map, length, pairs_in}
+use Rattle.book_lists.proofs.Searches.{Searches, ahead}
+use Rattle.book_office_members.proofs.links.search.Given as goal
+
+abbrev pub invariant-loop-member : goal.invariant-loop-member
+invariant-loop-member l = Searches (pairs_in l.groups.entries) l.starts l.found (map (λ w. w.now) l.work.items)
+
+-- the groups still to be added to the work, and the work
+abbrev pub decreases-loop-member : goal.decreases-loop-member
+decreases-loop-member l = ahead l.groups.entries l.found + length l.work.items

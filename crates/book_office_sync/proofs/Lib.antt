@@ -1,0 +1,12 @@
+pub mod Common
+pub mod Filters
+pub mod ChangesAfter
+pub mod CopiesKept
+pub mod Patches
+pub mod ReportLaws
+pub mod SyncedRuns
+pub mod ReadingLaws
+pub mod ReadReports
+pub mod ReplicaCopies
+pub mod TokenTexts
+pub mod BringingCopies

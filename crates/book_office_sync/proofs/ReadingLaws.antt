@@ -1,0 +1,112 @@
+-- The items that are read, and those of the definition.
+use Rattle.book_office_sync.proofs.Common.{◌≡◌, ℕ, Bool, true, false, List, [], ◌∷◌, ◌++◌, map, Option, Some, None, option_map, unwrap_or, refl, sym, ap, ◌∙◌, if◌then◌else◌, get, Read, CircleOf, Change, changes_after, Book, StoredCard, Office, Level, number_of, found_of, item_of, shown, first_bearing, Item}
+use Rattle.std.proofs.Common.{not}
+use Rattle.std.specs.List.{flat_map}
+use Rattle.book_rights.specs.declared.privileges.Leaf.{Leaf}
+use Rattle.book_lists.specs.Decisions.{bears}
+use Rattle.book_lists.specs.declared.entries.Entry.{Entry}
+use Rattle.book_lists.specs.declared.entries.Here.{Here}
+use Rattle.book_office_values.specs.declared.paths.Path.{Path}
+use Rattle.book_office_values.specs.declared.paths.Path.TheVariants as path
+use Rattle.book_office.specs.declared.nodes.Changed.{Changed}
+use Rattle.book_office.specs.declared.nodes.EffectiveEntry.{EffectiveEntry}
+use Rattle.book_office.specs.Levels.{standing_at, protected_entries, own_entries, effective_of, lists_at}
+use Rattle.book_office.specs.declared.nodes.Lists.{Lists as Lists'}
+use Rattle.book_office.specs.Resources.{Resource, book_resource, changed_after, changed_in}
+use Rattle.book_office_sync.specs.Copies.{grants, here_of_card}
+use Rattle.book_office_sync.specs.Reading.{above_of, entries_under, is_readable, found_in, item_in}
+use Rattle.book_office_sync.specs.declared.reports.Above.{Above}
+use Rattle.book_office_sync.proofs.CopiesKept.{seen_by, above, in_force, seen_at}
+
+-- one list after another: the first that has an entry which applies and holds the leaf
+abbrev pub or_go_on : Option Bool → Bool → Bool
+or_go_on (Some deny) rest = not deny
+or_go_on None rest = rest
+
+pub grants_joined : (xs ys : List Entry) (circle : CircleOf) (here : Here) (leaf : Leaf) → grants (xs ++ ys) circle here leaf ≡ or_go_on (first_bearing xs circle here leaf) (grants ys circle here leaf)
+grants_joined [] ys circle here leaf = refl
+grants_joined (x ∷ xs) ys circle here leaf = elim (bears circle here leaf x) as (λ b.
+    (if b then not x.deny else grants (xs ++ ys) circle here leaf) ≡ or_go_on (if b then Some x.deny else first_bearing xs circle here leaf) (grants ys circle here leaf)) [
+      | true ↦ refl
+      | false ↦ grants_joined xs ys circle here leaf
+    ]
+
+pub grants_one : (xs : List Entry) (circle : CircleOf) (here : Here) (leaf : Leaf) → grants xs circle here leaf ≡ or_go_on (first_bearing xs circle here leaf) false
+grants_one [] circle here leaf = refl
+grants_one (x ∷ xs) circle here leaf = elim (bears circle here leaf x) as (λ b.
+    (if b then not x.deny else grants xs circle here leaf) ≡ or_go_on (if b then Some x.deny else first_bearing xs circle here leaf) false) [
+      | true ↦ refl
+      | false ↦ grants_one xs circle here leaf
+    ]
+
+-- three lists in turn
+pub readable_in_turn : (a : Above) (circle : CircleOf) (here : Here) (own : List Entry)
+    → is_readable a circle here own ≡ or_go_on (first_bearing a.protected circle here Read) (or_go_on (first_bearing own circle here Read) (or_go_on (first_bearing a.own circle here Read) false))
+readable_in_turn a circle here own =
+    grants_joined a.protected (own ++ a.own) circle here Read
+    ∙ ap (or_go_on (first_bearing a.protected circle here Read)) (grants_joined own a.own circle here Read ∙ ap (or_go_on (first_bearing own circle here Read)) (grants_one a.own circle here Read))
+
+-- entries with the paths where they stand, without these
+standing_entries : (p : Path) (b : Bool) (xs : List Entry) (ys : List EffectiveEntry) → map (λ (e : EffectiveEntry). e.entry) (map (standing_at p b) xs ++ ys) ≡ xs ++ map (λ (e : EffectiveEntry). e.entry) ys
+standing_entries p b [] ys = refl
+standing_entries p b (x ∷ xs) ys = ap (λ r. x ∷ r) (standing_entries p b xs ys)
+
+-- the protected entries of levels, and the own ones, without the paths where they stand
+protected_of : (ls : List Level) → map (λ (e : EffectiveEntry). e.entry) (flat_map protected_entries ls) ≡ flat_map (λ (l : Level). l.protected) ls
+protected_of [] = refl
+protected_of (l ∷ ls) = standing_entries l.path true l.protected (flat_map protected_entries ls) ∙ ap (λ r. l.protected ++ r) (protected_of ls)
+
+own_of : (ls : List Level) → map (λ (e : EffectiveEntry). e.entry) (flat_map own_entries ls) ≡ flat_map (λ (l : Level). l.own) ls
+own_of [] = refl
+own_of (l ∷ ls) = standing_entries l.path false l.own (flat_map own_entries ls) ∙ ap (λ r. l.own ++ r) (own_of ls)
+
+mapped_joined : (xs ys : List EffectiveEntry) → map (λ (e : EffectiveEntry). e.entry) (xs ++ ys) ≡ map (λ (e : EffectiveEntry). e.entry) xs ++ map (λ (e : EffectiveEntry). e.entry) ys
+mapped_joined [] ys = refl
+mapped_joined (x ∷ xs) ys = ap (λ r. x.entry ∷ r) (mapped_joined xs ys)
+
+-- the entries in force at a card below these levels
+under_levels : (p : Path) (own : List Entry) (ls : List Level)
+    → map (λ (e : EffectiveEntry). e.entry) (effective_of (record { path = p; protected = []; own = own } ∷ ls)) ≡ entries_under (above_of ls) own
+under_levels p own ls =
+    mapped_joined (flat_map protected_entries (record { path = p; protected = []; own = own } ∷ ls)) (flat_map own_entries (record { path = p; protected = []; own = own } ∷ ls))
+    ∙ (λ i. protected_of (record { path = p; protected = []; own = own } ∷ ls) i ++ own_of (record { path = p; protected = []; own = own } ∷ ls) i)
+
+-- the levels of a book, with the book given
+abbrev levels_in : Office → List ℕ → Option Book → List Level
+levels_in o b found =
+    record {
+      path = path.Book b;
+      protected = unwrap_or (option_map (λ (r : Resource). r.protected) (option_map book_resource found)) [];
+      own = unwrap_or (option_map (λ (r : Resource). r.own) (option_map book_resource found)) [];
+    }
+    ∷ record { path = path.Books; protected = o.books_home.protected; own = o.books_home.own }
+    ∷ record { path = path.Root; protected = o.root.protected; own = o.root.own } ∷ []
+
+module _ (o : Office) (circle : CircleOf) (b : List ℕ) (x : Book) (at : get o.books b ≡ Some x) where
+  in_force_is : (c : List ℕ) (own : List Entry) → entries_under (above_of (lists_at o (path.Book b)).levels) own ≡ in_force (above o x) b c own
+  in_force_is c own = ap (λ ls. entries_under (above_of ls) own) (ap (levels_in o b) at) ∙ sym (under_levels (path.Card b c) own (levels_in o b (Some x)))
+
+  told_or_not : (t : Bool) (n : ℕ) (k : StoredCard) → (if t then Some (found_of (shown n k)) else None) ≡ option_map found_of (if t then Some (shown n k) else None)
+  told_or_not true n k = refl
+  told_or_not false n k = refl
+
+  found_is : (c : List ℕ) (n : ℕ) (card : Option StoredCard) → found_in (above_of (lists_at o (path.Book b)).levels) circle card ≡ option_map found_of (seen_by (above o x) circle b c n card)
+  found_is c n None = refl
+  found_is c n (Some k) =
+      ap (λ es. if grants es circle (here_of_card k) Read then Some (found_of (shown n k)) else None) (in_force_is c k.own)
+      ∙ told_or_not (grants (in_force (above o x) b c k.own) circle (here_of_card k) Read) n k
+
+  pub items_are : (cs : List Change) → map (item_in (above_of (lists_at o (path.Book b)).levels) circle) (changed_in x cs) ≡ map (item_of o circle b) cs
+  items_are [] = refl
+  items_are (c ∷ cs) =
+      let found = found_is c.1 (number_of x c.1) (get x.cards c.1) ∙ ap (option_map found_of) (sym (seen_at o circle b c.1 x at)) in
+      λ i. record { name = c.1; number = c.0; found = found i } ∷ items_are cs i
+
+-- what was read is what the definition says
+pub items_read : (o : Office) (circle : CircleOf) (b : List ℕ) (n : ℕ) (lists : Lists') (changes : List Changed) (a : Above) (items : List Item)
+    → lists ≡ lists_at o (path.Book b) → changes ≡ changed_after o b n → a ≡ above_of lists.levels → items ≡ map (item_in a circle) changes
+    → (x : Book) → get o.books b ≡ Some x → items ≡ map (item_of o circle b) (changes_after x.changes.last n)
+items_read o circle b n lists changes a items l k above_is e x at =
+    e
+    ∙ (λ i. map (item_in ((above_is ∙ ap (λ (r : Lists'). above_of r.levels) l) i) circle) ((k ∙ ap (λ found. unwrap_or (option_map (λ (book : Book). changed_in book (changes_after book.changes.last n)) found) []) at) i))
+    ∙ items_are o circle b x at (changes_after x.changes.last n)

@@ -1,0 +1,11 @@
+pub mod Common
+pub mod Above
+pub mod Entered
+pub mod Indexes
+pub mod Members
+pub mod NameMapLaws
+pub mod Slashes
+pub mod Spelling
+pub mod Touches
+pub mod TreeMaps
+pub mod OneName

@@ -1,0 +1,9 @@
+use Rattle.book_office_values.proofs.Common.{sym, ap, ◌∙◌, nat_list_cmp_total}
+use Rattle.std.specs.FinMap as map
+use Rattle.book_office_values.proofs.TreeMaps.{get_tree}
+use Rattle.book_office_values.proofs.collections.text_maps.TextMap.get.Goals as goal
+
+pub returns : goal.returns
+returns g c =
+    c.get.ensures.value ∙ sym (get_tree nat_list_cmp_total c.self.inside.tree.entries c.args.text.now)
+    ∙ ap (λ m. map.get m c.args.text.now) c.self.view_is

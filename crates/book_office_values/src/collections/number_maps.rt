@@ -1,0 +1,74 @@
+//! Names by the numbers of their last changes, in order of number, which contracts see as a finite map.
+
+ghost use Rattle.std.specs.Prelude.{◌≡◌, OnOk, OnErr, IfOk, filter, nat_lt};
+ghost use Rattle.std.specs.FinMap as map;
+ghost use Rattle.book_office_values.specs.Changes.{without};
+
+use crate::collections::items::Items;
+use book_lists::Name;
+use std::alloc::{AllocError, Global};
+use std::collections::BTreeMap;
+use std::marker::Model;
+use std::ops::Bound;
+
+/// A map from numbers to names.
+#[derive(Debug, Drop)]
+pub(crate) struct NumberMap {
+    tree: BTreeMap<u64, Name>,
+}
+
+impl Model for NumberMap {
+    ghost use Rattle.std.specs.Prelude.{List, ℕ};
+    ghost use Rattle.std.specs.FinMap as map;
+    ghost use Rattle.std.specs.Coded.{coded_ℕ, coded_list};
+    ghost use Rattle.std.specs.Ordering.{nat_cmp};
+    ghost use Rattle.std.specs.BTreeMap.{IsOrdered};
+
+    ghost Value = { map.FinMap nat_cmp (List ℕ) };
+
+    ghost coded = { map.code coded_ℕ (coded_list coded_ℕ) };
+
+    ghost view = { λ a. map.from_entries a.tree.entries };
+
+    ghost invariant = { λ a. IsOrdered nat_cmp a.tree };
+}
+
+impl NumberMap {
+    /// No numbers. Takes no memory until one is inserted.
+    pub(crate) fn new(alloc: Global) -> NumberMap
+        ensures { result ≡ map.empty }
+    {
+        NumberMap {
+            tree: BTreeMap::new(alloc),
+        }
+    }
+
+    /// Sets the name of a number. Without memory for it the map stays as it was.
+    pub(crate) fn insert(&mut self, number: u64, name: Name) -> Result<(), AllocError>
+        ensures ok { OnOk result (self.new ≡ map.insert self.old number name) }
+        ensures err { OnErr result (self.new ≡ self.old) }
+    {
+        self.tree.insert(number, name)?;
+        Ok(())
+    }
+
+    /// Takes away a number, if there is one to take away.
+    pub(crate) fn remove(&mut self, number: Option<u64>)
+        ensures { self.new ≡ without self.old number }
+    {
+        if let Some(number) = number {
+            drop(self.tree.remove(&number));
+        }
+    }
+
+    /// The entries above a number, in order: as many steps as there are such entries, and a look-up.
+    pub(crate) fn after(&self, alloc: Global, number: u64) -> Result<Items<(u64, Name)>, AllocError>
+        ensures { IfOk result (λ after. after ≡ filter (λ c. nat_lt number c.0) (map.entries self.now)) }
+    {
+        let mut after = Items::new(alloc);
+        for (above, name) in self.tree.range((Bound::Excluded(number), Bound::Unbounded)) {
+            after.push((*above, name.clone()?))?;
+        }
+        Ok(after)
+    }
+}

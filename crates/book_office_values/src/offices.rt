@@ -1,0 +1,83 @@
+//! The Office: everything that is kept, by kind of resource.
+
+ghost use Rattle.std.specs.Prelude.{◌≡◌};
+ghost use Rattle.book_office_values.specs.Fresh.{empty_properties};
+
+use crate::collections::{Changes, Items, NameMap, Text};
+use book_lists::{Entry, Pairs, Principal};
+use std::alloc::Global;
+
+/// A resource other than a card: its owner, if it has one, its label (`displayname`, RFC 4918, section 15.2), and its
+/// protected and own lists of entries (RFC 3744, section 5.5), each in stored order.
+#[derive(Debug, Drop)]
+pub struct Properties {
+    /// The person or group that owns it.
+    pub owner: Option<Principal>,
+    /// At most 256 bytes.
+    pub label: Text,
+    /// The entries that a policy protects, at most 64.
+    pub protected: Items<Entry>,
+    /// The entries that an ACL request replaces, at most 64.
+    pub own: Items<Entry>,
+}
+
+impl Properties {
+    /// An empty label and empty lists. Takes no memory.
+    pub fn empty(alloc: Global, owner: Option<Principal>) -> Properties
+        ensures { result ≡ empty_properties owner }
+    {
+        Properties {
+            owner,
+            label: Text::from_string(String::new(alloc)),
+            protected: Items::new(alloc),
+            own: Items::new(alloc),
+        }
+    }
+}
+
+/// A card: it has a text, and no protected entries.
+#[derive(Debug, Drop)]
+pub struct StoredCard {
+    /// The person or group that owns it.
+    pub owner: Option<Principal>,
+    /// At most 256 bytes.
+    pub label: Text,
+    /// The entries that an ACL request replaces, at most 64.
+    pub own: Items<Entry>,
+    /// At most 65,536 bytes, kept as they were sent.
+    pub text: Text,
+}
+
+/// A book: its cards by name, and the numbers of their last changes.
+#[derive(Debug, Drop)]
+pub struct Book {
+    /// The book's owner, label and lists.
+    pub properties: Properties,
+    /// At most 10,000.
+    pub cards: NameMap<StoredCard>,
+    /// The last change of each name that was ever there. A removed name is one with a last change and no card.
+    pub changes: Changes,
+}
+
+/// Everything that is kept.
+#[derive(Debug, Drop)]
+pub struct Office {
+    /// `/`.
+    pub root: Properties,
+    /// `/people`.
+    pub people: Properties,
+    /// `/groups`.
+    pub groups_home: Properties,
+    /// `/books`.
+    pub books_home: Properties,
+    /// `/people/N`, by name.
+    pub persons: NameMap<Properties>,
+    /// `/groups/N`, by name.
+    pub groups: NameMap<Properties>,
+    /// `/books/B`, by name, at most 1,000.
+    pub books: NameMap<Book>,
+    /// The direct members of the groups (RFC 3744, section 4.3).
+    pub pairs: Pairs,
+    /// The access epoch: how often access changed (own profile). A sync token (RFC 6578) of an earlier epoch is no longer valid.
+    pub epoch: u64,
+}

@@ -1,8 +1,0 @@
-use Rattle.std.proofs.Common.{take}
-use Rattle.std.specs.List.{AllByRecursion}
-use Rattle.book_opening.specs.Opening.{IsEntryRow}
-use Rattle.book_opening.proofs.entry_tests.are_entry_rows.Given as goal
-
--- the rows so far are entries
-abbrev pub invariant-loop-row : goal.invariant-loop-row
-invariant-loop-row l = AllByRecursion (IsEntryRow l.directory) (take l.row-index l.rows)

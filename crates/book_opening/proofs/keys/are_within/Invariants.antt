@@ -1,8 +1,0 @@
-use Rattle.std.proofs.Common.{take}
-use Rattle.std.specs.List.{AllByRecursion}
-use Rattle.book_opening.specs.Opening.{IsWithinBook}
-use Rattle.book_opening.proofs.keys.are_within.Given as goal
-
--- the keys so far are within their books
-abbrev pub invariant-loop-key : goal.invariant-loop-key
-invariant-loop-key l = AllByRecursion (IsWithinBook l.directory) (take l.key-index l.found)

@@ -1,7 +1,0 @@
-use Rattle.std.proofs.Common.{◌≡◌, take}
-use Rattle.book_opening.specs.Opening as keys
-use Rattle.book_opening.proofs.keys.card_keys.Given as goal
-
--- the keys are those of the rows so far
-abbrev pub invariant-loop-row : goal.invariant-loop-row
-invariant-loop-row l = l.found.items ≡ keys.card_keys (take l.row-index l.rows)

@@ -1,7 +1,0 @@
-use Rattle.std.proofs.Common.{IfOk, IsTrue, ◌↔◌, subst, ◌∙◌}
-use Rattle.book_limits.specs.declared.TheConstants.{MAX_MEMBERS}
-use Rattle.book_opening.specs.Opening.{AreAtMost}
-use Rattle.book_opening.proofs.limit_tests.are_small_groups.Goals as goal
-
-pub returns : goal.returns
-returns c = subst (λ found. IfOk c.are_at_most.result (λ are. IsTrue are ↔ AreAtMost MAX_MEMBERS found)) (c.deref.ensures.value ∙ c.in_ok-found.ensures) c.are_at_most.ensures

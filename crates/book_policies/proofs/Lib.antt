@@ -1,6 +1,0 @@
-pub mod Folds
-pub mod Faults
-pub mod Lists
-pub mod Members
-pub mod Names
-pub mod Paths

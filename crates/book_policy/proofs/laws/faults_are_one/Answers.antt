@@ -1,5 +1,0 @@
-use Rattle.book_policy.proofs.Whole.{one_fault}
-use Rattle.book_policy.proofs.laws.faults_are_one.Goals as goal
-
-pub returns : goal.returns
-returns c = record { one_fault = one_fault }

@@ -1,8 +1,0 @@
-use Rattle.std.proofs.Common.{◌≡◌, map, take}
-use Rattle.serde_json.specs.View.{view}
-use Rattle.book_replies.specs.Listings.{response_data}
-use Rattle.book_replies.proofs.listings.responses_value.Given as goal
-
--- the values so far
-abbrev pub invariant-loop-response : goal.invariant-loop-response
-invariant-loop-response l = map view l.list.items ≡ map response_data (take l.response-index l.responses)

@@ -1,8 +1,0 @@
-use Rattle.std.proofs.Common.{◌≡◌, map, take}
-use Rattle.serde_json.specs.View.{view}
-use Rattle.book_replies.specs.Members.{href_data}
-use Rattle.book_replies.proofs.members.hrefs_value.Given as goal
-
--- the values so far
-abbrev pub invariant-loop-name : goal.invariant-loop-name
-invariant-loop-name l = map view l.list.items ≡ map (href_data l.book) (take l.name-index l.names)

@@ -1,5 +1,0 @@
-use Rattle.book_rulings.proofs.Looking.{rulings_grant}
-use Rattle.book_rulings.proofs.laws.rulings_are_the_grants.Goals as goal
-
-pub returns : goal.returns
-returns c = rulings_grant

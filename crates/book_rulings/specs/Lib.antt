@@ -1,2 +1,0 @@
-pub mod Rulings
-pub mod Scanning

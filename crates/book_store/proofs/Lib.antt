@@ -1,4 +1,0 @@
-pub mod Tabling
-pub mod FirstRows
-pub mod RisingRows
-pub mod WholeTables

@@ -1,8 +1,0 @@
-use Rattle.sqlite.specs.Held.{state}
-use Rattle.book_rows.proofs.Keeping.{query_keeps}
-use Rattle.book_store.specs.Versions.{read_version}
-use Rattle.book_store.proofs.versions.version_rows.Goals as goal
-
-pub returns-clause-kept : goal.returns-clause-kept
-returns-clause-kept g c clean inside =
-    query_keeps (λ rows. rows.items) read_version _ (state g.S.Store c.args.transaction.now.conn.now) (state g.S.Store c.query_all.new.self.conn.now) c.query_all.result inside (c.query_all.ensures.ok clean) (c.query_all.ensures.err clean)

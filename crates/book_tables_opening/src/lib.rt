@@ -1,0 +1,33 @@
+//! Opening a store that is there: its tables, where their rows are those of a sound Office.
+//!
+//! It stands on `book_tables_schema`, which opens a connection again and compares its schema, on `book_tables_rows`, which reads tables,
+//! and on `book_tables`, whose definition says for which Office tables stand. The crate above uses one promise, that of
+//! `open`: where it answers `Ok`, the connection stands for a sound Office, a stop just after leaves that one alone, and
+//! what it shows is what the last commit left; where it answers `OtherVersion` or `NoStore`, what the connection shows
+//! stands for no Office.
+//!
+//! Read `specs/Opening` first: `AreOfficeRows`, the conditions that the rows of the five tables have to meet, as whole
+//! reads show them. They are met exactly where the rows give an Office that is sound. Then `specs/Directories`, how rows
+//! of nodes are found, and `specs/Reading`, what is told of a store. Of the code, `directories` finds rows by path and by
+//! number, `keys` and `counting` count what has a limit, each `.._tests` has the test of a condition, `office_tests`
+//! joins them, `whole_nodes` and `reading` read the tables, and `opening` has `open`.
+#![tactic(auto)]
+
+mod counting;
+mod directories;
+mod entry_tests;
+mod gone_tests;
+mod keys;
+mod limit_tests;
+mod member_tests;
+mod meta_tests;
+mod node_tests;
+mod office_tests;
+mod opening;
+mod principal_tests;
+mod reading;
+mod spelling_tests;
+mod text_tests;
+mod whole_nodes;
+
+pub use opening::open;

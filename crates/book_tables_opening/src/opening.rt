@@ -1,0 +1,185 @@
+//! Opening the tables of a store that is there.
+
+ghost use Rattle.std.specs.Prelude.{◌≡◌, ◌⊎◌, IfOk, IfErr, IsSomeAnd, IsTrue};
+ghost use Rattle.sqlite.specs.Held.{state};
+ghost use Rattle.sqlite.specs.State.{HasCleanDisk, Survives};
+ghost use Rattle.book_tables_rows.specs.Rows.{IsBook};
+ghost use Rattle.book_tables_rows.specs.Schema.{book_schema};
+ghost use Rattle.book_tables_rows.specs.Steps.{Keeps, Spares, Stays};
+ghost use Rattle.book_tables.specs.Opened.{open_fault};
+ghost use Rattle.book_tables_opening.specs.Reading.{AreReadable, IsWhole, StandsForOne, TellsOther, TellsStanding, IsStanding, StandingSays, FaultSays, IsReopened, IsOpened, IsRefused, StandsForItsOffice, StandsForNone};
+
+use crate::directories::Directory;
+use crate::office_tests::are_office_rows;
+use crate::reading::read_tables;
+use crate::text_tests::readable;
+use book_tables::{OpenFault, Tables};
+use book_tables_schema::{is_book_schema, reopen, says_other_version};
+use sqlite::{Alter, Connection, Error, ErrorCode, Transaction};
+use std::alloc::Global;
+
+/// What the tables of a connection are.
+#[derive(Clone, Copy, Debug, PartialEq, Eq)]
+pub(crate) enum Standing {
+    /// They stand for an Office.
+    Whole,
+    /// They stand for none, and are those of another version.
+    Other,
+    /// They stand for none.
+    Broken,
+}
+
+/// Whether the rows of the tables are those of a sound Office. Where they are, a label or a text that can't be read is a
+/// failure of the store.
+fn is_office<S: Alter>(alloc: Global, transaction: &mut Transaction<'_, S>) -> Result<bool, Error>
+    ensures same_reference { transaction.new.conn.ghost_name ≡ transaction.old.conn.ghost_name }
+    ensures survives { Survives (state S.Store transaction.old.conn.now) (state S.Store transaction.new.conn.now)
+        (λ _. ⊥) }
+    ensures kept { Keeps (state S.Store transaction.old.conn.now) (state S.Store transaction.new.conn.now) }
+    ensures told { HasCleanDisk (state S.Store transaction.new.conn.now)
+        → IfOk result (λ is. TellsStanding (state S.Store transaction.old.conn.now) is) }
+{
+    let rows = read_tables(transaction)?;
+    let directory = Directory::new(alloc, rows.nodes)?;
+    let found = are_office_rows(
+        alloc,
+        &directory,
+        &rows.lists.0,
+        &rows.lists.1,
+        &rows.rest.0,
+        &rows.rest.1,
+    )?;
+    let told = readable(&directory, found)?;
+    Ok(told)
+}
+
+/// The same, in a transaction of its own.
+fn stands_for_one<S: Alter>(alloc: Global, connection: &mut Connection<S>) -> Result<bool, Error>
+    ensures stays { HasCleanDisk (state S.Store connection.new)
+        → Stays (state S.Store connection.old) (state S.Store connection.new) }
+    ensures survives { Survives (state S.Store connection.old) (state S.Store connection.new) (λ _. ⊥) }
+    ensures told { HasCleanDisk (state S.Store connection.new)
+        → IfOk result (λ is. TellsStanding (state S.Store connection.old) is) }
+{
+    if !connection.is_autocommit() {
+        return Err(Error::SqliteFailure(ErrorCode::TransactionState));
+    }
+    let mut transaction = connection.transaction();
+    is_office(alloc, &mut transaction)
+}
+
+/// Whether `meta` has one row with another version, read in a transaction of its own.
+fn tells_other<S: Alter>(connection: &mut Connection<S>) -> Result<bool, Error>
+    ensures stays { HasCleanDisk (state S.Store connection.new)
+        → Stays (state S.Store connection.old) (state S.Store connection.new) }
+    ensures survives { Survives (state S.Store connection.old) (state S.Store connection.new) (λ _. ⊥) }
+    ensures told { HasCleanDisk (state S.Store connection.new)
+        → IfOk result (λ other. TellsOther S.Store (state S.Store connection.old).now other) }
+{
+    if !connection.is_autocommit() {
+        return Err(Error::SqliteFailure(ErrorCode::TransactionState));
+    }
+    let mut transaction = connection.transaction();
+    says_other_version(&mut transaction)
+}
+
+/// Whether the tables stand for an Office, where they are the tables of a store.
+fn is_whole<S: Alter>(alloc: Global, connection: &mut Connection<S>) -> Result<bool, Error>
+    ensures stays { HasCleanDisk (state S.Store connection.new)
+        → Stays (state S.Store connection.old) (state S.Store connection.new) }
+    ensures survives { Survives (state S.Store connection.old) (state S.Store connection.new) (λ _. ⊥) }
+    ensures told { HasCleanDisk (state S.Store connection.new)
+        → ((state S.Store connection.old).now.schema ≡ book_schema → IsBook (state S.Store connection.old).now)
+        → IfOk result (λ is. (IsTrue is → IsWhole (state S.Store connection.old).now)
+        × (StandsForOne (state S.Store connection.old).now → IsTrue is)) }
+{
+    if !is_book_schema(connection.schema()) {
+        return Ok(false);
+    }
+    let found = stands_for_one(alloc, connection)?;
+    Ok(found)
+}
+
+/// What the tables of a connection are.
+fn standing_of<S: Alter>(alloc: Global, connection: &mut Connection<S>) -> Result<Standing, Error>
+    ensures stays { HasCleanDisk (state S.Store connection.new)
+        → Stays (state S.Store connection.old) (state S.Store connection.new) }
+    ensures survives { Survives (state S.Store connection.old) (state S.Store connection.new) (λ _. ⊥) }
+    ensures told { HasCleanDisk (state S.Store connection.new)
+        → ((state S.Store connection.old).now.schema ≡ book_schema → IsBook (state S.Store connection.old).now)
+        → IfOk result (λ standing. IsStanding (state S.Store connection.old).now standing) }
+    ensures other { HasCleanDisk (state S.Store connection.new) → IsTrue (state S.Store connection.new).is_open
+        → IfOk result (λ standing. StandingSays S.Store (state S.Store connection.new).now standing) }
+{
+    if is_whole(alloc, connection)? {
+        return Ok(Standing::Whole);
+    }
+    if tells_other(connection)? {
+        return Ok(Standing::Other);
+    }
+    Ok(Standing::Broken)
+}
+
+/// Tells want of memory from any other failure.
+fn open_fault_of(error: Error) -> OpenFault
+    ensures told { result ≡ open_fault error }
+    ensures either { (result ≡ OpenFault.Memory) ⊎ (result ≡ OpenFault.Store) }
+{
+    match error {
+        Error::SqliteFailure(ErrorCode::OutOfMemory) => OpenFault::Memory,
+        _ => OpenFault::Store,
+    }
+}
+
+/// The tables of a connection that was opened again.
+fn open_again<S: Alter>(
+    alloc: Global,
+    mut connection: Connection<S>,
+) -> Result<Tables<S>, (OpenFault, Option<Connection<S>>)>
+    ensures stands { IsReopened (state S.Store connection) → IfOk result (λ t. HasCleanDisk (state S.Store t.connection)
+        → IsOpened (state S.Store connection) (state S.Store t.connection)) }
+    ensures counted { IfOk result (λ t. t.failures ≡ 0) }
+    ensures refused { IsReopened (state S.Store connection) → IfErr result (λ e. IsRefused e.0 → IsSomeAnd e.1 (λ c.
+        HasCleanDisk (state S.Store c) → StandsForNone (state S.Store c))) }
+    ensures other { IfErr result (λ e. IsRefused e.0 → IsSomeAnd e.1 (λ c. HasCleanDisk (state S.Store c)
+        → IsTrue (state S.Store c).is_open → FaultSays S.Store (state S.Store c).now e.0)) }
+{
+    match standing_of(alloc, &mut connection) {
+        Ok(Standing::Whole) => Ok(Tables::over(connection)),
+        Ok(Standing::Other) => Err((OpenFault::OtherVersion, Some(connection))),
+        Ok(Standing::Broken) => Err((OpenFault::NoStore, Some(connection))),
+        Err(error) => Err((open_fault_of(error), Some(connection))),
+    }
+}
+
+/// Opens the tables of a store that is there, as its last commit left it. They are given where their rows stand for a
+/// sound Office, and a stop just after leaves that one alone; its labels and texts are UTF-8. Every row is read and tested, which takes a number of
+/// comparisons that grows as the number of rows times its logarithm.
+///
+/// # Errors
+///
+/// `OtherVersion` where the rows stand for no Office, and `meta` has one row, with another version; `NoStore` where they
+/// stand for no Office else. `Memory` is want of memory, `Store` any other failure of the store, also a label or a text
+/// of a node that is not UTF-8. The connection comes back but where the store could not be opened again.
+pub fn open<S: Alter + Drop>(
+    alloc: Global,
+    connection: Connection<S>,
+) -> Result<Tables<S>, (OpenFault, Option<Connection<S>>)>
+    ensures stands { IfOk result (λ t. HasCleanDisk (state S.Store t.connection)
+        → StandsForItsOffice (state S.Store t.connection)) }
+    ensures readable { IfOk result (λ t. HasCleanDisk (state S.Store t.connection)
+        → IsTrue (state S.Store t.connection).is_open → AreReadable (state S.Store t.connection).now) }
+    ensures same { IfOk result (λ t. HasCleanDisk (state S.Store t.connection)
+        → IsTrue (state S.Store t.connection).is_open
+        → (state S.Store t.connection).now.trees ≡ (state S.Store connection).committed.trees) }
+    ensures counted { IfOk result (λ t. t.failures ≡ 0) }
+    ensures refused { IfErr result (λ e. IsRefused e.0 → IsSomeAnd e.1 (λ c.
+        HasCleanDisk (state S.Store c) → StandsForNone (state S.Store c))) }
+    ensures other { IfErr result (λ e. IsRefused e.0 → IsSomeAnd e.1 (λ c. HasCleanDisk (state S.Store c)
+        → IsTrue (state S.Store c).is_open → FaultSays S.Store (state S.Store c).now e.0)) }
+{
+    match reopen(alloc, connection) {
+        Ok(opened) => open_again(alloc, opened),
+        Err(error) => Err((open_fault_of(error), None)),
+    }
+}

@@ -1,0 +1,42 @@
+//! The tables of a store as lists of rows, and the fixed SQL texts that read and write them.
+//!
+//! It stands on `sqlite`, knows of tables alone, and nothing of an Office. The crate above uses two promises. A read
+//! inside a transaction leaves the five tables as they were and tells rows of them. An edit is one whole
+//! transaction: at `Ok` it is committed and has made of the five lists of rows what its change says; at an error an
+//! open connection shows what it showed; and a stop may leave the tables as before or as after it, and no third.
+//!
+//! Read `specs/Schema` first, the tables with their columns and rules; `specs/Writes`, what each statement and each
+//! edit makes of the rows; `specs/Steps`, what a call does to a connection; and `specs/Nodes`, `specs/Adopting`
+//! and `specs/Lists`, the changes that edits make and what reads tell. Of the code, `nodes`, `cards` and
+//! `epochs` have one statement a function; `putting`, `changing`, `removing`, `copying`, `moving`, `labels`, `setting`
+//! and `adopting` the edits; `lists` and `counting` the reads of several rows.
+#![tactic(auto)]
+
+mod adopting;
+mod cards;
+mod changing;
+mod copying;
+mod counting;
+mod epochs;
+mod labels;
+mod lists;
+mod moving;
+mod nodes;
+mod putting;
+mod removing;
+mod setting;
+
+pub use adopting::{GroupRow, ListsRow, PlaceRow, adopt_rows, both_lists_are_read};
+pub use changing::{add_book, remove_card};
+pub use copying::copy_card;
+pub use counting::count_children;
+pub use epochs::read_epoch;
+pub use labels::{label_card, label_node};
+pub use lists::{
+    changed_rows, child_entry_rows, child_rows, entry_rows, entry_rows_at, gone_rows, member_rows,
+};
+pub use moving::move_card;
+pub use nodes::{FoundNode, insert_node, look_up};
+pub use putting::put_card;
+pub use removing::remove_book;
+pub use setting::{EntryRow, set_list, set_members, written_lists_are_read};

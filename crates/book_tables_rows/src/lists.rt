@@ -1,0 +1,150 @@
+//! Lists of entries, children, members and changes.
+
+ghost use Rattle.std.specs.Prelude.{◌≡◌, ◌<◌, ◌^◌, IfOk};
+ghost use Rattle.sqlite.specs.Held.{state};
+ghost use Rattle.sqlite.specs.State.{HasCleanDisk, Survives};
+ghost use Rattle.book_tables_rows.specs.Lists.{ShowsList, ShowsRows, ShowsChildren, ShowsChildEntries, ShowsEntriesAt, pairs_of, gone_after, changed_rows};
+ghost use Rattle.book_tables_rows.specs.Steps.{Keeps, Spares};
+
+use sqlite::{Alter, Error, Row, Transaction, params};
+
+/// The rows of the protected or the own list of the node with a number, in order of their places: form, principal,
+/// invert, deny and mask of each entry.
+pub fn entry_rows<S: Alter>(
+    transaction: &mut Transaction<'_, S>,
+    node: i64,
+    protected: bool,
+) -> Result<Vec<Row>, Error>
+    ensures same_reference { transaction.new.conn.ghost_name ≡ transaction.old.conn.ghost_name }
+    ensures survives { Survives (state S.Store transaction.old.conn.now) (state S.Store transaction.new.conn.now)
+        (λ _. ⊥) }
+    ensures kept { Keeps (state S.Store transaction.old.conn.now) (state S.Store transaction.new.conn.now) }
+    ensures stays { Spares (state S.Store transaction.old.conn.now) (state S.Store transaction.new.conn.now) result }
+    ensures shown { HasCleanDisk (state S.Store transaction.new.conn.now)
+        → IfOk result (λ rows. ShowsList (state S.Store transaction.old.conn.now) node protected rows.items) }
+{
+    transaction.query_all(
+        "SELECT form, principal, invert, deny, mask FROM ace WHERE node = ?1 AND protected = ?2 ORDER BY place",
+        params![node, protected],
+    )
+}
+
+/// The entries of the node at a path, its own list before its protected one, in order of their places; none where no
+/// row has the path: the node's number, whether the list is the protected one, form, principal, invert, deny and mask
+/// of each.
+pub fn entry_rows_at<S: Alter>(
+    transaction: &mut Transaction<'_, S>,
+    path: &str,
+) -> Result<Vec<Row>, Error>
+    ensures same_reference { transaction.new.conn.ghost_name ≡ transaction.old.conn.ghost_name }
+    ensures survives { Survives (state S.Store transaction.old.conn.now) (state S.Store transaction.new.conn.now)
+        (λ _. ⊥) }
+    ensures kept { Keeps (state S.Store transaction.old.conn.now) (state S.Store transaction.new.conn.now) }
+    ensures stays { Spares (state S.Store transaction.old.conn.now) (state S.Store transaction.new.conn.now) result }
+    ensures shown { HasCleanDisk (state S.Store transaction.new.conn.now)
+        → IfOk result (λ rows. ShowsEntriesAt (state S.Store transaction.old.conn.now) path.now rows.items) }
+{
+    transaction.query_all(
+        "SELECT ace.node, protected, form, principal, invert, deny, mask FROM node, ace WHERE path = ?1 AND ace.node = node.id ORDER BY ace.node, protected, place",
+        params![path],
+    )
+}
+
+/// The children of the node with a number, in order of their paths: number of the row, path, kind, owner, label and
+/// change number of each.
+pub fn child_rows<S: Alter>(
+    transaction: &mut Transaction<'_, S>,
+    node: i64,
+) -> Result<Vec<Row>, Error>
+    ensures same_reference { transaction.new.conn.ghost_name ≡ transaction.old.conn.ghost_name }
+    ensures survives { Survives (state S.Store transaction.old.conn.now) (state S.Store transaction.new.conn.now)
+        (λ _. ⊥) }
+    ensures kept { Keeps (state S.Store transaction.old.conn.now) (state S.Store transaction.new.conn.now) }
+    ensures stays { Spares (state S.Store transaction.old.conn.now) (state S.Store transaction.new.conn.now) result }
+    ensures shown { HasCleanDisk (state S.Store transaction.new.conn.now)
+        → IfOk result (λ rows. ShowsChildren (state S.Store transaction.old.conn.now) node rows.items) }
+{
+    transaction.query_all(
+        "SELECT id, path, kind, owner, label, number FROM node WHERE parent = ?1 ORDER BY path",
+        params![node],
+    )
+}
+
+/// The entries of all children of the node with a number, in order of the child's number, its own list before its
+/// protected one, and of their places: the child's number, whether the list is the protected one, form, principal,
+/// invert, deny and mask of each.
+pub fn child_entry_rows<S: Alter>(
+    transaction: &mut Transaction<'_, S>,
+    node: i64,
+) -> Result<Vec<Row>, Error>
+    ensures same_reference { transaction.new.conn.ghost_name ≡ transaction.old.conn.ghost_name }
+    ensures survives { Survives (state S.Store transaction.old.conn.now) (state S.Store transaction.new.conn.now)
+        (λ _. ⊥) }
+    ensures kept { Keeps (state S.Store transaction.old.conn.now) (state S.Store transaction.new.conn.now) }
+    ensures stays { Spares (state S.Store transaction.old.conn.now) (state S.Store transaction.new.conn.now) result }
+    ensures shown { HasCleanDisk (state S.Store transaction.new.conn.now)
+        → IfOk result (λ rows. ShowsChildEntries (state S.Store transaction.old.conn.now) node rows.items) }
+{
+    transaction.query_all(
+        "SELECT ace.node, protected, form, principal, invert, deny, mask FROM node, ace WHERE parent = ?1 AND node.id = ace.node ORDER BY ace.node, protected, place",
+        params![node],
+    )
+}
+
+/// The children of the node with a number that have a change number above another, in some order: number of the row,
+/// path, owner, label, text and change number of each.
+pub fn changed_rows<S: Alter>(
+    transaction: &mut Transaction<'_, S>,
+    node: i64,
+    number: u64,
+) -> Result<Vec<Row>, Error>
+    requires { number < 2 ^ 53 }
+    ensures same_reference { transaction.new.conn.ghost_name ≡ transaction.old.conn.ghost_name }
+    ensures survives { Survives (state S.Store transaction.old.conn.now) (state S.Store transaction.new.conn.now)
+        (λ _. ⊥) }
+    ensures kept { Keeps (state S.Store transaction.old.conn.now) (state S.Store transaction.new.conn.now) }
+    ensures stays { Spares (state S.Store transaction.old.conn.now) (state S.Store transaction.new.conn.now) result }
+    ensures shown { HasCleanDisk (state S.Store transaction.new.conn.now)
+        → IfOk result (λ rows. ShowsRows (state S.Store transaction.old.conn.now) (changed_rows node number)
+        rows.items) }
+{
+    transaction.query_all(
+        "SELECT id, path, owner, label, text, number FROM node WHERE parent = ?1 AND number > ?2",
+        params![node, number as i64],
+    )
+}
+
+/// The removed names of the book with a number that have a change number above another, in some order: name and
+/// change number of each.
+pub fn gone_rows<S: Alter>(
+    transaction: &mut Transaction<'_, S>,
+    book: i64,
+    number: u64,
+) -> Result<Vec<Row>, Error>
+    requires { number < 2 ^ 53 }
+    ensures same_reference { transaction.new.conn.ghost_name ≡ transaction.old.conn.ghost_name }
+    ensures survives { Survives (state S.Store transaction.old.conn.now) (state S.Store transaction.new.conn.now)
+        (λ _. ⊥) }
+    ensures kept { Keeps (state S.Store transaction.old.conn.now) (state S.Store transaction.new.conn.now) }
+    ensures stays { Spares (state S.Store transaction.old.conn.now) (state S.Store transaction.new.conn.now) result }
+    ensures shown { HasCleanDisk (state S.Store transaction.new.conn.now)
+        → IfOk result (λ rows. ShowsRows (state S.Store transaction.old.conn.now) (gone_after book number) rows.items) }
+{
+    transaction.query_all(
+        "SELECT name, number FROM gone WHERE book = ?1 AND number > ?2",
+        params![book, number as i64],
+    )
+}
+
+/// The direct members of all groups, in some order: the paths of group and member of each pair.
+pub fn member_rows<S: Alter>(transaction: &mut Transaction<'_, S>) -> Result<Vec<Row>, Error>
+    ensures same_reference { transaction.new.conn.ghost_name ≡ transaction.old.conn.ghost_name }
+    ensures survives { Survives (state S.Store transaction.old.conn.now) (state S.Store transaction.new.conn.now)
+        (λ _. ⊥) }
+    ensures kept { Keeps (state S.Store transaction.old.conn.now) (state S.Store transaction.new.conn.now) }
+    ensures stays { Spares (state S.Store transaction.old.conn.now) (state S.Store transaction.new.conn.now) result }
+    ensures shown { HasCleanDisk (state S.Store transaction.new.conn.now)
+        → IfOk result (λ rows. ShowsRows (state S.Store transaction.old.conn.now) pairs_of rows.items) }
+{
+    transaction.query_all("SELECT grp, member FROM member", &[])
+}

@@ -1,0 +1,5 @@
+pub mod Common
+pub mod Tabling
+pub mod FirstRows
+pub mod RisingRows
+pub mod WholeTables

@@ -1,0 +1,109 @@
+//! The texts that make the tables and their indexes.
+
+ghost use Rattle.std.specs.Prelude.{◌≡◌, OnOk, IsTrue};
+ghost use Rattle.sqlite.specs.Held.{state};
+ghost use Rattle.sqlite.specs.State.{HasCleanDisk, Survives};
+ghost use Rattle.book_tables_rows.specs.Steps.{Keeps};
+ghost use Rattle.book_tables_schema.specs.Founding.{Extending, Ran, no_schema, with_member, with_meta, with_owner, with_all};
+
+use sqlite::{Alter, Error, Transaction};
+
+/// Runs a text that has no parameters.
+fn run<S: Alter>(transaction: &mut Transaction<'_, S>, sql: &str) -> Result<(), Error>
+    ensures same_reference { transaction.new.conn.ghost_name ≡ transaction.old.conn.ghost_name }
+    ensures survives { Survives (state S.Store transaction.old.conn.now) (state S.Store transaction.new.conn.now)
+        (λ _. ⊥) }
+    ensures kept { Keeps (state S.Store transaction.old.conn.now) (state S.Store transaction.new.conn.now) }
+    ensures done { HasCleanDisk (state S.Store transaction.new.conn.now)
+        → IsTrue (state S.Store transaction.old.conn.now).in_transaction
+        → OnOk result (Ran sql.now (state S.Store transaction.old.conn.now) (state S.Store transaction.new.conn.now)) }
+{
+    transaction.execute(sql, &[])?;
+    Ok(())
+}
+
+/// Makes the tables of nodes, of entries and of members.
+fn make_first_tables<S: Alter>(transaction: &mut Transaction<'_, S>) -> Result<(), Error>
+    ensures same_reference { transaction.new.conn.ghost_name ≡ transaction.old.conn.ghost_name }
+    ensures survives { Survives (state S.Store transaction.old.conn.now) (state S.Store transaction.new.conn.now)
+        (λ _. ⊥) }
+    ensures kept { Keeps (state S.Store transaction.old.conn.now) (state S.Store transaction.new.conn.now) }
+    ensures done { Extending (state S.Store transaction.old.conn.now) (state S.Store transaction.new.conn.now) result
+        no_schema with_member }
+{
+    run(
+        transaction,
+        "CREATE TABLE node (id INTEGER PRIMARY KEY, path TEXT NOT NULL UNIQUE, parent INTEGER REFERENCES node ON DELETE CASCADE, kind INTEGER NOT NULL, owner TEXT REFERENCES node (path), label TEXT NOT NULL, text TEXT, number INTEGER NOT NULL) STRICT",
+    )?;
+    run(
+        transaction,
+        "CREATE TABLE ace (node INTEGER NOT NULL REFERENCES node ON DELETE CASCADE, protected INTEGER NOT NULL, place INTEGER NOT NULL, form INTEGER NOT NULL, principal TEXT REFERENCES node (path), invert INTEGER NOT NULL, deny INTEGER NOT NULL, mask INTEGER NOT NULL, PRIMARY KEY (node, protected, place)) STRICT",
+    )?;
+    run(
+        transaction,
+        "CREATE TABLE member (grp TEXT NOT NULL REFERENCES node (path), member TEXT NOT NULL REFERENCES node (path), PRIMARY KEY (grp, member)) STRICT",
+    )
+}
+
+/// Makes the tables of removed names and of the version.
+fn make_last_tables<S: Alter>(transaction: &mut Transaction<'_, S>) -> Result<(), Error>
+    ensures same_reference { transaction.new.conn.ghost_name ≡ transaction.old.conn.ghost_name }
+    ensures survives { Survives (state S.Store transaction.old.conn.now) (state S.Store transaction.new.conn.now)
+        (λ _. ⊥) }
+    ensures kept { Keeps (state S.Store transaction.old.conn.now) (state S.Store transaction.new.conn.now) }
+    ensures done { Extending (state S.Store transaction.old.conn.now) (state S.Store transaction.new.conn.now) result
+        with_member with_meta }
+{
+    run(
+        transaction,
+        "CREATE TABLE gone (book INTEGER NOT NULL REFERENCES node ON DELETE CASCADE, name TEXT NOT NULL, number INTEGER NOT NULL, PRIMARY KEY (book, name)) STRICT",
+    )?;
+    run(
+        transaction,
+        "CREATE TABLE meta (version INTEGER NOT NULL, epoch INTEGER NOT NULL) STRICT",
+    )
+}
+
+/// Makes the indexes of children and of owners.
+fn make_node_indexes<S: Alter>(transaction: &mut Transaction<'_, S>) -> Result<(), Error>
+    ensures same_reference { transaction.new.conn.ghost_name ≡ transaction.old.conn.ghost_name }
+    ensures survives { Survives (state S.Store transaction.old.conn.now) (state S.Store transaction.new.conn.now)
+        (λ _. ⊥) }
+    ensures kept { Keeps (state S.Store transaction.old.conn.now) (state S.Store transaction.new.conn.now) }
+    ensures done { Extending (state S.Store transaction.old.conn.now) (state S.Store transaction.new.conn.now) result
+        with_meta with_owner }
+{
+    run(
+        transaction,
+        "CREATE INDEX node_parent ON node (parent, number)",
+    )?;
+    run(transaction, "CREATE INDEX node_owner ON node (owner)")
+}
+
+/// Makes the indexes of principals and of members.
+fn make_principal_indexes<S: Alter>(transaction: &mut Transaction<'_, S>) -> Result<(), Error>
+    ensures same_reference { transaction.new.conn.ghost_name ≡ transaction.old.conn.ghost_name }
+    ensures survives { Survives (state S.Store transaction.old.conn.now) (state S.Store transaction.new.conn.now)
+        (λ _. ⊥) }
+    ensures kept { Keeps (state S.Store transaction.old.conn.now) (state S.Store transaction.new.conn.now) }
+    ensures done { Extending (state S.Store transaction.old.conn.now) (state S.Store transaction.new.conn.now) result
+        with_owner with_all }
+{
+    run(transaction, "CREATE INDEX ace_principal ON ace (principal)")?;
+    run(transaction, "CREATE INDEX member_member ON member (member)")
+}
+
+/// Makes the five tables with their indexes.
+pub(crate) fn make_tables<S: Alter>(transaction: &mut Transaction<'_, S>) -> Result<(), Error>
+    ensures same_reference { transaction.new.conn.ghost_name ≡ transaction.old.conn.ghost_name }
+    ensures survives { Survives (state S.Store transaction.old.conn.now) (state S.Store transaction.new.conn.now)
+        (λ _. ⊥) }
+    ensures kept { Keeps (state S.Store transaction.old.conn.now) (state S.Store transaction.new.conn.now) }
+    ensures done { Extending (state S.Store transaction.old.conn.now) (state S.Store transaction.new.conn.now) result
+        no_schema with_all }
+{
+    make_first_tables(transaction)?;
+    make_last_tables(transaction)?;
+    make_node_indexes(transaction)?;
+    make_principal_indexes(transaction)
+}

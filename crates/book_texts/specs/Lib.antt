@@ -1,4 +1,0 @@
-pub mod Runs
-pub mod CardSummaries
-pub mod Failures
-pub mod ShortTexts

@@ -1,7 +1,0 @@
-use Rattle.std.proofs.Common.{subst}
-use Rattle.book_values.specs.Changes.{AreNumbers}
-use Rattle.book_values.proofs.Indexes.{indexed_are}
-use Rattle.book_values.proofs.collections.changes.Changes.known.Goals as goal
-
-pub returns : goal.returns
-returns c = subst AreNumbers c.self.view_is (indexed_are c.self.inside.numbers c.self.inside.names c.self.invariant)

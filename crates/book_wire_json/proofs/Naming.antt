@@ -1,0 +1,43 @@
+-- Principals and privileges by their names.
+use Rattle.book_wire_json.proofs.Common.{◌≡◌, ℕ, List, [], ◌∷◌, ◌++◌, refl, sym, subst, Data, null, string, AllName}
+use Rattle.std.proofs.Common.{◌≢◌}
+use Rattle.book_lists_explain.specs.Lines.{Names}
+use Rattle.book_lists.specs.Principals.{IsPerson, IsGroup}
+use Rattle.book_lists_explain.proofs.LineFaults.{no_group, one_path}
+use Rattle.book_lists.specs.declared.circles.Caller.{Caller}
+use Rattle.book_lists.specs.declared.circles.Caller.TheVariants as caller
+use Rattle.book_machine.specs.declared.messages.ReportKind.{ReportKind}
+use Rattle.book_machine.specs.declared.messages.ReportKind.TheVariants as report
+use Rattle.book_wire_json.specs.Reports.{IsReport, IsCallerIn, sync_collection, effective, group_members}
+use Rattle.book_lists.specs.declared.entries.Who.{Who}
+use Rattle.book_lists.specs.declared.entries.Who.TheVariants as form
+
+-- one more text that names a principal
+pub names_more : (texts paths : List (List ℕ)) (text path : List ℕ) → AllName texts paths → Names text path → AllName (texts ++ text ∷ []) (paths ++ path ∷ [])
+names_more [] [] text path all names = (names, tt)
+names_more [] (p ∷ paths) text path all names = absurd all
+names_more (t ∷ texts) [] text path all names = absurd all
+names_more (t ∷ texts) (p ∷ paths) text path all names = (all.0, names_more texts paths text path all.1 names)
+
+-- a text that names a group names no person
+pub no_person : (text group : List ℕ) → Names text group → IsGroup group → (path : List ℕ) → IsPerson path → Names text path → ⊥
+no_person text group named is path person names = no_group path person (subst IsGroup (one_path text group path named names) is)
+
+-- a value that is none of the three asks no report
+pub no_report : (d : Data) → ((text : List ℕ) → d ≢ sync_collection text) → ((who : Data) → d ≢ effective who) → d ≢ group_members
+    → (r : ReportKind) → IsReport d r → ⊥
+no_report d a b e (report.SyncCollection from) is = a is.0 is.1
+no_report d a b e report.GroupMembers is = e is
+no_report d a b e (report.Effective caller) is = b is.0 is.1
+
+string_same : (d : Data) (a b : List ℕ) → d ≡ string a → d ≡ string b → a ≡ b
+string_same d a b x y = cc (x, y)
+
+no_null : (a : List ℕ) → string a ≡ null → ⊥
+no_null a e = cc e
+
+-- a text that names no person names no caller
+pub no_caller : (text : List ℕ) → ((path : List ℕ) → IsPerson path → Names text path → ⊥) → (c : Caller) → IsCallerIn (string text) c → ⊥
+no_caller text none caller.Nobody is = no_null text is
+no_caller text none (caller.Known person) is =
+    none person is.2 (subst (λ t. Names t person) (sym (string_same (string text) text is.0 refl is.1)) is.3)

@@ -1,0 +1,9 @@
+use Rattle.book_wire_json.proofs.Common.{sym, ◌∙◌, false≢true}
+use Rattle.book_wire_json.proofs.Utf8.{json_read, json_none}
+use Rattle.book_wire_json.proofs.forms.json_of.Goals as goal
+
+pub returns-in-Ok : goal.returns-in-Ok
+returns-in-Ok c = json_read _ _ c.in-Ok.ensures.ok.0 c.in-Ok.ensures.ok.1
+
+pub returns-else-is_memory : goal.returns-else-is_memory
+returns-else-is_memory c = json_none _ (c.in-Err.ensures.err (λ memory. false≢true (sym c.if-is_memory.false ∙ c.is_memory.ensures.1 memory)))

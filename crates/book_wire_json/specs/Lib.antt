@@ -1,0 +1,15 @@
+pub mod Forms
+pub mod Properties
+pub mod Principals
+pub mod Privileges
+pub mod Entries
+pub mod Patches
+pub mod Reports
+pub mod Bodies
+pub mod Refusals
+pub mod Denials
+pub mod PropertyValues
+pub mod Listings
+pub mod Members
+pub mod SyncReports
+pub mod Rulings

@@ -1,0 +1,119 @@
+-- Properties as JSON (RFC 4918, section 15; RFC 3744, sections 4 and 5; RFC 6578, section 4; own profile).
+use Rattle.std.specs.Prelude.{ℕ, Bool, true, false, List, [], ◌∷◌, map, codes, Option, Some, None}
+use Rattle.serde_json.specs.Data.{Data, null, boolean, string, array, object, Members, no_members, put}
+use Rattle.serde_json.specs.View.{items_of}
+use Rattle.book_rights.specs.Privileges.{name_of}
+use Rattle.book_rights.specs.declared.privileges.Privilege.{Privilege}
+use Rattle.book_lists.specs.declared.entries.Who.{Who}
+use Rattle.book_lists.specs.declared.entries.Who.TheVariants as form
+use Rattle.book_office_values.specs.Paths.{path_text}
+use Rattle.book_office_values.specs.declared.paths.Kind.{Kind}
+use Rattle.book_office_values.specs.declared.paths.Kind.TheVariants as kind
+use Rattle.book_office_values.specs.declared.paths.Path.{Path}
+use Rattle.book_office_sync.specs.Tokens.{token_text}
+use Rattle.book_office_sync.specs.declared.messages.Token.{Token}
+use Rattle.book_office_listings.specs.declared.messages.AclEntry.{AclEntry}
+use Rattle.book_office_listings.specs.declared.messages.PropertyValue.{PropertyValue}
+use Rattle.book_office_listings.specs.declared.messages.PropertyValue.TheVariants as value
+
+-- a principal form: the path of a principal, or a word
+abbrev pub form_text : Who → List ℕ
+form_text (form.Href path) = path
+form_text form.Everyone = codes "all"
+form_text form.Authenticated = codes "authenticated"
+form_text form.Unauthenticated = codes "unauthenticated"
+form_text form.Owner = codes "owner"
+form_text form.Own = codes "self"
+
+abbrev pub kind_name : Kind → List ℕ
+kind_name kind.Root = codes "root"
+kind_name kind.Home = codes "home"
+kind_name kind.Person = codes "person"
+kind_name kind.Group = codes "group"
+kind_name kind.Book = codes "book"
+kind_name kind.Card = codes "card"
+
+abbrev pub privilege_data : Privilege → Data
+privilege_data privilege = string (name_of privilege)
+
+-- [NAME, ..]
+abbrev pub privileges_data : List Privilege → Data
+privileges_data privileges = array (items_of (map privilege_data privileges))
+
+abbrev pub action_key : Bool → List ℕ
+action_key true = codes "deny"
+action_key false = codes "grant"
+
+abbrev pub form_key : Bool → List ℕ
+form_key true = codes "invert"
+form_key false = codes "principal"
+
+-- the mark of an entry that is protected
+abbrev pub with_protected : Bool → Members → Members
+with_protected true members = put (codes "protected") (boolean true) members
+with_protected false members = members
+
+-- where an entry stands that is inherited
+abbrev pub with_inherited : Option Path → Members → Members
+with_inherited None members = members
+with_inherited (Some from) members = put (codes "inherited") (string (path_text from)) members
+
+-- an entry (RFC 3744, section 5.5): `grant` or `deny`, `principal` or `invert`, `protected` true where it is protected, and
+-- `inherited` where it stands at an ancestor; keys in byte order
+abbrev pub entry_members : AclEntry → Members
+entry_members e =
+    with_inherited e.inherited (with_protected e.protected
+    (put (form_key e.invert) (string (form_text e.who))
+    (put (action_key e.deny) (privileges_data e.privileges) no_members)))
+
+abbrev pub acl_entry_data : AclEntry → Data
+acl_entry_data e = object (entry_members e)
+
+-- [ENTRY, ..]
+abbrev pub acl_data : List AclEntry → Data
+acl_data entries = array (items_of (map acl_entry_data entries))
+
+-- a text, or null
+abbrev pub text_or_null : Option (List ℕ) → Data
+text_or_null None = null
+text_or_null (Some text) = string text
+
+-- [PATH, ..]
+abbrev pub paths_data : List (List ℕ) → Data
+paths_data paths = array (items_of (map string paths))
+
+abbrev pub paths_or_null : Option (List (List ℕ)) → Data
+paths_or_null None = null
+paths_or_null (Some paths) = paths_data paths
+
+abbrev pub token_or_null : Option Token → Data
+token_or_null None = null
+token_or_null (Some token) = string (token_text token)
+
+-- the name of the property that a value is of
+abbrev pub property_name : PropertyValue → List ℕ
+property_name (value.DisplayName label) = codes "displayname"
+property_name (value.ResourceType kind) = codes "resourcetype"
+property_name (value.Owner owner) = codes "owner"
+property_name (value.Acl entries) = codes "acl"
+property_name (value.CurrentUserPrivilegeSet privileges) = codes "current-user-privilege-set"
+property_name (value.GroupMemberSet members) = codes "group-member-set"
+property_name (value.SyncToken token) = codes "sync-token"
+
+abbrev pub property_data : PropertyValue → Data
+property_data (value.DisplayName label) = string label
+property_data (value.ResourceType kind) = string (kind_name kind)
+property_data (value.Owner owner) = text_or_null owner
+property_data (value.Acl entries) = acl_data entries
+property_data (value.CurrentUserPrivilegeSet privileges) = privileges_data privileges
+property_data (value.GroupMemberSet members) = paths_or_null members
+property_data (value.SyncToken token) = token_or_null token
+
+-- the members, and each value under the name of its property
+abbrev pub with_properties : Members → List PropertyValue → Members
+with_properties members [] = members
+with_properties members (v ∷ vs) = with_properties (put (property_name v) (property_data v) members) vs
+
+-- {NAME:VALUE, ..}
+abbrev pub prop_data : List PropertyValue → Data
+prop_data values = object (with_properties no_members values)

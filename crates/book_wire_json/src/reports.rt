@@ -1,0 +1,150 @@
+//! The body of a REPORT.
+
+ghost use Rattle.std.specs.Prelude.{◌≡◌, ◌≢◌, ◌↔◌, ℕ, List, IsTrue, IfOk, MatchOption, option_map};
+ghost use Rattle.serde_json.specs.Data.{Data};
+ghost use Rattle.serde_json.specs.View.{view};
+ghost use Rattle.book_lists.specs.declared.circles.Caller.{Caller};
+ghost use Rattle.book_machine.specs.declared.messages.ReportKind.{ReportKind};
+ghost use Rattle.book_wire_json.specs.Reports.{sync_collection, group_members, effective, IsFrom, IsCallerIn, IsReport, IsReportBody};
+
+use crate::principals::person_in;
+use book_lists::Caller;
+use book_machine::{Body, ReportKind, SyncFrom};
+use book_office_sync::Token;
+use serde_json::Value;
+use std::alloc::{AllocError, Global};
+
+/// From where the text of a token asks. An error is want of memory.
+fn sync_from(alloc: Global, text: &str) -> Result<SyncFrom, AllocError>
+    ensures { IfOk result (IsFrom text.now) }
+{
+    if text.is_empty() {
+        return Ok(SyncFrom::Start);
+    }
+    match Token::parse(alloc, text)? {
+        Some(token) => Ok(SyncFrom::After(token)),
+        None => Ok(SyncFrom::Unknown),
+    }
+}
+
+/// The caller that the value names: null is nobody, and a text names a person. An error is want of memory.
+fn caller_in(alloc: Global, who: &Value) -> Result<Option<Caller>, AllocError>
+    ensures { IfOk result (λ found. MatchOption found
+        ((caller : Caller) → IsCallerIn (view who.now) caller → ⊥)
+        (IsCallerIn (view who.now))) }
+{
+    match who {
+        Value::Null => Ok(Some(Caller::Nobody)),
+        Value::String(text) => match person_in(alloc, text.as_str())? {
+            Some(person) => Ok(Some(Caller::Known(person))),
+            None => Ok(None),
+        },
+        _ => Ok(None),
+    }
+}
+
+/// The text of the token, where the value asks for a sync report.
+fn sync_collection(value: &Value) -> Option<&str>
+    ensures { MatchOption result
+        ((text : List ℕ) → view value.now ≢ sync_collection text)
+        (λ text. view value.now ≡ sync_collection text.now) }
+{
+    match value {
+        Value::Object(members) => {
+            let mut members = members.iter();
+            match (members.next(), members.next(), members.next()) {
+                (Some((report, Value::String(kind))), Some((token, Value::String(text))), None) => {
+                    if report.as_str() == "report"
+                        && kind.as_str() == "sync-collection"
+                        && token.as_str() == "sync-token"
+                    {
+                        Some(text.as_str())
+                    } else {
+                        None
+                    }
+                }
+                _ => None,
+            }
+        }
+        _ => None,
+    }
+}
+
+/// Whether the value asks for the members of a group card.
+fn is_group_members(value: &Value) -> bool
+    ensures { IsTrue result ↔ (view value.now ≡ group_members) }
+{
+    match value {
+        Value::Object(members) => {
+            let mut members = members.iter();
+            match (members.next(), members.next()) {
+                (Some((report, Value::String(kind))), None) => {
+                    report.as_str() == "report" && kind.as_str() == "group-members"
+                }
+                _ => false,
+            }
+        }
+        _ => false,
+    }
+}
+
+/// Whom the value names, where it asks what decides for somebody.
+fn effective(value: &Value) -> Option<&Value>
+    ensures { MatchOption result
+        ((who : Data) → view value.now ≢ effective who)
+        (λ who. view value.now ≡ effective (view who.now)) }
+{
+    match value {
+        Value::Object(members) => {
+            let mut members = members.iter();
+            match (members.next(), members.next(), members.next()) {
+                (Some((principal, who)), Some((report, Value::String(kind))), None) => {
+                    if principal.as_str() == "principal"
+                        && report.as_str() == "report"
+                        && kind.as_str() == "effective"
+                    {
+                        Some(who)
+                    } else {
+                        None
+                    }
+                }
+                _ => None,
+            }
+        }
+        _ => None,
+    }
+}
+
+/// The report that the value asks, if it asks one. An error is want of memory.
+fn report(alloc: Global, value: &Value) -> Result<Option<ReportKind>, AllocError>
+    ensures { IfOk result (λ found. MatchOption found
+        ((report : ReportKind) → IsReport (view value.now) report → ⊥)
+        (IsReport (view value.now))) }
+{
+    if let Some(text) = sync_collection(value) {
+        return Ok(Some(ReportKind::SyncCollection(sync_from(alloc, text)?)));
+    }
+    if let Some(who) = effective(value) {
+        return match caller_in(alloc, who)? {
+            Some(caller) => Ok(Some(ReportKind::Effective(caller))),
+            None => Ok(None),
+        };
+    }
+    if is_group_members(value) {
+        return Ok(Some(ReportKind::GroupMembers));
+    }
+    Ok(None)
+}
+
+/// The body of a REPORT (RFC 3253, section 3.6). An error is want of memory.
+pub(crate) fn report_body(alloc: Global, value: Option<&Value>) -> Result<Body, AllocError>
+    ensures { IfOk result (IsReportBody (option_map (λ v. view v.now) value.entry)) }
+{
+    match value {
+        Some(value) => match report(alloc, value)? {
+            Some(report) => Ok(Body::Report(report)),
+            None => Ok(Body::Unread),
+        },
+        None => Ok(Body::Unread),
+    }
+}

@@ -1,0 +1,336 @@
+//! Sync reports over a keeper in memory, and a replica that they keep (RFC 6578, section 3).
+//!
+//! The Office has the persons ann and bob, the epoch 4, and the books law, which is empty, and sales with two cards of
+//! bob: `a.vcf` with the label A and the text one, and `b.vcf` with the label B and the text two. Everyone may read the
+//! books, but ann not `b.vcf`: its own list denies it, before the list of `/books` grants it.
+
+use crate::checks::{check_fact, check_text};
+use book_lists::{Caller, Entry, Name, Pairs, Principal, Who};
+use book_office::{
+    Book, Changes, Edit, Items, Keeper, MemoryKeeper, NameMap, Office, Properties, StoredCard, Text,
+};
+use book_office_sync::{
+    Item, Replica, Token, apply_report, edits_lead_on, sync_report,
+    synced_copies_are_the_readable_book,
+};
+use book_rights::{Leaf, Privilege};
+use std::alloc::Global;
+use std::process::Abort;
+
+fn name(rt: &impl Abort, alloc: Global, text: &str) -> Name {
+    let name = Name::parse(alloc, text).expect(rt, "memory");
+    name.expect(rt, "a name")
+}
+
+fn text(rt: &impl Abort, alloc: Global, text: &str) -> Text {
+    Text::copy_of(alloc, text).expect(rt, "memory")
+}
+
+fn person(rt: &impl Abort, alloc: Global, text: &str) -> Principal {
+    Principal::person(alloc, &name(rt, alloc, text)).expect(rt, "memory")
+}
+
+fn reading(who: Who, deny: bool) -> Entry {
+    Entry {
+        who,
+        invert: false,
+        deny,
+        set: Privilege::One(Leaf::Read).leaves(),
+    }
+}
+
+fn card(rt: &impl Abort, alloc: Global, label: &str, content: &str) -> StoredCard {
+    StoredCard {
+        owner: Some(person(rt, alloc, "bob")),
+        label: text(rt, alloc, label),
+        own: Items::new(alloc),
+        text: text(rt, alloc, content),
+    }
+}
+
+fn empty_book(alloc: Global) -> Book {
+    Book {
+        properties: Properties::empty(alloc, None),
+        cards: NameMap::new(alloc),
+        changes: Changes::new(alloc),
+    }
+}
+
+fn add(rt: &impl Abort, alloc: Global, book: &mut Book, named: &str, card: StoredCard) {
+    let key = name(rt, alloc, named);
+    assert!(rt; book.changes.number() < 10);
+    book.changes.touch(&key).expect(rt, "memory");
+    book.cards.insert(key, card).expect(rt, "memory");
+}
+
+fn sales(rt: &impl Abort, alloc: Global) -> Book {
+    let mut book = empty_book(alloc);
+    add(rt, alloc, &mut book, "a.vcf", card(rt, alloc, "A", "one"));
+    let mut denied = card(rt, alloc, "B", "two");
+    let who = Who::Href(person(rt, alloc, "ann"));
+    denied.own.push(reading(who, true)).expect(rt, "memory");
+    add(rt, alloc, &mut book, "b.vcf", denied);
+    book
+}
+
+fn books(rt: &impl Abort, alloc: Global) -> NameMap<Book> {
+    let mut books = NameMap::new(alloc);
+    for (named, book) in [("law", empty_book(alloc)), ("sales", sales(rt, alloc))] {
+        books
+            .insert(name(rt, alloc, named), book)
+            .expect(rt, "memory");
+    }
+    books
+}
+
+fn persons(rt: &impl Abort, alloc: Global) -> NameMap<Properties> {
+    let mut persons = NameMap::new(alloc);
+    for named in ["ann", "bob"] {
+        persons
+            .insert(name(rt, alloc, named), Properties::empty(alloc, None))
+            .expect(rt, "memory");
+    }
+    persons
+}
+
+fn office(rt: &impl Abort, alloc: Global) -> Office {
+    let mut books_home = Properties::empty(alloc, None);
+    let everyone = reading(Who::Everyone, false);
+    books_home.own.push(everyone).expect(rt, "memory");
+    Office {
+        root: Properties::empty(alloc, None),
+        people: Properties::empty(alloc, None),
+        groups_home: Properties::empty(alloc, None),
+        books_home,
+        persons: persons(rt, alloc),
+        groups: NameMap::new(alloc),
+        books: books(rt, alloc),
+        pairs: Pairs::new(alloc),
+        epoch: 4,
+    }
+}
+
+/// The word at an index; empty where the line has fewer.
+fn word(line: &str, index: usize) -> &str {
+    line.split(' ').nth(index).unwrap_or("")
+}
+
+/// `put CARD TEXT`, `remove CARD`, `copy CARD CARD` and `move CARD CARD`, all in sales, and `take BOOK`.
+fn edit(rt: &impl Abort, alloc: Global, line: &str) -> Edit {
+    let first = name(rt, alloc, word(line, 1));
+    let book = name(rt, alloc, "sales");
+    match word(line, 0) {
+        "put" => Edit::PutCard {
+            book,
+            card: first,
+            owner: None,
+            text: text(rt, alloc, word(line, 2)),
+        },
+        "remove" => Edit::RemoveCard { book, card: first },
+        "copy" => Edit::CopyCard {
+            from_book: book,
+            from_card: first,
+            to_book: name(rt, alloc, "sales"),
+            to_card: name(rt, alloc, word(line, 2)),
+            owner: None,
+        },
+        "move" => Edit::MoveCard {
+            from_book: book,
+            from_card: first,
+            to_book: name(rt, alloc, "sales"),
+            to_card: name(rt, alloc, word(line, 2)),
+        },
+        _ => Edit::RemoveBook { book: first },
+    }
+}
+
+fn tell(rt: &impl Abort, answer: &mut String, item: &Item) {
+    let number = item.number;
+    let name = item.name.text();
+    match &item.found {
+        Some(found) => {
+            let label = found.label.as_str();
+            let text = found.text.as_str();
+            write!(answer, "{number} {name} [{label}] {text}\n").expect(rt, "memory");
+        }
+        None => write!(answer, "{number} {name} removed\n").expect(rt, "memory"),
+    }
+}
+
+/// The report of a line `sync CALLER BOOK TOKEN`, where `-` is nobody and no token; the replica takes it over.
+fn sync<K: Keeper>(
+    rt: &impl Abort,
+    alloc: Global,
+    keeper: &mut K,
+    replica: &mut Replica,
+    line: &str,
+) -> String {
+    let caller = match word(line, 1) {
+        "-" => Caller::Nobody,
+        named => Caller::Known(person(rt, alloc, named)),
+    };
+    let circle = keeper.circle(alloc, &caller).expect(rt, "memory");
+    let book = name(rt, alloc, word(line, 2));
+    let token = Token::parse(alloc, word(line, 3)).expect(rt, "memory");
+    let report = sync_report(alloc, keeper, &circle, &book, token.as_ref());
+    let mut answer = String::new(alloc);
+    let Some(report) = report.expect(rt, "memory") else {
+        answer.push_str("not valid").expect(rt, "memory");
+        return answer;
+    };
+    apply_report(replica, &report).expect(rt, "memory");
+    for item in report.items.as_slice() {
+        tell(rt, &mut answer, item);
+    }
+    check_fact(rt, !report.truncated, line);
+    let token = report.token.text(alloc).expect(rt, "memory");
+    answer.push_str(token.as_str()).expect(rt, "memory");
+    answer
+}
+
+/// What the replica has at the name of a line `has CARD`.
+fn has(rt: &impl Abort, alloc: Global, replica: &Replica, line: &str) -> String {
+    match replica.get(&name(rt, alloc, word(line, 1))) {
+        Some(seen) => {
+            let number = seen.number;
+            let label = seen.label.as_str();
+            let text = seen.text.as_str();
+            format!(in alloc; "{number} [{label}] {text}").expect(rt, "memory")
+        }
+        None => String::from_str(alloc, "nothing").expect(rt, "memory"),
+    }
+}
+
+fn answer<K: Keeper>(
+    rt: &impl Abort,
+    alloc: Global,
+    keeper: &mut K,
+    replica: &mut Replica,
+    line: &str,
+) -> String {
+    match word(line, 0) {
+        "sync" => sync(rt, alloc, keeper, replica, line),
+        "has" => has(rt, alloc, replica, line),
+        "cards" => {
+            let count = replica.len();
+            format!(in alloc; "{count}").expect(rt, "memory")
+        }
+        _ => {
+            let edit = edit(rt, alloc, line);
+            keeper.act(alloc, &edit).expect(rt, "memory");
+            String::new(alloc)
+        }
+    }
+}
+
+fn take<K: Keeper>(
+    rt: &impl Abort,
+    alloc: Global,
+    keeper: &mut K,
+    replica: &mut Replica,
+    line: &str,
+    wanted: &str,
+) {
+    let told = answer(rt, alloc, keeper, replica, line);
+    check_text(rt, told.as_str(), wanted, line);
+}
+
+fn follow(rt: &impl Abort, alloc: Global, steps: &[(&str, &str)]) {
+    let mut keeper = MemoryKeeper::from_office(office(rt, alloc));
+    let mut replica = Replica::new(alloc);
+    for (line, wanted) in steps {
+        take(rt, alloc, &mut keeper, &mut replica, line, wanted);
+    }
+}
+
+/// A name that may not be read is left out at first, and later told as removed; a name is told once, with the number of
+/// its last change, also where it was removed and made again.
+const COPY_OF_ANN: &[(&str, &str)] = &[
+    ("sync ann sales -", "1 a.vcf [A] one\ndata:,sales/4/2"),
+    ("has a.vcf", "1 [A] one"),
+    ("has b.vcf", "nothing"),
+    ("put b.vcf TWO", ""),
+    ("put c.vcf three", ""),
+    ("remove a.vcf", ""),
+    ("put d.vcf four", ""),
+    ("remove d.vcf", ""),
+    (
+        "sync ann sales data:,sales/4/2",
+        "3 b.vcf removed\n4 c.vcf [] three\n5 a.vcf removed\n7 d.vcf removed\ndata:,sales/4/7",
+    ),
+    ("has a.vcf", "nothing"),
+    ("has c.vcf", "4 [] three"),
+    ("sync ann sales data:,sales/4/7", "data:,sales/4/7"),
+    ("cards", "1"),
+    ("put a.vcf five", ""),
+    ("copy c.vcf a.vcf", ""),
+    (
+        "sync ann sales data:,sales/4/7",
+        "9 a.vcf [] three\ndata:,sales/4/9",
+    ),
+    ("move c.vcf e.vcf", ""),
+    (
+        "sync ann sales data:,sales/4/9",
+        "10 c.vcf removed\n11 e.vcf [] three\ndata:,sales/4/11",
+    ),
+    ("cards", "2"),
+    ("move b.vcf e.vcf", ""),
+    (
+        "sync ann sales data:,sales/4/11",
+        "12 b.vcf removed\n13 e.vcf removed\ndata:,sales/4/13",
+    ),
+    ("has a.vcf", "9 [] three"),
+    ("has e.vcf", "nothing"),
+    ("cards", "1"),
+];
+
+#[test]
+fn a_replica_is_what_ann_may_read(rt: HostRuntime) {
+    follow(&rt, rt.alloc(), COPY_OF_ANN);
+    edits_lead_on();
+    synced_copies_are_the_readable_book();
+}
+
+/// The initial report tells no removed name; the report after the number 0 tells them.
+const COPIES_OF_BOB_AND_NOBODY: &[(&str, &str)] = &[
+    (
+        "sync bob sales -",
+        "1 a.vcf [A] one\n2 b.vcf [B] two\ndata:,sales/4/2",
+    ),
+    ("remove a.vcf", ""),
+    ("sync - sales -", "2 b.vcf [B] two\ndata:,sales/4/3"),
+    (
+        "sync bob sales data:,sales/4/0",
+        "2 b.vcf [B] two\n3 a.vcf removed\ndata:,sales/4/3",
+    ),
+    ("has b.vcf", "2 [B] two"),
+    ("cards", "1"),
+    ("sync bob law -", "data:,law/4/0"),
+];
+
+#[test]
+fn bob_and_nobody_may_read_every_card(rt: HostRuntime) {
+    follow(&rt, rt.alloc(), COPIES_OF_BOB_AND_NOBODY);
+}
+
+/// Another book, another epoch, a number one past the book's, and a book that is not there. The removal of a book
+/// raises the epoch, and every token ends.
+const TOKENS: &[(&str, &str)] = &[
+    ("sync ann sales data:,sales/4/3", "not valid"),
+    ("sync ann sales data:,sales/3/2", "not valid"),
+    ("sync ann sales data:,sales/5/2", "not valid"),
+    ("sync ann sales data:,law/4/0", "not valid"),
+    ("sync ann law data:,sales/4/0", "not valid"),
+    ("sync ann none -", "not valid"),
+    ("sync ann sales data:,sales/4/2", "data:,sales/4/2"),
+    ("cards", "0"),
+    ("take law", ""),
+    ("sync ann sales data:,sales/4/2", "not valid"),
+    ("sync ann sales -", "1 a.vcf [A] one\ndata:,sales/5/2"),
+    ("sync ann law -", "not valid"),
+];
+
+#[test]
+fn tokens_name_a_book_an_epoch_and_a_number(rt: HostRuntime) {
+    follow(&rt, rt.alloc(), TOKENS);
+}

@@ -1,0 +1,327 @@
+//! Sync reports on books, and copies that they keep (RFC 6578, section 3).
+
+use crate::requests::check_all;
+use crate::scripts::{Step, answer, follow, run_on, run_on_new};
+use crate::serving::{request, served};
+use crate::words::{name, word};
+use book_machine::{Content, Machine, Reply};
+use book_office::MemoryKeeper;
+use book_office_sync::{Replica, apply_report};
+use std::alloc::Global;
+use std::process::Abort;
+
+/// The initial report has what the caller may read. Each later one tells the names that changed since its token, once,
+/// with the last number: also those that the caller may not read, as removed. A protected entry of the book comes
+/// before those of a card. A name may be removed and made again.
+const CHANGES: &[Step] = &[
+    ("bob PUT /books/sales/b.vcf BO", "201"),
+    ("ann PUT /books/sales/f.vcf BELL", "201"),
+    (
+        "bob REPORT /books/sales sync",
+        "207\n1 b.vcf [] 44 bytes\n2 f.vcf [] 47 bytes\ndata:,sales/1/2",
+    ),
+    (
+        "ann ACL /books/sales/f.vcf list deny owner read ; deny /people/bob read",
+        "200",
+    ),
+    (
+        "bob REPORT /books/sales sync",
+        "207\n1 b.vcf [] 44 bytes\ndata:,sales/2/2",
+    ),
+    (
+        "ann REPORT /books/sales sync",
+        "207\n1 b.vcf [] 44 bytes\n2 f.vcf [] 47 bytes\ndata:,sales/2/2",
+    ),
+    ("ann PUT /books/sales/f.vcf BO", "204"),
+    (
+        "bob REPORT /books/sales sync data:,sales/2/2",
+        "207\n3 f.vcf removed\ndata:,sales/2/3",
+    ),
+    (
+        "ann REPORT /books/sales sync data:,sales/2/2",
+        "207\n3 f.vcf [] 44 bytes\ndata:,sales/2/3",
+    ),
+    ("ann DELETE /books/sales/f.vcf", "204"),
+    (
+        "ann REPORT /books/sales sync data:,sales/2/3",
+        "207\n4 f.vcf removed\ndata:,sales/2/4",
+    ),
+    ("ann PUT /books/sales/f.vcf BELL", "201"),
+    ("ann PROPPATCH /books/sales/b.vcf label Bo", "200"),
+    (
+        "bob REPORT /books/sales sync data:,sales/2/2",
+        "207\n5 f.vcf [] 47 bytes\n6 b.vcf [Bo] 44 bytes\ndata:,sales/2/6",
+    ),
+    (
+        "bob REPORT /books/sales sync data:,sales/2/5",
+        "207\n6 b.vcf [Bo] 44 bytes\ndata:,sales/2/6",
+    ),
+    (
+        "bob REPORT /books/sales/ sync data:,sales/2/6",
+        "207\ndata:,sales/2/6",
+    ),
+];
+
+/// What the book has then.
+const CHANGED: &[Step] = &[
+    (
+        "changes sales 0",
+        "5 f.vcf [] 47 bytes\n6 b.vcf [Bo] 44 bytes\n",
+    ),
+    ("epoch", "2"),
+];
+
+#[test]
+fn reports_tell_what_changed(rt: HostRuntime) {
+    let mut machine = Machine::new(MemoryKeeper::new(rt.alloc()));
+    check_all(&rt, rt.alloc(), &mut machine, CHANGES);
+    follow(&rt, rt.alloc(), &mut machine, CHANGED);
+    drop(machine);
+}
+
+/// A token is valid on its book, in the epoch that it names, up to the number of the book; a change of members ends it,
+/// and so does a policy that changes something.
+const TOKENS: &[Step] = &[
+    ("adopt office", "changed, epoch 1"),
+    ("bob PUT /books/sales/b.vcf BO", "201"),
+    ("ann PUT /books/sales/f.vcf BELL", "201"),
+    (
+        "bob REPORT /books/sales sync data:,sales/1/0",
+        "207\n1 b.vcf [] 44 bytes\n2 f.vcf [] 47 bytes\ndata:,sales/1/2",
+    ),
+    (
+        "bob REPORT /books/sales sync data:,sales/1/2",
+        "207\ndata:,sales/1/2",
+    ),
+    (
+        "bob REPORT /books/sales sync data:,sales/1/3",
+        "403 valid-sync-token",
+    ),
+    (
+        "bob REPORT /books/sales sync data:,sales/0/2",
+        "403 valid-sync-token",
+    ),
+    (
+        "bob REPORT /books/sales sync data:,sales/2/2",
+        "403 valid-sync-token",
+    ),
+    (
+        "bob REPORT /books/sales sync data:,law/1/0",
+        "403 valid-sync-token",
+    ),
+    (
+        "bob REPORT /books/law sync data:,law/1/0",
+        "207\ndata:,law/1/0",
+    ),
+    (
+        "bob REPORT /books/sales sync data:,sales/1/02",
+        "403 valid-sync-token",
+    ),
+    (
+        "bob REPORT /books/sales sync sales/1/2",
+        "403 valid-sync-token",
+    ),
+    (
+        "gus REPORT /books/sales sync",
+        "403 need-privileges read /books/sales null",
+    ),
+    (
+        "gus REPORT /books/sales sync sales/1/2",
+        "403 need-privileges read /books/sales null",
+    ),
+    ("ann PROPPATCH /groups/staff members /people/bob", "200"),
+    (
+        "bob REPORT /books/sales sync data:,sales/1/2",
+        "403 valid-sync-token",
+    ),
+    (
+        "bob REPORT /books/sales sync data:,sales/2/9",
+        "403 valid-sync-token",
+    ),
+    ("adopt office", "changed, epoch 3"),
+    (
+        "bob REPORT /books/sales sync",
+        "207\n1 b.vcf [] 44 bytes\n2 f.vcf [] 47 bytes\ndata:,sales/3/2",
+    ),
+    ("adopt office", "unchanged, epoch 3"),
+    (
+        "bob REPORT /books/sales sync data:,sales/3/2",
+        "207\ndata:,sales/3/2",
+    ),
+];
+
+#[test]
+fn tokens_end_where_access_changes(rt: HostRuntime) {
+    run_on_new(&rt, rt.alloc(), TOKENS);
+}
+
+/// The caller, the shape and the path are looked at before any privilege.
+const REFUSED: &[Step] = &[
+    ("zoe REPORT /cellar", "400 unknown-caller"),
+    ("gus REPORT /cellar", "400 bad-request"),
+    ("gus REPORT /books/sales", "400 bad-request"),
+    ("gus REPORT /books/sales unread", "400 bad-request"),
+    ("gus REPORT /books/sales BO", "400 bad-request"),
+    (
+        "gus REPORT /books/sales find displayname",
+        "400 bad-request",
+    ),
+    ("gus REPORT /cellar sync", "404 not-found"),
+    ("gus REPORT /books/none sync", "404 not-found"),
+    (
+        "gus REPORT / sync",
+        "405 not-allowed ACL, OPTIONS, PROPFIND, REPORT",
+    ),
+    (
+        "gus REPORT /books sync",
+        "405 not-allowed ACL, OPTIONS, PROPFIND, REPORT",
+    ),
+    (
+        "gus REPORT /people/ann sync",
+        "405 not-allowed ACL, OPTIONS, PROPFIND, PROPPATCH, REPORT",
+    ),
+    (
+        "gus REPORT /groups/staff sync none",
+        "405 not-allowed ACL, OPTIONS, PROPFIND, PROPPATCH, REPORT",
+    ),
+    (
+        "gus REPORT /books/sales/a.vcf sync",
+        "405 not-allowed ACL, COPY, DELETE, GET, HEAD, MOVE, OPTIONS, PROPFIND, PROPPATCH, PUT, REPORT",
+    ),
+    (
+        "gus REPORT /books/sales sync none",
+        "403 need-privileges read /books/sales null",
+    ),
+];
+
+#[test]
+fn reports_are_of_books(rt: HostRuntime) {
+    run_on(&rt, rt.alloc(), &[], REFUSED);
+}
+
+/// What bob has of the book of sales, and his token; empty before the first report.
+#[derive(Drop)]
+struct Kept {
+    replica: Replica,
+    token: String,
+}
+
+fn take_over(rt: &impl Abort, alloc: Global, kept: &mut Kept, reply: &Reply) {
+    match &reply.content {
+        Content::Synced(report) => {
+            apply_report(&mut kept.replica, report).expect(rt, "memory");
+            kept.token = report.token.text(alloc).expect(rt, "memory");
+        }
+        _ => {
+            kept.replica = Replica::new(alloc);
+            kept.token = String::new(alloc);
+        }
+    }
+}
+
+/// Asks for the report after the token, and takes it over. Where the token is refused, the next report is the initial
+/// one.
+fn sync(rt: &impl Abort, alloc: Global, machine: &mut Machine<MemoryKeeper>, kept: &mut Kept) {
+    let token = kept.token.as_str();
+    let line = format!(in alloc; "bob REPORT /books/sales sync {token}").expect(rt, "memory");
+    let request = request(rt, alloc, line.as_str());
+    let reply = machine.serve(alloc, Some("bob"), &request);
+    take_over(rt, alloc, kept, &reply);
+    drop(reply);
+    drop(request);
+}
+
+/// A GET answers by what the replica has, or is refused where it has nothing.
+fn check_name(
+    rt: &impl Abort,
+    alloc: Global,
+    machine: &mut Machine<MemoryKeeper>,
+    replica: &Replica,
+    named: &str,
+) {
+    let line = format!(in alloc; "bob GET /books/sales/{named}").expect(rt, "memory");
+    let told = served(rt, alloc, machine, line.as_str());
+    match replica.get(&name(rt, alloc, named)) {
+        Some(seen) => {
+            let text = seen.text.as_str();
+            let wanted = format!(in alloc; "200 {text}").expect(rt, "memory");
+            assert_eq!(rt; told.as_str(), wanted.as_str(), "{named}");
+        }
+        None => assert!(rt; told.as_str().starts_with('4'), "{named}"),
+    }
+}
+
+fn check_copy(
+    rt: &impl Abort,
+    alloc: Global,
+    machine: &mut Machine<MemoryKeeper>,
+    replica: &Replica,
+) {
+    for named in ["a.vcf", "b.vcf", "c.vcf", "d.vcf", "e.vcf"] {
+        check_name(rt, alloc, machine, replica, named);
+    }
+}
+
+fn take(
+    rt: &impl Abort,
+    alloc: Global,
+    machine: &mut Machine<MemoryKeeper>,
+    kept: &mut Kept,
+    line: &str,
+    wanted: &str,
+) {
+    if word(line, 0) != "sync" {
+        let told = answer(rt, alloc, machine, line);
+        assert_eq!(rt; told.as_str(), wanted, "{line}");
+        return;
+    }
+    sync(rt, alloc, machine, kept);
+    assert_eq!(rt; kept.token.as_str(), wanted);
+    if !wanted.is_empty() {
+        check_copy(rt, alloc, machine, &kept.replica);
+    }
+}
+
+/// At each report the copy of bob is what he may read, whatever others did in between.
+const COPY: &[Step] = &[
+    ("sync", "data:,sales/1/0"),
+    ("ann PUT /books/sales/a.vcf BO", "201"),
+    ("ann PUT /books/sales/b.vcf BELL", "201"),
+    ("sync", "data:,sales/1/2"),
+    ("ann PUT /books/sales/a.vcf BELL", "204"),
+    ("ann DELETE /books/sales/b.vcf", "204"),
+    ("bob PUT /books/sales/c.vcf BO", "201"),
+    ("sync", "data:,sales/1/5"),
+    ("ann PUT /books/sales/b.vcf BO", "201"),
+    ("ann PUT /books/sales/d.vcf BO", "201"),
+    ("ann DELETE /books/sales/d.vcf", "204"),
+    ("sync", "data:,sales/1/8"),
+    (
+        "ann ACL /books/sales/a.vcf list deny /people/bob read",
+        "200",
+    ),
+    ("sync", ""),
+    ("sync", "data:,sales/2/8"),
+];
+
+#[test]
+fn a_copy_is_what_may_be_read(rt: HostRuntime) {
+    let alloc = rt.alloc();
+    let mut machine = Machine::new(MemoryKeeper::new(alloc));
+    follow(
+        &rt,
+        alloc,
+        &mut machine,
+        &[("adopt office", "changed, epoch 1")],
+    );
+    let mut kept = Kept {
+        replica: Replica::new(alloc),
+        token: String::new(alloc),
+    };
+    for (line, wanted) in COPY {
+        take(&rt, alloc, &mut machine, &mut kept, line, wanted);
+    }
+    assert_eq!(&rt; kept.replica.len(), 2);
+    drop(kept);
+    drop(machine);
+}

@@ -1,0 +1,92 @@
+//! What is found of a store that is there: its schema, its version, and its rows.
+
+use crate::checks::check;
+use crate::row_texts::{node, store, whole_rows};
+use book_tables_schema::{create, is_book_schema, reopen, says_other_version};
+use sqlite::{Connection, MemStore};
+use std::process::Abort;
+
+fn run(rt: &impl Abort, connection: &mut Connection<MemStore>, sql: &str) {
+    connection.execute(sql, &[]).expect(rt, sql);
+}
+
+fn is_other(rt: &impl Abort, connection: &mut Connection<MemStore>) -> bool {
+    assert!(rt; connection.is_autocommit());
+    let mut transaction = connection.transaction();
+    says_other_version(&mut transaction).expect(rt, "the version")
+}
+
+#[test]
+fn schemas_are_told_apart(rt: HostRuntime) {
+    let alloc = rt.alloc();
+    let mut connection = Connection::open_in_memory(alloc).expect(&rt, "memory");
+    assert!(rt; !is_book_schema(connection.schema()));
+    create(&mut connection).expect(&rt, "a new store");
+    assert!(rt; is_book_schema(connection.schema()));
+    run(&rt, &mut connection, "DROP INDEX member_member");
+    assert!(rt; !is_book_schema(connection.schema()));
+    let index = "CREATE INDEX member_member ON member (grp)";
+    run(&rt, &mut connection, index);
+    assert!(rt; !is_book_schema(connection.schema()));
+    run(&rt, &mut connection, "DROP INDEX member_member");
+    let index = "CREATE INDEX member_member ON member (member)";
+    run(&rt, &mut connection, index);
+    assert!(rt; is_book_schema(connection.schema()));
+    run(
+        &rt,
+        &mut connection,
+        "CREATE VIEW all_nodes AS SELECT path FROM node",
+    );
+    assert!(rt; !is_book_schema(connection.schema()));
+    drop(connection);
+}
+
+#[test]
+fn versions_are_told_apart(rt: HostRuntime) {
+    let alloc = rt.alloc();
+    let mut connection = store(&rt, alloc);
+    assert!(rt; !is_other(&rt, &mut connection));
+    run(&rt, &mut connection, "UPDATE meta SET version = 2");
+    assert!(rt; is_other(&rt, &mut connection));
+    run(
+        &rt,
+        &mut connection,
+        "INSERT INTO meta (version, epoch) VALUES (3, 0)",
+    );
+    assert!(rt; !is_other(&rt, &mut connection));
+    let mut foreign = Connection::open_in_memory(alloc).expect(&rt, "memory");
+    assert!(rt; !is_other(&rt, &mut foreign));
+    run(
+        &rt,
+        &mut foreign,
+        "CREATE TABLE meta (name TEXT, version TEXT)",
+    );
+    assert!(rt; !is_other(&rt, &mut foreign));
+    run(
+        &rt,
+        &mut foreign,
+        "INSERT INTO meta (version) VALUES ('new')",
+    );
+    assert!(rt; is_other(&rt, &mut foreign));
+    drop(connection);
+    drop(foreign);
+}
+
+#[test]
+fn a_store_that_is_opened_again_has_its_rows(rt: HostRuntime) {
+    let alloc = rt.alloc();
+    let connection = store(&rt, alloc);
+    let mut connection = reopen(alloc, connection).expect(&rt, "an open");
+    assert!(rt; is_book_schema(connection.schema()));
+    check(
+        &rt,
+        node(&rt, alloc, &mut connection, "/groups/staff"),
+        "3 - \"\" - 0",
+    );
+    check(
+        &rt,
+        whole_rows(&rt, alloc, &mut connection),
+        "7 nodes, 0 entries, 0 removed, meta 1 0",
+    );
+    drop(connection);
+}
