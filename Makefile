@@ -1,31 +1,51 @@
 # Shared contact books.
 #
+#   make try     builds the program without any proof, build/try/book_desk, and runs the tour of the README with it
 #   make build   proves the program and links it: build/book_desk
-#   make demo    builds it, and runs it on texts and cards of examples/, and as a server
+#   make install copies the proved program, the manual page, the unit and the examples (DESTDIR, PREFIX)
+#   make demo    builds it, and runs it on texts and cards of examples/, and the tour
+#   make tour    builds it, and runs all that the documents show, and compares
 #   make streams builds it, and compares its replies to the streams of examples/ byte for byte
 #   make test    the gate: every proof from nothing, the edits that must fail, the tests, the programs, the streams
+#   make quick   the tests of the crates of examples, without any proof
 #   make wrong   tries the wrong bodies that are too dear for each run of the gate: each must be refused
 #   make turned  turns meanings of the code, and sees that the example that guards each fails: no proof is tried
 #   make faults  makes stores, memory and disks fail at each point at which they can, and compares what is answered and kept
-#   make bench   builds the program, and prints the processor time that it takes for many workloads (it needs python3)
-#   make figures builds the program, and prints what its requests over a store in a file take (it needs python3)
+#   make bench   builds the program, and prints the processor time that it takes for many workloads
+#   make figures builds the program, and prints what its requests over a store in a file take
+#   make clients tests the gateway with clients as they are: vdirsyncer, khard, curl, nginx, Chromium (gateway/packages.txt)
+#   make gateway-demo runs the server and the gateway with two persons, for at most an hour
 #   make clean   removes what the others made
 #
-# They need rt, the command of the Rattle toolchain: on PATH, or in the kit whose folder RATTLE_KIT names.
+# They need rt, the command of the Rattle toolchain: on PATH, or in the kit whose folder RATTLE_KIT names; and python3, which
+# rt needs too.
 
-.PHONY: build demo streams test wrong turned faults bench figures clean
+.PHONY: try build install demo tour streams test quick wrong turned faults bench figures clients gateway-demo clean
+
+try:
+	@tools/try
+	@tools/tour --show build/try/book_desk
 
 build:
 	@tools/build
 
+install:
+	@tools/install
+
 demo: build
 	@tools/demo build/book_desk
+
+tour: build
+	@tools/tour build/book_desk
 
 streams: build
 	@tools/streams build/book_desk
 
 test:
 	@tools/gate
+
+quick:
+	@tools/quick
 
 wrong:
 	@tools/wrong-bodies
@@ -41,6 +61,12 @@ bench: build
 
 figures: build
 	@tools/figures build/book_desk
+
+clients:
+	@gateway/clients
+
+gateway-demo:
+	@gateway/demo
 
 clean:
 	rm -rf build crates/*/out
