@@ -1,0 +1,202 @@
+"""The lines of vCards (RFC 2426 and RFC 6350): unfolded, taken apart, and written again."""
+from __future__ import annotations
+
+import re
+from collections.abc import Iterable, Iterator
+from dataclasses import dataclass, field
+
+WORD = r"[A-Za-z0-9-]+"
+NAME = re.compile(rf"(?:({WORD})\.)?({WORD})")
+PARAMETER_NAME = re.compile(WORD)
+PLAIN_VALUE = re.compile(r'[^";:,]*')
+QUOTED_VALUE = re.compile(r'"([^"]*)"')
+CONTROL = re.compile(r"[\x00-\x08\x0a-\x1f\x7f]")
+
+
+class BadLine(ValueError):
+    """A line that is no content line. `line` is its number, from 1."""
+
+    def __init__(self, line: int):
+        super().__init__(f"bad line {line}")
+        self.line = line
+
+
+@dataclass
+class Line:
+    """A content line. `number` is the line of the text that it was made of, from 1; 0 where it was made of none."""
+
+    name: str
+    value: str
+    group: str = ""
+    params: list[tuple[str, list[str]]] = field(default_factory=list)
+    number: int = 0
+
+    def is_named(self, *names: str) -> bool:
+        """Whether its name is one of these, which are in capitals."""
+        return self.name.upper() in names
+
+    def values_of(self, parameter: str) -> list[str]:
+        """All values of the parameter, in order."""
+        return [value for name, values in self.params if name.upper() == parameter for value in values]
+
+    def value_type(self) -> str:
+        """The VALUE parameter in lower case, or an empty text."""
+        values = self.values_of("VALUE")
+        return values[0].lower() if values else ""
+
+    def without(self, *parameters: str) -> list[tuple[str, list[str]]]:
+        """Its parameters but these."""
+        return [(name, values) for name, values in self.params if name.upper() not in parameters]
+
+    def text(self) -> str:
+        """The line as it is written, not folded."""
+        head = f"{self.group}.{self.name}" if self.group else self.name
+        for name, values in self.params:
+            head += f";{name}={','.join(quoted(value) for value in values)}"
+        return f"{head}:{self.value}"
+
+
+def quoted(value: str) -> str:
+    """A parameter's value, in double quotes where it needs them. A double quote in it is written as RFC 6868 has it."""
+    value = value.replace('"', "^'").replace("\r\n", "^n").replace("\n", "^n")
+    return f'"{value}"' if re.search(r"[;:,]", value) else value
+
+
+def unfolded(text: str) -> list[str]:
+    """The lines of the unfolded text. A line end is CRLF or LF; one that a space or a tab follows is no end."""
+    lines = re.sub(r"\r?\n[ \t]", "", text).split("\n")
+    lines = [line[:-1] if line.endswith("\r") and number < len(lines) else line for number, line in enumerate(lines, 1)]
+    if lines and lines[-1] == "":
+        lines.pop()
+    return lines
+
+
+def parsed(text: str, number: int) -> Line:
+    """The content line of an unfolded line; BadLine where it is none."""
+    if CONTROL.search(text):
+        raise BadLine(number)
+    head = NAME.match(text)
+    if head is None:
+        raise BadLine(number)
+    at = head.end()
+    params: list[tuple[str, list[str]]] = []
+    while text[at : at + 1] == ";":
+        name = PARAMETER_NAME.match(text, at + 1)
+        if name is None or text[name.end() : name.end() + 1] != "=":
+            raise BadLine(number)
+        values, at = parameter_values(text, name.end())
+        params.append((name.group(), values))
+    if text[at : at + 1] != ":":
+        raise BadLine(number)
+    return Line(head.group(2), text[at + 1 :], head.group(1) or "", params, number)
+
+
+def parameter_values(text: str, at: int) -> tuple[list[str], int]:
+    """The values after the `=` or the comma at `at`, and where they end."""
+    values: list[str] = []
+    while text[at : at + 1] == ("," if values else "="):
+        value = QUOTED_VALUE.match(text, at + 1) or PLAIN_VALUE.match(text, at + 1)
+        assert value is not None
+        values.append(value.group(1) if value.re is QUOTED_VALUE else value.group())
+        at = value.end()
+    return values, at
+
+
+def read(text: str) -> list[Line]:
+    """The content lines of a text, empty lines left out; BadLine at the first that is none."""
+    return [parsed(line, number) for number, line in enumerate(unfolded(text), 1) if line]
+
+
+def formatted(text: str) -> str:
+    """The first FN as people read it, or an empty text."""
+    found = re.search(r"^(?:[A-Za-z0-9-]+\.)?FN(?:;[^:\n]*)?:(.*)$", re.sub(r"\r?\n[ \t]", "", text), re.IGNORECASE | re.MULTILINE)
+    return unescaped(found.group(1).rstrip("\r")) if found else ""
+
+
+def folded(line: str, width: int = 75) -> str:
+    """A line with its end, folded so that no part has more than `width` bytes, and no fold is inside a character."""
+    parts: list[str] = []
+    part: list[str] = []
+    size = 0
+    for character in line:
+        length = len(character.encode())
+        if size + length > width:
+            parts.append("".join(part))
+            part, size = [], 1
+        part.append(character)
+        size += length
+    parts.append("".join(part))
+    return "\r\n ".join(parts) + "\r\n"
+
+
+def written(lines: Iterable[Line]) -> str:
+    """The text of these lines, folded."""
+    return "".join(folded(line.text()) for line in lines)
+
+
+def version_of(text: str) -> str:
+    """The value of the first VERSION line, or an empty text."""
+    for line in unfolded(text):
+        found = re.fullmatch(r"version(?:;[^:]*)?:(.*)", line, re.IGNORECASE)
+        if found:
+            return found.group(1).strip()
+    return ""
+
+
+def unescaped(value: str) -> str:
+    """A text value as people read it: backslashes before comma, semicolon, backslash and n are taken away."""
+    return re.sub(r"\\([\\,;nN])", lambda found: "\n" if found.group(1) in "nN" else found.group(1), value)
+
+
+def escaped(value: str) -> str:
+    """The text value that says this."""
+    return re.sub(r"[\\,;]", lambda found: "\\" + found.group(), value).replace("\r\n", "\n").replace("\n", "\\n")
+
+
+def components(value: str, separator: str = ";") -> list[str]:
+    """The parts of a value of several, still escaped."""
+    parts, at = [""], 0
+    while at < len(value):
+        if value[at] == "\\":
+            parts[-1] += value[at : at + 2]
+            at += 2
+            continue
+        if value[at] == separator:
+            parts.append("")
+        else:
+            parts[-1] += value[at]
+        at += 1
+    return parts
+
+
+def decoded_parameter(value: str) -> str:
+    """A parameter's value as people read it: RFC 6868, and the backslash with n that RFC 6350 shows for LABEL."""
+    value = re.sub(r"\^([n'^])", lambda found: {"n": "\n", "'": '"', "^": "^"}[found.group(1)], value)
+    return re.sub(r"\\[nN]", "\n", value)
+
+
+def encoded_parameter(value: str) -> str:
+    """The parameter's value that says this, by RFC 6868."""
+    return value.replace("^", "^^").replace("\n", "^n").replace('"', "^'")
+
+
+def cards_of(text: str) -> Iterator[str]:
+    """The cards of a text of many, each from its BEGIN to its END; what stands between them is a card of its own."""
+    kept: list[str] = []
+    depth = 0
+    for line in re.split(r"(?<=\n)", text):
+        word = line.strip().upper()
+        if word == "BEGIN:VCARD":
+            if depth == 0 and "".join(kept).strip():
+                yield "".join(kept)
+            if depth == 0:
+                kept = []
+            depth += 1
+        kept.append(line)
+        if word == "END:VCARD" and depth:
+            depth -= 1
+            if depth == 0:
+                yield "".join(kept)
+                kept = []
+    if "".join(kept).strip():
+        yield "".join(kept)

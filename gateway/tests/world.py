@@ -1,0 +1,190 @@
+"""A server and a gateway on free ports of loopback, for tests that talk to them. They end when the world is closed."""
+from __future__ import annotations
+
+import atexit
+import base64
+import contextlib
+import http.client
+import json
+import os
+import socket
+import subprocess
+import tempfile
+import time
+from pathlib import Path
+from typing import Any
+
+import bcrypt
+
+GATEWAY = Path(__file__).resolve().parent.parent
+TOP = GATEWAY.parent
+PASSWORDS = {"head": "kopf-1", "assistant": "hand-2", "guest@office.example": "gast-3"}
+
+
+def program() -> Path | None:
+    """The server's program: BOOK_DESK, or what `make build` links."""
+    path = Path(os.environ.get("BOOK_DESK", TOP / "build" / "book_desk"))
+    return path if os.access(path, os.X_OK) else None
+
+
+def free_port() -> int:
+    """A port of loopback that nobody listens on."""
+    with contextlib.closing(socket.socket()) as probe:
+        probe.bind(("127.0.0.1", 0))
+        return probe.getsockname()[1]
+
+
+class Spoken:
+    """A reply: status, fields, body."""
+
+    def __init__(self, status: int, fields: http.client.HTTPMessage, body: bytes):
+        self.status = status
+        self.fields = fields
+        self.body = body
+
+    @property
+    def text(self) -> str:
+        """The body as a text."""
+        return self.body.decode()
+
+    def json(self) -> Any:
+        """The body as JSON."""
+        return json.loads(self.body)
+
+
+def basic(login: str, password: str) -> str:
+    """The Authorization field of a name and a password."""
+    return "Basic " + base64.b64encode(f"{login}:{password}".encode()).decode()
+
+
+class World:
+    """A folder with a store, a server over it, and a gateway before it."""
+
+    def __init__(
+        self,
+        more: str = "",
+        connections: int = 10_000,
+        policy: Path = GATEWAY / "tests" / "policy.toml",
+        origins: str = "",
+        passwords: dict[str, str] | None = None,
+        port: int = 0,
+    ):
+        found = program()
+        if found is None:
+            raise RuntimeError("the server's program is not there: name it in BOOK_DESK, or run make build")
+        self.program = found
+        self.folder = tempfile.TemporaryDirectory(prefix="office-gateway-")
+        self.path = Path(self.folder.name)
+        self.port, self.server_port = port or free_port(), free_port()
+        self.connections = connections
+        self.passwords = passwords or PASSWORDS
+        hashed = [f"{login}:{bcrypt.hashpw(word.encode(), bcrypt.gensalt(6)).decode()}" for login, word in self.passwords.items()]
+        (self.path / "passwords").write_text("\n".join(hashed) + "\n")
+        listed = origins or f'"http://127.0.0.1:{self.port}", "http://localhost:{self.port}"'
+        (self.path / "gateway.toml").write_text(
+            f"[listen]\nport = {self.port}\norigins = [{listed}]\narrive_seconds = 3\n"
+            f"[server]\nport = {self.server_port}\n[people]\nservice = \"lister\"\n"
+            f"[people.names]\n\"guest@office.example\" = \"guest\"\n{more}"
+        )
+        self.processes: list[subprocess.Popen[bytes]] = []
+        self.closed = False
+        atexit.register(self.close)
+        self.log = open(self.path / "gateway.log", "wb")  # pylint: disable=consider-using-with
+        try:
+            self.run_import(policy)
+            self.start_server()
+            self.start_gateway()
+        except BaseException:
+            self.close()
+            raise
+
+    def start_gateway(self) -> None:
+        """Starts the gateway with the settings as they are."""
+        words = [str(GATEWAY / "serve"), str(self.path / "gateway.toml")]
+        self.gateway = subprocess.Popen(words, stdout=subprocess.DEVNULL, stderr=self.log)
+        self.processes.append(self.gateway)
+        await_port(self.port)
+
+    def run_import(self, policy: Path) -> None:
+        """Adopts a policy. The server must not run."""
+        words = [str(self.program), "import", "--store", str(self.path / "office.db"), str(policy)]
+        subprocess.run(words, check=True, timeout=180, stdout=subprocess.DEVNULL)
+
+    def start_server(self) -> None:
+        """Starts the server over the store."""
+        words = [str(self.program), "serve", "--port", str(self.server_port), "--connections", str(self.connections)]
+        self.server = subprocess.Popen([*words, "--store", str(self.path / "office.db")], stdout=subprocess.PIPE, stderr=subprocess.DEVNULL)
+        assert self.server.stdout is not None
+        self.server.stdout.readline()
+        self.processes.append(self.server)
+
+    def stop_server(self) -> None:
+        """Ends the server."""
+        self.server.terminate()
+        self.server.wait(10)
+
+    def close(self) -> None:
+        """Ends both, and removes the folder; also where the tests are ended before their end."""
+        if self.closed:
+            return
+        self.closed = True
+        for process in reversed(self.processes):
+            process.terminate()
+        for process in self.processes:
+            try:
+                process.wait(15)
+            except subprocess.TimeoutExpired:
+                process.kill()
+                process.wait(5)
+            if process.stdout is not None:
+                process.stdout.close()
+        self.log.close()
+        self.folder.cleanup()
+
+    def logged(self) -> str:
+        """What the gateway wrote on standard error."""
+        return (self.path / "gateway.log").read_text()
+
+    def say(self, who: str, method: str, target: str, body: bytes | str | dict = b"", **fields: str) -> Spoken:
+        """One request to the gateway as a person, by name and password; `who` may be empty. `_` in a field's name is `-`."""
+        headers = {name.replace("_", "-"): value for name, value in fields.items()}
+        login = "guest@office.example" if who == "guest" else who
+        if who:
+            headers.setdefault("Authorization", basic(login, self.passwords[login]))
+        data = json.dumps(body).encode() if isinstance(body, dict) else body.encode() if isinstance(body, str) else body
+        connection = http.client.HTTPConnection("127.0.0.1", self.port, timeout=120)
+        with contextlib.closing(connection):
+            connection.putrequest(method, target, skip_accept_encoding=True, skip_host="Host" in headers)
+            for name, value in headers.items():
+                connection.putheader(name, value)
+            if data or method in ("PUT", "POST"):
+                connection.putheader("Content-Length", str(len(data)))
+            connection.endheaders(data or None)
+            reply = connection.getresponse()
+            return Spoken(reply.status, reply.headers, reply.read())
+
+    def raw(self, data: bytes, seconds: float = 10.0) -> bytes:
+        """What the gateway writes on a connection that sends these bytes, until it closes."""
+        with contextlib.closing(socket.create_connection(("127.0.0.1", self.port), timeout=seconds)) as connection:
+            got = b""
+            try:
+                connection.sendall(data)
+                while True:
+                    part = connection.recv(65_536)
+                    if not part:
+                        return got
+                    got += part
+            except (TimeoutError, ConnectionError):
+                return got
+
+
+def await_port(port: int, seconds: float = 120.0) -> None:
+    """Waits until somebody listens on a port of loopback."""
+    until = time.monotonic() + seconds
+    while time.monotonic() < until:
+        try:
+            socket.create_connection(("127.0.0.1", port), timeout=1).close()
+            return
+        except OSError:
+            time.sleep(0.05)
+    raise RuntimeError(f"nobody listens on port {port}")
