@@ -38,6 +38,11 @@ def o(name: str) -> str:
     return f"{{{OWN}}}{name}"
 
 
+def privilege(name: str) -> "Node":
+    """A privilege as an element: one that is none of the standard's begins with x-."""
+    return Node(d("privilege"), Node(o(name) if name.startswith("x-") else d(name)))
+
+
 class Node:
     """An element that is to be written: a name, attributes, and what stands in it."""
 
@@ -180,7 +185,7 @@ def error(refusal: Refusal) -> Node:
 
     detail = refusal.detail
     if refusal.name == "need-privileges":
-        resource = Node(d("resource"), href(dav_href(detail["resource"])), Node(d("privilege"), Node(d(detail["privilege"]))))
+        resource = Node(d("resource"), href(dav_href(detail["resource"])), privilege(detail["privilege"]))
         node = Node(d("error"), Node(d("need-privileges"), resource))
         entry = detail.get("entry")
         if isinstance(entry, dict):

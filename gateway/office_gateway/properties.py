@@ -177,7 +177,7 @@ def privileges(resource: Resource) -> list[davxml.Content] | None:
     """What the caller may do, as the server tells it."""
     if resource.privileges is None:
         return None
-    return [Node(d("privilege"), Node(d(name))) for name in resource.privileges]
+    return [davxml.privilege(name) for name in resource.privileges]
 
 
 def home_set(resource: Resource) -> list[davxml.Content] | None:

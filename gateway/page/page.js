@@ -2,11 +2,13 @@
 // The page of the office. It asks the gateway in JSON, and the server decides every right. Nothing is kept in the browser
 // but a session in a cookie, which scripts cannot read.
 
-const LEAVES = ["read", "write-content", "write-properties", "bind", "unbind", "read-acl", "write-acl",
-  "read-current-user-privilege-set"];
-const PRIVILEGES = ["all", "write", ...LEAVES];
+const LEAVES = ["x-read-texts", "write-content", "write-properties", "bind", "unbind", "read-acl", "write-acl",
+  "read-current-user-privilege-set", "x-read-names"];
+const PRIVILEGES = ["all", "read", "write", ...LEAVES];
 const MEANS = {
   "read": "read",
+  "x-read-texts": "read what cards say",
+  "x-read-names": "see the names of cards",
   "write-content": "change the text of cards",
   "write-properties": "change labels and members",
   "bind": "add",

@@ -5,6 +5,7 @@ import unittest
 from pathlib import Path
 from xml.etree.ElementTree import Element, fromstring
 
+from office_gateway import davxml
 from tests.world import World, program
 
 D, C = "{DAV:}", "{urn:ietf:params:xml:ns:carddav}"
@@ -120,7 +121,12 @@ class Conversation(unittest.TestCase):
         assert found is not None
         self.assertEqual(
             [element.tag for privilege in found for element in privilege],
-            [D + name for name in ("read", "write-content", "write-properties", "bind", "read-acl", "read-current-user-privilege-set")],
+            [
+                D + "read",
+                davxml.o("x-read-texts"),
+                *(D + name for name in ("write-content", "write-properties", "bind", "read-acl", "read-current-user-privilege-set")),
+                davxml.o("x-read-names"),
+            ],
         )
         self.assertEqual(response.findtext(f".//{D}owner/{D}href"), "/dav/people/head/")
         told = self.say("guest", "PROPFIND", SALES, propfind("current-user-privilege-set", "displayname"))

@@ -1,8 +1,8 @@
 //! The program `book_desk` of the shared contact books. Its words are read by `book_desk_words`. What `explain`, `card` and
-//! help do is done by `run_text` of `book_desk_app`, what `import`, `audit` and `pipe` do by its `run`, and what `serve`
-//! does by its `serve`, over any store, reader and writers: their contracts say what is written where
-//! these tell their bytes. Nothing stands above it: `main` joins them to the process, to the files (`files`) and to the
-//! port.
+//! help do is done by `run` of `book_desk_app`, what `import`, `audit` and `pipe` do by `run` of `book_desk_app`, what `migrate`
+//! does by `run_migration` there, and what `serve` does by `serve` of `book_desk_app`, over any store, reader and writers:
+//! their contracts say what is written where these tell their bytes. Nothing stands above it: `main` joins them to the
+//! process, to the files (`files`) and to the port.
 #![tactic(auto)]
 
 ghost use Rattle.std.specs.Prelude.{◌≡◌};
@@ -11,8 +11,8 @@ ghost use Rattle.book_desk_words.specs.WordsFaults.{words_status};
 mod files;
 
 use book_desk_app::{
-    Failure, InputFault, TextCommand, Work, adopt_given, given_policy, open_store, run, run_text,
-    serve, tell,
+    Failure, InputFault, StoreFailure, TextCommand, Work, adopt_given, given_policy, open_store,
+    run, run_migration, run_text, serve, tell,
 };
 use book_desk_words::{Command, WordsFault, command_of, words_not_text};
 use book_machine::Machine;
@@ -89,6 +89,30 @@ fn work<W: Write, E: Write>(
     let mut reader = rt.reader();
     let (status, connection) = run(rt.alloc(), kind, store, policy, &mut reader, writer, errors);
     close(rt, &named.store, before, connection);
+    status
+}
+
+/// The command `migrate`: the store's file, which has to be there, is opened and migrated.
+fn migrate<W: Write, E: Write>(
+    rt: &HostRuntime,
+    store: &Option<String>,
+    writer: &mut W,
+    errors: &mut E,
+) -> u8 {
+    let Opened {
+        store: opened,
+        policy,
+        before,
+    } = match open_inputs(rt, store, &None, true) {
+        Ok(opened) => opened,
+        Err(failure) => return tell(errors, &failure),
+    };
+    drop(policy);
+    let Some(opened) = opened else {
+        return tell(errors, &Failure::Store(StoreFailure::NoStore));
+    };
+    let (status, connection) = run_migration(rt.alloc(), opened, writer, errors);
+    close(rt, store, before, connection);
     status
 }
 
@@ -252,6 +276,7 @@ fn perform<W: Write, E: Write>(
             };
             work(rt, Work::Pipe, &named, writer, errors)
         }
+        Command::Migrate { store } => migrate(rt, &Some(store), writer, errors),
         Command::Serve {
             port,
             connections,

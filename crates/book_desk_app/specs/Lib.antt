@@ -10,5 +10,6 @@ pub mod Audits
 pub mod Streams
 pub mod Failures
 pub mod Runs
+pub mod Migrations
 pub mod Connections
 pub mod ServingFailures

@@ -12,7 +12,7 @@ use sqlite::{Alter, Connection};
 use std::alloc::Global;
 
 /// The fault of an open as what is told of it.
-fn store_failure(fault: OpenFault) -> StoreFailure
+pub(crate) fn store_failure(fault: OpenFault) -> StoreFailure
     ensures { result ≡ store_failure fault }
 {
     match fault {

@@ -9,7 +9,7 @@ use Rattle.clap.specs.declared.builder.action.ArgAction.TheVariants.{SetTrue}
 use Rattle.clap.specs.declared.builder.value_parser.ValueParser.TheVariants as parsers
 use Rattle.clap.specs.declared.error.kind.ErrorKind.TheVariants as kind
 use Rattle.book_desk_words.specs.declared.commands.Command.{Command}
-use Rattle.book_desk_words.specs.declared.commands.Command.TheVariants.{Explain, Card, Import, Audit, Pipe, Serve, Help}
+use Rattle.book_desk_words.specs.declared.commands.Command.TheVariants.{Explain, Card, Import, Audit, Migrate, Pipe, Serve, Help}
 
 -- ---- the words that it has
 
@@ -39,6 +39,9 @@ import_app = with_rule (with_rule (new_app (codes "import")) (required_rule (cod
 abbrev pub audit_app : App
 audit_app = with_rule (with_rule (new_app (codes "audit")) (required_rule (codes "store"))) (flag_rule (codes "existing"))
 
+abbrev pub migrate_app : App
+migrate_app = with_rule (new_app (codes "migrate")) (required_rule (codes "store"))
+
 -- the options that name the files of the store and of the policy
 abbrev pub with_files : App → App
 with_files app = with_rule (with_rule app (option_rule (codes "store"))) (option_rule (codes "policy"))
@@ -58,8 +61,8 @@ top_app = on_top (λ s. record s { no_binary_name = true; subcommand_required = 
 -- the whole command line
 abbrev pub program_app : App
 program_app =
-    with_subcommand (with_subcommand (with_subcommand (with_subcommand (with_subcommand (with_subcommand top_app
-    (new_app (codes "explain")).top) (new_app (codes "card")).top) import_app.top) audit_app.top) pipe_app.top) serve_app.top
+    with_subcommand (with_subcommand (with_subcommand (with_subcommand (with_subcommand (with_subcommand (with_subcommand top_app
+    (new_app (codes "explain")).top) (new_app (codes "card")).top) import_app.top) audit_app.top) migrate_app.top) pipe_app.top) serve_app.top
 
 -- ---- the command that the matches give
 
@@ -87,6 +90,7 @@ IsHelp Explain = ⊥
 IsHelp Card = ⊥
 IsHelp (Import store policy) = ⊥
 IsHelp (Audit store existing) = ⊥
+IsHelp (Migrate store) = ⊥
 IsHelp (Pipe store policy) = ⊥
 IsHelp (Serve port connections store policy existing) = ⊥
 
@@ -98,6 +102,7 @@ ReadsAs name rows (Import store policy) =
     (name ≡ codes "import") × NamesFile rows (codes "store") (Some store) × NamesFile rows (codes "policy") (Some policy)
 ReadsAs name rows (Audit store existing) =
     (name ≡ codes "audit") × NamesFile rows (codes "store") (Some store) × (existing ≡ has_flag rows (codes "existing"))
+ReadsAs name rows (Migrate store) = (name ≡ codes "migrate") × NamesFile rows (codes "store") (Some store)
 ReadsAs name rows (Pipe store policy) =
     (name ≡ codes "pipe") × NamesFile rows (codes "store") store × NamesFile rows (codes "policy") policy
 ReadsAs name rows (Serve port connections store policy existing) =

@@ -42,6 +42,11 @@ pub enum Command {
         /// Whether the store has to be there already: a file that is missing or empty is no store.
         existing: bool,
     },
+    /// Make a store of version 1 one of version 2.
+    Migrate {
+        /// The file of the store.
+        store: String,
+    },
     /// Serve the requests on standard input.
     Pipe {
         /// The file of the store; without one it is in memory.
@@ -201,6 +206,16 @@ fn audit_of(alloc: Global, found: &ArgMatches<'_>) -> Result<Option<Command>, Al
     Ok(Some(Command::Audit { store, existing }))
 }
 
+/// The command `migrate` with what the words give it; none where the file is missing.
+fn migrate_of(alloc: Global, found: &ArgMatches<'_>) -> Result<Option<Command>, AllocError>
+    ensures { IfOk result (λ command. IfSome command (ReadsAs (codes "migrate") (rows_of (found_of found.now)))) }
+{
+    let Some(store) = file_in(alloc, found, "store")? else {
+        return Ok(None);
+    };
+    Ok(Some(Command::Migrate { store }))
+}
+
 /// The subcommand that was met, with its matches.
 fn met<'m, 'a>(matches: &'m ArgMatches<'a>) -> Option<(&'a str, &'m ArgMatches<'a>)>
     ensures { option_map (λ p. (p.0.now, rows_of (found_of p.1.now))) result ≡ subcommand_rows_of matches.now }
@@ -221,6 +236,7 @@ fn command_named(
         "card" => Ok(Some(Command::Card)),
         "import" => import_of(alloc, found),
         "audit" => audit_of(alloc, found),
+        "migrate" => migrate_of(alloc, found),
         "pipe" => pipe_of(alloc, found),
         "serve" => serve_of(alloc, found),
         _ => Ok(None),

@@ -18,8 +18,9 @@ with # are skipped. A file is given by <, as in: book_desk explain < question.tx
   grant [not] WHO NAME ..  an entry of the access list, in order; at most 64
   deny [not] WHO NAME ..   the same
 A PERSON is /people/NAME, a GROUP is /groups/NAME, and a PRINCIPAL or MEMBER is either. WHO is a PRINCIPAL or one of
-all, authenticated, unauthenticated, owner, self. The privileges are read, write-content, write-properties, bind,
-unbind, read-acl, write-acl, read-current-user-privilege-set, write (the second to the fifth) and all.
+all, authenticated, unauthenticated, owner, self. The privileges are x-read-texts, write-content, write-properties, bind,
+unbind, read-acl, write-acl, read-current-user-privilege-set, x-read-names, read (the first and the last of these), write
+(the second to the fifth) and all.
 
 Output:
   allowed | denied NAME by N | denied NAME, none granted
@@ -124,6 +125,27 @@ Told on standard error, on a line
 Status: 0 printed; 2 usage; 3 the store, memory, or a failed write.
 ";
 
+pub(crate) const MIGRATE: &str = "Makes a store of version 1 one of version 2";
+
+pub(crate) const MIGRATE_TEXT: &str = "\
+Version 1 knew eight privileges: each entry that has read, which is x-read-texts and x-read-names now, gets x-read-names
+too. Nothing else changes. Keep a copy of the file, made while no program is at work on it, as in:
+  cp office.db office-1.db
+  book_desk migrate --store office.db
+
+Output:
+  version 2, entries N
+N is the number of the entries of all lists. The epoch stays, and so sync tokens stay good.
+
+Told on standard error, on a line, where nothing was changed
+  store: FAULT          the store can't be had: other-version, no-store, memory, or store
+or where it was migrated
+  output: write         it could not be told
+A file that is empty or missing is told as no-store, and is neither made nor written.
+
+Status: 0 migrated; 2 usage; 3 the store, memory, or a failed write.
+";
+
 pub(crate) const PIPE: &str = "Serves the requests on standard input";
 
 pub(crate) const PIPE_TEXT: &str = "\
@@ -172,6 +194,8 @@ pub(crate) const POLICY_WORD: &str = "The file of the policy, in TOML";
 
 pub(crate) const FOUNDED_STORE: &str =
     "The file of the store, which has a log beside it, FILE-wal; an empty or missing one is founded";
+
+pub(crate) const FIRST_STORE: &str = "The file of the store, of version 1";
 
 pub(crate) const KEPT_STORE: &str =
     "The file of the store, which has a log beside it, FILE-wal; an empty or missing one is founded; without it the store is in memory";

@@ -3,12 +3,12 @@
 ghost use Rattle.std.specs.Prelude.{◌≡◌, IfOk, false, codes};
 ghost use Rattle.clap.specs.Words.{app_of, new_app, rule_of};
 ghost use Rattle.clap.specs.declared.builder.command.Command.TheViews.{out-Command};
-ghost use Rattle.book_desk_words.specs.CommandLine.{program_app, top_app, audit_app, import_app, pipe_app, serve_app, flag_rule, option_rule, number_rule, required_rule, with_files, word_rule};
+ghost use Rattle.book_desk_words.specs.CommandLine.{program_app, top_app, audit_app, import_app, migrate_app, pipe_app, serve_app, flag_rule, option_rule, number_rule, required_rule, with_files, word_rule};
 
 use crate::helps::{
-    ABOUT, AUDIT, AUDIT_TEXT, CARD, CARD_TEXT, CONNECTIONS, EXISTING, EXPLAIN, FOUNDED_STORE,
-    IMPORT, IMPORT_TEXT, KEPT_STORE, PIPE, PIPE_TEXT, POLICY, POLICY_WORD, PORT, QUESTION, SERVE,
-    SERVE_TEXT, VERSION,
+    ABOUT, AUDIT, AUDIT_TEXT, CARD, CARD_TEXT, CONNECTIONS, EXISTING, EXPLAIN, FIRST_STORE,
+    FOUNDED_STORE, IMPORT, IMPORT_TEXT, KEPT_STORE, MIGRATE, MIGRATE_TEXT, PIPE, PIPE_TEXT, POLICY,
+    POLICY_WORD, PORT, QUESTION, SERVE, SERVE_TEXT, VERSION,
 };
 use clap::{Arg, ArgAction, value_parser};
 use std::alloc::{AllocError, Global};
@@ -109,6 +109,15 @@ fn audit<'a>(alloc: Global) -> Result<clap::Command<'a>, AllocError>
         .arg(flag_option(alloc, "existing", EXISTING))
 }
 
+fn migrate<'a>(alloc: Global) -> Result<clap::Command<'a>, AllocError>
+    ensures { IfOk result (λ c. (app_of c ≡ migrate_app) × ((out-Command c).has_globals ≡ false)) }
+{
+    clap::Command::new(alloc, "migrate")
+        .about(MIGRATE)
+        .after_help(MIGRATE_TEXT)
+        .arg(file_needed(alloc, "store", FIRST_STORE))
+}
+
 /// The command with the options that name the files of the store and of the policy.
 fn with_files<'a>(
     alloc: Global,
@@ -164,6 +173,7 @@ pub(crate) fn program<'a>(alloc: Global) -> Result<clap::Command<'a>, AllocError
         .subcommand(card(alloc))?
         .subcommand(import(alloc)?)?
         .subcommand(audit(alloc)?)?
+        .subcommand(migrate(alloc)?)?
         .subcommand(pipe(alloc)?)?
         .subcommand(serve(alloc)?)
 }

@@ -11,3 +11,4 @@ pub mod Searches
 pub mod PathEnds
 pub mod OneOutcome
 pub mod Fronts
+pub mod Widened

@@ -1,7 +1,7 @@
 -- A caller has one circle, and a list of entries one outcome and one set that it grants.
 use Rattle.book_lists.proofs.Common.{◌≡◌, ℕ, ◌<◌, ◌≤◌, ◌⊎◌, ◌↔◌, Bool, List, [], ◌∷◌, get_or, Option, Some, None, inl, inr, refl, sym, ap, ◌∙◌, arith, same_set, false≢true, nat_list_cmp_total, Leaf, Entry, Here, CircleOf, IsAllowed, IsDenial}
 use Rattle.std.specs.FinSet.{contains, slice_cmp-IsAntisymmetric, nat_cmp-IsAntisymmetric}
-use Rattle.book_rights.specs.declared.privileges.Leaf.TheVariants.{Read, WriteContent, WriteProperties, Bind, Unbind, ReadAcl, WriteAcl, ReadCurrentUserPrivilegeSet}
+use Rattle.book_rights.specs.declared.privileges.Leaf.TheVariants.{ReadTexts, WriteContent, WriteProperties, Bind, Unbind, ReadAcl, WriteAcl, ReadCurrentUserPrivilegeSet, ReadNames}
 use Rattle.book_rights.specs.Leaves.{place_of, each_leaf}
 use Rattle.book_rights.specs.Leaves as leaves
 use Rattle.book_lists.specs.declared.circles.Caller.{Caller}
@@ -13,11 +13,11 @@ use Rattle.book_lists.specs.Memberships.{Memberships}
 use Rattle.book_rights.proofs.Masks.{same_test}
 
 leaf_at : ℕ → Leaf
-leaf_at n = get_or (Read ∷ WriteContent ∷ WriteProperties ∷ Bind ∷ Unbind ∷ ReadAcl ∷ WriteAcl ∷ ReadCurrentUserPrivilegeSet ∷ []) n Read
+leaf_at n = get_or (ReadTexts ∷ WriteContent ∷ WriteProperties ∷ Bind ∷ Unbind ∷ ReadAcl ∷ WriteAcl ∷ ReadCurrentUserPrivilegeSet ∷ ReadNames ∷ []) n ReadTexts
 
 leaf_at-place_of : (leaf : Leaf) → leaf_at (place_of leaf) ≡ leaf
 unfolding leaf_at
-leaf_at-place_of leaf = each_leaf (λ l. leaf_at (place_of l) ≡ l) refl refl refl refl refl refl refl refl leaf
+leaf_at-place_of leaf = each_leaf (λ l. leaf_at (place_of l) ≡ l) refl refl refl refl refl refl refl refl refl leaf
 
 same_leaf : (a b : Leaf) → place_of a ≤ place_of b → place_of b ≤ place_of a → a ≡ b
 same_leaf a b below above =

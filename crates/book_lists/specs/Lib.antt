@@ -10,3 +10,4 @@ pub mod ListEdits
 pub mod Memberships
 pub mod GroupEntries
 pub mod Callers
+pub mod Widening

@@ -13,6 +13,7 @@
 mod circles;
 mod decisions;
 mod entries;
+mod laws;
 mod list_edits;
 mod memberships;
 mod names;
@@ -24,6 +25,7 @@ mod submitted;
 pub use circles::{Caller, Circle, expand};
 pub use decisions::{Outcome, decide, granted};
 pub use entries::{Entry, Here, Who, applies};
+pub use laws::widened_lists_decide_alike;
 pub use list_edits::{EditFault, check_edit};
 pub use memberships::{Membership, Pairs};
 pub use names::Name;

@@ -14,4 +14,4 @@ one_answer pairs caller need here entries s t a b =
     let grants = subst (λ c. IsGrantedSet entries c here a.granted) circle a.grants in
     let outcome : a.outcome ≡ b.outcome = one_outcome entries b.circle here need a.outcome b.outcome allowed denied b.allowed b.denied in
     let granted : a.granted ≡ b.granted = one_grant entries b.circle here a.granted b.granted grants b.grants in
-    a.told ∙ (λ i. answer_text (outcome i) (granted i)) ∙ sym b.told
+    a.told ∙ (λ i. answer_text need (outcome i) (granted i)) ∙ sym b.told

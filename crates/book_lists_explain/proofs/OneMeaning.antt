@@ -5,8 +5,8 @@ use Rattle.std.specs.List.{list_any}
 use Rattle.std.proofs.lemmas.Bool.Decides.{eqb_tells}
 use Rattle.std.proofs.lemmas.List.{get_or-map, length-map}
 use Rattle.std.proofs.lemmas.Slice.Eq.{bytes_eq-Decides}
-use Rattle.book_rights.specs.declared.privileges.Leaf.TheVariants.{Read, WriteContent, WriteProperties, Bind, Unbind, ReadAcl, WriteAcl, ReadCurrentUserPrivilegeSet}
-use Rattle.book_rights.specs.declared.privileges.Privilege.TheVariants.{One, Write, All}
+use Rattle.book_rights.specs.declared.privileges.Leaf.TheVariants.{ReadTexts, WriteContent, WriteProperties, Bind, Unbind, ReadAcl, WriteAcl, ReadCurrentUserPrivilegeSet, ReadNames}
+use Rattle.book_rights.specs.declared.privileges.Privilege.TheVariants.{One, Read, Write, All}
 use Rattle.book_rights.specs.Leaves.{same_set}
 use Rattle.book_rights.specs.Privileges.{contained, name_of}
 use Rattle.book_lists.specs.declared.circles.Caller.TheVariants.{Nobody, Known}
@@ -18,17 +18,17 @@ use Rattle.book_lists_explain.proofs.LineFaults.{one_path}
 -- ---- privileges by their names
 leaf_named : List ℕ → Leaf
 leaf_named name =
-    cond (bytes_eq name (codes "read")) Read (cond (bytes_eq name (codes "write-content")) WriteContent (cond (bytes_eq name (codes "write-properties")) WriteProperties
+    cond (bytes_eq name (codes "x-read-texts")) ReadTexts (cond (bytes_eq name (codes "write-content")) WriteContent (cond (bytes_eq name (codes "write-properties")) WriteProperties
     (cond (bytes_eq name (codes "bind")) Bind (cond (bytes_eq name (codes "unbind")) Unbind (cond (bytes_eq name (codes "read-acl")) ReadAcl
-    (cond (bytes_eq name (codes "write-acl")) WriteAcl ReadCurrentUserPrivilegeSet))))))
+    (cond (bytes_eq name (codes "write-acl")) WriteAcl (cond (bytes_eq name (codes "x-read-names")) ReadNames ReadCurrentUserPrivilegeSet)))))))
 
 privilege_named : List ℕ → Privilege
 unfolding leaf_named
-privilege_named name = cond (bytes_eq name (codes "write")) Write (cond (bytes_eq name (codes "all")) All (One (leaf_named name)))
+privilege_named name = cond (bytes_eq name (codes "read")) Read (cond (bytes_eq name (codes "write")) Write (cond (bytes_eq name (codes "all")) All (One (leaf_named name))))
 
 privilege_named-name_of : (p : Privilege) → privilege_named (name_of p) ≡ p
 unfolding privilege_named leaf_named
-privilege_named-name_of (One Read) = refl
+privilege_named-name_of (One ReadTexts) = refl
 privilege_named-name_of (One WriteContent) = refl
 privilege_named-name_of (One WriteProperties) = refl
 privilege_named-name_of (One Bind) = refl
@@ -36,6 +36,8 @@ privilege_named-name_of (One Unbind) = refl
 privilege_named-name_of (One ReadAcl) = refl
 privilege_named-name_of (One WriteAcl) = refl
 privilege_named-name_of (One ReadCurrentUserPrivilegeSet) = refl
+privilege_named-name_of (One ReadNames) = refl
+privilege_named-name_of Read = refl
 privilege_named-name_of Write = refl
 privilege_named-name_of All = refl
 

@@ -3,7 +3,7 @@ use Rattle.book_lists_explain.proofs.Common.{◌≡◌, ℕ, ◌+◌, ◌<◌, a
 use Rattle.std.proofs.Common.{not, is_some}
 use Rattle.std.proofs.lemmas.Bool.{and_parts}
 use Rattle.std.proofs.lemmas.List.Elements.{filter_map-append}
-use Rattle.book_rights.specs.declared.privileges.Leaf.TheVariants.{Read}
+use Rattle.book_rights.specs.declared.privileges.Leaf.TheVariants.{ReadTexts}
 use Rattle.book_rights.specs.Leaves.{each_leaf, difference, every_leaf, IsLeast}
 use Rattle.book_lists_explain.specs.ShortNames.{has_all}
 
@@ -11,13 +11,14 @@ use Rattle.book_lists_explain.specs.ShortNames.{has_all}
 each_held : (set : Leaf → Bool) → has_all set ≡ true → (leaf : Leaf) → set leaf ≡ true
 each_held set h =
     let a = and_parts _ _ h in
+    let r = and_parts _ _ a.0 in
     let b = and_parts _ _ a.1 in
     let w = and_parts _ _ b.0 in
     let x = and_parts _ _ w.1 in
     let y = and_parts _ _ x.1 in
     let c = and_parts _ _ b.1 in
     let d = and_parts _ _ c.1 in
-    each_leaf (λ leaf. set leaf ≡ true) a.0 w.0 x.0 y.0 y.1 c.0 d.0 d.1
+    each_leaf (λ leaf. set leaf ≡ true) r.0 w.0 x.0 y.0 y.1 c.0 d.0 d.1 r.1
 
 pub not_all : (set : Leaf → Bool) (o : Option Leaf) → IsLeast (difference every_leaf set) o → is_some o ≡ true → has_all set ≡ false
 not_all set None l n = absurd (false≢true n)
@@ -35,12 +36,12 @@ module _ {X Y : Type 0} (h : X → Option Y) where
   unnamed x e = rw e refl
 
 -- one leaf more
-pub names_more : (set : Leaf → Bool) (i : ℕ) → i < 8 → (y : Privilege) → short_name set (get_or all_leaves i Read) ≡ Some y → filter_map (short_name set) (take (i + 1) all_leaves) ≡ filter_map (short_name set) (take i all_leaves) ++ y ∷ []
+pub names_more : (set : Leaf → Bool) (i : ℕ) → i < 9 → (y : Privilege) → short_name set (get_or all_leaves i ReadTexts) ≡ Some y → filter_map (short_name set) (take (i + 1) all_leaves) ≡ filter_map (short_name set) (take i all_leaves) ++ y ∷ []
 names_more set i lt y e =
-    ap (filter_map (short_name set)) (take_more all_leaves i Read lt) ∙ filter_map-append (short_name set) (take i all_leaves) _
+    ap (filter_map (short_name set)) (take_more all_leaves i ReadTexts lt) ∙ filter_map-append (short_name set) (take i all_leaves) _
     ∙ ap (λ ys. filter_map (short_name set) (take i all_leaves) ++ ys) (named (short_name set) _ y e)
 
-pub names_same : (set : Leaf → Bool) (i : ℕ) → i < 8 → short_name set (get_or all_leaves i Read) ≡ None → filter_map (short_name set) (take (i + 1) all_leaves) ≡ filter_map (short_name set) (take i all_leaves)
+pub names_same : (set : Leaf → Bool) (i : ℕ) → i < 9 → short_name set (get_or all_leaves i ReadTexts) ≡ None → filter_map (short_name set) (take (i + 1) all_leaves) ≡ filter_map (short_name set) (take i all_leaves)
 names_same set i lt e =
-    ap (filter_map (short_name set)) (take_more all_leaves i Read lt) ∙ filter_map-append (short_name set) (take i all_leaves) _
+    ap (filter_map (short_name set)) (take_more all_leaves i ReadTexts lt) ∙ filter_map-append (short_name set) (take i all_leaves) _
     ∙ ap (λ ys. filter_map (short_name set) (take i all_leaves) ++ ys) (unnamed (short_name set) _ e) ∙ append-nil _

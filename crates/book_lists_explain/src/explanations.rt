@@ -14,7 +14,7 @@ use crate::faults::{ExplainFault, ExplainFaultKind, fault_at};
 use crate::questions::{Question, read_question};
 use crate::short_names::short_privileges;
 use book_lists::{Outcome, decide, expand, granted};
-use book_rights::{LeafSet, Privilege};
+use book_rights::{LeafSet, Privilege, denied_name};
 use std::alloc::{AllocError, Global};
 
 /// Adds each name, after a space.
@@ -41,34 +41,39 @@ fn push_names(text: &mut String, names: &[Privilege]) -> Result<(), AllocError>
     }
 }
 
-/// The first line of the text of an outcome.
-fn outcome_text(alloc: Global, outcome: Outcome) -> Result<String, AllocError>
+/// The first line of the text of a need's outcome.
+fn outcome_text(alloc: Global, need: LeafSet, outcome: Outcome) -> Result<String, AllocError>
     requires { IfDenied outcome (λ leaf entry. IfSome entry (λ index. index + 1 < 2 ^ 64)) }
-    ensures { IfOk result (λ text. string_bytes text ≡ outcome_text outcome) }
+    ensures { IfOk result (λ text. string_bytes text ≡ outcome_text need outcome) }
 {
     match outcome {
         Outcome::Allowed => String::from_str(alloc, "allowed"),
         Outcome::Denied { leaf, entry: None } => {
-            let name = leaf.name();
+            let name = denied_name(leaf, need).name();
             format!(in alloc; "denied {name}, none granted")
         }
         Outcome::Denied {
             leaf,
             entry: Some(index),
         } => {
-            let name = leaf.name();
+            let name = denied_name(leaf, need).name();
             let number = index + 1;
             format!(in alloc; "denied {name} by {number}")
         }
     }
 }
 
-/// The text of an outcome, with the leaves that are granted.
-fn answer_text(alloc: Global, outcome: Outcome, granted: LeafSet) -> Result<String, AllocError>
+/// The text of a need's outcome, with the leaves that are granted.
+fn answer_text(
+    alloc: Global,
+    need: LeafSet,
+    outcome: Outcome,
+    granted: LeafSet,
+) -> Result<String, AllocError>
     requires { IfDenied outcome (λ leaf entry. IfSome entry (λ index. index + 1 < 2 ^ 64)) }
-    ensures { IfOk result (λ text. string_bytes text ≡ answer_text outcome granted) }
+    ensures { IfOk result (λ text. string_bytes text ≡ answer_text need outcome granted) }
 {
-    let mut text = outcome_text(alloc, outcome)?;
+    let mut text = outcome_text(alloc, need, outcome)?;
     text.push_str("\ngranted: ")?;
     let names = short_privileges(alloc, granted)?;
     push_names(&mut text, &names)?;
@@ -93,7 +98,7 @@ fn answer(alloc: Global, question: &Question) -> Result<String, ExplainFaultKind
     let circle = expand(&question.pairs, caller)?;
     let outcome = decide(&question.entries, &circle, &question.here, need);
     let granted = granted(&question.entries, &circle, &question.here);
-    Ok(answer_text(alloc, outcome, granted)?)
+    Ok(answer_text(alloc, need, outcome, granted)?)
 }
 
 /// Decides the need that an `explain` text states (own profile; the decision is that of RFC 3744, section 6).

@@ -17,4 +17,4 @@ mod short_names;
 pub use explanations::explain;
 pub use faults::{ExplainFault, ExplainFaultKind};
 pub use laws::{answers_are_one, answers_exclude_faults, explain_faults_are_one};
-pub use short_names::short_privileges;
+pub use short_names::{has_read, has_write, short_privileges};

@@ -6,7 +6,7 @@ use Rattle.book_office.specs.Resources.{listed_books, listed_cards, listed_of_bo
 use Rattle.book_office.specs.declared.nodes.Listed.{Listed}
 use Rattle.book_office_listings.specs.Laws.{AreAlike}
 use Rattle.book_office_listings.specs.Listings.{child_path, children_paths, subject_at}
-use Rattle.book_machine.proofs.MappedEntries.{entries_mapped}
+use Rattle.book_office_adopting.proofs.MappedEntries.{entries_mapped}
 use Rattle.book_machine.proofs.Outlines.{there_mapped, told, outline_of_resource, books_alike, resource_same, resources_alike, level_same, here_same}
 
 -- ---- the paths of children, which rest on names alone

@@ -1,22 +1,27 @@
 -- From agreeing Offices a request has one plan.
-use Rattle.book_machine.proofs.Common.{◌≡◌, inl, inr, ℕ, List, [], ◌∷◌, Bool, true, false, Option, Some, None, is_some, option_map, ◌&&◌, ◌||◌, Result, Ok, Err, refl, sym, ap, ◌∙◌, subst, nat_lt, if◌then◌else◌, map, get, AllZip, flat_map, bytes_eq, IsCircle, CircleOf, person_path, Caller, Nobody, Known, Submitted, effective_at, EffectiveEntry, node_at, unnumbered, IsMapped, Node, only, Method, Get, Head, Options, Put, Propfind, Proppatch, Acl, Copy, Move, Delete, Mkcol, Need, Leaf, Read, Office, MAX_CARDS, MAX_BOOKS, LAST_NUMBER, Path, kind_of, levels, Find, named, MayRead, outline, Agree, goes_on, asked_of, method_of, destination_in, destination_path, ◌>>=◌, check, caller_of, at_unmapped, at_node, target_of, suits_target, ready_of, IsMembersAnswer, IsChecked, protected_entries_at, IsAclAnswer, IsBodyAnswer, can_change, label_limits, limits_of, report_plan, sync_plan, body_then_limits, AreMembersTold, IsReportOf, IsListed, IsSuccessOf, IsDone, IsGrantedPlan, put_edit, replied, replaceable, destination_of, can_change_twice, move_limits, copy_edit, move_edit, IsDecided, IsPlannedFrom, IsPlan, IsGrantedAt, here_of, AreGranted, IsGranted, IsDenied, needs_at, place_path, Asked, Destination, ReportKind, Request, SyncFrom, Plan, Ready, Target, Denial, Refusal, UnknownCaller, Full, NotAllowed, NoParent}
+use Rattle.book_machine.proofs.Common.{◌≡◌, inl, inr, ℕ, List, [], ◌∷◌, Bool, true, false, Option, Some, None, is_some, option_map, ◌&&◌, ◌||◌, Result, Ok, Err, refl, sym, ap, ◌∙◌, subst, nat_lt, if◌then◌else◌, map, get, AllZip, flat_map, bytes_eq, IsCircle, CircleOf, person_path, Caller, Nobody, Known, Submitted, effective_at, EffectiveEntry, node_at, unnumbered, IsMapped, Node, Method, Get, Head, Options, Put, Propfind, Proppatch, Acl, Copy, Move, Delete, Mkcol, Need, Leaf, Office, MAX_CARDS, MAX_BOOKS, LAST_NUMBER, Path, kind_of, levels, Find, named, MayRead, outline, Agree, goes_on, asked_of, method_of, destination_in, destination_path, ◌>>=◌, check, caller_of, at_unmapped, at_node, target_of, suits_target, ready_of, IsMembersAnswer, IsChecked, protected_entries_at, IsAclAnswer, IsBodyAnswer, can_change, label_limits, limits_of, report_plan, sync_plan, body_then_limits, AreMembersTold, IsReportOf, IsListed, IsSuccessOf, IsDone, IsGrantedPlan, put_edit, replied, replaceable, destination_of, can_change_twice, move_limits, copy_edit, move_edit, IsDecided, IsPlannedFrom, IsPlan, IsGrantedAt, here_of, AreGranted, IsGranted, IsDenied, needs_at, place_path, Asked, Destination, ReportKind, Request, SyncFrom, Plan, Ready, Target, Denial, Refusal, UnknownCaller, Full, NotAllowed, NoParent}
 use Rattle.book_office.specs.Levels.{protected_entries}
 use Rattle.book_rights.specs.Needs.{read_and, needs_of}
+use Rattle.book_rights.specs.Privileges.{is_read}
 use Rattle.book_rights.specs.declared.methods.Method.TheVariants.{Report}
 use Rattle.book_rights.specs.declared.methods.Shape.{Shape}
-use Rattle.book_rights.specs.declared.privileges.Leaf.TheVariants.{WriteContent, WriteProperties, Bind, Unbind, ReadAcl, WriteAcl, ReadCurrentUserPrivilegeSet}
+use Rattle.book_rights.specs.declared.privileges.Leaf.TheVariants.{ReadTexts, WriteContent, WriteProperties, Bind, Unbind, ReadAcl, WriteAcl, ReadCurrentUserPrivilegeSet, ReadNames}
 use Rattle.book_office_values.specs.declared.paths.Path.TheVariants as path
 use Rattle.book_machine.proofs.AlikeOffices.{alike_of}
-use Rattle.book_machine.proofs.AlikeReports.{AreReportedAlike, members_alike, reports_alike, rulings_told_alike}
+use Rattle.book_machine.proofs.AlikeReports.{AreReportedAlike, members_alike, names_alike, reports_alike, rulings_told_alike}
 use Rattle.book_machine.proofs.FittingPlans.{IsShaped, bind_ok, ready_is_target, ready_shaped}
 use Rattle.book_machine.proofs.Outlines.{there_mapped, outline_of_node, book_there, count_same, nodes_alike, targets_alike, node_same, level_same, effective_same, here_same}
 use Rattle.book_office_listings.proofs.AlikeListings.{unread_unseen}
-use Rattle.book_office_listings.specs.Laws.{AreAlike}
+use Rattle.book_office_listings.specs.Laws.{AreAlike, HasRead}
+use Rattle.book_office_listings.specs.Properties.{is_asked}
+use Rattle.book_office_listings.specs.declared.messages.Property.{Property}
 use Rattle.book_office_listings.specs.declared.messages.Property.TheVariants as property
+use Rattle.book_machine.specs.Agreement.{MayHave}
+use Rattle.book_machine.specs.Finding.{needed_for}
 use Rattle.book_machine.specs.AllowedMethods.{allowed_of}
-use Rattle.book_machine.specs.Stages.{IsListAnswer, IsReportAnswer, put_limits, delete_limits, keeps_limits, card_plan, allow_plan, put_plan, patch_plan, acl_plan, delete_plan, mkcol_plan, put_status, copy_plan, move_plan}
+use Rattle.book_machine.specs.Stages.{IsListAnswer, IsReportAnswer, put_limits, delete_limits, keeps_limits, card_plan, allow_plan, put_plan, patch_plan, acl_plan, delete_plan, mkcol_plan, AreNamesTold, put_status, copy_plan, move_plan}
 use Rattle.book_office_listings.specs.Verdicts.{IsGrantedBy, IsDeniedBy, IsDeniedAt}
-use Rattle.book_machine.specs.Verdicts.{IsFirstDenial, asks_effective, asks_for, is_book, shape_at}
+use Rattle.book_machine.specs.Verdicts.{IsFirstDenial, asks_effective, asks_for, asks_names, is_book, shape_at}
 use Rattle.book_machine.specs.declared.allowed_methods.AllowedMethods.TheVariants.{OfNewCard}
 use Rattle.book_machine.specs.declared.asked.Asked.TheVariants as asked
 use Rattle.book_machine.specs.declared.messages.Content.TheVariants as content
@@ -71,11 +76,11 @@ module _ (o p : Office) (same : outline o ≡ outline p) where
       subst (λ here. IsDeniedBy (effective_at p q) circle here q set denial) (here_same o p same q)
       (subst (λ list. IsDeniedBy list circle (here_of o q) q set denial) (effective_same o p same q) h)
 
-  pub may_read_same : (caller : Caller) (q : Path) → MayRead o caller q → MayRead p caller q
-  may_read_same caller q h = record {
+  pub may_same : (caller : Caller) (q : Path) (set : Leaf → Bool) → MayHave o caller q set → MayHave p caller q set
+  may_same caller q set h = record {
     circle = h.circle;
     is_circle = circle_same caller h.circle h.is_circle;
-    granted = granted_same h.circle q (only Read) h.granted;
+    granted = granted_same h.circle q set h.granted;
   }
 
   module _ (circle : CircleOf) (to : Option Destination) (target : Path) where
@@ -224,6 +229,7 @@ module _ (o p : Office) (same : outline o ≡ outline p) where
   report_answer_same (report.Effective Nobody) answer is = is
   report_answer_same (report.Effective (Known person)) (Ok u) is = subst (λ (x : Office). IsMapped x person) same is
   report_answer_same (report.Effective (Known person)) (Err e) is = (is.0, λ there. is.1 (subst (λ (x : Office). IsMapped x person) (sym same) there))
+  report_answer_same report.Names answer is = is
 
   body_answer_same : (what : Asked) (q : Path) (answer : Result (Unit {0}) Refusal) → IsBodyAnswer o what q answer → IsBodyAnswer p what q answer
   body_answer_same asked.Get q answer is = is
@@ -256,23 +262,28 @@ module _ (o p : Office) (same : outline o ≡ outline p) where
   keeps_limits_same (asked.Report which) q mapped taken = refl
 
 -- ---- methods that need `read` at their target
-read_alone : (leaf : Leaf) → only Read leaf ≡ true → leaf ≡ Read
-read_alone Read e = refl
-read_alone WriteContent e = absurd cc
-read_alone WriteProperties e = absurd cc
-read_alone Bind e = absurd cc
-read_alone Unbind e = absurd cc
-read_alone ReadAcl e = absurd cc
-read_alone WriteAcl e = absurd cc
-read_alone ReadCurrentUserPrivilegeSet e = absurd cc
+read_has_read : HasRead is_read
+read_has_read leaf is = is
+
+-- what is needed beside `read` leaves it needed
+more_has_read : (acl privileges : Bool) → HasRead (read_and acl privileges)
+more_has_read acl privileges ReadTexts is = refl
+more_has_read acl privileges WriteContent is = absurd cc
+more_has_read acl privileges WriteProperties is = absurd cc
+more_has_read acl privileges Bind is = absurd cc
+more_has_read acl privileges Unbind is = absurd cc
+more_has_read acl privileges ReadAcl is = absurd cc
+more_has_read acl privileges WriteAcl is = absurd cc
+more_has_read acl privileges ReadCurrentUserPrivilegeSet is = absurd cc
+more_has_read acl privileges ReadNames is = refl
 
 -- who is granted a set with `read` may read
 pub reads_by : (o : Office) (caller : Caller) (circle : CircleOf) (q : Path) (set : Leaf → Bool) → IsCircle o.pairs caller circle
-    → set Read ≡ true → IsGrantedAt o circle q set → MayRead o caller q
+    → HasRead set → IsGrantedAt o circle q set → MayRead o caller q
 reads_by o caller circle q set is_circle reads granted = record {
   circle = circle;
   is_circle = is_circle;
-  granted = λ leaf is. let one = read_alone leaf is in granted leaf (ap set one ∙ reads);
+  granted = λ leaf is. granted leaf (reads leaf is);
 }
 
 abbrev pub reads_target : Method → Bool
@@ -287,22 +298,22 @@ reads_target Copy = true
 reads_target Move = false
 reads_target Delete = false
 reads_target Mkcol = false
-reads_target Report = true
+reads_target Report = false
 
 module _ (o : Office) (caller : Caller) (circle : CircleOf) (is_circle : IsCircle o.pairs caller circle) (to : Option Destination) (target : Path) (shape : Shape) where
   reads_granted : (m : Method) → reads_target m ≡ true → AreGranted o circle to target (needs_of m shape) → MayRead o caller target
-  reads_granted Get e h = reads_by o caller circle target (only Read) is_circle refl h.0
-  reads_granted Head e h = reads_by o caller circle target (only Read) is_circle refl h.0
-  reads_granted Options e h = reads_by o caller circle target (only Read) is_circle refl h.0
+  reads_granted Get e h = reads_by o caller circle target is_read is_circle read_has_read h.0
+  reads_granted Head e h = reads_by o caller circle target is_read is_circle read_has_read h.0
+  reads_granted Options e h = reads_by o caller circle target is_read is_circle read_has_read h.0
   reads_granted Put e h = absurd cc
-  reads_granted Propfind e h = reads_by o caller circle target (read_and shape.acl shape.privileges) is_circle refl h.0
+  reads_granted Propfind e h = reads_by o caller circle target (read_and shape.acl shape.privileges) is_circle (more_has_read shape.acl shape.privileges) h.0
   reads_granted Proppatch e h = absurd cc
   reads_granted Acl e h = absurd cc
-  reads_granted Copy e h = reads_by o caller circle target (only Read) is_circle refl h.0
+  reads_granted Copy e h = reads_by o caller circle target is_read is_circle read_has_read h.0
   reads_granted Move e h = absurd cc
   reads_granted Delete e h = absurd cc
   reads_granted Mkcol e h = absurd cc
-  reads_granted Report e h = reads_by o caller circle target (read_and shape.effective false) is_circle refl h.0
+  reads_granted Report e h = absurd cc
 
 pub reads : (o : Office) (ready : Ready) → reads_target (method_of ready.asked) ≡ true → IsGranted o ready → MayRead o ready.caller ready.target.path
 reads o ready e h = reads_granted o ready.caller h.circle h.is_circle (destination_in ready.asked) ready.target.path (shape_at ready) (method_of ready.asked) e h.granted
@@ -332,6 +343,7 @@ module _ (a b : Ready) (alike : outline_of_ready a ≡ outline_of_ready b) where
     acl = asks_for property.Acl (asked_is i);
     privileges = asks_for property.CurrentUserPrivilegeSet (asked_is i);
     effective = asks_effective (asked_is i);
+    names = asks_names (asked_is i);
   })
 
   module _ (o p : Office) (same : outline o ≡ outline p) where
@@ -358,6 +370,9 @@ module _ (a b : Ready) (alike : outline_of_ready a ≡ outline_of_ready b) where
     limits_same : limits_of o a.asked a.target ≡ limits_of p b.asked b.target
     limits_same = ap (λ t. check t Full) (keeps_limits_same o p same a.asked a.target.path (is_some a.target.node) a.target.replaces ∙ (λ i. keeps_limits p (asked_is i) (path_is i) (mapped_is i) (taken_is i)))
 
+  needed_has_read : (properties : List Property) → HasRead (needed_for properties)
+  needed_has_read properties = more_has_read (is_asked property.Acl properties) (is_asked property.CurrentUserPrivilegeSet properties)
+
   -- what is replied and done rests on the label and text of the target in methods alone that need `read` there
   module _ (o p : Office) (circle : CircleOf) (offices : AreAlike o p circle) (reports : AreReportedAlike o p circle) where
     sync_same : (from : SyncFrom) (q : Path) → sync_plan o circle from q ≡ sync_plan p circle from q
@@ -380,12 +395,23 @@ module _ (a b : Ready) (alike : outline_of_ready a ≡ outline_of_ready b) where
     members_same (path.Book b) result is = is
     members_same (path.Card b c) result is = (is.0, members_alike o p circle reports.seen_alike b c is.0 is.1, is.2)
 
+    names_same : (q : Path) (result : Result Plan Refusal) → AreNamesTold o circle q result → AreNamesTold p circle q result
+    names_same path.Root result is = is
+    names_same path.People result is = is
+    names_same path.Groups result is = is
+    names_same path.Books result is = is
+    names_same (path.Person n) result is = is
+    names_same (path.Group n) result is = is
+    names_same (path.Book b) result is = (is.0, names_alike o p circle reports.named_alike b is.0 is.1, is.2)
+    names_same (path.Card b c) result is = is
+
     report_same : (which : ReportKind) (q : Path) (result : Result Plan Refusal) → IsReportOf o circle which q result → IsReportOf p circle which q result
     report_same (report.SyncCollection from) q result is = sym (sync_same from q) ∙ is
     report_same report.GroupMembers q result is = members_same q result is
     report_same (report.Effective caller) q result is = rulings_told_alike o p reports.outlines caller q result is
+    report_same report.Names q result is = names_same q result is
 
-    listed_same : (find : Find) → find.needed Read ≡ true → (q : Path) (node : Option Node) (result : Result Plan Refusal)
+    listed_same : (find : Find) → HasRead find.needed → (q : Path) (node : Option Node) (result : Result Plan Refusal)
         → IsListed o circle find q node result → IsListed p circle find q node result
     listed_same find needs q None result is = is
     listed_same find needs q (Some node) result is = (is.0, unread_unseen o p circle offices find needs q is.0 is.1, is.2)
@@ -401,7 +427,7 @@ module _ (a b : Ready) (alike : outline_of_ready a ≡ outline_of_ready b) where
         sym plans ∙ is
     success_same (asked.Propfind find) shaped shown result is =
         subst (λ q. IsListed p circle find q b.target.node result) path_is
-        (subst (λ node. IsListed p circle find a.target.path node result) (shown refl) (listed_same find (ap (λ (set : Leaf → Bool). set Read) shaped) a.target.path a.target.node result is))
+        (subst (λ node. IsListed p circle find a.target.path node result) (shown refl) (listed_same find (subst HasRead (sym shaped) (needed_has_read find.properties)) a.target.path a.target.node result is))
     success_same (asked.Proppatch patched) shaped shown result is = sym (ap (λ q. patch_plan q patched) path_is) ∙ is
     success_same (asked.Acl list) shaped shown result is = sym (ap (λ q. acl_plan q list) path_is) ∙ is
     success_same (asked.Copy to) shaped shown result is =

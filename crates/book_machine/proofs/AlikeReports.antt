@@ -1,30 +1,38 @@
 -- Offices that agree for a caller tell the same in reports.
-use Rattle.book_machine.proofs.Common.{◌≡◌, ℕ, true, false, List, map, Option, Some, None, Result, is_some, option_map, option_and_then, unwrap_or, refl, sym, ap, ◌∙◌, subst, if◌then◌else◌, get, same_Some, only, Read, IsCircle, CircleOf, Caller, some_apart, Book, Office, StoredCard, Path, effective_at, Resource, card_at, card_in, card_resource, number_of, resource_at, EffectiveEntry, here_of, AreRulingsAt, Ruling, Report, MayRead, outline, outline_of_book, outline_of_card, Agree, report_from, SyncFrom, Plan, Refusal}
+use Rattle.book_machine.proofs.Common.{◌≡◌, ℕ, Bool, true, false, List, map, Option, Some, None, Result, is_some, option_map, option_and_then, unwrap_or, refl, sym, ap, ◌∙◌, subst, if◌then◌else◌, get, same_Some, only, Leaf, IsCircle, CircleOf, Caller, some_apart, Book, Office, StoredCard, Path, effective_at, Resource, card_at, card_in, card_resource, number_of, resource_at, EffectiveEntry, here_of, AreRulingsAt, Ruling, Report, MayRead, outline, outline_of_book, outline_of_card, Agree, report_from, SyncFrom, Plan, Refusal}
 use Rattle.std.proofs.Common.{filter}
+use Rattle.std.proofs.lemmas.Bool.{and_parts}
 use Rattle.book_rights.specs.Leaves.{each_leaf}
+use Rattle.book_rights.specs.Privileges.{is_read}
+use Rattle.book_rights.specs.declared.privileges.Leaf.TheVariants.{ReadTexts, ReadNames}
 use Rattle.book_lists.specs.Decisions.{Grants}
 use Rattle.book_office_members.specs.declared.members.Members.{Members}
 use Rattle.book_office_members.specs.Members.{AreMembersAt}
+use Rattle.book_office_members.specs.Names.{AreNamesAt, name_told}
+use Rattle.book_office_members.specs.declared.names.NamedCard.{NamedCard}
 use Rattle.book_office_values.specs.Changes.{Change, changes_after}
 use Rattle.book_office_values.specs.declared.collections.changes.Numbers.{Numbers}
 use Rattle.book_office_values.specs.declared.paths.Path.TheVariants as path
 use Rattle.book_office.specs.OwnLists.{entries_in_force}
 use Rattle.book_office_listings.specs.Rulings.{AreRulings}
-use Rattle.book_office_sync.specs.Copies.{grants, here_of_card, can_read, shown, seen_in, seen, found_of, first_of, last_number, is_cut, start_of, sync_of, sync}
+use Rattle.book_office_sync.specs.Granted.{text_at, text_in}
+use Rattle.book_office_sync.specs.Copies.{grants, grants_read, here_of_card, can_read, shown, seen_in, seen, found_of, first_of, last_number, is_cut, start_of, sync_of, sync}
 use Rattle.book_office_sync.specs.Reading.{names_place}
 use Rattle.book_office_sync.specs.declared.messages.Item.{Item}
 use Rattle.book_office_sync.specs.declared.messages.Seen.{Seen}
 use Rattle.book_office_sync.specs.declared.messages.Token.{Token}
 use Rattle.book_machine.proofs.Outlines.{books_alike, cards_alike, effective_same, here_same, outline_of_resource, resources_alike, there_mapped}
+use Rattle.book_machine.specs.Agreement.{MayReadName, name_in}
 use Rattle.book_machine.specs.Stages.{AreRulingsTold}
 use Rattle.book_machine.specs.declared.messages.SyncFrom.TheVariants.{Start, After, Unknown}
 use Rattle.book_office_listings.proofs.ToldValues.{told_granted}
 
 -- two Offices tell the same in each report, to who has this circle: in sync reports, in what is seen of each name of a
--- book, and in what rests on outlines
+-- book, in the names that may be told, and in what rests on outlines
 pub record AreReportedAlike (o p : Office) (circle : CircleOf) : Type 0 where
   pub synced : (b : List ℕ) (from : SyncFrom) → report_from o circle b from ≡ report_from p circle b from
   pub seen_alike : (b c : List ℕ) → seen o circle b c ≡ seen p circle b c
+  pub named_alike : (b c : List ℕ) → option_map name_told (text_at o circle b ReadNames c) ≡ option_map name_told (text_at p circle b ReadNames c)
   pub outlines : outline o ≡ outline p
 
 -- ---- what is seen of a card
@@ -46,16 +54,36 @@ module _ (o p : Office) (caller : Caller) (agree : Agree o p caller) (circle : C
     may_read s at reads =
         let es = entries_in_force o (path.Card b c) in
         let here = here_of o (path.Card b c) in
-        let granted : Grants es circle here Read = subst (λ h. Grants es circle h Read) (here_is s at) (told_granted circle (here_of_card s) Read es reads) in
+        let both = and_parts _ _ reads in
+        let granted = λ (leaf : Leaf) (told : grants es circle (here_of_card s) leaf ≡ true). subst (λ h. Grants es circle h leaf) (here_is s at) (told_granted circle (here_of_card s) leaf es told) in
         record {
           circle = circle;
           is_circle = is_circle;
-          granted = λ leaf is. each_leaf (λ l. only Read l ≡ true → Grants es circle here l) (λ _. granted)
-              (λ e. absurd cc) (λ e. absurd cc) (λ e. absurd cc) (λ e. absurd cc) (λ e. absurd cc) (λ e. absurd cc) (λ e. absurd cc) leaf is;
+          granted = λ leaf is. each_leaf (λ l. is_read l ≡ true → Grants es circle here l) (λ _. granted ReadTexts both.0)
+              (λ e. absurd cc) (λ e. absurd cc) (λ e. absurd cc) (λ e. absurd cc) (λ e. absurd cc) (λ e. absurd cc) (λ e. absurd cc) (λ _. granted ReadNames both.1) leaf is;
+        }
+
+    -- a card whose name the report tells may be named
+    abbrev can_name : Office → StoredCard → Bool
+    can_name q s = grants (entries_in_force q (path.Card b c)) circle (here_of_card s) ReadNames
+
+    may_name : (s : StoredCard) → card_at o b c ≡ Some s → can_name o s ≡ true → MayReadName o caller (path.Card b c)
+    may_name s at names =
+        let es = entries_in_force o (path.Card b c) in
+        let here = here_of o (path.Card b c) in
+        let granted : Grants es circle here ReadNames = subst (λ h. Grants es circle h ReadNames) (here_is s at) (told_granted circle (here_of_card s) ReadNames es names) in
+        record {
+          circle = circle;
+          is_circle = is_circle;
+          granted = λ leaf is. each_leaf (λ l. only ReadNames l ≡ true → Grants es circle here l)
+              (λ e. absurd cc) (λ e. absurd cc) (λ e. absurd cc) (λ e. absurd cc) (λ e. absurd cc) (λ e. absurd cc) (λ e. absurd cc) (λ e. absurd cc) (λ _. granted) leaf is;
         }
 
     reads_same : (s t : StoredCard) → outline_of_card s ≡ outline_of_card t → can_read o circle b c s ≡ can_read p circle b c t
-    reads_same s t alike = λ i. grants (entries_same i) circle (record { owner = (alike i).owner; principal = None }) Read
+    reads_same s t alike = λ i. grants_read (entries_same i) circle (record { owner = (alike i).owner; principal = None })
+
+    names_same : (s t : StoredCard) → outline_of_card s ≡ outline_of_card t → can_name o s ≡ can_name p t
+    names_same s t alike = λ i. grants (entries_same i) circle (record { owner = (alike i).owner; principal = None }) ReadNames
 
     card_seen : (m n : ℕ) (s t : StoredCard) → m ≡ n → outline_of_card s ≡ outline_of_card t → card_at o b c ≡ Some s → card_at p b c ≡ Some t
         → (if can_read o circle b c s then Some (shown m s) else None) ≡ (if can_read p circle b c t then Some (shown n t) else None)
@@ -77,6 +105,42 @@ module _ (o p : Office) (caller : Caller) (agree : Agree o p caller) (circle : C
     cards_seen m n None (Some t) number alike at_o at_p = some_apart (sym alike)
     cards_seen m n (Some s) None number alike at_o at_p = some_apart alike
     cards_seen m n (Some s) (Some t) number alike at_o at_p = card_seen m n s t number (same_Some (outline_of_card s) (outline_of_card t) alike) at_o at_p
+
+    card_named : (s t : StoredCard) → outline_of_card s ≡ outline_of_card t → card_at o b c ≡ Some s → card_at p b c ≡ Some t
+        → option_map name_told (if can_name o s then Some s.text else None) ≡ option_map name_told (if can_name p t then Some t.text else None)
+    card_named s t alike at_o at_p =
+        elim (can_name o s) as (λ r. can_name o s ≡ r → option_map name_told (if r then Some s.text else None) ≡ option_map name_told (if can_name p t then Some t.text else None)) [
+          | true ↦ λ names.
+              let name : name_told s.text ≡ name_told t.text = sym (ap name_in at_o) ∙ agree.named b c (may_name s at_o names) ∙ ap name_in at_p in
+              let both : true ≡ can_name p t = sym names ∙ names_same s t alike in
+              ap Some name ∙ ap (λ r. option_map name_told (if r then Some t.text else None)) both
+          | false ↦ λ names.
+              let both : false ≡ can_name p t = sym names ∙ names_same s t alike in
+              ap (λ r. option_map name_told (if r then Some t.text else None)) both
+        ] refl
+
+    cards_named : (r s : Option StoredCard) → option_map outline_of_card r ≡ option_map outline_of_card s → card_at o b c ≡ r → card_at p b c ≡ s
+        → option_map name_told (option_and_then (λ (card : StoredCard). if can_name o card then Some card.text else None) r)
+        ≡ option_map name_told (option_and_then (λ (card : StoredCard). if can_name p card then Some card.text else None) s)
+    cards_named None None alike at_o at_p = refl
+    cards_named None (Some t) alike at_o at_p = some_apart (sym alike)
+    cards_named (Some s) None alike at_o at_p = some_apart alike
+    cards_named (Some s) (Some t) alike at_o at_p = card_named s t (same_Some (outline_of_card s) (outline_of_card t) alike) at_o at_p
+
+    books_named : (r s : Option Book) → option_map outline_of_book r ≡ option_map outline_of_book s → get o.books b ≡ r → get p.books b ≡ s
+        → option_map name_told (option_and_then (text_in o circle b c ReadNames) r) ≡ option_map name_told (option_and_then (text_in p circle b c ReadNames) s)
+    books_named None None alike at_o at_p = refl
+    books_named None (Some y) alike at_o at_p = some_apart (sym alike)
+    books_named (Some x) None alike at_o at_p = some_apart alike
+    books_named (Some x) (Some y) alike at_o at_p =
+        let card_o : card_at o b c ≡ get x.cards c = ap (option_and_then (λ (book : Book). get book.cards c)) at_o in
+        let card_p : card_at p b c ≡ get y.cards c = ap (option_and_then (λ (book : Book). get book.cards c)) at_p in
+        let cards : option_map outline_of_card (get x.cards c) ≡ option_map outline_of_card (get y.cards c) =
+        ap (option_map outline_of_card) (sym card_o) ∙ cards_alike o p agree.outlines b c ∙ ap (option_map outline_of_card) card_p in
+        cards_named (get x.cards c) (get y.cards c) cards card_o card_p
+
+    named_same : option_map name_told (text_at o circle b ReadNames c) ≡ option_map name_told (text_at p circle b ReadNames c)
+    named_same = books_named (get o.books b) (get p.books b) (books_alike o p agree.outlines b) refl refl
 
     books_seen : (r s : Option Book) → option_map outline_of_book r ≡ option_map outline_of_book s → get o.books b ≡ r → get p.books b ≡ s
         → option_and_then (seen_in o circle b c) r ≡ option_and_then (seen_in p circle b c) s
@@ -142,6 +206,7 @@ module _ (o p : Office) (caller : Caller) (agree : Agree o p caller) (circle : C
   reports_alike = record {
     synced = λ b from. syncs_alike b from;
     seen_alike = λ b c. seen_same o p caller agree circle is_circle b c;
+    named_alike = λ b c. named_same o p caller agree circle is_circle b c;
     outlines = agree.outlines;
   }
 
@@ -149,6 +214,12 @@ module _ (o p : Office) (caller : Caller) (agree : Agree o p caller) (circle : C
 pub members_alike : (o p : Office) (circle : CircleOf) → ((b c : List ℕ) → seen o circle b c ≡ seen p circle b c)
     → (b c : List ℕ) (members : Members) → AreMembersAt o circle b c members → AreMembersAt p circle b c members
 members_alike o p circle same b c members is = (is.0, (λ q. is.1 q ∙ same b q), is.2)
+
+-- ---- the names of a book's cards
+pub names_alike : (o p : Office) (circle : CircleOf)
+    → ((b c : List ℕ) → option_map name_told (text_at o circle b ReadNames c) ≡ option_map name_told (text_at p circle b ReadNames c))
+    → (b : List ℕ) (names : List NamedCard) → AreNamesAt o circle b names → AreNamesAt p circle b names
+names_alike o p circle same b names are = record { in_order = are.in_order; told = λ c. are.told c ∙ same b c }
 
 still_none : {A B : Type 0} (f : A → B) (r s : Option A) → option_map f r ≡ option_map f s → r ≡ None → s ≡ None
 still_none f r None alike none = refl

@@ -118,6 +118,7 @@ one_report_answer : (o : Office) (which : ReportKind) (a b : Answer) → IsRepor
 one_report_answer o (report.SyncCollection from) a b x y = x ∙ sym y
 one_report_answer o report.GroupMembers a b x y = x ∙ sym y
 one_report_answer o (report.Effective caller) a b x y = one_caller_answer o caller a b x y
+one_report_answer o report.Names a b x y = x ∙ sym y
 
 pub one_body_answer : (o : Office) (what : Asked) (p : Path) (a b : Answer) → IsBodyAnswer o what p a → IsBodyAnswer o what p b → a ≡ b
 one_body_answer o asked.Get p a b x y = x ∙ sym y
@@ -170,6 +171,7 @@ report_answered : (o : Office) (which : ReportKind) (a : Answer) → IsReportAns
 report_answered o (report.SyncCollection from) a is = inl is
 report_answered o report.GroupMembers a is = inl is
 report_answered o (report.Effective caller) a is = caller_answered o caller a is
+report_answered o report.Names a is = inl is
 
 pub body_answered : (o : Office) (what : Asked) (p : Path) (a : Answer) → IsBodyAnswer o what p a → IsAnswered a
 body_answered o asked.Get p a is = inl is

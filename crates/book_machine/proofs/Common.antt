@@ -13,7 +13,6 @@ pub use Rattle.book_rights.specs.declared.methods.Method.{Method}
 pub use Rattle.book_rights.specs.declared.methods.Method.TheVariants.{Move, Copy, Delete, Mkcol, Proppatch, Put, Acl, Get, Head, Options, Propfind}
 pub use Rattle.book_rights.specs.declared.places.Need.{Need}
 pub use Rattle.book_rights.specs.declared.privileges.Leaf.{Leaf}
-pub use Rattle.book_rights.specs.declared.privileges.Leaf.TheVariants.{Read}
 pub use Rattle.book_lists.proofs.OneOutcome.{one_circle}
 pub use Rattle.book_lists.specs.Callers.{IsCircle}
 pub use Rattle.book_lists.specs.Circles.{CircleOf}

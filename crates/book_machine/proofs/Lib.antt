@@ -14,7 +14,6 @@ pub mod FoundPrincipals
 pub mod Judging
 pub mod LeadingRuns
 pub mod Limits
-pub mod MappedEntries
 pub mod OnePlan
 pub mod Outlines
 pub mod Planning

@@ -1,5 +1,6 @@
 -- A request has one plan at most.
 use Rattle.book_machine.proofs.Common.{◌≡◌, ℕ, List, [], ◌∷◌, Bool, Option, Some, None, Result, Ok, Err, inl, inr, sym, ap, ◌∙◌, subst, Leaf, Need, CircleOf, one_circle, effective_at, Office, Path, Caller, Find, Node, Asked, Destination, Request, Plan, Ready, Target, Denial, Refusal, NeedPrivileges, destination_in, ready_of, body_then_limits, IsListed, IsSuccessOf, IsDone, IsGrantedPlan, IsDecided, IsPlannedFrom, IsPlan, bare_entries, here_of, IsGrantedAt, place_path, needs_at, AreGranted, IsGranted, IsDenied}
+use Rattle.book_rights.specs.Privileges.{denied_name}
 use Rattle.book_lists.specs.declared.decisions.Outcome.{Outcome}
 use Rattle.book_lists.specs.declared.decisions.Outcome.TheVariants.{Allowed, Denied}
 use Rattle.book_lists.proofs.OneOutcome.{one_outcome}
@@ -22,16 +23,16 @@ index_or_none (Denied leaf index) = index
 module _ (o : Office) (circle : CircleOf) where
   granted_not_denied : (p : Path) (set : Leaf → Bool) (denial : Denial) → IsGrantedAt o circle p set → IsDeniedAt o circle p set denial → ⊥
   granted_not_denied p set denial granted denied =
-      allowed_not_denied (bare_entries (effective_at o p)) circle (here_of o p) set denial.privilege denied.index granted denied.decided
+      allowed_not_denied (bare_entries (effective_at o p)) circle (here_of o p) set denied.leaf denied.index granted denied.decided
 
   one_denial_at : (p : Path) (set : Leaf → Bool) (a b : Denial) → IsDeniedAt o circle p set a → IsDeniedAt o circle p set b → a ≡ b
   one_denial_at p set a b x y =
-      let same : Denied a.privilege x.index ≡ Denied b.privilege y.index =
-      one_outcome (bare_entries (effective_at o p)) circle (here_of o p) set (Denied a.privilege x.index) (Denied b.privilege y.index)
+      let same : Denied x.leaf x.index ≡ Denied y.leaf y.index =
+      one_outcome (bare_entries (effective_at o p)) circle (here_of o p) set (Denied x.leaf x.index) (Denied y.leaf y.index)
       ((λ e. absurd cc), (λ allowed. absurd (granted_not_denied p set a allowed x))) x.decided
       ((λ e. absurd cc), (λ allowed. absurd (granted_not_denied p set b allowed y))) y.decided in
       let resource : a.resource ≡ b.resource = x.resource ∙ sym y.resource in
-      let privilege : a.privilege ≡ b.privilege = ap (leaf_or a.privilege) same in
+      let privilege : a.privilege ≡ b.privilege = x.privilege ∙ ap (λ outcome. denied_name (leaf_or x.leaf outcome) set) same ∙ sym y.privilege in
       let entry : a.entry ≡ b.entry = x.entry ∙ ap (λ outcome. deciding_entry (paths_of (effective_at o p)) (index_or_none outcome)) same ∙ sym y.entry in
       λ k. record { resource = resource k; privilege = privilege k; entry = entry k }
 

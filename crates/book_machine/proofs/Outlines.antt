@@ -2,7 +2,7 @@
 use Rattle.book_machine.proofs.Common.{◌≡◌, ℕ, List, [], map, Option, Some, None, is_some, option_map, option_and_then, unwrap_or, refl, sym, ap, ◌∙◌, get, len, same_Some, get_mapped, Node, protected_at, own_at, level_at, effective_of, effective_at, Resource, properties_resource, book_resource, card_resource, number_of, card_at, card_in, resource_at, count_at, node_of, node_at, unnumbered, some_apart, levels, Book, StoredCard, Office, Path, outline_of_card, outline_of_book, outline, owner_at, here_of}
 use Rattle.book_office_values.specs.declared.paths.Kind.TheVariants as kind
 use Rattle.book_office_values.specs.declared.paths.Path.TheVariants as path
-use Rattle.book_machine.proofs.MappedEntries.{len_mapped}
+use Rattle.book_office_adopting.proofs.MappedEntries.{len_mapped}
 use Rattle.book_office_listings.specs.Verdicts.{principal_of}
 
 -- ---- values that may be there

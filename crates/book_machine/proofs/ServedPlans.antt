@@ -5,7 +5,7 @@ use Rattle.book_office_values.specs.declared.paths.Path.TheVariants as path
 use Rattle.book_machine.proofs.FittingPlans.{Passed, answered, bind_ok, book_kind, is_taken, ready_at, same_Ok}
 use Rattle.book_machine.proofs.ReportPlans.{reported_told}
 use Rattle.book_machine.specs.Verdicts.{is_book}
-use Rattle.book_machine.specs.Stages.{suits, put_status, report_suits, rulings_plan, is_card_kind}
+use Rattle.book_machine.specs.Stages.{suits, put_status, report_suits, rulings_plan, is_card_kind, AreNamesTold}
 use Rattle.book_machine.specs.declared.asked.Asked.TheVariants as asked
 use Rattle.book_machine.specs.declared.messages.Content.TheVariants as content
 use Rattle.book_machine.specs.declared.messages.Patch.TheVariants as patch
@@ -94,6 +94,17 @@ members_reported o circle (path.Group n) result suited is = absurd (cc (suited))
 members_reported o circle (path.Book b) result suited is = absurd (cc (suited))
 members_reported o circle (path.Card b c) result suited is = inl (replied 200 (content.Members b is.0) None, sym is.2, omega arith)
 
+-- the names of a book's cards
+names_reported : (o : Office) (circle : CircleOf) (p : Path) (result : Result Plan Refusal) → is_book (kind_of p) ≡ true → AreNamesTold o circle p result → IsServed result
+names_reported o circle path.Root result suited is = absurd (cc (suited))
+names_reported o circle path.People result suited is = absurd (cc (suited))
+names_reported o circle path.Groups result suited is = absurd (cc (suited))
+names_reported o circle path.Books result suited is = absurd (cc (suited))
+names_reported o circle (path.Person n) result suited is = absurd (cc (suited))
+names_reported o circle (path.Group n) result suited is = absurd (cc (suited))
+names_reported o circle (path.Book b) result suited is = inl (replied 200 (content.Names b is.0) None, sym is.2, omega arith)
+names_reported o circle (path.Card b c) result suited is = absurd (cc (suited))
+
 -- what decides each leaf at what is mapped
 rulings_reported : (o : Office) (circle : CircleOf) (p : Path) (n : Node) (found : Option (List Ruling)) (result : Result Plan Refusal)
     → node_at o p ≡ Some n → AreRulingsAt o circle p found → rulings_plan found ≡ result → IsServed result
@@ -106,6 +117,7 @@ reported o circle (report.SyncCollection from) p n result there suited is = sync
 reported o circle report.GroupMembers p n result there suited is = members_reported o circle p result suited is
 reported o circle (report.Effective caller) p n result there suited is =
     rulings_reported o is.circle p n is.rulings.rulings result there is.rulings.are is.rulings.is_told
+reported o circle report.Names p n result there suited is = names_reported o circle p result suited is
 
 put_low : (replaces : Bool) → put_status replaces < 300
 put_low false = omega arith

@@ -1,13 +1,17 @@
 -- Offices that agree for a caller go on to agree after an edit.
-use Rattle.book_machine.proofs.Common.{◌≡◌, ◌≢◌, ◌⊎◌, inl, inr, ℕ, List, [], ◌∷◌, Option, Some, None, option_map, option_and_then, unwrap_or, refl, sym, ap, ◌∙◌, subst, nat_list_cmp_total, get, insert, same_Some, mapped, get_mapped, Caller, Entry, place_card, apply, protected_at, own_at, level_at, effective_of, effective_at, Resource, book_resource, card_resource, card_in, number_of, card_at, PutCard, RemoveCard, only, Read, names_apart, some_apart, NamesTo, Book, StoredCard, Office, Properties, Path, MayRead, outline_of_card, outline_of_book, Agree, here_of, owner_at}
+use Rattle.book_machine.proofs.Common.{◌≡◌, ◌≢◌, ◌⊎◌, inl, inr, ℕ, Bool, List, [], ◌∷◌, Option, Some, None, option_map, option_and_then, unwrap_or, refl, sym, ap, ◌∙◌, subst, nat_list_cmp_total, get, insert, same_Some, mapped, get_mapped, Caller, Entry, place_card, apply, protected_at, own_at, level_at, effective_of, effective_at, Resource, book_resource, card_resource, card_in, number_of, card_at, PutCard, RemoveCard, only, Leaf, names_apart, some_apart, NamesTo, Book, StoredCard, Office, Properties, Path, MayRead, outline_of_card, outline_of_book, Agree, here_of, owner_at}
 use Rattle.std.specs.FinMap.{remove, same_map}
 use Rattle.book_office.specs.Edits.{with_book, card_put, put_card, remove_card, card_copied, copy_from, copy_card, label_card, set_label, new_book}
 use Rattle.book_office.specs.declared.edits.Edit.TheVariants.{AddBook}
+use Rattle.book_rights.specs.Privileges.{is_read}
+use Rattle.book_rights.specs.declared.privileges.Leaf.TheVariants.{ReadNames}
 use Rattle.book_office_values.proofs.OneName.{by_put, by_removed, by_changed}
 use Rattle.book_office_values.specs.Changes.{touched}
 use Rattle.book_office_values.specs.Names.{changed_at}
 use Rattle.book_office_values.specs.declared.paths.Path.TheVariants as path
 use Rattle.book_machine.proofs.Outlines.{told, told_then, fused, then_fused, books_alike}
+use Rattle.book_office_members.specs.Names.{name_told}
+use Rattle.book_machine.specs.Agreement.{MayHave, name_in}
 use Rattle.book_office_listings.specs.Verdicts.{IsGrantedBy}
 
 -- ---- what makes a card readable: the lists from the root to it, and its owner
@@ -72,12 +76,12 @@ module _ (o : Office) (m : NamesTo Book) (b c : List ℕ) (lists : lists_in m b 
       owner_of_card c (get m b) ∙ told_then outline_of_card (λ (x : StoredCard). x.owner) (card_in_books m b c) (card_at o b c) card ∙ sym (owner_of_card c (get o.books b)) in
       λ i. record { owner = owner i; principal = None }
 
-  may_read_before : (caller : Caller) → MayRead after caller (path.Card b c) → MayRead o caller (path.Card b c)
-  may_read_before caller may = record {
+  may_before : (caller : Caller) (set : Leaf → Bool) → MayHave after caller (path.Card b c) set → MayHave o caller (path.Card b c) set
+  may_before caller set may = record {
     circle = may.circle;
     is_circle = may.is_circle;
-    granted = subst (λ here. IsGrantedBy (effective_at o (path.Card b c)) may.circle here (only Read)) here_kept
-        (subst (λ list. IsGrantedBy list may.circle (here_of after (path.Card b c)) (only Read)) effective_kept may.granted);
+    granted = subst (λ here. IsGrantedBy (effective_at o (path.Card b c)) may.circle here set) here_kept
+        (subst (λ list. IsGrantedBy list may.circle (here_of after (path.Card b c)) set) effective_kept may.granted);
   }
 
 -- ---- books that change alike
@@ -88,7 +92,8 @@ pub record ChangesAlike (f g : Book → Book) : Type 0 where
   pub cards : (x y : Book) → outline_of_book x ≡ outline_of_book y → (c : List ℕ)
       → (get (f x).cards c ≡ get (g y).cards c)
       ⊎ ((option_map outline_of_card (get (f x).cards c) ≡ option_map outline_of_card (get x.cards c))
-      × (get x.cards c ≡ get y.cards c → get (f x).cards c ≡ get (g y).cards c))
+      × (get x.cards c ≡ get y.cards c → get (f x).cards c ≡ get (g y).cards c)
+      × (name_in (get x.cards c) ≡ name_in (get y.cards c) → name_in (get (f x).cards c) ≡ name_in (get (g y).cards c)))
 
 -- what stands at a name where something was put, removed or changed
 module _ {V : Type 0} (m : NamesTo V) (k q : List ℕ) where
@@ -130,12 +135,13 @@ place_outline x y c k l e same =
 
 -- what is put is equal in both; or it has the owner and the own list of what was there, and is equal where that was
 abbrev IsPutAlike : Option StoredCard → Option StoredCard → StoredCard → StoredCard → Type 0
-IsPutAlike r s k l = (k ≡ l) ⊎ ((Some (outline_of_card k) ≡ option_map outline_of_card r) × (r ≡ s → k ≡ l))
+IsPutAlike r s k l = (k ≡ l) ⊎ ((Some (outline_of_card k) ≡ option_map outline_of_card r) × (r ≡ s → k ≡ l) × (name_in r ≡ name_in s → name_told k.text ≡ name_told l.text))
 
 placed_card : (x y : Book) (c : List ℕ) (k l : StoredCard) → IsPutAlike (get x.cards c) (get y.cards c) k l → (q : List ℕ)
     → (get (place_card x c k).cards q ≡ get (place_card y c l).cards q)
     ⊎ ((option_map outline_of_card (get (place_card x c k).cards q) ≡ option_map outline_of_card (get x.cards q))
-    × (get x.cards q ≡ get y.cards q → get (place_card x c k).cards q ≡ get (place_card y c l).cards q))
+    × (get x.cards q ≡ get y.cards q → get (place_card x c k).cards q ≡ get (place_card y c l).cards q)
+    × (name_in (get x.cards q) ≡ name_in (get y.cards q) → name_in (get (place_card x c k).cards q) ≡ name_in (get (place_card y c l).cards q)))
 placed_card x y c k l put q = elim (put_cases x.cards c q k) [
   | inl here ↦ elim (put_cases y.cards c q l) [
     | inl there ↦ elim put [
@@ -143,13 +149,14 @@ placed_card x y c k l put q = elim (put_cases x.cards c q k) [
       | inr kept ↦ inr (
         ap (option_map outline_of_card) here.1 ∙ kept.0 ∙ ap (λ n. option_map outline_of_card (get x.cards n)) (sym here.0),
         λ is. here.1 ∙ ap Some (kept.1 (ap (get x.cards) (sym here.0) ∙ is ∙ ap (get y.cards) here.0)) ∙ sym there.1,
+        λ is. ap name_in here.1 ∙ kept.2 (ap (λ n. name_in (get x.cards n)) (sym here.0) ∙ is ∙ ap (λ n. name_in (get y.cards n)) here.0) ∙ sym (ap name_in there.1),
       )
     ]
     | inr apart ↦ absurd (apart.0 here.0)
   ]
   | inr away ↦ elim (put_cases y.cards c q l) [
     | inl there ↦ absurd (away.0 there.0)
-    | inr apart ↦ inr (ap (option_map outline_of_card) away.1, λ is. away.1 ∙ is ∙ sym apart.1)
+    | inr apart ↦ inr (ap (option_map outline_of_card) away.1, λ is. away.1 ∙ is ∙ sym apart.1, λ is. ap name_in away.1 ∙ is ∙ sym (ap name_in apart.1))
   ]
 ]
 
@@ -159,7 +166,7 @@ module _ (c : List ℕ) (owner : Option (List ℕ)) where
     put_alike None None e = inl refl
     put_alike None (Some y) e = some_apart (sym e)
     put_alike (Some x) None e = some_apart e
-    put_alike (Some x) (Some y) e = inr (refl, λ is. ap (λ r. card_put r owner text) is)
+    put_alike (Some x) (Some y) e = inr (refl, λ is. ap (λ r. card_put r owner text) is, λ is. refl)
 
     put_outline : (r s : Option StoredCard) → option_map outline_of_card r ≡ option_map outline_of_card s → outline_of_card (card_put r owner text) ≡ outline_of_card (card_put s owner text)
     put_outline None None e = refl
@@ -186,7 +193,7 @@ module _ (c : List ℕ) (owner : Option (List ℕ)) where
 
   -- COPY of one card
   pub copies_alike : (source : Option StoredCard) → ChangesAlike (copy_from source c owner) (copy_from source c owner)
-  copies_alike None = record { outlines = λ x y e. e; lists = λ x. refl; cards = λ x y e q. inr (refl, λ is. is) }
+  copies_alike None = record { outlines = λ x y e. e; lists = λ x. refl; cards = λ x y e q. inr (refl, λ is. is, λ is. is) }
   copies_alike (Some source) = record {
     outlines = λ x y e. place_outline x y c _ _ e (ap outline_of_card (copied_same source (get x.cards c) (get y.cards c) (cards_in x y e c)));
     lists = λ x. refl;
@@ -217,7 +224,7 @@ module _ (c : List ℕ) where
       ]
       | inr away ↦ elim (removed_cases y.cards c q) [
         | inl there ↦ absurd (away.0 there.0)
-        | inr apart ↦ inr (ap (option_map outline_of_card) away.1, λ is. away.1 ∙ is ∙ sym apart.1)
+        | inr apart ↦ inr (ap (option_map outline_of_card) away.1, λ is. away.1 ∙ is ∙ sym apart.1, λ is. ap name_in away.1 ∙ is ∙ sym (ap name_in apart.1))
       ]
     ];
   }
@@ -237,13 +244,15 @@ module _ (c : List ℕ) where
     labelled_card : (x y : Book) (r s : Option StoredCard) → get x.cards c ≡ r → get y.cards c ≡ s → option_map outline_of_card r ≡ option_map outline_of_card s → (q : List ℕ)
         → (get (label_card c label r x).cards q ≡ get (label_card c label s y).cards q)
         ⊎ ((option_map outline_of_card (get (label_card c label r x).cards q) ≡ option_map outline_of_card (get x.cards q))
-        × (get x.cards q ≡ get y.cards q → get (label_card c label r x).cards q ≡ get (label_card c label s y).cards q))
-    labelled_card x y None None r_is s_is same q = inr (refl, λ is. is)
+        × (get x.cards q ≡ get y.cards q → get (label_card c label r x).cards q ≡ get (label_card c label s y).cards q)
+        × (name_in (get x.cards q) ≡ name_in (get y.cards q) → name_in (get (label_card c label r x).cards q) ≡ name_in (get (label_card c label s y).cards q)))
+    labelled_card x y None None r_is s_is same q = inr (refl, λ is. is, λ is. is)
     labelled_card x y None (Some l) r_is s_is same q = some_apart (sym same)
     labelled_card x y (Some k) None r_is s_is same q = some_apart same
     labelled_card x y (Some k) (Some l) r_is s_is same q = placed_card x y c _ _ (inr (
       ap (option_map outline_of_card) (sym r_is),
       λ is. let cards : k ≡ l = same_Some _ _ (sym r_is ∙ is ∙ s_is) in ap (λ (z : StoredCard). record z { label = label }) cards,
+      λ is. sym (ap name_in r_is) ∙ is ∙ ap name_in s_is,
     )) q
 
     -- PROPPATCH of a card's displayname
@@ -263,6 +272,7 @@ pub record StaysAlike (o p : Office) (m n : NamesTo Book) (b c : List ℕ) : Typ
   lists : lists_in m b ≡ lists_in o.books b
   card : option_map outline_of_card (card_in_books m b c) ≡ option_map outline_of_card (card_at o b c)
   same : card_at o b c ≡ card_at p b c → card_in_books m b c ≡ card_in_books n b c
+  named : name_in (card_at o b c) ≡ name_in (card_at p b c) → name_in (card_in_books m b c) ≡ name_in (card_in_books n b c)
 
 abbrev IsAlike : Office → Office → NamesTo Book → NamesTo Book → List ℕ → List ℕ → Type 0
 IsAlike o p m n b c = (card_in_books m b c ≡ card_in_books n b c) ⊎ StaysAlike o p m n b c
@@ -280,7 +290,11 @@ module _ (o p : Office) (caller : Caller) (agree : Agree o p caller) where
         outlines = λ i. record (agree.outlines i) { books = books i };
         readable = λ b c may. elim (cards b c) [
           | inl same ↦ same
-          | inr kept ↦ kept.same (agree.readable b c (may_read_before o m b c kept.lists kept.card caller may))
+          | inr kept ↦ kept.same (agree.readable b c (may_before o m b c kept.lists kept.card caller is_read may))
+        ];
+        named = λ b c may. elim (cards b c) [
+          | inl same ↦ ap name_in same
+          | inr kept ↦ kept.named (agree.named b c (may_before o m b c kept.lists kept.card caller (only ReadNames) may))
         ];
       }
 
@@ -290,6 +304,7 @@ module _ (o p : Office) (caller : Caller) (agree : Agree o p caller) where
     lists = ap (option_map lists_of) here;
     card = ap (λ r. option_map outline_of_card (option_and_then (λ (book : Book). get book.cards c) r)) here;
     same = λ is. ap (option_and_then (λ (book : Book). get book.cards c)) here ∙ is ∙ sym (ap (option_and_then (λ (book : Book). get book.cards c)) there);
+    named = λ is. ap (λ r. name_in (option_and_then (λ (book : Book). get book.cards c) r)) here ∙ is ∙ sym (ap (λ r. name_in (option_and_then (λ (book : Book). get book.cards c) r)) there);
   })
 
   module _ (b : List ℕ) (f g : Book → Book) (change : ChangesAlike f g) where
@@ -318,6 +333,7 @@ module _ (o p : Office) (caller : Caller) (agree : Agree o p caller) where
             lists = ap (option_map lists_of) m_is ∙ ap Some (change.lists x) ∙ sym (ap (option_map lists_of) r_is);
             card = ap (option_map outline_of_card) in_m ∙ kept.0 ∙ sym (ap (option_map outline_of_card) in_o);
             same = λ is. in_m ∙ kept.1 (sym in_o ∙ is ∙ in_p) ∙ sym in_n;
+            named = λ is. ap name_in in_m ∙ kept.2 (sym (ap name_in in_o) ∙ is ∙ ap name_in in_p) ∙ sym (ap name_in in_n);
           })
         ]
 
@@ -394,30 +410,36 @@ module _ (o p : Office) (caller : Caller) (agree : Agree o p caller) where
   label_agrees path.Root label = record {
     outlines = λ i. record (agree.outlines i) { root = record (agree.outlines i).root { label = label } };
     readable = λ b c may. agree.readable b c (record { circle = may.circle; is_circle = may.is_circle; granted = may.granted });
+    named = λ b c may. agree.named b c (record { circle = may.circle; is_circle = may.is_circle; granted = may.granted });
   }
   label_agrees path.People label = record {
     outlines = λ i. record (agree.outlines i) { people = record (agree.outlines i).people { label = label } };
     readable = λ b c may. agree.readable b c (record { circle = may.circle; is_circle = may.is_circle; granted = may.granted });
+    named = λ b c may. agree.named b c (record { circle = may.circle; is_circle = may.is_circle; granted = may.granted });
   }
   label_agrees path.Groups label = record {
     outlines = λ i. record (agree.outlines i) { groups_home = record (agree.outlines i).groups_home { label = label } };
     readable = λ b c may. agree.readable b c (record { circle = may.circle; is_circle = may.is_circle; granted = may.granted });
+    named = λ b c may. agree.named b c (record { circle = may.circle; is_circle = may.is_circle; granted = may.granted });
   }
   label_agrees path.Books label = record {
     outlines = λ i. record (agree.outlines i) { books_home = record (agree.outlines i).books_home { label = label } };
     readable = λ b c may. agree.readable b c (record { circle = may.circle; is_circle = may.is_circle; granted = may.granted });
+    named = λ b c may. agree.named b c (record { circle = may.circle; is_circle = may.is_circle; granted = may.granted });
   }
   label_agrees (path.Person n) label = record {
     outlines = λ i. record (agree.outlines i) { persons = changed_at (λ (properties : Properties). record properties { label = label }) (agree.outlines i).persons n };
     readable = λ b c may. agree.readable b c (record { circle = may.circle; is_circle = may.is_circle; granted = may.granted });
+    named = λ b c may. agree.named b c (record { circle = may.circle; is_circle = may.is_circle; granted = may.granted });
   }
   label_agrees (path.Group n) label = record {
     outlines = λ i. record (agree.outlines i) { groups = changed_at (λ (properties : Properties). record properties { label = label }) (agree.outlines i).groups n };
     readable = λ b c may. agree.readable b c (record { circle = may.circle; is_circle = may.is_circle; granted = may.granted });
+    named = λ b c may. agree.named b c (record { circle = may.circle; is_circle = may.is_circle; granted = may.granted });
   }
   label_agrees (path.Book b) label = one_book_agrees b (relabelled label) (relabelled label) (record {
     outlines = λ x y e. ap (relabelled label) e;
     lists = λ x. refl;
-    cards = λ x y e c. inr (refl, λ is. is);
+    cards = λ x y e c. inr (refl, λ is. is, λ is. is);
   })
   label_agrees (path.Card b c) label = one_book_agrees b _ _ (labels_alike c label)

@@ -1,29 +1,40 @@
--- Two Offices that agree for everybody and differ in the text of a card, which nobody may read.
-use Rattle.book_machine.proofs.Common.{◌≡◌, inl, inr, ℕ, List, [], ◌∷◌, Some, None, option_map, option_and_then, unwrap_or, refl, sym, ap, ◌∙◌, nat_list_cmp_total, get, insert, mapped, get_mapped, name_cmp, Caller, Entry, place_card, protected_at, own_at, level_at, effective_of, effective_at, Resource, book_resource, card_at, Read, names_apart, NamesTo, Book, StoredCard, Office, MayRead, outline_of_book, outline, bare_entries}
-use Rattle.std.proofs.Common.{slice_get}
+-- Offices that agree for everybody and differ in the text of a card, which nobody may read.
+use Rattle.book_machine.proofs.Common.{◌≡◌, inl, inr, ℕ, false, List, [], ◌∷◌, ◌++◌, map, Some, None, option_map, option_and_then, unwrap_or, refl, sym, ap, ◌∙◌, subst, arith, true, nat_list_cmp_total, get, insert, mapped, get_mapped, CircleOf, name_cmp, Entry, place_card, protected_at, own_at, level_at, effective_of, effective_at, Resource, book_resource, card_at, EffectiveEntry, only, Leaf, names_apart, NamesTo, Book, StoredCard, Office, Path, outline_of_book, outline, IsGrantedAt, bare_entries, here_of}
+use Rattle.std.proofs.Common.{zero, suc}
 use Rattle.std.specs.FinMap.{empty, get-empty, same_map}
+use Rattle.book_lists.specs.Decisions.{bears, Grants}
+use Rattle.book_lists.specs.declared.entries.Here.{Here}
+use Rattle.book_lists.specs.declared.entries.Who.TheVariants.{Everyone}
+use Rattle.book_office_members.specs.Names.{name_told}
 use Rattle.book_office.specs.Edits.{empty_office, new_book}
+use Rattle.book_office.specs.Levels.{standing_at}
+use Rattle.book_rights.specs.Leaves.{each_leaf}
+use Rattle.book_rights.specs.declared.privileges.Leaf.TheVariants.{ReadTexts, ReadNames}
 use Rattle.book_office_values.proofs.OneName.{by_put, put_here}
 use Rattle.book_office_values.specs.declared.paths.Path.TheVariants as path
 use Rattle.book_machine.proofs.StillAgreeing.{own_of_card, protected_of_card, place_outline, put_cases}
-use Rattle.book_machine.specs.Unseen.{AgreeingOfficesMayDiffer}
+use Rattle.book_machine.specs.Agreement.{name_in}
+use Rattle.book_machine.specs.Unseen.{AgreeingOfficesMayDiffer, AgreeingOfficesMayDifferWhereNamed}
+use Rattle.book_office_listings.specs.Verdicts.{IsGrantedBy}
 
-none_grants : (entries : List Entry) (i : ℕ) (entry : Entry) → entries ≡ [] → slice_get entries i ≡ Some entry → ⊥
-none_grants [] i entry e there = absurd cc
-none_grants (x ∷ xs) i entry e there = absurd cc
+-- what is in force at a card where its own list alone has entries
+abbrev standing : Path → List Entry → List EffectiveEntry
+standing p own = map (standing_at p false) own ++ []
 
--- where no list has an entry, nobody may read
-no_entries : (o : Office) (caller : Caller) (b c : List ℕ) → effective_at o (path.Card b c) ≡ [] → MayRead o caller (path.Card b c) → ⊥
-no_entries o caller b c none may =
-    let grant = may.granted Read refl in
-    none_grants (bare_entries (effective_at o (path.Card b c))) grant.0 grant.1 (ap bare_entries none) grant.2.there
+-- such a list does not grant the leaf to anybody
+abbrev GrantsNobody : Leaf → List Entry → Type 0
+GrantsNobody leaf own = (p : Path) (circle : CircleOf) (here : Here) → Grants (bare_entries (standing p own)) circle here leaf → ⊥
 
-abbrev unread : List ℕ → StoredCard
-unread text = record { owner = None; label = []; own = []; text = text }
+none_grants : (leaf : Leaf) → GrantsNobody leaf []
+none_grants leaf p circle here (i, x, decides, grants) = let there = decides.there in absurd (cc (there))
 
-module _ (b c : List ℕ) where
+-- a card with its own list and text
+abbrev unread : List Entry → List ℕ → StoredCard
+unread own text = record { owner = None; label = []; own = own; text = text }
+
+module _ (own : List Entry) (b c : List ℕ) where
   abbrev book : List ℕ → Book
-  book text = place_card (new_book None) c (unread text)
+  book text = place_card (new_book None) c (unread own text)
 
   abbrev books : List ℕ → NamesTo Book
   books text = insert empty b (book text)
@@ -35,30 +46,44 @@ module _ (b c : List ℕ) where
     text_is : option_map (λ (card : StoredCard). card.text) (card_at (office text) b c) ≡ Some text
     text_is =
         ap (λ r. option_map (λ (card : StoredCard). card.text) (option_and_then (λ (book : Book). get book.cards c) r)) (put_here empty b (book text))
-        ∙ ap (option_map (λ (card : StoredCard). card.text)) (put_here empty c (unread text))
+        ∙ ap (option_map (λ (card : StoredCard). card.text)) (put_here empty c (unread own text))
 
-    own_empty : (q n : List ℕ) → own_at (office text) (path.Card q n) ≡ []
-    own_empty q n = ap (λ r. unwrap_or r []) (own_of_card n (get (books text) q))
-        ∙ by_put empty b (book text) q (λ r. unwrap_or (option_map (λ (card : StoredCard). card.own) (option_and_then (λ (x : Book). get x.cards n) r)) [] ≡ [])
-        (λ _. by_put empty c (unread text) n (λ r. unwrap_or (option_map (λ (card : StoredCard). card.own) r) [] ≡ []) (λ _. refl)
-        (λ _. ap (λ r. unwrap_or (option_map (λ (card : StoredCard). card.own) r) []) (get-empty name_cmp n)))
-        (λ _. ap (λ r. unwrap_or (option_map (λ (card : StoredCard). card.own) (option_and_then (λ (x : Book). get x.cards n) r)) []) (get-empty name_cmp q))
+    -- the own list of a card is this one, or has no entry
+    own_told : (q n : List ℕ) (P : List Entry → Type 0) → P own → P [] → P (own_at (office text) (path.Card q n))
+    own_told q n P here other =
+        subst P (sym (ap (λ r. unwrap_or r []) (own_of_card n (get (books text) q))))
+        (by_put empty b (book text) q (λ r. P (unwrap_or (option_map (λ (card : StoredCard). card.own) (option_and_then (λ (x : Book). get x.cards n) r)) []))
+        (λ _. by_put empty c (unread own text) n (λ r. P (unwrap_or (option_map (λ (card : StoredCard). card.own) r) [])) (λ _. here)
+        (λ _. subst (λ r. P (unwrap_or (option_map (λ (card : StoredCard). card.own) r) [])) (sym (get-empty name_cmp n)) other))
+        (λ _. subst (λ r. P (unwrap_or (option_map (λ (card : StoredCard). card.own) (option_and_then (λ (x : Book). get x.cards n) r)) [])) (sym (get-empty name_cmp q)) other))
+
+    own_here : own_at (office text) (path.Card b c) ≡ own
+    own_here =
+        ap (λ r. unwrap_or r []) (own_of_card c (get (books text) b))
+        ∙ ap (λ r. unwrap_or (option_map (λ (card : StoredCard). card.own) (option_and_then (λ (x : Book). get x.cards c) r)) []) (put_here empty b (book text))
+        ∙ ap (λ r. unwrap_or (option_map (λ (card : StoredCard). card.own) r) []) (put_here empty c (unread own text))
 
     book_empty : (q : List ℕ) (read : Resource → List Entry) → read (book_resource (book text)) ≡ []
         → unwrap_or (option_map read (option_map book_resource (get (books text) q))) [] ≡ []
     book_empty q read none = by_put empty b (book text) q (λ r. unwrap_or (option_map read (option_map book_resource r)) [] ≡ [])
         (λ _. none) (λ _. ap (λ r. unwrap_or (option_map read (option_map book_resource r)) []) (get-empty name_cmp q))
 
-    nothing_in_force : (q n : List ℕ) → effective_at (office text) (path.Card q n) ≡ []
-    nothing_in_force q n =
-        let own = own_empty q n in
+    in_force : (q n : List ℕ) → effective_at (office text) (path.Card q n) ≡ standing (path.Card q n) (own_at (office text) (path.Card q n))
+    in_force q n =
         let protected : protected_at (office text) (path.Card q n) ≡ [] = protected_of_card n (get (books text) q) in
         let book_own : own_at (office text) (path.Book q) ≡ [] = book_empty q (λ (x : Resource). x.own) refl in
         let book_protected : protected_at (office text) (path.Book q) ≡ [] = book_empty q (λ (x : Resource). x.protected) refl in
         λ i. effective_of (
-        record { path = path.Card q n; protected = protected i; own = own i }
+        record { path = path.Card q n; protected = protected i; own = own_at (office text) (path.Card q n) }
         ∷ record { path = path.Book q; protected = book_protected i; own = book_own i }
         ∷ level_at empty_office path.Books ∷ level_at empty_office path.Root ∷ [])
+
+    -- a leaf that the list grants to nobody is granted to nobody at any card
+    nobody_granted : (leaf : Leaf) → GrantsNobody leaf own → (q n : List ℕ) (circle : CircleOf)
+        → Grants (bare_entries (effective_at (office text) (path.Card q n))) circle (here_of (office text) (path.Card q n)) leaf → ⊥
+    nobody_granted leaf nobody q n circle grants =
+        own_told q n (GrantsNobody leaf) nobody (none_grants leaf) (path.Card q n) circle (here_of (office text) (path.Card q n))
+        (subst (λ list. Grants (bare_entries list) circle (here_of (office text) (path.Card q n)) leaf) (in_force q n) grants)
 
   outlines_same : (text other : List ℕ) → outline (office text) ≡ outline (office other)
   outlines_same text other =
@@ -69,7 +94,7 @@ module _ (b c : List ℕ) where
         | inl here ↦ elim (put_cases empty b q (book other)) [
           | inl there ↦
               ap (option_map outline_of_book) here.1
-              ∙ ap Some (place_outline (new_book None) (new_book None) c (unread text) (unread other) refl refl)
+              ∙ ap Some (place_outline (new_book None) (new_book None) c (unread own text) (unread own other) refl refl)
               ∙ sym (ap (option_map outline_of_book) there.1)
           | inr apart ↦ absurd (apart.0 here.0)
         ]
@@ -81,14 +106,81 @@ module _ (b c : List ℕ) where
       ∙ sym (get_mapped (λ _ book. outline_of_book book) (books other) q)) in
       λ i. record empty_office { books = same i }
 
+  -- where both texts say one name, so do the cards at each path
+  names_same : (text other : List ℕ) → name_told text ≡ name_told other → (q n : List ℕ) → name_in (card_at (office text) q n) ≡ name_in (card_at (office other) q n)
+  names_same text other same q n =
+      let cards : name_in (get (book text).cards n) ≡ name_in (get (book other).cards n) =
+      elim (put_cases empty c n (unread own text)) [
+        | inl here ↦ elim (put_cases empty c n (unread own other)) [
+          | inl there ↦ ap name_in here.1 ∙ same ∙ sym (ap name_in there.1)
+          | inr apart ↦ absurd (apart.0 here.0)
+        ]
+        | inr away ↦ elim (put_cases empty c n (unread own other)) [
+          | inl there ↦ absurd (away.0 there.0)
+          | inr apart ↦ ap name_in (away.1 ∙ sym apart.1)
+        ]
+      ] in
+      elim (put_cases empty b q (book text)) [
+        | inl here ↦ elim (put_cases empty b q (book other)) [
+          | inl there ↦
+              ap (λ r. name_in (option_and_then (λ (x : Book). get x.cards n) r)) here.1 ∙ cards
+              ∙ sym (ap (λ r. name_in (option_and_then (λ (x : Book). get x.cards n) r)) there.1)
+          | inr apart ↦ absurd (apart.0 here.0)
+        ]
+        | inr away ↦ elim (put_cases empty b q (book other)) [
+          | inl there ↦ absurd (away.0 there.0)
+          | inr apart ↦ ap (λ r. name_in (option_and_then (λ (x : Book). get x.cards n) r)) (away.1 ∙ sym apart.1)
+        ]
+      ]
+
 pub may_differ : AgreeingOfficesMayDiffer
 may_differ b c text other = (
-  office b c text,
-  office b c other,
-  text_is b c text,
-  text_is b c other,
+  office [] b c text,
+  office [] b c other,
+  text_is [] b c text,
+  text_is [] b c other,
   λ caller. record {
-    outlines = outlines_same b c text other;
-    readable = λ q n may. absurd (no_entries (office b c text) caller q n (nothing_in_force b c text q n) may);
+    outlines = outlines_same [] b c text other;
+    readable = λ q n may. absurd (nobody_granted [] b c text ReadTexts (none_grants ReadTexts) q n may.circle (may.granted ReadTexts refl));
+    named = λ q n may. absurd (nobody_granted [] b c text ReadNames (none_grants ReadNames) q n may.circle (may.granted ReadNames refl));
+  },
+)
+
+-- everybody may read the name of the card, and nobody its text
+abbrev names_to_all : Entry
+names_to_all = record { who = Everyone; invert = false; deny = false; set = only ReadNames }
+
+abbrev names_alone : List Entry
+names_alone = names_to_all ∷ []
+
+hold_no_texts : GrantsNobody ReadTexts names_alone
+hold_no_texts p circle here (zero, x, decides, grants) =
+    let there = decides.there in
+    let entry : names_to_all ≡ x = cc (there) in
+    let bearing : false ≡ true = ap (bears circle here ReadTexts) entry ∙ decides.bearing in absurd (cc (bearing))
+hold_no_texts p circle here (suc i, x, decides, grants) = let there = decides.there in absurd (cc (there))
+
+grant_names : (p : Path) (circle : CircleOf) (here : Here) → IsGrantedBy (standing p names_alone) circle here (only ReadNames)
+grant_names p circle here leaf is = each_leaf (λ l. only ReadNames l ≡ true → Grants (bare_entries (standing p names_alone)) circle here l)
+    (λ e. absurd cc) (λ e. absurd cc) (λ e. absurd cc) (λ e. absurd cc) (λ e. absurd cc) (λ e. absurd cc) (λ e. absurd cc) (λ e. absurd cc)
+    (λ _. (0, names_to_all, record { there = refl; bearing = refl; first = λ k y lt at. absurd (omega (arith, lt)) }, refl)) leaf is
+
+names_granted : (b c text : List ℕ) (circle : CircleOf) → IsGrantedAt (office names_alone b c text) circle (path.Card b c) (only ReadNames)
+names_granted b c text circle =
+    subst (λ list. IsGrantedBy list circle (here_of (office names_alone b c text) (path.Card b c)) (only ReadNames))
+    (sym (in_force names_alone b c text b c ∙ ap (standing (path.Card b c)) (own_here names_alone b c text)))
+    (grant_names (path.Card b c) circle (here_of (office names_alone b c text) (path.Card b c)))
+
+pub may_differ_where_named : AgreeingOfficesMayDifferWhereNamed
+may_differ_where_named b c text other same = (
+  office names_alone b c text,
+  office names_alone b c other,
+  text_is names_alone b c text,
+  text_is names_alone b c other,
+  names_granted b c text,
+  λ caller. record {
+    outlines = outlines_same names_alone b c text other;
+    readable = λ q n may. absurd (nobody_granted names_alone b c text ReadTexts hold_no_texts q n may.circle (may.granted ReadTexts refl));
+    named = λ q n may. names_same names_alone b c text other same q n;
   },
 )

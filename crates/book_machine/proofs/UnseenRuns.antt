@@ -1,11 +1,13 @@
 -- Steps and runs from agreeing Offices.
-use Rattle.book_machine.proofs.Common.{◌≡◌, ◌≢◌, inl, inr, ℕ, ◌+◌, ◌≤◌, List, [], ◌∷◌, Option, Some, None, Result, Ok, Err, cond, true, false, Bool, refl, sym, ap, ◌∙◌, subst, arith, CircleOf, Caller, Standing, Edit, Node, Find, Move, Office, Path, named, MayRead, Agree, ServePromise, Call, last_office, method_of, ready_of, replied, text_of, IsListed, IsSuccessOf, IsGrantedPlan, put_edit, copy_edit, delete_edit, mkcol_edit, patch_edit, IsPlannedFrom, apply_any, settled, Serves, Asked, Destination, Content, Patch, Reply, Request, Plan, Ready, Target, Refusal}
+use Rattle.book_machine.proofs.Common.{◌≡◌, ◌≢◌, inl, inr, ℕ, ◌+◌, ◌≤◌, List, [], ◌∷◌, Option, Some, None, Result, Ok, Err, cond, true, false, Bool, refl, sym, ap, ◌∙◌, subst, arith, CircleOf, Caller, Standing, Edit, Node, Find, only, Move, Office, Path, named, MayRead, Agree, ServePromise, Call, last_office, method_of, ready_of, replied, text_of, IsListed, IsSuccessOf, IsGrantedPlan, put_edit, copy_edit, delete_edit, mkcol_edit, patch_edit, IsPlannedFrom, apply_any, settled, Serves, Asked, Destination, Content, Patch, Reply, Request, Plan, Ready, Target, Refusal}
 use Rattle.std.proofs.Common.{le_trans}
 use Rattle.std.proofs.lemmas.List.Elements.{All-head, All-tail}
 use Rattle.book_office.specs.Edits.{raises_epoch}
 use Rattle.book_office.proofs.Epochs.{epoch_after}
+use Rattle.book_rights.specs.Privileges.{is_read}
+use Rattle.book_rights.specs.declared.privileges.Leaf.TheVariants.{ReadNames}
 use Rattle.book_office_values.specs.declared.paths.Path.TheVariants as path
-use Rattle.book_machine.proofs.AlikePlans.{plan_same, may_read_same, ready_named, reads_target, reads}
+use Rattle.book_machine.proofs.AlikePlans.{plan_same, may_same, ready_named, reads_target, reads}
 use Rattle.book_machine.proofs.FittingPlans.{answered, asked_by_request, bind_ok, same_Ok}
 use Rattle.book_machine.proofs.StepLaws.{plan_of_success}
 use Rattle.book_machine.proofs.ReportPlans.{reported_told}
@@ -19,14 +21,16 @@ use Rattle.book_machine.specs.declared.messages.Patch.TheVariants as patch
 -- ---- agreement is an equivalence
 pub agreement : AgreementIsAnEquivalence
 agreement caller = (
-  λ o. record { outlines = refl; readable = λ b c may. refl },
+  λ o. record { outlines = refl; readable = λ b c may. refl; named = λ b c may. refl },
   λ o p agree. record {
     outlines = sym agree.outlines;
-    readable = λ b c may. sym (agree.readable b c (may_read_same p o (sym agree.outlines) caller (path.Card b c) may));
+    readable = λ b c may. sym (agree.readable b c (may_same p o (sym agree.outlines) caller (path.Card b c) is_read may));
+    named = λ b c may. sym (agree.named b c (may_same p o (sym agree.outlines) caller (path.Card b c) (only ReadNames) may));
   },
   λ o p q first second. record {
     outlines = first.outlines ∙ second.outlines;
-    readable = λ b c may. first.readable b c may ∙ second.readable b c (may_read_same o p first.outlines caller (path.Card b c) may);
+    readable = λ b c may. first.readable b c may ∙ second.readable b c (may_same o p first.outlines caller (path.Card b c) is_read may);
+    named = λ b c may. first.named b c may ∙ second.named b c (may_same o p first.outlines caller (path.Card b c) (only ReadNames) may);
   },
 )
 

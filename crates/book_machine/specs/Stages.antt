@@ -29,6 +29,8 @@ use Rattle.book_office_values.specs.declared.paths.Path.{Path}
 use Rattle.book_office_values.specs.declared.paths.Path.TheVariants as path
 use Rattle.book_office_values.specs.Paths.{kind_of}
 use Rattle.book_office_members.specs.Members.{AreMembersAt}
+use Rattle.book_office_members.specs.Names.{AreNamesAt}
+use Rattle.book_office_members.specs.declared.names.NamedCard.{NamedCard}
 use Rattle.book_office.specs.OwnLists.{protected_in_force}
 use Rattle.book_office.specs.Resources.{node_at, count_at, unnumbered}
 use Rattle.book_office.specs.Sound.{IsMapped, IsKnownForm}
@@ -124,8 +126,8 @@ abbrev pub target_of : Office → Method → Option Path → Result Target Refus
 target_of o m None = Err NotFound
 target_of o m (Some p) = at_node o m p (option_map unnumbered (node_at o p))
 
--- what is asked is asked of a resource of this kind: members are set of a group, a sync report is one on a book, and the
--- members that a report tells are those of a card
+-- what is asked is asked of a resource of this kind: members are set of a group, the reports on changes and on names are
+-- of a book, and the members that a report tells are those of a card
 abbrev pub is_group : Kind → Bool
 is_group kind.Root = false
 is_group kind.Home = false
@@ -150,6 +152,7 @@ abbrev pub report_suits : ReportKind → Kind → Bool
 report_suits (report.SyncCollection from) k = is_book k
 report_suits report.GroupMembers k = is_card_kind k
 report_suits (report.Effective caller) k = true
+report_suits report.Names k = is_book k
 
 abbrev pub suits : Asked → Kind → Bool
 suits asked.Get k = true
@@ -242,6 +245,7 @@ abbrev pub IsReportAnswer : Office → ReportKind → Result (Unit {0}) Refusal 
 IsReportAnswer o (report.SyncCollection from) answer = answer ≡ Ok tt
 IsReportAnswer o report.GroupMembers answer = answer ≡ Ok tt
 IsReportAnswer o (report.Effective caller) answer = IsCallerAnswer o caller answer
+IsReportAnswer o report.Names answer = answer ≡ Ok tt
 
 -- what the body stage answers; bodies of the other methods have passed
 abbrev pub IsBodyAnswer : Office → Asked → Path → Result (Unit {0}) Refusal → Type 0
@@ -516,11 +520,27 @@ pub record AreRulingsTold (o : Office) (caller : Caller) (p : Path) (result : Re
   pub is_circle : IsCircle o.pairs caller circle
   pub rulings : AreRulingsFor o circle p result
 
+-- the cards of a book on which `x-read-names` is granted to the caller with this circle, each with the name that its text
+-- says (own profile)
+abbrev pub names_plan : List ℕ → List NamedCard → Result Plan Refusal
+names_plan b names = Ok (replied 200 (content.Names b names) None)
+
+abbrev pub AreNamesTold : Office → CircleOf → Path → Result Plan Refusal → Type 0
+AreNamesTold o circle path.Root result = Err NotFound ≡ result
+AreNamesTold o circle path.People result = Err NotFound ≡ result
+AreNamesTold o circle path.Groups result = Err NotFound ≡ result
+AreNamesTold o circle path.Books result = Err NotFound ≡ result
+AreNamesTold o circle (path.Person n) result = Err NotFound ≡ result
+AreNamesTold o circle (path.Group n) result = Err NotFound ≡ result
+AreNamesTold o circle (path.Book b) result = (names : List NamedCard) × AreNamesAt o circle b names × (names_plan b names ≡ result)
+AreNamesTold o circle (path.Card b c) result = Err NotFound ≡ result
+
 -- what a REPORT tells, by the report that is asked
 abbrev pub IsReportOf : Office → CircleOf → ReportKind → Path → Result Plan Refusal → Type 0
 IsReportOf o circle (report.SyncCollection from) p result = sync_plan o circle from p ≡ result
 IsReportOf o circle report.GroupMembers p result = AreMembersTold o circle p result
 IsReportOf o circle (report.Effective caller) p result = AreRulingsTold o caller p result
+IsReportOf o circle report.Names p result = AreNamesTold o circle p result
 
 -- what is replied and done, by what is asked
 abbrev pub IsSuccessOf : Office → CircleOf → Asked → Caller → Target → Result Plan Refusal → Type 0

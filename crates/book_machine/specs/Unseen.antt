@@ -1,10 +1,16 @@
 -- Contents that a caller may not read stay unseen: no reply tells of them.
 use Rattle.std.specs.Prelude.{◌≡◌, ◌≢◌, ℕ, ◌≤◌, List, Option, Some, option_map, All}
+use Rattle.book_rights.specs.Needs.{only}
 use Rattle.book_rights.specs.declared.methods.Method.TheVariants.{Move}
+use Rattle.book_rights.specs.declared.privileges.Leaf.TheVariants.{ReadNames}
+use Rattle.book_lists.specs.Circles.{CircleOf}
 use Rattle.book_lists.specs.declared.circles.Caller.{Caller}
+use Rattle.book_office_members.specs.Names.{name_told}
 use Rattle.book_office.specs.Resources.{card_at}
+use Rattle.book_office_listings.specs.Verdicts.{IsGrantedAt}
 use Rattle.book_office_values.specs.declared.offices.StoredCard.{StoredCard}
 use Rattle.book_office_values.specs.declared.offices.Office.{Office}
+use Rattle.book_office_values.specs.declared.paths.Path.TheVariants as path
 use Rattle.book_machine.specs.Agreement.{named, Agree}
 use Rattle.book_machine.specs.Runs.{Call, Run, last_office}
 use Rattle.book_machine.specs.Steps.{Steps}
@@ -23,6 +29,14 @@ abbrev pub AgreeingOfficesMayDiffer : Type 0
 AgreeingOfficesMayDiffer = (b c text other : List ℕ) → (o : Office) × (p : Office)
     × (option_map (λ (card : StoredCard). card.text) (card_at o b c) ≡ Some text)
     × (option_map (λ (card : StoredCard). card.text) (card_at p b c) ≡ Some other)
+    × ((caller : Caller) → Agree o p caller)
+
+-- and where everybody may read the card's name alone: there are such with a card of any two texts that say one name
+abbrev pub AgreeingOfficesMayDifferWhereNamed : Type 0
+AgreeingOfficesMayDifferWhereNamed = (b c text other : List ℕ) → name_told text ≡ name_told other → (o : Office) × (p : Office)
+    × (option_map (λ (card : StoredCard). card.text) (card_at o b c) ≡ Some text)
+    × (option_map (λ (card : StoredCard). card.text) (card_at p b c) ≡ Some other)
+    × ((circle : CircleOf) → IsGrantedAt o circle (path.Card b c) (only ReadNames))
     × ((caller : Caller) → Agree o p caller)
 
 -- from Offices that agree for its caller a request finds one reply; and without a MOVE or a rise of the epoch it leaves Offices that agree

@@ -71,6 +71,7 @@ abbrev pub is_effective : ReportKind → Bool
 is_effective (report.SyncCollection from) = false
 is_effective report.GroupMembers = false
 is_effective (report.Effective caller) = true
+is_effective report.Names = false
 
 abbrev pub asks_effective : Asked → Bool
 asks_effective asked.Get = false
@@ -86,6 +87,27 @@ asks_effective asked.Delete = false
 asks_effective asked.Mkcol = false
 asks_effective (asked.Report which) = is_effective which
 
+-- whether a REPORT asks for names alone
+abbrev pub is_of_names : ReportKind → Bool
+is_of_names (report.SyncCollection from) = false
+is_of_names report.GroupMembers = false
+is_of_names (report.Effective caller) = false
+is_of_names report.Names = true
+
+abbrev pub asks_names : Asked → Bool
+asks_names asked.Get = false
+asks_names asked.Head = false
+asks_names asked.Options = false
+asks_names (asked.Put text) = false
+asks_names (asked.Propfind find) = false
+asks_names (asked.Proppatch patched) = false
+asks_names (asked.Acl list) = false
+asks_names (asked.Copy to) = false
+asks_names (asked.Move to) = false
+asks_names asked.Delete = false
+asks_names asked.Mkcol = false
+asks_names (asked.Report which) = is_of_names which
+
 -- what decides the row of needs
 abbrev pub shape_at : Ready → Shape
 shape_at ready = record {
@@ -95,6 +117,7 @@ shape_at ready = record {
   acl = asks_for Acl ready.asked;
   privileges = asks_for CurrentUserPrivilegeSet ready.asked;
   effective = asks_effective ready.asked;
+  names = asks_names ready.asked;
 }
 
 module _ (list : List EffectiveEntry) (circle : CircleOf) (here : Here) where

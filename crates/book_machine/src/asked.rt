@@ -285,6 +285,7 @@ fn copy_of_kind(kind: &ReportKind) -> Result<ReportKind, AllocError>
         ReportKind::SyncCollection(from) => Ok(ReportKind::SyncCollection(copy_of_place(from)?)),
         ReportKind::GroupMembers => Ok(ReportKind::GroupMembers),
         ReportKind::Effective(caller) => Ok(ReportKind::Effective(caller.clone()?)),
+        ReportKind::Names => Ok(ReportKind::Names),
     }
 }
 

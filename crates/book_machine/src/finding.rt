@@ -41,6 +41,7 @@ fn needed_for(properties: &[Property]) -> LeafSet
         acl: is_asked(Property::Acl, properties),
         privileges: is_asked(Property::CurrentUserPrivilegeSet, properties),
         effective: false,
+        names: false,
     };
     let Needs { first, .. } = needs(Method::Propfind, shape);
     first.set

@@ -1,7 +1,7 @@
 //! What the definition of a step implies, stated on public functions since only what a contract names is proved.
 
 ghost use Rattle.book_machine.specs.SyncedCopies.{GrantedReportsAreTold};
-ghost use Rattle.book_machine.specs.Unseen.{AgreeingOfficesMayDiffer, AgreeingOfficesRunAlike, AgreeingOfficesStepAlike, AgreementIsAnEquivalence, EpochsNeverFall, RunsNeverLowerTheEpoch};
+ghost use Rattle.book_machine.specs.Unseen.{AgreeingOfficesMayDiffer, AgreeingOfficesMayDifferWhereNamed, AgreeingOfficesRunAlike, AgreeingOfficesStepAlike, AgreementIsAnEquivalence, EpochsNeverFall, RunsNeverLowerTheEpoch};
 ghost use Rattle.book_machine.specs.Laws.{DenialsAreTold, ListingsTellTheResource, RefusalsChangeNothing, RequestsActWhereGranted, RequestsAreFullAtLimits, RequestsHaveOneStep, StepsAreAvailable, TellingRepliesChangeNothing};
 
 /// In an Office a request has one reply, and leaves one Office.
@@ -43,13 +43,14 @@ pub fn granted_reports_are_told()
 {}
 
 /// Contents that a caller may not read stay unseen (own profile). Two Offices agree for a caller where they are equal but for
-/// the labels and texts of the cards on which it is not allowed `read`. From Offices that agree for its caller a request has
-/// one reply, and it leaves Offices that agree, unless it is a MOVE or raises the epoch, which no request lowers. So a run of
+/// the labels and texts of the cards on which it is not allowed `read`; where it is allowed `x-read-names` on one, both texts
+/// say one name, or are no cards. From Offices that agree for its caller a request has one reply, and it leaves Offices that agree, unless it is a MOVE or raises the epoch, which no request lowers. So a run of
 /// calls by one caller without them is a run from each Office that agrees.
 pub fn unread_contents_stay_unseen()
     ensures agreement { AgreementIsAnEquivalence }
     ensures steps { AgreeingOfficesStepAlike }
     ensures differ { AgreeingOfficesMayDiffer }
+    ensures differ_named { AgreeingOfficesMayDifferWhereNamed }
     ensures epochs { EpochsNeverFall }
     ensures run_epochs { RunsNeverLowerTheEpoch }
     ensures runs { AgreeingOfficesRunAlike }

@@ -33,7 +33,7 @@ pub use asked::{Asked, Destination};
 pub use book_office_listings::{
     AclEntry, DecidingEntry, Denial, Extent, Find, Property, PropertyValue, Response, Ruling,
 };
-pub use book_office_members::{MemberLine, Members};
+pub use book_office_members::{MemberLine, Members, NamedCard};
 pub use book_office_sync::{Found, Item, Report, Token};
 pub use laws::{
     granted_reports_are_told, listings_tell_the_resource, refusals_change_nothing,

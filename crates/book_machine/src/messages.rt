@@ -5,7 +5,7 @@ use crate::refusals::Refusal;
 use book_lists::{Caller, Name, Principal, Submitted};
 use book_office::{Items, Path, Text};
 use book_office_listings::{Property, Response, Ruling};
-use book_office_members::Members;
+use book_office_members::{Members, NamedCard};
 use book_office_sync::{Report, Token};
 use book_rights::Method;
 
@@ -60,6 +60,8 @@ pub enum ReportKind {
     GroupMembers,
     /// `effective`: the entries that decide each leaf for a person, or for nobody (own profile).
     Effective(Caller),
+    /// `names`: the names of a book's cards that may be read, also where the texts may not (own profile).
+    Names,
 }
 
 /// The body of a request, as it was read.
@@ -115,6 +117,8 @@ pub enum Content {
     Members(Name, Members),
     /// What decides each leaf, in the order of the leaves (own profile).
     Rulings(Items<Ruling>),
+    /// The name of a book, and its cards with their names (own profile).
+    Names(Name, Items<NamedCard>),
     /// Why the request was refused.
     Refusal(Refusal),
 }

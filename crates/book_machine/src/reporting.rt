@@ -3,7 +3,7 @@
 ghost use Rattle.book_lists.specs.declared.circles.Caller.TheVariants.{Known};
 ghost use Rattle.book_office_values.specs.declared.paths.Path.TheVariants as path;
 ghost use Rattle.book_machine.specs.Asking.{MeetsAny, StageAsks};
-ghost use Rattle.book_machine.specs.Stages.{AreMembersTold, AreRulingsFor, AreRulingsTold, IsCallerAnswer, IsReportAnswer, IsReportOf};
+ghost use Rattle.book_machine.specs.Stages.{AreMembersTold, AreNamesTold, AreRulingsFor, AreRulingsTold, IsCallerAnswer, IsReportAnswer, IsReportOf};
 
 use crate::machine::Machine;
 use crate::messages::{Content, ReportKind};
@@ -13,7 +13,7 @@ use crate::stages::replied;
 use book_lists::{Caller, Circle, Name, Principal};
 use book_office::{Keeper, Path};
 use book_office_listings::effective_rulings;
-use book_office_members::group_members;
+use book_office_members::{group_members, names_told};
 use std::alloc::Global;
 
 impl<K: Keeper> Machine<K> {
@@ -44,7 +44,7 @@ impl<K: Keeper> Machine<K> {
     {
         match kind {
             ReportKind::Effective(caller) => self.check_caller(alloc, caller),
-            ReportKind::SyncCollection(_) | ReportKind::GroupMembers => Ok(()),
+            ReportKind::SyncCollection(_) | ReportKind::GroupMembers | ReportKind::Names => Ok(()),
         }
     }
 
@@ -78,6 +78,33 @@ impl<K: Keeper> Machine<K> {
             | Path::Person(_)
             | Path::Group(_)
             | Path::Book(_) => Err(Refusal::NotFound),
+        }
+    }
+
+    /// The names of the cards of a book, in the view of who asks.
+    fn names_of(&mut self, alloc: Global, circle: &Circle, book: &Name) -> Result<Plan, Refusal>
+        ensures { StageAsks K.standing self.old self.new result
+            (λ o r. MeetsAny (AreNamesTold o circle.now (path.Book book.now)) r) }
+    {
+        let name = book.clone()?;
+        let names = names_told(alloc, &mut self.keeper, circle, book)?;
+        Ok(replied(200, Content::Names(name, names), None))
+    }
+
+    /// The names of the cards of the book at a path.
+    fn names_at(&mut self, alloc: Global, circle: &Circle, path: &Path) -> Result<Plan, Refusal>
+        ensures { StageAsks K.standing self.old self.new result
+            (λ o r. MeetsAny (AreNamesTold o circle.now path.now) r) }
+    {
+        match path {
+            Path::Book(book) => self.names_of(alloc, circle, book),
+            Path::Root
+            | Path::People
+            | Path::Groups
+            | Path::Books
+            | Path::Person(_)
+            | Path::Group(_)
+            | Path::Card(_, _) => Err(Refusal::NotFound),
         }
     }
 
@@ -116,6 +143,7 @@ impl<K: Keeper> Machine<K> {
             ReportKind::SyncCollection(from) => self.synced(alloc, circle, path, from),
             ReportKind::GroupMembers => self.members_at(alloc, circle, path),
             ReportKind::Effective(caller) => self.rulings_at(alloc, caller, path),
+            ReportKind::Names => self.names_at(alloc, circle, path),
         }
     }
 }

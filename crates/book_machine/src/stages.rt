@@ -14,7 +14,7 @@ ghost use Rattle.book_machine.specs.declared.refusals.Refusal.TheVariants.{BadCa
 ghost use Rattle.book_machine.specs.Targets.{ready_seen, target_seen};
 ghost use Rattle.book_office_listings.specs.Verdicts.{principal_of};
 ghost use Rattle.book_office.specs.declared.nodes.Node.{Node as NodeOf};
-ghost use Rattle.book_machine.specs.Verdicts.{asks_effective, asks_for, or_itself, place_path, shape_at};
+ghost use Rattle.book_machine.specs.Verdicts.{asks_effective, asks_for, asks_names, or_itself, place_path, shape_at};
 
 use crate::allowed_methods::{AllowedMethods, goes_on};
 use crate::asked::{Asked, Destination};
@@ -84,7 +84,31 @@ fn asks_effective(asked: &Asked) -> bool
         | Asked::Delete
         | Asked::Mkcol
         | Asked::Report(ReportKind::SyncCollection(_))
-        | Asked::Report(ReportKind::GroupMembers) => false,
+        | Asked::Report(ReportKind::GroupMembers)
+        | Asked::Report(ReportKind::Names) => false,
+    }
+}
+
+/// Whether a REPORT asks for names alone.
+fn asks_names(asked: &Asked) -> bool
+    ensures { result ≡ asks_names asked.now }
+{
+    match asked {
+        Asked::Report(ReportKind::Names) => true,
+        Asked::Get
+        | Asked::Head
+        | Asked::Options
+        | Asked::Put(_)
+        | Asked::Propfind(_)
+        | Asked::Proppatch(_)
+        | Asked::Acl(_)
+        | Asked::Copy(_)
+        | Asked::Move(_)
+        | Asked::Delete
+        | Asked::Mkcol
+        | Asked::Report(ReportKind::SyncCollection(_))
+        | Asked::Report(ReportKind::GroupMembers)
+        | Asked::Report(ReportKind::Effective(_)) => false,
     }
 }
 
@@ -99,6 +123,7 @@ pub(crate) fn shape_at(ready: &Ready<'_>) -> Shape
         acl: asks_for(Property::Acl, &ready.asked),
         privileges: asks_for(Property::CurrentUserPrivilegeSet, &ready.asked),
         effective: asks_effective(&ready.asked),
+        names: asks_names(&ready.asked),
     }
 }
 
@@ -229,14 +254,15 @@ pub(crate) fn list_refusal(fault: EditFault) -> Refusal
     }
 }
 
-/// Whether what is asked is asked of a resource of this kind: members are set of a group, a sync report is one on a book,
-/// and the members that a report tells are those of a card.
+/// Whether what is asked is asked of a resource of this kind: members are set of a group, the reports on changes and on
+/// names are of a book, and the members that a report tells are those of a card.
 fn suits(asked: &Asked, kind: Kind) -> bool
     ensures { result ≡ suits asked.now kind }
 {
     match asked {
         Asked::Proppatch(Patch::GroupMembers(_)) => kind == Kind::Group,
-        Asked::Report(ReportKind::SyncCollection(_)) => kind == Kind::Book,
+        Asked::Report(ReportKind::SyncCollection(_)) | Asked::Report(ReportKind::Names) => kind
+            == Kind::Book,
         Asked::Report(ReportKind::GroupMembers) => kind == Kind::Card,
         Asked::Get
         | Asked::Head

@@ -2,6 +2,7 @@ pub mod Common
 pub mod Adoptions
 pub mod BareAdoption
 pub mod KeptPairs
+pub mod MappedEntries
 pub mod Merges
 pub mod SameMaps
 pub mod Samenesses

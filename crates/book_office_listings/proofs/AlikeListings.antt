@@ -1,18 +1,10 @@
 -- Listings of Offices that differ only in what may not be read.
-use Rattle.book_office_listings.proofs.Common.{◌≡◌, Bool, true, List, [], ◌∷◌, Option, Some, None, is_some, option_map, refl, sym, ap, ◌∙◌, subst, AllZip, Leaf, CircleOf, Grants, IsAllowed, Entry, Here, Office, Path, effective_at, effective_of, Resource, resource_at, IsResponse, IsResponseTo, listed_paths, subject_of, bare_entries, here_of, Extent, Children, Find, Response, Told, Denied, Subject, Whole}
-use Rattle.book_rights.specs.Leaves.{each_leaf}
-use Rattle.book_rights.specs.Needs.{only}
-use Rattle.book_rights.specs.declared.privileges.Leaf.TheVariants.{Read}
+use Rattle.book_office_listings.proofs.Common.{◌≡◌, List, [], ◌∷◌, Option, Some, None, is_some, option_map, refl, sym, ap, ◌∙◌, subst, AllZip, CircleOf, Office, Path, effective_at, effective_of, Resource, resource_at, IsResponse, IsResponseTo, listed_paths, subject_of, here_of, Extent, Children, Find, Response, Told, Denied, Subject, Whole}
+use Rattle.book_rights.specs.Privileges.{is_read}
 use Rattle.book_office.specs.declared.nodes.Lists.{Lists as Lists'}
-use Rattle.book_office_listings.specs.Laws.{AreAlike, UnreadResourcesStayUnseen}
+use Rattle.book_office_listings.specs.Laws.{AreAlike, HasRead, UnreadResourcesStayUnseen}
 use Rattle.book_office_listings.specs.Verdicts.{IsDeniedBy, IsGrantedAt, IsGrantedBy}
 use Rattle.book_office_listings.specs.declared.messages.Extent.TheVariants.{Resource as Alone}
-
--- where a set with `read` is granted, `read` is
-read_granted : (entries : List Entry) (circle : CircleOf) (here : Here) (set : Leaf → Bool) → set Read ≡ true → IsAllowed entries circle here set → IsAllowed entries circle here (only Read)
-read_granted entries circle here set has all leaf is =
-    each_leaf (λ l. only Read l ≡ true → Grants entries circle here l) (λ _. all Read has)
-    (λ e. absurd cc) (λ e. absurd cc) (λ e. absurd cc) (λ e. absurd cc) (λ e. absurd cc) (λ e. absurd cc) (λ e. absurd cc) leaf is
 
 -- what entries ask of a subject is what they ask of its path
 subject_here : (o : Office) (q : Path) (found : Option Resource) (s : Subject) → option_map (subject_of o q) found ≡ Some s → s.here ≡ here_of o q
@@ -26,7 +18,7 @@ other_subject o p q None other s is there = absurd cc
 other_subject o p q (Some r) None s is there = absurd cc
 other_subject o p q (Some r) (Some x) s is there = (subject_of p q x, refl, refl)
 
-module _ (o p : Office) (circle : CircleOf) (alike : AreAlike o p circle) (find : Find) (needs : find.needed Read ≡ true) (whole : Whole) where
+module _ (o p : Office) (circle : CircleOf) (alike : AreAlike o p circle) (find : Find) (needs : HasRead find.needed) (whole : Whole) where
   same_list : (q : Path) → effective_at o q ≡ effective_at p q
   same_list q = ap (λ (l : Lists'). effective_of l.levels) (alike.lists q)
 
@@ -34,7 +26,7 @@ module _ (o p : Office) (circle : CircleOf) (alike : AreAlike o p circle) (find 
   response_stays q (Told told properties) (s, at, is) =
       let granted : IsGrantedBy (effective_at o q) circle (here_of o q) find.needed =
       subst (λ here. IsGrantedBy (effective_at o q) circle here find.needed) (subject_here o q (resource_at o q) s at) is.granted in
-      let read : IsGrantedAt o circle q (only Read) = read_granted (bare_entries (effective_at o q)) circle (here_of o q) find.needed needs granted in
+      let read : IsGrantedAt o circle q is_read = λ leaf is. granted leaf (needs leaf is) in
       (s, sym (alike.readable q read) ∙ at, subst (λ list. IsResponseTo find circle whole q s list (Told told properties)) (same_list q) is)
   response_stays q (Denied denial) (s, at, is) =
       let other = other_subject o p q (resource_at o q) (resource_at p q) s at (alike.there q) in

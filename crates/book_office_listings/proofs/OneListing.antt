@@ -6,6 +6,7 @@ use Rattle.std.specs.FinMap.{entries, from_entries, find, get-from_entries, same
 use Rattle.std.specs.FinMap.Entries.{is_some-find}
 use Rattle.std.specs.FinSet.{contains, contains-from_list}
 use Rattle.std.specs.Ordering.{eq_by_cmp}
+use Rattle.book_rights.specs.Privileges.{denied_name}
 use Rattle.book_lists.specs.Decisions.{IsDenial}
 use Rattle.book_lists.specs.Memberships.{set_of}
 use Rattle.book_lists.specs.declared.decisions.Outcome.{Outcome}
@@ -90,12 +91,12 @@ module _ (list : List EffectiveEntry) (circle : CircleOf) (here : Here) (p : Pat
   one_denial : (a b : Denial) → IsDeniedBy list circle here p set a → IsDeniedBy list circle here p set b → a ≡ b
   one_denial a b x y =
       let es = bare_entries list in
-      let same : outcome.Denied a.privilege x.index ≡ outcome.Denied b.privilege y.index =
-      one_outcome es circle here set (outcome.Denied a.privilege x.index) (outcome.Denied b.privilege y.index)
-      ((λ e. absurd cc), (λ allowed. absurd (allowed_not_denied es circle here set a.privilege x.index allowed x.decided))) x.decided
-      ((λ e. absurd cc), (λ allowed. absurd (allowed_not_denied es circle here set b.privilege y.index allowed y.decided))) y.decided in
+      let same : outcome.Denied x.leaf x.index ≡ outcome.Denied y.leaf y.index =
+      one_outcome es circle here set (outcome.Denied x.leaf x.index) (outcome.Denied y.leaf y.index)
+      ((λ e. absurd cc), (λ allowed. absurd (allowed_not_denied es circle here set x.leaf x.index allowed x.decided))) x.decided
+      ((λ e. absurd cc), (λ allowed. absurd (allowed_not_denied es circle here set y.leaf y.index allowed y.decided))) y.decided in
       let resource : a.resource ≡ b.resource = x.resource ∙ sym y.resource in
-      let privilege : a.privilege ≡ b.privilege = ap (leaf_or a.privilege) same in
+      let privilege : a.privilege ≡ b.privilege = x.privilege ∙ ap (λ found. denied_name (leaf_or x.leaf found) set) same ∙ sym y.privilege in
       let entry : a.entry ≡ b.entry = x.entry ∙ ap (λ found. deciding_entry (paths_of list) (index_or_none found)) same ∙ sym y.entry in
       λ k. record { resource = resource k; privilege = privilege k; entry = entry k }
 
@@ -110,8 +111,8 @@ module _ (o : Office) (circle : CircleOf) (find : Find) (w v : Whole) (w_is : Is
       (λ asked. w_is.epoch asked ∙ sym (v_is.epoch asked))
       ∙ sym b.values in
       λ k. Told (paths k) (values k)
-  one_to p s list (Told x xs) (Denied d) a b = absurd (allowed_not_denied (bare_entries list) circle s.here find.needed d.privilege b.index a.granted b.decided)
-  one_to p s list (Denied d) (Told y ys) a b = absurd (allowed_not_denied (bare_entries list) circle s.here find.needed d.privilege a.index b.granted a.decided)
+  one_to p s list (Told x xs) (Denied d) a b = absurd (allowed_not_denied (bare_entries list) circle s.here find.needed b.leaf b.index a.granted b.decided)
+  one_to p s list (Denied d) (Told y ys) a b = absurd (allowed_not_denied (bare_entries list) circle s.here find.needed a.leaf a.index b.granted a.decided)
   one_to p s list (Denied d) (Denied e) a b = ap Denied (one_denial list circle s.here p find.needed d e a b)
 
   one_response : (p : Path) (a b : Response) → IsResponse find circle o w p a → IsResponse find circle o v p b → a ≡ b

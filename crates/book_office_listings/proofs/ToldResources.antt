@@ -16,7 +16,7 @@ module _ (o : Office) (circle : CircleOf) (find : Find) (q : Path) (granted : Is
   first_told (Denied denial) rest (s, at, is) =
       let es = bare_entries (effective_at o q) in
       let here : here_of o q ≡ s.here = same_here o q (resource_at o q) s at in
-      allowed_not_denied es circle s.here find.needed denial.privilege is.index (subst (λ (h : Here). IsAllowed es circle h find.needed) here granted) is.decided
+      allowed_not_denied es circle s.here find.needed is.leaf is.index (subst (λ (h : Here). IsAllowed es circle h find.needed) here granted) is.decided
 
   told_first : (extent : Extent) (responses : List Response) → AllZip (IsResponse find circle o whole) (listed_paths o q extent) responses → TellsFirst q responses
   told_first Alone [] all = all

@@ -1,9 +1,9 @@
 -- What the definitions of a listing imply.
-use Rattle.std.specs.Prelude.{◌≡◌, ℕ, true, List, [], ◌∷◌, is_some}
+use Rattle.std.specs.Prelude.{◌≡◌, ℕ, Bool, true, List, [], ◌∷◌, is_some}
 use Rattle.std.specs.FinSet.{contains}
 use Rattle.std.specs.List.Sorted.{IsStrictlySortedBy}
-use Rattle.book_rights.specs.Needs.{only}
-use Rattle.book_rights.specs.declared.privileges.Leaf.TheVariants.{Read}
+use Rattle.book_rights.specs.Privileges.{is_read}
+use Rattle.book_rights.specs.declared.privileges.Leaf.{Leaf}
 use Rattle.book_lists.specs.Circles.{CircleOf, has_path}
 use Rattle.book_lists.specs.Decisions.{IsGrantedSet}
 use Rattle.book_lists.specs.Principals.{path_cmp}
@@ -31,12 +31,16 @@ pub record AreAlike (o p : Office) (circle : CircleOf) : Type 0 where
   pub lists : (q : Path) → lists_at o q ≡ lists_at p q
   pub there : (q : Path) → is_some (resource_at o q) ≡ is_some (resource_at p q)
   pub here : (q : Path) → here_of o q ≡ here_of p q
-  pub readable : (q : Path) → IsGrantedAt o circle q (only Read) → subject_at o q ≡ subject_at p q
+  pub readable : (q : Path) → IsGrantedAt o circle q is_read → subject_at o q ≡ subject_at p q
+
+-- a set has both leaves of `read`
+abbrev pub HasRead : (Leaf → Bool) → Type 0
+HasRead set = (leaf : Leaf) → is_read leaf ≡ true → set leaf ≡ true
 
 -- a listing that needs `read` tells nothing of what may not be read: of two such Offices it tells the same
 abbrev pub UnreadResourcesStayUnseen : Type 0
 UnreadResourcesStayUnseen = (o p : Office) (circle : CircleOf) → AreAlike o p circle
-    → (find : Find) → find.needed Read ≡ true → (q : Path) (responses : List Response)
+    → (find : Find) → HasRead find.needed → (q : Path) (responses : List Response)
     → AreResponses find circle o q responses → AreResponses find circle p q responses
 
 -- the leaves of `current-user-privilege-set` are those that are granted (RFC 3744, section 5.4)

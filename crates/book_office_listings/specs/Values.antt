@@ -4,8 +4,8 @@ use Rattle.std.specs.List.{filter_map}
 use Rattle.std.specs.Str.{bytes_eq}
 use Rattle.book_rights.specs.declared.privileges.Leaf.{Leaf}
 use Rattle.book_rights.specs.declared.privileges.Privilege.{Privilege}
-use Rattle.book_rights.specs.declared.privileges.Privilege.TheVariants.{One, Write, All}
-use Rattle.book_lists_explain.specs.ShortNames.{all_leaves, has_all, has_write, short_list}
+use Rattle.book_rights.specs.declared.privileges.Privilege.TheVariants.{One, Read, Write, All}
+use Rattle.book_lists_explain.specs.ShortNames.{all_leaves, has_all, has_read, has_write, short_list}
 use Rattle.book_lists.specs.Circles.{CircleOf}
 use Rattle.book_lists.specs.Principals.{group_path}
 use Rattle.book_lists.specs.declared.entries.Here.{Here}
@@ -47,6 +47,7 @@ acl_entry p e = record {
 -- whether every leaf of a privilege is in the set
 abbrev pub is_whole : (Leaf → Bool) → Privilege → Bool
 is_whole set (One leaf) = set leaf
+is_whole set Read = has_read set
 is_whole set Write = has_write set
 is_whole set All = has_all set
 
@@ -56,9 +57,10 @@ if_whole whole name = if whole then name ∷ [] else []
 abbrev pub if_granted : (Leaf → Bool) → Leaf → Option Privilege
 if_granted set leaf = if set leaf then Some (One leaf) else None
 
--- `all` where every leaf is in the set, `write` where each of its leaves is, and then each leaf of the set in order
+-- `all` where every leaf is in the set, `read` and `write` where each of their leaves is, and then each leaf of the set in order
 abbrev pub current_privileges : (Leaf → Bool) → List Privilege
-current_privileges set = if_whole (is_whole set All) All ++ (if_whole (is_whole set Write) Write ++ filter_map (if_granted set) all_leaves)
+current_privileges set =
+    if_whole (is_whole set All) All ++ (if_whole (is_whole set Read) Read ++ (if_whole (is_whole set Write) Write ++ filter_map (if_granted set) all_leaves))
 
 -- the leaves that the first entry which applies and holds them grants
 abbrev pub granted_by : List EffectiveEntry → CircleOf → Here → Leaf → Bool

@@ -1,5 +1,6 @@
 -- The decision on a set of leaves at a resource, by the entries in force there (RFC 3744, section 6).
 use Rattle.std.specs.Prelude.{◌≡◌, ℕ, ◌+◌, Bool, List, map, slice_get, Option, Some, None, option_map, option_and_then}
+use Rattle.book_rights.specs.Privileges.{denied_name}
 use Rattle.book_rights.specs.declared.privileges.Leaf.{Leaf}
 use Rattle.book_lists.specs.Circles.{CircleOf}
 use Rattle.book_lists.specs.Decisions.{IsAllowed, IsDenial}
@@ -53,12 +54,14 @@ module _ (list : List EffectiveEntry) (circle : CircleOf) (here : Here) where
   abbrev pub IsGrantedBy : (Leaf → Bool) → Type 0
   IsGrantedBy set = IsAllowed (bare_entries list) circle here set
 
-  -- the denial names the resource, the leaf and the entry that decide
+  -- the denial names the resource, the privilege for the leaf, and the entry that decides it
   pub record IsDeniedBy (p : Path) (set : Leaf → Bool) (denial : Denial) : Type 0 where
+    pub leaf : Leaf
     pub index : Option ℕ
     pub resource : denial.resource ≡ p
     pub entry : denial.entry ≡ deciding_entry (paths_of list) index
-    pub decided : IsDenial (bare_entries list) circle here set denial.privilege index
+    pub privilege : denial.privilege ≡ denied_name leaf set
+    pub decided : IsDenial (bare_entries list) circle here set leaf index
 
 module _ (o : Office) (circle : CircleOf) where
   -- the same by the entries in force at the resource

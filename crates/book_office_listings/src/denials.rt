@@ -14,7 +14,7 @@ use crate::messages::{DecidingEntry, Denial};
 use book_lists::{Circle, Entry, Here, Outcome, Scan};
 use book_office::Level;
 use book_office_values::Path;
-use book_rights::LeafSet;
+use book_rights::{LeafSet, denied_name};
 use std::alloc::AllocError;
 use std::slice;
 
@@ -163,7 +163,7 @@ pub fn verdict(
         Outcome::Allowed => Ok(None),
         Outcome::Denied { leaf, entry } => Ok(Some(Denial {
             resource: copy_of(path)?,
-            privilege: leaf,
+            privilege: denied_name(leaf, set),
             entry: deciding_entry(own, above, entry)?,
         })),
     }

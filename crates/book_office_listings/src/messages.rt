@@ -96,8 +96,8 @@ pub struct DecidingEntry {
 pub struct Denial {
     /// The resource at which the privilege is needed.
     pub resource: Path,
-    /// The privilege.
-    pub privilege: Leaf,
+    /// The privilege, named as the denial of its leaf is.
+    pub privilege: Privilege,
     /// The entry that denies it; none where no entry decides it.
     pub entry: Option<DecidingEntry>,
 }

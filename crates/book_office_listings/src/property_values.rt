@@ -2,7 +2,7 @@
 
 ghost use Rattle.std.specs.Prelude.{◌≡◌, ◌++◌, ◌∷◌, [], map, IfOk, OnOk};
 ghost use Rattle.std.specs.List.{filter_map};
-ghost use Rattle.book_lists_explain.specs.ShortNames.{all_leaves, has_all, has_write};
+ghost use Rattle.book_lists_explain.specs.ShortNames.{all_leaves, has_all};
 ghost use Rattle.book_office.specs.Levels.{effective_of};
 ghost use Rattle.book_office_listings.specs.Values.{current_privileges, if_granted, if_whole, is_whole};
 ghost use Rattle.book_office_listings.specs.Values.{members_in, members_told, token_told, value_of};
@@ -12,25 +12,18 @@ use crate::granting::granted_at;
 use crate::messages::{Property, PropertyValue};
 use crate::subjects::{Subject, Whole};
 use book_lists::{Circle, Membership, Principal};
+use book_lists_explain::{has_read, has_write};
 use book_office::Level;
 use book_office_sync::Token;
 use book_office_values::{Items, Path};
 use book_rights::{Leaf, LeafSet, Privilege};
 use std::alloc::{AllocError, Global};
 
-/// Whether every leaf of `write` is in the set.
-fn has_write(set: LeafSet) -> bool
-    ensures { result ≡ has_write set }
-{
-    set.has(Leaf::WriteContent)
-        && (set.has(Leaf::WriteProperties) && (set.has(Leaf::Bind) && set.has(Leaf::Unbind)))
-}
-
 /// Whether every leaf is in the set.
 fn has_all(set: LeafSet) -> bool
     ensures { result ≡ has_all set }
 {
-    set.has(Leaf::Read)
+    has_read(set)
         && (has_write(set)
             && (set.has(Leaf::ReadAcl)
                 && (set.has(Leaf::WriteAcl) && set.has(Leaf::ReadCurrentUserPrivilegeSet))))
@@ -42,6 +35,7 @@ fn is_whole(set: LeafSet, privilege: Privilege) -> bool
 {
     match privilege {
         Privilege::One(leaf) => set.has(leaf),
+        Privilege::Read => has_read(set),
         Privilege::Write => has_write(set),
         Privilege::All => has_all(set),
     }
@@ -90,6 +84,7 @@ fn current_privileges(alloc: Global, set: LeafSet) -> Result<Items<Privilege>, A
 {
     let mut names = Vec::new(alloc);
     push_whole(&mut names, set, Privilege::All)?;
+    push_whole(&mut names, set, Privilege::Read)?;
     push_whole(&mut names, set, Privilege::Write)?;
     push_leaves(&mut names, set)?;
     Ok(Items::from_vec(names))

@@ -3,3 +3,4 @@ pub mod Linking
 pub mod Steps
 pub mod Determined
 pub mod Views
+pub mod NamedEntries

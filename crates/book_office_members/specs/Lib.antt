@@ -1,3 +1,4 @@
 pub mod Steps
 pub mod Reaching
 pub mod Members
+pub mod Names

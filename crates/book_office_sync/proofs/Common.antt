@@ -3,7 +3,6 @@ pub use Rattle.std.proofs.Common.{◌≡◌, ◌∙◌, ap, sym, Some, false, Li
 pub use Rattle.std.proofs.lemmas.Bool.Decides.{nat_tests}
 pub use Rattle.std.specs.FinMap.{get}
 pub use Rattle.std.specs.Option.{option_copied}
-pub use Rattle.book_rights.specs.declared.privileges.Leaf.TheVariants.{Read}
 pub use Rattle.book_lists.specs.Circles.{CircleOf}
 pub use Rattle.book_office_values.proofs.Members.{Mem}
 pub use Rattle.book_office_values.specs.Changes.{Change, changes_after}

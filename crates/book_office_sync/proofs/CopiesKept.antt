@@ -1,5 +1,5 @@
 -- What a copy agrees on stays so while the epoch stays.
-use Rattle.book_office_sync.proofs.Common.{◌≡◌, ℕ, ◌<◌, ◌≤◌, ◌⊎◌, inl, inr, List, [], ◌∷◌, map, Bool, true, false, cond, Option, Some, None, refl, sym, ap, ◌∙◌, subst, option_map, option_and_then, unwrap_or, arith, if◌then◌else◌, get, Read, CircleOf, Level, NamesTo, Book, StoredCard, Office, number_of, Seen, seen, shown, last_change, Right, Kept, Later}
+use Rattle.book_office_sync.proofs.Common.{◌≡◌, ℕ, ◌<◌, ◌≤◌, ◌⊎◌, inl, inr, List, [], ◌∷◌, map, Bool, true, false, cond, Option, Some, None, refl, sym, ap, ◌∙◌, subst, option_map, option_and_then, unwrap_or, arith, if◌then◌else◌, get, CircleOf, Level, NamesTo, Book, StoredCard, Office, number_of, Seen, seen, shown, last_change, Right, Kept, Later}
 use Rattle.std.proofs.Common.{◌≢◌, ◌+◌}
 use Rattle.std.specs.FinMap.{insert}
 use Rattle.book_lists.specs.declared.entries.Entry.{Entry}
@@ -21,7 +21,7 @@ use Rattle.book_office.specs.Resources.{Resource, card_at, card_in, card_resourc
 use Rattle.book_office.specs.Sound.{IsPossible}
 use Rattle.book_office_values.proofs.NameMapLaws.{by_names}
 use Rattle.book_office_values.proofs.OneName.{some_apart, by_changed, by_put, put_here, put_elsewhere, removed_elsewhere}
-use Rattle.book_office_sync.specs.Copies.{grants, here_of_card, KeptBook}
+use Rattle.book_office_sync.specs.Copies.{grants_read, here_of_card, KeptBook}
 use Rattle.book_office.proofs.Epochs.{label_leaves_epoch}
 
 -- the lists above a card
@@ -53,10 +53,10 @@ in_force a b c own = map (λ (e : EffectiveEntry). e.entry) (effective_of (
 
 -- what is seen of a card, by these lists
 abbrev pub seen_by : ListsAbove → CircleOf → List ℕ → List ℕ → ℕ → Option StoredCard → Option Seen
-seen_by a circle b c n card = option_and_then (λ (k : StoredCard). if grants (in_force a b c k.own) circle (here_of_card k) Read then Some (shown n k) else None) card
+seen_by a circle b c n card = option_and_then (λ (k : StoredCard). if grants_read (in_force a b c k.own) circle (here_of_card k) then Some (shown n k) else None) card
 
 -- the levels above a card, with the book and the card given
-abbrev levels_with : Office → List ℕ → List ℕ → Option Book → Option Resource → List Level
+abbrev pub levels_with : Office → List ℕ → List ℕ → Option Book → Option Resource → List Level
 levels_with o b c book r =
     record { path = path.Card b c; protected = unwrap_or (option_map (λ (r : Resource). r.protected) r) []; own = unwrap_or (option_map (λ (r : Resource). r.own) r) [] }
     ∷ record {
@@ -69,7 +69,7 @@ levels_with o b c book r =
 
 abbrev seen_of : Office → CircleOf → List ℕ → List ℕ → Option Book → Option Seen
 seen_of o circle b c found = option_and_then (λ (book : Book). option_and_then (λ (card : StoredCard).
-    if grants (map (λ (e : EffectiveEntry). e.entry) (effective_of (levels_with o b c found (option_and_then (λ (x : Book). card_in x c) found)))) circle (here_of_card card) Read
+    if grants_read (map (λ (e : EffectiveEntry). e.entry) (effective_of (levels_with o b c found (option_and_then (λ (x : Book). card_in x c) found)))) circle (here_of_card card)
     then Some (shown (number_of book c) card) else None) (get book.cards c)) found
 
 module _ (o : Office) (circle : CircleOf) (b c : List ℕ) where
@@ -77,7 +77,7 @@ module _ (o : Office) (circle : CircleOf) (b c : List ℕ) where
   seen_is = refl
 
   card_seen : (x : Book) (n : ℕ) (card : Option StoredCard) → option_and_then (λ (k : StoredCard).
-      if grants (map (λ (e : EffectiveEntry). e.entry) (effective_of (levels_with o b c (Some x) (option_map (card_resource n) card)))) circle (here_of_card k) Read
+      if grants_read (map (λ (e : EffectiveEntry). e.entry) (effective_of (levels_with o b c (Some x) (option_map (card_resource n) card)))) circle (here_of_card k)
       then Some (shown n k) else None) card ≡ seen_by (above o x) circle b c n card
   card_seen x n None = refl
   card_seen x n (Some k) = refl

@@ -10,3 +10,4 @@ pub mod ReadReports
 pub mod ReplicaCopies
 pub mod TokenTexts
 pub mod BringingCopies
+pub mod GrantedTexts

@@ -1,5 +1,5 @@
 -- The items that are read, and those of the definition.
-use Rattle.book_office_sync.proofs.Common.{◌≡◌, ℕ, Bool, true, false, List, [], ◌∷◌, ◌++◌, map, Option, Some, None, option_map, unwrap_or, refl, sym, ap, ◌∙◌, if◌then◌else◌, get, Read, CircleOf, Change, changes_after, Book, StoredCard, Office, Level, number_of, found_of, item_of, shown, first_bearing, Item}
+use Rattle.book_office_sync.proofs.Common.{◌≡◌, ℕ, Bool, true, false, List, [], ◌∷◌, ◌++◌, map, Option, Some, None, option_map, unwrap_or, refl, sym, ap, ◌∙◌, if◌then◌else◌, get, CircleOf, Change, changes_after, Book, StoredCard, Office, Level, number_of, found_of, item_of, shown, first_bearing, Item}
 use Rattle.std.proofs.Common.{not}
 use Rattle.std.specs.List.{flat_map}
 use Rattle.book_rights.specs.declared.privileges.Leaf.{Leaf}
@@ -13,8 +13,8 @@ use Rattle.book_office.specs.declared.nodes.EffectiveEntry.{EffectiveEntry}
 use Rattle.book_office.specs.Levels.{standing_at, protected_entries, own_entries, effective_of, lists_at}
 use Rattle.book_office.specs.declared.nodes.Lists.{Lists as Lists'}
 use Rattle.book_office.specs.Resources.{Resource, book_resource, changed_after, changed_in}
-use Rattle.book_office_sync.specs.Copies.{grants, here_of_card}
-use Rattle.book_office_sync.specs.Reading.{above_of, entries_under, is_readable, found_in, item_in}
+use Rattle.book_office_sync.specs.Copies.{grants, grants_read, here_of_card}
+use Rattle.book_office_sync.specs.Reading.{above_of, entries_under, is_granted, found_in, item_in}
 use Rattle.book_office_sync.specs.declared.reports.Above.{Above}
 use Rattle.book_office_sync.proofs.CopiesKept.{seen_by, above, in_force, seen_at}
 
@@ -40,11 +40,11 @@ grants_one (x ∷ xs) circle here leaf = elim (bears circle here leaf x) as (λ 
     ]
 
 -- three lists in turn
-pub readable_in_turn : (a : Above) (circle : CircleOf) (here : Here) (own : List Entry)
-    → is_readable a circle here own ≡ or_go_on (first_bearing a.protected circle here Read) (or_go_on (first_bearing own circle here Read) (or_go_on (first_bearing a.own circle here Read) false))
-readable_in_turn a circle here own =
-    grants_joined a.protected (own ++ a.own) circle here Read
-    ∙ ap (or_go_on (first_bearing a.protected circle here Read)) (grants_joined own a.own circle here Read ∙ ap (or_go_on (first_bearing own circle here Read)) (grants_one a.own circle here Read))
+pub granted_in_turn : (a : Above) (circle : CircleOf) (here : Here) (own : List Entry) (leaf : Leaf)
+    → is_granted a circle here own leaf ≡ or_go_on (first_bearing a.protected circle here leaf) (or_go_on (first_bearing own circle here leaf) (or_go_on (first_bearing a.own circle here leaf) false))
+granted_in_turn a circle here own leaf =
+    grants_joined a.protected (own ++ a.own) circle here leaf
+    ∙ ap (or_go_on (first_bearing a.protected circle here leaf)) (grants_joined own a.own circle here leaf ∙ ap (or_go_on (first_bearing own circle here leaf)) (grants_one a.own circle here leaf))
 
 -- entries with the paths where they stand, without these
 standing_entries : (p : Path) (b : Bool) (xs : List Entry) (ys : List EffectiveEntry) → map (λ (e : EffectiveEntry). e.entry) (map (standing_at p b) xs ++ ys) ≡ xs ++ map (λ (e : EffectiveEntry). e.entry) ys
@@ -83,7 +83,7 @@ levels_in o b found =
     ∷ record { path = path.Root; protected = o.root.protected; own = o.root.own } ∷ []
 
 module _ (o : Office) (circle : CircleOf) (b : List ℕ) (x : Book) (at : get o.books b ≡ Some x) where
-  in_force_is : (c : List ℕ) (own : List Entry) → entries_under (above_of (lists_at o (path.Book b)).levels) own ≡ in_force (above o x) b c own
+  pub in_force_is : (c : List ℕ) (own : List Entry) → entries_under (above_of (lists_at o (path.Book b)).levels) own ≡ in_force (above o x) b c own
   in_force_is c own = ap (λ ls. entries_under (above_of ls) own) (ap (levels_in o b) at) ∙ sym (under_levels (path.Card b c) own (levels_in o b (Some x)))
 
   told_or_not : (t : Bool) (n : ℕ) (k : StoredCard) → (if t then Some (found_of (shown n k)) else None) ≡ option_map found_of (if t then Some (shown n k) else None)
@@ -93,8 +93,8 @@ module _ (o : Office) (circle : CircleOf) (b : List ℕ) (x : Book) (at : get o.
   found_is : (c : List ℕ) (n : ℕ) (card : Option StoredCard) → found_in (above_of (lists_at o (path.Book b)).levels) circle card ≡ option_map found_of (seen_by (above o x) circle b c n card)
   found_is c n None = refl
   found_is c n (Some k) =
-      ap (λ es. if grants es circle (here_of_card k) Read then Some (found_of (shown n k)) else None) (in_force_is c k.own)
-      ∙ told_or_not (grants (in_force (above o x) b c k.own) circle (here_of_card k) Read) n k
+      ap (λ es. if grants_read es circle (here_of_card k) then Some (found_of (shown n k)) else None) (in_force_is c k.own)
+      ∙ told_or_not (grants_read (in_force (above o x) b c k.own) circle (here_of_card k)) n k
 
   pub items_are : (cs : List Change) → map (item_in (above_of (lists_at o (path.Book b)).levels) circle) (changed_in x cs) ≡ map (item_of o circle b) cs
   items_are [] = refl

@@ -3,7 +3,7 @@ use Rattle.std.specs.Prelude.{◌≡◌, ℕ, ◌<◌, ◌≤◌, ◌⊎◌, Boo
 use Rattle.std.specs.FinMap.{get, insert, remove, empty}
 use Rattle.std.specs.Str.{bytes_eq}
 use Rattle.book_rights.specs.declared.privileges.Leaf.{Leaf}
-use Rattle.book_rights.specs.declared.privileges.Leaf.TheVariants.{Read}
+use Rattle.book_rights.specs.declared.privileges.Leaf.TheVariants.{ReadTexts, ReadNames}
 use Rattle.book_lists.specs.Circles.{CircleOf}
 use Rattle.book_lists.specs.Decisions.{bears}
 use Rattle.book_lists.specs.declared.entries.Entry.{Entry}
@@ -27,12 +27,16 @@ abbrev pub grants : List Entry → CircleOf → Here → Leaf → Bool
 grants [] circle here leaf = false
 grants (e ∷ es) circle here leaf = if bears circle here leaf e then not e.deny else grants es circle here leaf
 
+-- whether `read` is granted: each of its leaves is
+abbrev pub grants_read : List Entry → CircleOf → Here → Bool
+grants_read entries circle here = grants entries circle here ReadTexts && grants entries circle here ReadNames
+
 -- what entries ask of a card
 abbrev pub here_of_card : StoredCard → Here
 here_of_card card = record { owner = card.owner; principal = None }
 
 abbrev pub can_read : Office → CircleOf → List ℕ → List ℕ → StoredCard → Bool
-can_read o circle b c card = grants (entries_in_force o (path.Card b c)) circle (here_of_card card) Read
+can_read o circle b c card = grants_read (entries_in_force o (path.Card b c)) circle (here_of_card card)
 
 abbrev pub shown : ℕ → StoredCard → Seen
 shown number card = record { number = number; label = card.label; text = card.text }

@@ -3,7 +3,6 @@ use Rattle.std.specs.Prelude.{ℕ, Bool, true, List, [], ◌∷◌, ◌++◌, �
 use Rattle.std.specs.List.{flat_map}
 use Rattle.std.specs.Str.{bytes_eq}
 use Rattle.book_rights.specs.declared.privileges.Leaf.{Leaf}
-use Rattle.book_rights.specs.declared.privileges.Leaf.TheVariants.{Read}
 use Rattle.book_lists.specs.Circles.{CircleOf}
 use Rattle.book_lists.specs.Decisions.{bears}
 use Rattle.book_lists.specs.declared.entries.Entry.{Entry}
@@ -11,7 +10,7 @@ use Rattle.book_lists.specs.declared.entries.Here.{Here}
 use Rattle.book_office_values.specs.declared.offices.StoredCard.{StoredCard}
 use Rattle.book_office.specs.declared.nodes.Changed.{Changed}
 use Rattle.book_office.specs.declared.nodes.Level.{Level}
-use Rattle.book_office_sync.specs.Copies.{grants, here_of_card}
+use Rattle.book_office_sync.specs.Copies.{grants, grants_read, here_of_card}
 use Rattle.book_office_sync.specs.declared.messages.Found.{Found}
 use Rattle.book_office_sync.specs.declared.messages.Item.{Item}
 use Rattle.book_office_sync.specs.declared.messages.Token.{Token}
@@ -30,8 +29,12 @@ above_of ls = record { protected = flat_map (λ (l : Level). l.protected) ls; ow
 abbrev pub entries_under : Above → List Entry → List Entry
 entries_under above own = above.protected ++ (own ++ above.own)
 
+-- whether one leaf is granted there, and whether `read` is
+abbrev pub is_granted : Above → CircleOf → Here → List Entry → Leaf → Bool
+is_granted above circle here own leaf = grants (entries_under above own) circle here leaf
+
 abbrev pub is_readable : Above → CircleOf → Here → List Entry → Bool
-is_readable above circle here own = grants (entries_under above own) circle here Read
+is_readable above circle here own = grants_read (entries_under above own) circle here
 
 abbrev pub found_in : Above → CircleOf → Option StoredCard → Option Found
 found_in above circle None = None

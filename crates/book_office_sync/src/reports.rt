@@ -7,7 +7,7 @@ ghost use Rattle.book_office_values.specs.Changes.{changes_after};
 ghost use Rattle.book_office_values.specs.declared.offices.Book.{Book};
 ghost use Rattle.book_office.specs.Keeping.{Reads};
 ghost use Rattle.book_office_sync.specs.Copies.{item_of, start_of, sync, BringsCopies};
-ghost use Rattle.book_office_sync.specs.Reading.{above_of, first_bearing, found_in, is_readable, item_in};
+ghost use Rattle.book_office_sync.specs.Reading.{above_of, first_bearing, found_in, is_granted, is_readable, item_in};
 ghost use Rattle.book_office_sync.specs.Reading.{names_place, listed_items};
 
 use crate::messages::{Found, Item, Report, Token};
@@ -28,7 +28,7 @@ pub struct Above {
 }
 
 /// The entries of all levels. None is copied.
-fn join_levels(alloc: Global, lists: Lists) -> Result<Above, AllocError>
+pub(crate) fn join_levels(alloc: Global, lists: Lists) -> Result<Above, AllocError>
     ensures { IfOk result (λ above. above ≡ above_of lists.levels) }
 {
     let mut protected = Vec::new(alloc);
@@ -60,20 +60,34 @@ fn first_bearing(entries: &[Entry], circle: &Circle, here: &Here, leaf: Leaf) ->
     None
 }
 
+/// Whether the entries in force at a card with this own list grant the leaf.
+pub(crate) fn is_granted(
+    above: &Above,
+    circle: &Circle,
+    here: &Here,
+    own: &Items<Entry>,
+    leaf: Leaf,
+) -> bool
+    ensures { result ≡ is_granted above.now circle.now here.now own.now leaf }
+{
+    if let Some(deny) = first_bearing(above.protected.as_slice(), circle, here, leaf) {
+        return !deny;
+    }
+    if let Some(deny) = first_bearing(own.as_slice(), circle, here, leaf) {
+        return !deny;
+    }
+    match first_bearing(above.own.as_slice(), circle, here, leaf) {
+        Some(deny) => !deny,
+        None => false,
+    }
+}
+
 /// Whether a card with this own list may be read.
 fn is_readable(above: &Above, circle: &Circle, here: &Here, own: &Items<Entry>) -> bool
     ensures { result ≡ is_readable above.now circle.now here.now own.now }
 {
-    if let Some(deny) = first_bearing(above.protected.as_slice(), circle, here, Leaf::Read) {
-        return !deny;
-    }
-    if let Some(deny) = first_bearing(own.as_slice(), circle, here, Leaf::Read) {
-        return !deny;
-    }
-    match first_bearing(above.own.as_slice(), circle, here, Leaf::Read) {
-        Some(deny) => !deny,
-        None => false,
-    }
+    is_granted(above, circle, here, own, Leaf::ReadTexts)
+        && is_granted(above, circle, here, own, Leaf::ReadNames)
 }
 
 /// What a report says of the card, if there is one and it may be read. Takes no memory: the text is handed on.

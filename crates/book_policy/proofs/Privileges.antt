@@ -9,14 +9,14 @@ use Rattle.std.proofs.Math.ListN.{drop_of_length-le}
 use Rattle.book_rights.specs.Leaves.{no_leaf, union}
 use Rattle.book_rights.specs.Privileges.{contained, name_of}
 use Rattle.book_rights.specs.declared.privileges.Leaf.{Leaf}
-use Rattle.book_rights.specs.declared.privileges.Leaf.TheVariants.{Read, WriteContent, WriteProperties, Bind, Unbind, ReadAcl, WriteAcl, ReadCurrentUserPrivilegeSet}
+use Rattle.book_rights.specs.declared.privileges.Leaf.TheVariants.{ReadTexts, WriteContent, WriteProperties, Bind, Unbind, ReadAcl, WriteAcl, ReadCurrentUserPrivilegeSet, ReadNames}
 use Rattle.book_rights.specs.declared.privileges.Privilege.{Privilege}
-use Rattle.book_rights.specs.declared.privileges.Privilege.TheVariants.{One, Write, All as Whole}
+use Rattle.book_rights.specs.declared.privileges.Privilege.TheVariants.{One, Read, Write, All as Whole}
 use Rattle.book_policy_values.specs.Policies.{HoldsSome}
 use Rattle.book_policy.specs.Rules.{IsPrivilegeName, all_privileges, leaves_named, leaves_of}
 
 pub leaves_of_name : (p : Privilege) → leaves_named all_privileges (name_of p) ≡ contained p
-leaves_of_name (One Read) = refl
+leaves_of_name (One ReadTexts) = refl
 leaves_of_name (One WriteContent) = refl
 leaves_of_name (One WriteProperties) = refl
 leaves_of_name (One Bind) = refl
@@ -24,6 +24,8 @@ leaves_of_name (One Unbind) = refl
 leaves_of_name (One ReadAcl) = refl
 leaves_of_name (One WriteAcl) = refl
 leaves_of_name (One ReadCurrentUserPrivilegeSet) = refl
+leaves_of_name (One ReadNames) = refl
+leaves_of_name Read = refl
 leaves_of_name Write = refl
 leaves_of_name Whole = refl
 
@@ -41,7 +43,7 @@ one_more set p name names is =
     ap (λ f. union (union set f) (leaves_of names)) named ∙ union_later set (leaves_named all_privileges name) (leaves_of names)
 
 some_leaf : (p : Privilege) → HoldsSome (contained p)
-some_leaf (One Read) = (Read, refl)
+some_leaf (One ReadTexts) = (ReadTexts, refl)
 some_leaf (One WriteContent) = (WriteContent, refl)
 some_leaf (One WriteProperties) = (WriteProperties, refl)
 some_leaf (One Bind) = (Bind, refl)
@@ -49,8 +51,10 @@ some_leaf (One Unbind) = (Unbind, refl)
 some_leaf (One ReadAcl) = (ReadAcl, refl)
 some_leaf (One WriteAcl) = (WriteAcl, refl)
 some_leaf (One ReadCurrentUserPrivilegeSet) = (ReadCurrentUserPrivilegeSet, refl)
+some_leaf (One ReadNames) = (ReadNames, refl)
+some_leaf Read = (ReadTexts, refl)
 some_leaf Write = (Bind, refl)
-some_leaf Whole = (Read, refl)
+some_leaf Whole = (ReadTexts, refl)
 
 -- names of privileges hold a leaf, if there are any
 pub holds_some : (names : List (List ℕ)) → 1 ≤ length names → All IsPrivilegeName names → HoldsSome (leaves_of names)

@@ -4,9 +4,9 @@ use Rattle.std.specs.Str.{bytes_eq}
 use Rattle.toml.specs.Data.{Members}
 use Rattle.toml.specs.Parse.{parse_document}
 use Rattle.book_rights.specs.declared.privileges.Leaf.{Leaf}
-use Rattle.book_rights.specs.declared.privileges.Leaf.TheVariants.{Read, WriteContent, WriteProperties, Bind, Unbind, ReadAcl, WriteAcl, ReadCurrentUserPrivilegeSet}
+use Rattle.book_rights.specs.declared.privileges.Leaf.TheVariants.{ReadTexts, WriteContent, WriteProperties, Bind, Unbind, ReadAcl, WriteAcl, ReadCurrentUserPrivilegeSet, ReadNames}
 use Rattle.book_rights.specs.declared.privileges.Privilege.{Privilege}
-use Rattle.book_rights.specs.declared.privileges.Privilege.TheVariants.{One, Write, All as Whole}
+use Rattle.book_rights.specs.declared.privileges.Privilege.TheVariants.{One, Read, Write, All as Whole}
 use Rattle.book_rights.specs.Leaves.{no_leaf, union}
 use Rattle.book_rights.specs.Privileges.{contained, name_of}
 use Rattle.book_lists.specs.declared.entries.Who.{Who}
@@ -35,8 +35,8 @@ who_of text =
 
 abbrev pub all_privileges : List Privilege
 all_privileges =
-    One Read ∷ One WriteContent ∷ One WriteProperties ∷ One Bind ∷ One Unbind ∷ One ReadAcl ∷ One WriteAcl
-    ∷ One ReadCurrentUserPrivilegeSet ∷ Write ∷ Whole ∷ []
+    One ReadTexts ∷ One WriteContent ∷ One WriteProperties ∷ One Bind ∷ One Unbind ∷ One ReadAcl ∷ One WriteAcl
+    ∷ One ReadCurrentUserPrivilegeSet ∷ One ReadNames ∷ Read ∷ Write ∷ Whole ∷ []
 
 -- the leaves of the privilege with the name; none where none of these has it
 abbrev pub leaves_named : List Privilege → List ℕ → Leaf → Bool

@@ -8,56 +8,58 @@ use Rattle.std.proofs.lemmas.Bool.{false≢true, eqb-true}
 use mathlib.Core.Bool.{beq}
 use Rattle.std.specs.Coded.{Coded, code_by, coded×, coded_bool}
 use Rattle.book_rights.specs.declared.privileges.Leaf.{Leaf}
-use Rattle.book_rights.specs.declared.privileges.Leaf.TheVariants.{Read, WriteContent, WriteProperties, Bind, Unbind, ReadAcl, WriteAcl, ReadCurrentUserPrivilegeSet}
+use Rattle.book_rights.specs.declared.privileges.Leaf.TheVariants.{ReadTexts, WriteContent, WriteProperties, Bind, Unbind, ReadAcl, WriteAcl, ReadCurrentUserPrivilegeSet, ReadNames}
 
--- one of eight values, by the leaf
-abbrev pub at_leaf : Bool → Bool → Bool → Bool → Bool → Bool → Bool → Bool → Leaf → Bool
-at_leaf a b c d e f g h Read = a
-at_leaf a b c d e f g h WriteContent = b
-at_leaf a b c d e f g h WriteProperties = c
-at_leaf a b c d e f g h Bind = d
-at_leaf a b c d e f g h Unbind = e
-at_leaf a b c d e f g h ReadAcl = f
-at_leaf a b c d e f g h WriteAcl = g
-at_leaf a b c d e f g h ReadCurrentUserPrivilegeSet = h
+-- one of nine values, by the leaf
+abbrev pub at_leaf : Bool → Bool → Bool → Bool → Bool → Bool → Bool → Bool → Bool → Leaf → Bool
+at_leaf a b c d e f g h i ReadTexts = a
+at_leaf a b c d e f g h i WriteContent = b
+at_leaf a b c d e f g h i WriteProperties = c
+at_leaf a b c d e f g h i Bind = d
+at_leaf a b c d e f g h i Unbind = e
+at_leaf a b c d e f g h i ReadAcl = f
+at_leaf a b c d e f g h i WriteAcl = g
+at_leaf a b c d e f g h i ReadCurrentUserPrivilegeSet = h
+at_leaf a b c d e f g h i ReadNames = i
 
 -- a fact of every leaf
-pub each_leaf : (P : Leaf → Type 0) → P Read → P WriteContent → P WriteProperties → P Bind → P Unbind → P ReadAcl → P WriteAcl → P ReadCurrentUserPrivilegeSet → (leaf : Leaf) → P leaf
-each_leaf P a b c d e f g h Read = a
-each_leaf P a b c d e f g h WriteContent = b
-each_leaf P a b c d e f g h WriteProperties = c
-each_leaf P a b c d e f g h Bind = d
-each_leaf P a b c d e f g h Unbind = e
-each_leaf P a b c d e f g h ReadAcl = f
-each_leaf P a b c d e f g h WriteAcl = g
-each_leaf P a b c d e f g h ReadCurrentUserPrivilegeSet = h
+pub each_leaf : (P : Leaf → Type 0) → P ReadTexts → P WriteContent → P WriteProperties → P Bind → P Unbind → P ReadAcl → P WriteAcl → P ReadCurrentUserPrivilegeSet → P ReadNames → (leaf : Leaf) → P leaf
+each_leaf P a b c d e f g h i ReadTexts = a
+each_leaf P a b c d e f g h i WriteContent = b
+each_leaf P a b c d e f g h i WriteProperties = c
+each_leaf P a b c d e f g h i Bind = d
+each_leaf P a b c d e f g h i Unbind = e
+each_leaf P a b c d e f g h i ReadAcl = f
+each_leaf P a b c d e f g h i WriteAcl = g
+each_leaf P a b c d e f g h i ReadCurrentUserPrivilegeSet = h
+each_leaf P a b c d e f g h i ReadNames = i
 
 -- two sets with the same leaves are equal
 pub same_set : (f g : Leaf → Bool) → ((leaf : Leaf) → f leaf ≡ g leaf) → f ≡ g
 same_set f g same = λ i leaf. same leaf i
 
--- two sets are equal where they agree at each of the eight
-pub same_by_leaf : (f g : Leaf → Bool) → f Read ≡ g Read → f WriteContent ≡ g WriteContent → f WriteProperties ≡ g WriteProperties → f Bind ≡ g Bind → f Unbind ≡ g Unbind → f ReadAcl ≡ g ReadAcl → f WriteAcl ≡ g WriteAcl → f ReadCurrentUserPrivilegeSet ≡ g ReadCurrentUserPrivilegeSet → f ≡ g
-same_by_leaf f g a b c d e h i k = same_set f g (each_leaf (λ leaf. f leaf ≡ g leaf) a b c d e h i k)
+-- two sets are equal where they agree at each of the nine
+pub same_by_leaf : (f g : Leaf → Bool) → f ReadTexts ≡ g ReadTexts → f WriteContent ≡ g WriteContent → f WriteProperties ≡ g WriteProperties → f Bind ≡ g Bind → f Unbind ≡ g Unbind → f ReadAcl ≡ g ReadAcl → f WriteAcl ≡ g WriteAcl → f ReadCurrentUserPrivilegeSet ≡ g ReadCurrentUserPrivilegeSet → f ReadNames ≡ g ReadNames → f ≡ g
+same_by_leaf f g a b c d e h i k l = same_set f g (each_leaf (λ leaf. f leaf ≡ g leaf) a b c d e h i k l)
 
-abbrev pub Eight : Type 0
-Eight = Bool × (Bool × (Bool × (Bool × (Bool × (Bool × (Bool × Bool))))))
+abbrev pub Nine : Type 0
+Nine = Bool × (Bool × (Bool × (Bool × (Bool × (Bool × (Bool × (Bool × Bool)))))))
 
-abbrev pub eight_of : (Leaf → Bool) → Eight
-eight_of f = (f Read, (f WriteContent, (f WriteProperties, (f Bind, (f Unbind, (f ReadAcl, (f WriteAcl, f ReadCurrentUserPrivilegeSet)))))))
+abbrev pub nine_of : (Leaf → Bool) → Nine
+nine_of f = (f ReadTexts, (f WriteContent, (f WriteProperties, (f Bind, (f Unbind, (f ReadAcl, (f WriteAcl, (f ReadCurrentUserPrivilegeSet, f ReadNames))))))))
 
-abbrev pub set_by_leaf : Eight → Leaf → Bool
-set_by_leaf t = at_leaf t.0 t.1.0 t.1.1.0 t.1.1.1.0 t.1.1.1.1.0 t.1.1.1.1.1.0 t.1.1.1.1.1.1.0 t.1.1.1.1.1.1.1
+abbrev pub set_by_leaf : Nine → Leaf → Bool
+set_by_leaf t = at_leaf t.0 t.1.0 t.1.1.0 t.1.1.1.0 t.1.1.1.1.0 t.1.1.1.1.1.0 t.1.1.1.1.1.1.0 t.1.1.1.1.1.1.1.0 t.1.1.1.1.1.1.1.1
 
-pub set_of-eight_of : (f : Leaf → Bool) → set_by_leaf (eight_of f) ≡ f
-set_of-eight_of f = same_by_leaf _ _ refl refl refl refl refl refl refl refl
+pub set_of-nine_of : (f : Leaf → Bool) → set_by_leaf (nine_of f) ≡ f
+set_of-nine_of f = same_by_leaf _ _ refl refl refl refl refl refl refl refl refl
 
 -- whether two sets have the same leaves
 abbrev pub same_leaves : (Leaf → Bool) → (Leaf → Bool) → Bool
 same_leaves f g =
-    beq (f Read) (g Read) && beq (f WriteContent) (g WriteContent) && beq (f WriteProperties) (g WriteProperties) && beq (f Bind) (g Bind)
+    beq (f ReadTexts) (g ReadTexts) && beq (f WriteContent) (g WriteContent) && beq (f WriteProperties) (g WriteProperties) && beq (f Bind) (g Bind)
     && beq (f Unbind) (g Unbind) && beq (f ReadAcl) (g ReadAcl) && beq (f WriteAcl) (g WriteAcl)
-    && beq (f ReadCurrentUserPrivilegeSet) (g ReadCurrentUserPrivilegeSet)
+    && beq (f ReadCurrentUserPrivilegeSet) (g ReadCurrentUserPrivilegeSet) && beq (f ReadNames) (g ReadNames)
 
 both : (a b : Bool) → (a && b) ≡ true → (a ≡ true) × (b ≡ true)
 both true b h = (refl, h)
@@ -74,14 +76,15 @@ itself false = refl
 pub same_leaves-decides : (f g : Leaf → Bool) → Decides (same_leaves f g) (f ≡ g)
 same_leaves-decides f g = (
   λ h.
-      let s = both _ _ h in
+      let t = both _ _ h in
+      let s = both _ _ t.0 in
       let r = both _ _ s.0 in
       let q = both _ _ r.0 in
       let p = both _ _ q.0 in
       let o = both _ _ p.0 in
       let n = both _ _ o.0 in
       let m = both _ _ n.0 in
-      same_by_leaf f g (same _ _ m.0) (same _ _ m.1) (same _ _ n.1) (same _ _ o.1) (same _ _ p.1) (same _ _ q.1) (same _ _ r.1) (same _ _ s.1),
+      same_by_leaf f g (same _ _ m.0) (same _ _ m.1) (same _ _ n.1) (same _ _ o.1) (same _ _ p.1) (same _ _ q.1) (same _ _ r.1) (same _ _ s.1) (same _ _ t.1),
   λ e. let P : (Leaf → Bool) → Type 0 = λ x. same_leaves f x ≡ true in subst P e (reflexive f),
 )
   where
@@ -89,19 +92,19 @@ same_leaves-decides f g = (
     reflexive f =
         let P : Leaf → Type 0 = λ leaf. beq (f leaf) (f leaf) ≡ true in
         let each : (leaf : Leaf) → P leaf = λ leaf. itself (f leaf) in
-        simp (each Read, each WriteContent, each WriteProperties, each Bind, each Unbind, each ReadAcl, each WriteAcl, each ReadCurrentUserPrivilegeSet)
+        simp (each ReadTexts, each WriteContent, each WriteProperties, each Bind, each Unbind, each ReadAcl, each WriteAcl, each ReadCurrentUserPrivilegeSet, each ReadNames)
 
--- a set of leaves is stored as its eight truth values
+-- a set of leaves is stored as its nine truth values
 abbrev pub coded_set : Coded (Leaf → Bool)
-coded_set = code_by Eight (coded× coded_bool (coded× coded_bool (coded× coded_bool (coded× coded_bool (coded× coded_bool (coded× coded_bool (coded× coded_bool coded_bool))))))) eight_of set_by_leaf set_of-eight_of
+coded_set = code_by Nine (coded× coded_bool (coded× coded_bool (coded× coded_bool (coded× coded_bool (coded× coded_bool (coded× coded_bool (coded× coded_bool (coded× coded_bool coded_bool)))))))) nine_of set_by_leaf set_of-nine_of
 
 -- how many leaves there are
 abbrev pub leaf_count : ℕ
-leaf_count = 8
+leaf_count = 9
 
 -- the place of a leaf in the order of the leaves, from 0
 abbrev pub place_of : Leaf → ℕ
-place_of Read = 0
+place_of ReadTexts = 0
 place_of WriteContent = 1
 place_of WriteProperties = 2
 place_of Bind = 3
@@ -109,6 +112,7 @@ place_of Unbind = 4
 place_of ReadAcl = 5
 place_of WriteAcl = 6
 place_of ReadCurrentUserPrivilegeSet = 7
+place_of ReadNames = 8
 
 abbrev pub no_leaf : Leaf → Bool
 no_leaf leaf = false
@@ -139,15 +143,15 @@ IsLeast f (Some least) = (f least ≡ true) × ((leaf : Leaf) → f leaf ≡ tru
 abbrev pub has_bit : ℕ → ℕ → Bool
 has_bit n i = nat_eq (bit_at n i) 1
 
--- the leaves of a mask: bit 0 is `read`, and each leaf has the bit of its place
+-- the leaves of a mask: bit 0 is `x-read-texts`, and each leaf has the bit of its place
 abbrev pub leaves_in : ℕ → Leaf → Bool
 leaves_in mask leaf = has_bit mask (place_of leaf)
 
 -- the mask of a set
 abbrev pub mask_of : (Leaf → Bool) → ℕ
 mask_of f =
-    cond (f Read) 1 0 + cond (f WriteContent) 2 0 + cond (f WriteProperties) 4 0 + cond (f Bind) 8 0 + cond (f Unbind) 16 0
-    + cond (f ReadAcl) 32 0 + cond (f WriteAcl) 64 0 + cond (f ReadCurrentUserPrivilegeSet) 128 0
+    cond (f ReadTexts) 1 0 + cond (f WriteContent) 2 0 + cond (f WriteProperties) 4 0 + cond (f Bind) 8 0 + cond (f Unbind) 16 0
+    + cond (f ReadAcl) 32 0 + cond (f WriteAcl) 64 0 + cond (f ReadCurrentUserPrivilegeSet) 128 0 + cond (f ReadNames) 256 0
 
 -- the test holds of each number below this one
 abbrev pub all_below : (ℕ → Bool) → ℕ → Bool
@@ -167,6 +171,6 @@ all_below_tells p (suc n) k each below = elim (same_or_below k n below) [
     same_or_below (suc j) zero lt = absurd (omega (arith, lt))
     same_or_below (suc j) (suc m) lt = elim (same_or_below j m (omega (arith, lt))) [ inl h ↦ inl (omega (arith, h)) | inr h ↦ inr (ap suc h) ]
 
--- a mask of eight bits is that of its leaves
-pub mask_of-leaves_in : (mask : ℕ) → mask < 256 → mask_of (leaves_in mask) ≡ mask
-mask_of-leaves_in mask below = eqb-true _ _ (all_below_tells (λ m. nat_eq (mask_of (leaves_in m)) m) 256 mask refl below)
+-- a mask of nine bits is that of its leaves
+pub mask_of-leaves_in : (mask : ℕ) → mask < 512 → mask_of (leaves_in mask) ≡ mask
+mask_of-leaves_in mask below = eqb-true _ _ (all_below_tells (λ m. nat_eq (mask_of (leaves_in m)) m) 512 mask refl below)

@@ -1,8 +1,8 @@
 -- What each method needs (RFC 3744, appendix B). That COPY over a mapped destination needs both leaves there, that
--- DELETE of a book needs `unbind` twice, and the report effective are own profile.
+-- DELETE of a book needs `unbind` twice, and the reports effective and names are own profile.
 use Rattle.std.specs.Prelude.{Bool, true, false, ◌||◌, ◌&&◌, List, [], ◌∷◌, Option, Some, None, nat_eq}
 use Rattle.book_rights.specs.declared.privileges.Leaf.{Leaf}
-use Rattle.book_rights.specs.declared.privileges.Leaf.TheVariants.{Read, WriteContent, WriteProperties, Bind, Unbind, ReadAcl, WriteAcl, ReadCurrentUserPrivilegeSet}
+use Rattle.book_rights.specs.declared.privileges.Leaf.TheVariants.{WriteContent, WriteProperties, Bind, Unbind, ReadAcl, WriteAcl, ReadCurrentUserPrivilegeSet, ReadNames}
 use Rattle.book_rights.specs.declared.methods.Method.{Method}
 use Rattle.book_rights.specs.declared.methods.Method.TheVariants.{Get, Head, Options, Put, Propfind, Proppatch, Acl, Copy, Move, Delete, Mkcol, Report}
 use Rattle.book_rights.specs.declared.methods.Shape.{Shape}
@@ -11,6 +11,7 @@ use Rattle.book_rights.specs.declared.places.Needs.{Needs}
 use Rattle.book_rights.specs.declared.places.Place.{Place}
 use Rattle.book_rights.specs.declared.places.Place.TheVariants.{Target, Parent, Destination, DestinationParent}
 use Rattle.book_rights.specs.Leaves.{place_of}
+use Rattle.book_rights.specs.Privileges.{is_read}
 
 -- exactly this leaf
 abbrev pub only : Leaf → Leaf → Bool
@@ -27,7 +28,7 @@ either false xs ys = ys
 
 -- `read`, and with it `read-acl` and `read-current-user-privilege-set` where they are asked
 abbrev pub read_and : Bool → Bool → Leaf → Bool
-read_and acl privileges leaf = only Read leaf || ((acl && only ReadAcl leaf) || (privileges && only ReadCurrentUserPrivilegeSet leaf))
+read_and acl privileges leaf = is_read leaf || ((acl && only ReadAcl leaf) || (privileges && only ReadCurrentUserPrivilegeSet leaf))
 
 -- one more, if there is one
 abbrev pub listed_too : Option Need → List Need → List Need
@@ -45,17 +46,17 @@ need_list needs = needs.first ∷ listed_others needs.others
 
 -- the needs of a request, in the order in which they are checked
 abbrev pub needs_of : Method → Shape → List Need
-needs_of Get shape = at Target (only Read) ∷ []
-needs_of Head shape = at Target (only Read) ∷ []
-needs_of Options shape = at Target (only Read) ∷ []
+needs_of Get shape = at Target is_read ∷ []
+needs_of Head shape = at Target is_read ∷ []
+needs_of Options shape = at Target is_read ∷ []
 needs_of Put shape = either shape.target_mapped (at Target (only WriteContent) ∷ []) (at Parent (only Bind) ∷ [])
 needs_of Propfind shape = at Target (read_and shape.acl shape.privileges) ∷ []
 needs_of Proppatch shape = at Target (only WriteProperties) ∷ []
 needs_of Acl shape = at Target (only WriteAcl) ∷ []
-needs_of Copy shape = at Target (only Read) ∷ either shape.destination_mapped
+needs_of Copy shape = at Target is_read ∷ either shape.destination_mapped
     (at Destination (λ leaf. only WriteContent leaf || only WriteProperties leaf) ∷ [])
     (at DestinationParent (only Bind) ∷ [])
 needs_of Move shape = at Parent (only Unbind) ∷ at DestinationParent (only Bind) ∷ either shape.destination_mapped (at DestinationParent (only Unbind) ∷ []) []
 needs_of Delete shape = either shape.book (at Parent (only Unbind) ∷ at Target (only Unbind) ∷ []) (at Parent (only Unbind) ∷ [])
 needs_of Mkcol shape = at Parent (only Bind) ∷ []
-needs_of Report shape = at Target (read_and shape.effective false) ∷ []
+needs_of Report shape = either shape.names (at Target (only ReadNames) ∷ []) (at Target (read_and shape.effective false) ∷ [])

@@ -10,7 +10,7 @@ use std::marker::Model;
 /// A set of leaves: for each leaf, whether it is in the set. Two sets are equal where they have the same leaves.
 #[derive(Clone, Copy, Debug)]
 pub struct LeafSet {
-    mask: u8,
+    mask: u16,
 }
 
 impl Model for LeafSet {
@@ -24,7 +24,7 @@ impl Model for LeafSet {
 
     ghost view = { λ s. leaves_in s.mask };
 
-    ghost invariant = { λ s. s.mask < 256 };
+    ghost invariant = { λ s. s.mask < 512 };
 
     ghost inverse = { λ f. record { mask = mask_of f } };
 
@@ -56,11 +56,11 @@ impl Eq for LeafSet {
 }
 
 /// The mask of one leaf: the bit of its place.
-fn bit_of(leaf: Leaf) -> u8
+fn bit_of(leaf: Leaf) -> u16
     ensures { result ≡ 2 ^ place_of leaf }
 {
     match leaf {
-        Leaf::Read => 1,
+        Leaf::ReadTexts => 1,
         Leaf::WriteContent => 2,
         Leaf::WriteProperties => 4,
         Leaf::Bind => 8,
@@ -68,6 +68,7 @@ fn bit_of(leaf: Leaf) -> u8
         Leaf::ReadAcl => 32,
         Leaf::WriteAcl => 64,
         Leaf::ReadCurrentUserPrivilegeSet => 128,
+        Leaf::ReadNames => 256,
     }
 }
 
@@ -83,7 +84,7 @@ impl LeafSet {
     pub fn all() -> LeafSet
         ensures { result ≡ every_leaf }
     {
-        LeafSet { mask: 255 }
+        LeafSet { mask: 511 }
     }
 
     /// Whether the leaf is in the set.
@@ -137,21 +138,21 @@ impl LeafSet {
         Some(Leaf::ALL[self.mask.trailing_zeros() as usize])
     }
 
-    /// The set as a mask: bit 0 is `read`, and each leaf has the bit of its place.
+    /// The set as a mask: bit 0 is `x-read-texts`, and each leaf has the bit of its place.
     pub fn mask(self) -> u16
         ensures { result ≡ mask_of self }
     {
-        u16::from(self.mask)
+        self.mask
     }
 
-    /// The set with this mask; none above 255.
+    /// The set with this mask; none above 511.
     pub fn from_mask(mask: u16) -> Option<LeafSet>
         ensures found { IfSome result (λ set. mask_of set ≡ mask) }
-        ensures above { IfNone result (255 < mask) }
+        ensures above { IfNone result (511 < mask) }
     {
-        match u8::try_from(mask) {
-            Ok(mask) => Some(LeafSet { mask }),
-            Err(_) => None,
+        if mask > 511 {
+            return None;
         }
+        Some(LeafSet { mask })
     }
 }

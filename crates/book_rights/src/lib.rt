@@ -1,4 +1,5 @@
-//! The privileges of WebDAV access control lists (RFC 3744, section 3): eight leaves, the aggregates `write` and `all`,
+//! The privileges of WebDAV access control lists (RFC 3744, section 3): nine leaves, the aggregates `read`, `write` and
+//! `all`,
 //! sets of leaves, and which of them each method needs.
 //!
 //! It stands on nothing, and no call of it takes memory. The crate above reads a set by `LeafSet::has` and its laws: a
@@ -16,4 +17,4 @@ mod privileges;
 pub use leaf_sets::LeafSet;
 pub use methods::{Method, Shape, needs};
 pub use places::{Need, Needs, Place};
-pub use privileges::{Leaf, Privilege};
+pub use privileges::{Leaf, Privilege, denied_name};

@@ -1,12 +1,13 @@
-//! What each method needs (RFC 3744, appendix B; COPY, DELETE of a book and the report effective are own profile).
+//! What each method needs (RFC 3744, appendix B; COPY, DELETE of a book and the reports effective and names are own).
 
 ghost use Rattle.std.specs.Prelude.{◌≡◌, Some, None};
 ghost use Rattle.book_rights.specs.declared.places.Place.TheVariants.{Target};
 ghost use Rattle.book_rights.specs.Needs.{at, only, needs_of, need_list, read_and};
+ghost use Rattle.book_rights.specs.Privileges.{is_read};
 
 use crate::leaf_sets::LeafSet;
 use crate::places::{Need, Needs, Place};
-use crate::privileges::Leaf;
+use crate::privileges::{Leaf, Privilege};
 
 /// The methods of the server: those of RFC 9110, RFC 4918, RFC 3744 and RFC 3253 that it knows.
 #[derive(Clone, Copy, Debug, PartialEq, Eq)]
@@ -52,6 +53,8 @@ pub struct Shape {
     pub privileges: bool,
     /// The report is the one on the effective list; read for REPORT.
     pub effective: bool,
+    /// The report is the one on names; read for REPORT.
+    pub names: bool,
 }
 
 /// One leaf at a place.
@@ -91,11 +94,21 @@ fn three(first: Need, second: Need, third: Need) -> Needs
     }
 }
 
+/// `read` at the target.
+fn read() -> Need
+    ensures { result ≡ at Target is_read }
+{
+    Need {
+        place: Place::Target,
+        set: Privilege::Read.leaves(),
+    }
+}
+
 /// `read` at the target, with what else is asked of it.
 fn read_and(acl: bool, privileges: bool) -> Need
     ensures { result ≡ at Target (read_and acl privileges) }
 {
-    let read = LeafSet::empty().with(Leaf::Read);
+    let read = Privilege::Read.leaves();
     let set = match (acl, privileges) {
         (true, true) => read
             .with(Leaf::ReadAcl)
@@ -115,16 +128,16 @@ pub fn needs(method: Method, shape: Shape) -> Needs
     ensures { need_list result ≡ needs_of method shape }
 {
     match method {
-        Method::Get => one(at(Place::Target, Leaf::Read)),
-        Method::Head => one(at(Place::Target, Leaf::Read)),
-        Method::Options => one(at(Place::Target, Leaf::Read)),
+        Method::Get => one(read()),
+        Method::Head => one(read()),
+        Method::Options => one(read()),
         Method::Put if shape.target_mapped => one(at(Place::Target, Leaf::WriteContent)),
         Method::Put => one(at(Place::Parent, Leaf::Bind)),
         Method::Propfind => one(read_and(shape.acl, shape.privileges)),
         Method::Proppatch => one(at(Place::Target, Leaf::WriteProperties)),
         Method::Acl => one(at(Place::Target, Leaf::WriteAcl)),
         Method::Copy if shape.destination_mapped => two(
-            at(Place::Target, Leaf::Read),
+            read(),
             Need {
                 place: Place::Destination,
                 set: LeafSet::empty()
@@ -132,10 +145,7 @@ pub fn needs(method: Method, shape: Shape) -> Needs
                     .with(Leaf::WriteProperties),
             },
         ),
-        Method::Copy => two(
-            at(Place::Target, Leaf::Read),
-            at(Place::DestinationParent, Leaf::Bind),
-        ),
+        Method::Copy => two(read(), at(Place::DestinationParent, Leaf::Bind)),
         Method::Move if shape.destination_mapped => three(
             at(Place::Parent, Leaf::Unbind),
             at(Place::DestinationParent, Leaf::Bind),
@@ -151,6 +161,7 @@ pub fn needs(method: Method, shape: Shape) -> Needs
         ),
         Method::Delete => one(at(Place::Parent, Leaf::Unbind)),
         Method::Mkcol => one(at(Place::Parent, Leaf::Bind)),
+        Method::Report if shape.names => one(at(Place::Target, Leaf::ReadNames)),
         Method::Report => one(read_and(shape.effective, false)),
     }
 }

@@ -2,15 +2,15 @@
 
 ghost use Rattle.std.specs.Prelude.{◌≡◌, ◌≢◌, IfSome, IfNone};
 ghost use Rattle.book_rights.specs.declared.privileges.Privilege.{Privilege};
-ghost use Rattle.book_rights.specs.Privileges.{contained, name_of, leaf_name};
+ghost use Rattle.book_rights.specs.Privileges.{contained, name_of, leaf_name, denied_name};
 
 use crate::leaf_sets::LeafSet;
 
 /// A privilege that contains no other (RFC 3744, section 3). The order of the variants is the order of the leaves.
 #[derive(Clone, Copy, Debug, PartialEq, Eq)]
 pub enum Leaf {
-    /// `read`: to see a resource's content and properties (section 3.1).
-    Read,
+    /// `x-read-texts`: what `read` (section 3.1) lets see beyond names; own profile.
+    ReadTexts,
     /// `write-content`: to replace the content of a resource (section 3.4).
     WriteContent,
     /// `write-properties`: to change properties (section 3.3).
@@ -25,6 +25,8 @@ pub enum Leaf {
     WriteAcl,
     /// `read-current-user-privilege-set`: to see one's own privileges (section 3.7).
     ReadCurrentUserPrivilegeSet,
+    /// `x-read-names`: to see the formatted names of cards; own profile.
+    ReadNames,
 }
 
 /// A leaf, or an aggregate of leaves (RFC 3744, section 3.12).
@@ -32,6 +34,8 @@ pub enum Leaf {
 pub enum Privilege {
     /// One leaf.
     One(Leaf),
+    /// `read`: x-read-texts and x-read-names, to see a resource's content and properties (section 3.1).
+    Read,
     /// `write`: write-content, write-properties, bind and unbind (section 3.2); no more is own profile.
     Write,
     /// `all`: every leaf.
@@ -40,8 +44,8 @@ pub enum Privilege {
 
 impl Leaf {
     /// Every leaf, in order.
-    pub const ALL: [Leaf; 8] = [
-        Leaf::Read,
+    pub const ALL: [Leaf; 9] = [
+        Leaf::ReadTexts,
         Leaf::WriteContent,
         Leaf::WriteProperties,
         Leaf::Bind,
@@ -49,6 +53,7 @@ impl Leaf {
         Leaf::ReadAcl,
         Leaf::WriteAcl,
         Leaf::ReadCurrentUserPrivilegeSet,
+        Leaf::ReadNames,
     ];
 
     /// The name in requests, policies and replies, as `write-content`.
@@ -56,7 +61,7 @@ impl Leaf {
         ensures { result.now ≡ leaf_name self }
     {
         match self {
-            Leaf::Read => "read",
+            Leaf::ReadTexts => "x-read-texts",
             Leaf::WriteContent => "write-content",
             Leaf::WriteProperties => "write-properties",
             Leaf::Bind => "bind",
@@ -64,6 +69,7 @@ impl Leaf {
             Leaf::ReadAcl => "read-acl",
             Leaf::WriteAcl => "write-acl",
             Leaf::ReadCurrentUserPrivilegeSet => "read-current-user-privilege-set",
+            Leaf::ReadNames => "x-read-names",
         }
     }
 }
@@ -75,7 +81,7 @@ impl Privilege {
         ensures unknown { IfNone result ((privilege : Privilege) → name.now ≢ name_of privilege) }
     {
         Some(match name {
-            "read" => Privilege::One(Leaf::Read),
+            "x-read-texts" => Privilege::One(Leaf::ReadTexts),
             "write-content" => Privilege::One(Leaf::WriteContent),
             "write-properties" => Privilege::One(Leaf::WriteProperties),
             "bind" => Privilege::One(Leaf::Bind),
@@ -83,6 +89,8 @@ impl Privilege {
             "read-acl" => Privilege::One(Leaf::ReadAcl),
             "write-acl" => Privilege::One(Leaf::WriteAcl),
             "read-current-user-privilege-set" => Privilege::One(Leaf::ReadCurrentUserPrivilegeSet),
+            "x-read-names" => Privilege::One(Leaf::ReadNames),
+            "read" => Privilege::Read,
             "write" => Privilege::Write,
             "all" => Privilege::All,
             _ => return None,
@@ -95,6 +103,7 @@ impl Privilege {
     {
         match self {
             Privilege::One(leaf) => leaf.name(),
+            Privilege::Read => "read",
             Privilege::Write => "write",
             Privilege::All => "all",
         }
@@ -106,6 +115,7 @@ impl Privilege {
     {
         match self {
             Privilege::One(leaf) => LeafSet::empty().with(leaf),
+            Privilege::Read => LeafSet::empty().with(Leaf::ReadTexts).with(Leaf::ReadNames),
             Privilege::Write => LeafSet::empty()
                 .with(Leaf::WriteContent)
                 .with(Leaf::WriteProperties)
@@ -113,5 +123,16 @@ impl Privilege {
                 .with(Leaf::Unbind),
             Privilege::All => LeafSet::all(),
         }
+    }
+}
+
+/// How the denial of a leaf is named where these leaves are needed: `x-read-texts` as `read`, where the need has both of
+/// its leaves, and any other leaf as itself.
+pub fn denied_name(leaf: Leaf, need: LeafSet) -> Privilege
+    ensures { result ≡ denied_name leaf need }
+{
+    match leaf {
+        Leaf::ReadTexts if need.has(Leaf::ReadNames) => Privilege::Read,
+        other => Privilege::One(other),
     }
 }

@@ -17,7 +17,7 @@ use Rattle.sqlite_trees.proofs.ListLemmas.{filter_same}
 use Rattle.sqlite_catalog.proofs.ListFacts.{filter_within}
 use Rattle.book_tables_rows.specs.Columns.{ace_node, ace_place, ace_protected}
 use Rattle.book_tables_rows.specs.Lists.{by_list, listed_columns, child_entries, children_of, listed_entry_place}
-use Rattle.book_tables_rows.specs.Schema.{node_table, ace_table, ace_columns}
+use Rattle.book_tables_rows.specs.Schema.{node_table, ace2_table, ace_columns}
 use Rattle.book_tables_rows.specs.Writes.{is_below}
 use Rattle.book_tables_rows.proofs.Typing.{typed_at, past_first}
 use Rattle.book_tables.specs.Children.{listed_shown}
@@ -166,8 +166,8 @@ module _ (db : Database) (book : IsBook db) where
 
   numbered : (row : Row) → Has rows.entries row → IsNumbered row
   numbered row there =
-      let types = (and_parts (are_typed None 0 ace_columns (drop 1 row)) (has_computed ace_table row) (all_has _ rows.entries row (rules.obeys.rules Datatype).1.0 there)).0 in
-      let node = and_parts _ _ (all_has (λ r. are_present None 0 ace_columns r ≡ true) rows.entries row (rules.obeys.rules NotNull).1.0 there) in
+      let types = (and_parts (are_typed None 0 ace_columns (drop 1 row)) (has_computed ace2_table row) (all_has _ rows.entries row (rules.obeys.rules Datatype).1.1.1.1.1.0 there)).0 in
+      let node = and_parts _ _ (all_has (λ r. are_present None 0 ace_columns r ≡ true) rows.entries row (rules.obeys.rules NotNull).1.1.1.1.1.0 there) in
       let list = and_parts _ _ node.1 in
       let at = λ (i : ℕ) (c : Column). typed_at None 0 ace_columns (drop 1 row) i c types in
       record {

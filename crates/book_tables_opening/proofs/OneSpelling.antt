@@ -4,7 +4,7 @@ use Rattle.std.proofs.Common.{negsuc, nat_lt, ◌||◌}
 use Rattle.std.specs.List.{list_all}
 use Rattle.std.proofs.lemmas.Bool.{eqb-true, ltb-true, lt-ltb, and_from}
 use Rattle.book_rights.specs.declared.privileges.Leaf.{Leaf}
-use Rattle.book_rights.specs.declared.privileges.Leaf.TheVariants.{Read, WriteContent, WriteProperties, Bind, Unbind, ReadAcl, WriteAcl, ReadCurrentUserPrivilegeSet}
+use Rattle.book_rights.specs.declared.privileges.Leaf.TheVariants.{ReadTexts, WriteContent, WriteProperties, Bind, Unbind, ReadAcl, WriteAcl, ReadCurrentUserPrivilegeSet, ReadNames}
 use Rattle.book_rights.specs.Leaves.{mask_of, mask_of-leaves_in}
 use Rattle.book_tables.specs.Rows.{form_code, who_in, set_in, entry_values}
 use Rattle.book_tables_opening.specs.RowTests.{is_natural, is_value_below, is_text, is_nothing, is_form, is_spelled, is_entry_row, entry_in, IsSpelledEntry}
@@ -40,9 +40,9 @@ flag_passes false = refl
 
 -- ---- masks
 
-mask_is : (v : Value) → is_value_below 256 v ≡ true → v ≡ Int (pos (mask_of (set_in v)))
+mask_is : (v : Value) → is_value_below 512 v ≡ true → v ≡ Int (pos (mask_of (set_in v)))
 mask_is Null h = none h
-mask_is (Int (pos n)) h = ap (λ m. Int (pos m)) (sym (mask_of-leaves_in n (ltb-true n 256 h)))
+mask_is (Int (pos n)) h = ap (λ m. Int (pos m)) (sym (mask_of-leaves_in n (ltb-true n 512 h)))
 mask_is (Int (negsuc n)) h = none h
 mask_is (Real x) h = none h
 mask_is (Text t) h = none h
@@ -52,9 +52,9 @@ at_most : (b : Bool) (n : ℕ) → cond b n 0 ≤ n
 at_most true n = omega arith
 at_most false n = omega arith
 
-mask_passes : (f : Leaf → Bool) → is_value_below 256 (Int (pos (mask_of f))) ≡ true
+mask_passes : (f : Leaf → Bool) → is_value_below 512 (Int (pos (mask_of f))) ≡ true
 mask_passes f =
-    let a = at_most (f Read) 1 in
+    let a = at_most (f ReadTexts) 1 in
     let b = at_most (f WriteContent) 2 in
     let c = at_most (f WriteProperties) 4 in
     let d = at_most (f Bind) 8 in
@@ -62,7 +62,8 @@ mask_passes f =
     let g = at_most (f ReadAcl) 32 in
     let h = at_most (f WriteAcl) 64 in
     let k = at_most (f ReadCurrentUserPrivilegeSet) 128 in
-    lt-ltb (mask_of f) 256 (omega (arith, a, b, c, d, e, g, h, k))
+    let l = at_most (f ReadNames) 256 in
+    lt-ltb (mask_of f) 512 (omega (arith, a, b, c, d, e, g, h, k, l))
 
 -- ---- forms
 
@@ -132,15 +133,15 @@ form_passes Own = refl
 
 pub entry_is : (row : Row) → is_entry_row row ≡ true → IsSpelledEntry row
 entry_is row h =
-    let first = and_parts (is_value_below 2 (shown_protected row)) (is_natural (shown_place row) && is_spelled row) h in
-    let second = and_parts (is_natural (shown_place row)) (is_spelled row) first.1 in
-    let third = and_parts (is_form (shown_form row) (shown_principal row)) (is_value_below 2 (shown_invert row) && (is_value_below 2 (shown_deny row) && is_value_below 256 (shown_mask row))) second.1 in
-    let fourth = and_parts (is_value_below 2 (shown_invert row)) (is_value_below 2 (shown_deny row) && is_value_below 256 (shown_mask row)) third.1 in
-    let fifth = and_parts (is_value_below 2 (shown_deny row)) (is_value_below 256 (shown_mask row)) fourth.1 in
-    let form = form_is (shown_form row) (shown_principal row) third.0 in
-    let invert = flag_is (shown_invert row) fourth.0 in
-    let deny = flag_is (shown_deny row) fifth.0 in
-    let mask = mask_is (shown_mask row) fifth.1 in
+    let first = and_parts (is_value_below 2 (column row 1)) (is_natural (column row 2) && is_spelled row) h in
+    let second = and_parts (is_natural (column row 2)) (is_spelled row) first.1 in
+    let third = and_parts (is_form (column row 3) (column row 4)) (is_value_below 2 (column row 5) && (is_value_below 2 (column row 6) && is_value_below 512 (column row 7))) second.1 in
+    let fourth = and_parts (is_value_below 2 (column row 5)) (is_value_below 2 (column row 6) && is_value_below 512 (column row 7)) third.1 in
+    let fifth = and_parts (is_value_below 2 (column row 6)) (is_value_below 512 (column row 7)) fourth.1 in
+    let form = form_is (column row 3) (column row 4) third.0 in
+    let invert = flag_is (column row 5) fourth.0 in
+    let deny = flag_is (column row 6) fifth.0 in
+    let mask = mask_is (column row 7) fifth.1 in
     record {
       protected = flag_is (shown_protected row) first.0;
       place = natural_is (shown_place row) second.0;
@@ -151,11 +152,11 @@ pub entry_passes : (row : Row) → IsSpelledEntry row → is_entry_row row ≡ t
 entry_passes row e =
     let part : (n : ℕ) → column (shown_form row ∷ shown_principal row ∷ shown_invert row ∷ shown_deny row ∷ shown_mask row ∷ []) n ≡ column (entry_values (entry_in row)) n = λ n. ap (λ r. column r n) e.spelled in
     let entry = entry_in row in
-    let form : is_form (shown_form row) (shown_principal row) ≡ true = (λ i. is_form (part 0 i) (part 1 i)) ∙ form_passes entry.who in
-    let invert : is_value_below 2 (shown_invert row) ≡ true = ap (is_value_below 2) (part 2) ∙ flag_passes entry.invert in
-    let deny : is_value_below 2 (shown_deny row) ≡ true = ap (is_value_below 2) (part 3) ∙ flag_passes entry.deny in
-    let mask : is_value_below 256 (shown_mask row) ≡ true = ap (is_value_below 256) (part 4) ∙ mask_passes entry.set in
-    and_from _ _ (ap (is_value_below 2) e.protected ∙ flag_passes (flag_in (shown_protected row)))
+    let form : is_form (column row 3) (column row 4) ≡ true = (λ i. is_form (part 0 i) (part 1 i)) ∙ form_passes entry.who in
+    let invert : is_value_below 2 (column row 5) ≡ true = ap (is_value_below 2) (part 2) ∙ flag_passes entry.invert in
+    let deny : is_value_below 2 (column row 6) ≡ true = ap (is_value_below 2) (part 3) ∙ flag_passes entry.deny in
+    let mask : is_value_below 512 (column row 7) ≡ true = ap (is_value_below 512) (part 4) ∙ mask_passes entry.set in
+    and_from _ _ (ap (is_value_below 2) e.protected ∙ flag_passes (flag_in (column row 1)))
     (and_from _ _ (ap is_natural e.place) (and_from _ _ form (and_from _ _ invert (and_from _ _ deny mask))))
 
 pub all_entries : (rows : List Row) → list_all is_entry_row rows ≡ true → AllByRecursion IsSpelledEntry rows

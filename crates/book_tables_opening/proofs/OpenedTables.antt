@@ -1,10 +1,12 @@
 -- Tables whose rows are those of a sound Office stand for it, and those of others for none.
-use Rattle.book_tables_opening.proofs.Common.{◌≡◌, inl, inr, Bool, List, IsTrue, sym, ap, subst, ◌∙◌, arith, AllByRecursion, Database, Row, State, HasCleanDisk, pairs_of, rows_of, IsBook, book_schema, entries_shown, gone_shown, meta_shown, AreOfficeRows, HasUtf8, whole_nodes}
+use Rattle.book_tables_opening.proofs.Common.{◌≡◌, inl, inr, Bool, List, [], IsTrue, sym, ap, subst, ◌∙◌, arith, AllByRecursion, Database, Row, State, HasCleanDisk, pairs_of, rows_of, IsBook, book_schema, entries_shown, gone_shown, meta_shown, AreOfficeRows, HasUtf8, whole_nodes}
 use Rattle.std.proofs.lemmas.List.Sorted.{IsPermutation-sym}
 use Rattle.sqlite.specs.State.{Opens, Survives}
 use Rattle.sqlite.specs.Tree.{Trees}
 use Rattle.book_tables_rows.specs.Rows.{in_store}
+use Rattle.book_tables_rows.specs.Schema.{ace_tree}
 use Rattle.book_tables_rows.specs.Steps.{Stays}
+use Rattle.book_tables_schema.specs.Tabled.{IsTabled, book_of}
 use Rattle.book_tables.specs.Stands.{Stands}
 use Rattle.book_tables.proofs.OneOffice.{only_left}
 use Rattle.book_tables_opening.specs.Reading.{ShowsTables, AreReadable, IsWhole, StandsForOne, StandsForNone, TellsStanding, IsOpened}
@@ -37,6 +39,16 @@ module _ (s : State) (nodes entries members gone meta : List Row) (shows : Shows
 -- tables without the schema of a store stand for none
 pub foreign_none : (db : Database) → (db.schema ≡ book_schema → ⊥) → ¬ (StandsForOne db)
 foreign_none db apart (o, st) = apart st.book.schema
+
+-- tables of which the one of version 1 has rows stand for none
+pub former_none : (db : Database) → (db.trees ace_tree ≡ [] → ⊥) → ¬ (StandsForOne db)
+former_none db some (o, st) = some st.book.former
+
+-- what is told of tables that stay is told of those before
+pub whole_told : (old new : State) → Stays old new → IsTabled old.now → old.now.trees ace_tree ≡ [] → (is : Bool) → TellsStanding new is → (IsTrue is → IsWhole old.now) × (StandsForOne old.now → IsTrue is)
+whole_told old new stays tabled former is told =
+    let same = (stays told.0).1 in
+    subst (λ db. (IsTrue is → IsWhole db) × (StandsForOne db → IsTrue is)) same (told.1 (subst IsBook (sym same) (book_of old.now tabled former)))
 
 module _ (old new : State) (stays : Stays old new) (survives : Survives old new (λ _. ⊥)) (clean : HasCleanDisk new) (opens : Opens old) where
   was_clean : HasCleanDisk old

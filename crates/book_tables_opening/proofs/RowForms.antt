@@ -7,7 +7,7 @@ use Rattle.sqlite_schema.specs.declared.schema.Column.{Column}
 use Rattle.sqlite_schema.specs.declared.schema.Constraint.TheVariants.{Datatype}
 use Rattle.book_office_values.specs.declared.paths.Path.TheVariants as path
 use Rattle.book_tables_rows.specs.Lists.{entry_deny, entry_form, entry_invert, entry_mask}
-use Rattle.book_tables_rows.specs.Schema.{ace_table, meta_table}
+use Rattle.book_tables_rows.specs.Schema.{ace2_table, meta_table}
 use Rattle.book_tables_rows.specs.Writes.{IsMeta}
 use Rattle.book_tables_rows.proofs.Shapes.{key_is}
 use Rattle.book_tables.proofs.Acting.{AreNodes}
@@ -27,7 +27,7 @@ typed_width key at (c ∷ cs) [] h = omega arith
 typed_width key at (c ∷ cs) (v ∷ vs) h = let more : length vs ≤ length cs = typed_width key (at + 1) cs vs (and_parts _ (are_typed key (at + 1) cs vs) h).1 in omega (arith, more)
 
 -- a row is no longer than its table says
-table_width : (table : Table) (row : Row) → (are_typed table.key 0 table.columns (drop 1 row) && has_computed table row) ≡ true → length (drop 1 row) ≤ length table.columns
+pub table_width : (table : Table) (row : Row) → (are_typed table.key 0 table.columns (drop 1 row) && has_computed table row) ≡ true → length (drop 1 row) ≤ length table.columns
 table_width table row h = typed_width table.key 0 table.columns (drop 1 row) (and_parts (are_typed table.key 0 table.columns (drop 1 row)) (has_computed table row) h).0
 
 three : (r : Row) (n : ℤ) → length (drop 1 r) ≤ 2 → meta_epoch r ≡ Int n → r ≡ rowid r ∷ meta_version r ∷ meta_epoch r ∷ []
@@ -46,7 +46,7 @@ five (a ∷ b ∷ c ∷ d ∷ []) n fits is = absurd cc
 five (a ∷ b ∷ c ∷ d ∷ e ∷ []) n fits is = refl
 five (a ∷ b ∷ c ∷ d ∷ e ∷ f ∷ r) n fits is = absurd (omega (arith, fits))
 
-nine : (r : Row) (n : ℤ) → length (drop 1 r) ≤ 8 → ace_mask r ≡ Int n → drop 4 r ≡ ace_form r ∷ ace_principal r ∷ ace_invert r ∷ ace_deny r ∷ ace_mask r ∷ []
+pub nine : (r : Row) (n : ℤ) → length (drop 1 r) ≤ 8 → ace_mask r ≡ Int n → drop 4 r ≡ ace_form r ∷ ace_principal r ∷ ace_invert r ∷ ace_deny r ∷ ace_mask r ∷ []
 nine [] n fits is = absurd cc
 nine (a ∷ []) n fits is = absurd cc
 nine (a ∷ b ∷ []) n fits is = absurd cc
@@ -56,11 +56,11 @@ nine (a ∷ b ∷ c ∷ d ∷ r) n fits is = five r n (omega (arith, fits)) is
 -- ---- `meta`
 
 one_meta : (meta : List Row) (epoch : ℕ) → AllByRecursion (λ r. length (drop 1 r) ≤ 2) meta
-    → map (λ row. meta_version row ∷ meta_epoch row ∷ []) meta ≡ (Int (pos 1) ∷ Int (pos epoch) ∷ []) ∷ [] → IsMeta meta epoch
+    → map (λ row. meta_version row ∷ meta_epoch row ∷ []) meta ≡ (Int (pos 2) ∷ Int (pos epoch) ∷ []) ∷ [] → IsMeta meta epoch
 one_meta [] epoch widths is = absurd cc
 one_meta (r ∷ s ∷ more) epoch widths is = absurd cc
 one_meta (r ∷ []) epoch widths is =
-    let version : meta_version r ≡ Int (pos 1) = cc in
+    let version : meta_version r ≡ Int (pos 2) = cc in
     let last : meta_epoch r ≡ Int (pos epoch) = cc in
     (rowid r, ap (λ x. x ∷ []) (three r (pos epoch) widths.0 last ∙ (λ i. rowid r ∷ version i ∷ last i ∷ [])))
 
@@ -134,7 +134,7 @@ module _ (db : Database) (book : IsBook db) where
     entry_is : (row : Row) → Has rows.entries row → IsEntryRow nodes (entry_shown row) → IsEntry rows row
     entry_is row there f =
         let node = node_of_is rows (ace_node row) f.node f.there in
-        let width = table_width ace_table row (all_has _ rows.entries row (typed_rows.obeys.rules Datatype).1.0 there) in
+        let width = table_width ace2_table row (all_has _ rows.entries row (typed_rows.obeys.rules Datatype).1.1.1.1.1.0 there) in
         record {
           node = node.0;
           there = node.1;

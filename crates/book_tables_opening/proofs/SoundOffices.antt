@@ -26,7 +26,7 @@ under_number nodes (path.Group n) v h below = (below.0, below.2)
 under_number nodes (path.Book b) v h below = (below.0, below.2)
 under_number nodes (path.Card b c) v h below = (below.0, below.2)
 
-pair_epoch : (a b : ℕ) → ◌≡◌ {A = List Row} ((Int (pos 1) ∷ Int (pos a) ∷ []) ∷ []) ((Int (pos 1) ∷ Int (pos b) ∷ []) ∷ []) → b ≡ a
+pair_epoch : (a b : ℕ) → ◌≡◌ {A = List Row} ((Int (pos 2) ∷ Int (pos a) ∷ []) ∷ []) ((Int (pos 2) ∷ Int (pos b) ∷ []) ∷ []) → b ≡ a
 pair_epoch a b e = cc
 
 module _ (rows : Rows) (o : Office) (shaped : IsShaped TableShape rows.nodes) (built : IsBuiltOf rows o)

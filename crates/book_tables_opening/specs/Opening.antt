@@ -197,10 +197,10 @@ pub record IsWithinBook (nodes : List Row) (key : Key) : Type 0 where
 
 -- ---- version and epoch
 
--- one row, with version 1 and the epoch
+-- one row, with version 2 and the epoch
 pub record IsMetaRows (meta : List Row) : Type 0 where
   pub epoch : ℕ
-  pub rows : meta ≡ (Int (pos 1) ∷ Int (pos epoch) ∷ []) ∷ []
+  pub rows : meta ≡ (Int (pos 2) ∷ Int (pos epoch) ∷ []) ∷ []
   pub last : epoch ≤ LAST_NUMBER
 
 -- ---- all

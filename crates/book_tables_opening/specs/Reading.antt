@@ -13,6 +13,7 @@ use Rattle.book_tables_rows.specs.Nodes.{text_in}
 use Rattle.book_tables_rows.specs.Rows.{IsBook, rows_of}
 use Rattle.book_tables_rows.specs.Schema.{book_schema}
 use Rattle.book_tables_rows.specs.Steps.{Stays}
+use Rattle.book_tables_schema.specs.Tabled.{IsTabled}
 use Rattle.book_tables_schema.specs.Versions.{SaysOther}
 use Rattle.book_tables_schema.specs.Whole.{entries_shown, gone_shown, meta_shown}
 use Rattle.book_tables.specs.Opened.{StandsAlone}
@@ -68,24 +69,24 @@ IsStanding db Whole = IsWhole db
 IsStanding db Other = ¬ (StandsForOne db)
 IsStanding db Broken = ¬ (StandsForOne db)
 
--- the query for the version, on these tables, says whether it is another than 1
-pub record TellsOther {S : Type 0} (store : Ghosts S) (db : Database) (other : Bool) : Type 0 where
+-- the query for the version, on these tables, says whether it is another than this one
+pub record TellsOther {S : Type 0} (store : Ghosts S) (version : ℕ) (db : Database) (other : Bool) : Type 0 where
   pub before : Held S
   pub after : Held S
   pub its : (state store before).now ≡ db
-  pub says : SaysOther (state store before) (state store after) other
+  pub says : SaysOther version (state store before) (state store after) other
 
 -- what the query for the version says of tables with such a standing
 abbrev pub StandingSays : {S : Type 0} → Ghosts S → Database → Standing → Type 0
 StandingSays store db Whole = Unit {0}
-StandingSays store db Other = TellsOther store db true
-StandingSays store db Broken = TellsOther store db false
+StandingSays store db Other = TellsOther store 2 db true
+StandingSays store db Broken = TellsOther store 2 db false
 
 -- ---- a store is opened
 
 -- a connection that was opened again: it shows what is committed, and where it has the tables of a store, their rows rise
 abbrev pub IsReopened : State → Type 0
-IsReopened s = HasCleanDisk s → Opens s × (s.now.schema ≡ book_schema → IsBook s.now)
+IsReopened s = HasCleanDisk s → Opens s × (s.now.schema ≡ book_schema → IsTabled s.now)
 
 -- it stands for an Office, and a stop leaves that one alone
 abbrev pub StandsForItsOffice : State → Type 0
@@ -109,9 +110,9 @@ IsRefused NoStore = Unit {0}
 IsRefused Memory = ⊥
 IsRefused Store = ⊥
 
--- what the query for the version says of tables that are refused so
-abbrev pub FaultSays : {S : Type 0} → Ghosts S → Database → OpenFault → Type 0
-FaultSays store db OtherVersion = TellsOther store db true
-FaultSays store db NoStore = TellsOther store db false
-FaultSays store db Memory = Unit {0}
-FaultSays store db Store = Unit {0}
+-- what the query for the version says of tables that are refused so where this one is wanted
+abbrev pub FaultSays : {S : Type 0} → Ghosts S → ℕ → Database → OpenFault → Type 0
+FaultSays store version db OtherVersion = TellsOther store version db true
+FaultSays store version db NoStore = TellsOther store version db false
+FaultSays store version db Memory = Unit {0}
+FaultSays store version db Store = Unit {0}

@@ -45,19 +45,19 @@ abbrev pub is_up_to : ℕ → Value → Bool
 is_up_to limit (Int (pos n)) = nat_le n limit
 is_up_to limit _ = false
 
-abbrev pub is_one : Value → Bool
-is_one (Int (pos n)) = nat_eq n 1
-is_one _ = false
+abbrev pub is_two : Value → Bool
+is_two (Int (pos n)) = nat_eq n 2
+is_two _ = false
 
 -- ---- a row of `meta`: version, epoch
 
 abbrev pub is_meta : Row → Bool
-is_meta row = nat_eq (length row) 2 && (is_one (shown_version row) && is_up_to LAST_NUMBER (shown_epoch row))
+is_meta row = nat_eq (length row) 2 && (is_two (shown_version row) && is_up_to LAST_NUMBER (shown_epoch row))
 
 -- ---- a row of `ace`: node, protected, place, form, principal, invert, deny, mask
 
 abbrev pub is_spelled : Row → Bool
-is_spelled row = is_form (shown_form row) (shown_principal row) && (is_value_below 2 (shown_invert row) && (is_value_below 2 (shown_deny row) && is_value_below 256 (shown_mask row)))
+is_spelled row = is_form (shown_form row) (shown_principal row) && (is_value_below 2 (shown_invert row) && (is_value_below 2 (shown_deny row) && is_value_below 512 (shown_mask row)))
 
 abbrev pub is_entry_row : Row → Bool
 is_entry_row row = is_value_below 2 (shown_protected row) && (is_natural (shown_place row) && is_spelled row)

@@ -4,7 +4,8 @@
 //! and on `book_tables`, whose definition says for which Office tables stand. The crate above uses one promise, that of
 //! `open`: where it answers `Ok`, the connection stands for a sound Office, a stop just after leaves that one alone, and
 //! what it shows is what the last commit left; where it answers `OtherVersion` or `NoStore`, what the connection shows
-//! stands for no Office.
+//! stands for no Office. For the migration of an older store it has the parts of `open` that are asked of one: `is_office`
+//! in a transaction, `tells_other` and `open_fault_of`.
 //!
 //! Read `specs/Opening` first: `AreOfficeRows`, the conditions that the rows of the five tables have to meet, as whole
 //! reads show them. They are met exactly where the rows give an Office that is sound. Then `specs/Directories`, how rows
@@ -30,4 +31,4 @@ mod spelling_tests;
 mod text_tests;
 mod whole_nodes;
 
-pub use opening::open;
+pub use opening::{is_office, open, open_fault_of, tells_other};

@@ -8,16 +8,16 @@ use book_limits::LAST_NUMBER;
 use sqlite::Row;
 use sqlite::types::ValueRef;
 
-/// Whether a row has two columns, version 1 and an epoch up to the last one.
+/// Whether a row has two columns, version 2 and an epoch up to the last one.
 fn is_meta(row: &Row) -> bool
     ensures { result ≡ tests.is_meta row.now }
 {
     row.column_count() == 2
-        && matches!(row.get_ref(0), Ok(ValueRef::Int(1)))
+        && matches!(row.get_ref(0), Ok(ValueRef::Int(2)))
         && matches!(row.get_ref(1), Ok(ValueRef::Int(epoch)) if epoch >= 0 && epoch as u64 <= LAST_NUMBER)
 }
 
-/// Whether there is one row, with version 1 and an epoch up to the last one.
+/// Whether there is one row, with version 2 and an epoch up to the last one.
 pub(crate) fn are_meta(rows: &[Row]) -> bool
     ensures { IsTrue result ↔ IsMetaRows rows.now }
 {

@@ -1,11 +1,11 @@
 //! Opening the tables of a store that is there.
 
-ghost use Rattle.std.specs.Prelude.{◌≡◌, ◌⊎◌, IfOk, IfErr, IsSomeAnd, IsTrue};
+ghost use Rattle.std.specs.Prelude.{◌≡◌, ◌↔◌, ◌⊎◌, [], IfOk, IfErr, IsSomeAnd, IsTrue};
 ghost use Rattle.sqlite.specs.Held.{state};
 ghost use Rattle.sqlite.specs.State.{HasCleanDisk, Survives};
-ghost use Rattle.book_tables_rows.specs.Rows.{IsBook};
-ghost use Rattle.book_tables_rows.specs.Schema.{book_schema};
+ghost use Rattle.book_tables_rows.specs.Schema.{book_schema, ace_tree};
 ghost use Rattle.book_tables_rows.specs.Steps.{Keeps, Spares, Stays};
+ghost use Rattle.book_tables_schema.specs.Tabled.{IsTabled};
 ghost use Rattle.book_tables.specs.Opened.{open_fault};
 ghost use Rattle.book_tables_opening.specs.Reading.{AreReadable, IsWhole, StandsForOne, TellsOther, TellsStanding, IsStanding, StandingSays, FaultSays, IsReopened, IsOpened, IsRefused, StandsForItsOffice, StandsForNone};
 
@@ -14,7 +14,7 @@ use crate::office_tests::are_office_rows;
 use crate::reading::read_tables;
 use crate::text_tests::readable;
 use book_tables::{OpenFault, Tables};
-use book_tables_schema::{is_book_schema, reopen, says_other_version};
+use book_tables_schema::{has_no_former, is_book_schema, reopen, says_other_version};
 use sqlite::{Alter, Connection, Error, ErrorCode, Transaction};
 use std::alloc::Global;
 
@@ -30,12 +30,16 @@ pub(crate) enum Standing {
 }
 
 /// Whether the rows of the tables are those of a sound Office. Where they are, a label or a text that can't be read is a
-/// failure of the store.
-fn is_office<S: Alter>(alloc: Global, transaction: &mut Transaction<'_, S>) -> Result<bool, Error>
+/// failure of the store. Every row is read and tested, in any transaction.
+pub fn is_office<S: Alter>(
+    alloc: Global,
+    transaction: &mut Transaction<'_, S>,
+) -> Result<bool, Error>
     ensures same_reference { transaction.new.conn.ghost_name ≡ transaction.old.conn.ghost_name }
     ensures survives { Survives (state S.Store transaction.old.conn.now) (state S.Store transaction.new.conn.now)
         (λ _. ⊥) }
     ensures kept { Keeps (state S.Store transaction.old.conn.now) (state S.Store transaction.new.conn.now) }
+    ensures stays { Spares (state S.Store transaction.old.conn.now) (state S.Store transaction.new.conn.now) result }
     ensures told { HasCleanDisk (state S.Store transaction.new.conn.now)
         → IfOk result (λ is. TellsStanding (state S.Store transaction.old.conn.now) is) }
 {
@@ -68,32 +72,52 @@ fn stands_for_one<S: Alter>(alloc: Global, connection: &mut Connection<S>) -> Re
     is_office(alloc, &mut transaction)
 }
 
-/// Whether `meta` has one row with another version, read in a transaction of its own.
-fn tells_other<S: Alter>(connection: &mut Connection<S>) -> Result<bool, Error>
+/// Whether `meta` has one row with another version than this one, read in a transaction of its own.
+pub fn tells_other<S: Alter>(connection: &mut Connection<S>, version: u32) -> Result<bool, Error>
     ensures stays { HasCleanDisk (state S.Store connection.new)
         → Stays (state S.Store connection.old) (state S.Store connection.new) }
     ensures survives { Survives (state S.Store connection.old) (state S.Store connection.new) (λ _. ⊥) }
     ensures told { HasCleanDisk (state S.Store connection.new)
-        → IfOk result (λ other. TellsOther S.Store (state S.Store connection.old).now other) }
+        → IfOk result (λ other. TellsOther S.Store version (state S.Store connection.old).now other) }
 {
     if !connection.is_autocommit() {
         return Err(Error::SqliteFailure(ErrorCode::TransactionState));
     }
     let mut transaction = connection.transaction();
-    says_other_version(&mut transaction)
+    says_other_version(&mut transaction, version)
 }
 
-/// Whether the tables stand for an Office, where they are the tables of a store.
+/// Whether the table of version 1 that stays is empty, read in a transaction of its own.
+fn lacks_former<S: Alter>(connection: &mut Connection<S>) -> Result<bool, Error>
+    ensures stays { HasCleanDisk (state S.Store connection.new)
+        → Stays (state S.Store connection.old) (state S.Store connection.new) }
+    ensures survives { Survives (state S.Store connection.old) (state S.Store connection.new) (λ _. ⊥) }
+    ensures told { HasCleanDisk (state S.Store connection.new)
+        → (state S.Store connection.old).now.schema ≡ book_schema
+        → IfOk result (λ none. IsTrue none ↔ ((state S.Store connection.old).now.trees ace_tree ≡ [])) }
+{
+    if !connection.is_autocommit() {
+        return Err(Error::SqliteFailure(ErrorCode::TransactionState));
+    }
+    let mut transaction = connection.transaction();
+    has_no_former(&mut transaction)
+}
+
+/// Whether the tables stand for an Office, where they are the tables of a store: rows in the table of version 1 stand for
+/// none.
 fn is_whole<S: Alter>(alloc: Global, connection: &mut Connection<S>) -> Result<bool, Error>
     ensures stays { HasCleanDisk (state S.Store connection.new)
         → Stays (state S.Store connection.old) (state S.Store connection.new) }
     ensures survives { Survives (state S.Store connection.old) (state S.Store connection.new) (λ _. ⊥) }
     ensures told { HasCleanDisk (state S.Store connection.new)
-        → ((state S.Store connection.old).now.schema ≡ book_schema → IsBook (state S.Store connection.old).now)
+        → ((state S.Store connection.old).now.schema ≡ book_schema → IsTabled (state S.Store connection.old).now)
         → IfOk result (λ is. (IsTrue is → IsWhole (state S.Store connection.old).now)
         × (StandsForOne (state S.Store connection.old).now → IsTrue is)) }
 {
     if !is_book_schema(connection.schema()) {
+        return Ok(false);
+    }
+    if !lacks_former(connection)? {
         return Ok(false);
     }
     let found = stands_for_one(alloc, connection)?;
@@ -106,7 +130,7 @@ fn standing_of<S: Alter>(alloc: Global, connection: &mut Connection<S>) -> Resul
         → Stays (state S.Store connection.old) (state S.Store connection.new) }
     ensures survives { Survives (state S.Store connection.old) (state S.Store connection.new) (λ _. ⊥) }
     ensures told { HasCleanDisk (state S.Store connection.new)
-        → ((state S.Store connection.old).now.schema ≡ book_schema → IsBook (state S.Store connection.old).now)
+        → ((state S.Store connection.old).now.schema ≡ book_schema → IsTabled (state S.Store connection.old).now)
         → IfOk result (λ standing. IsStanding (state S.Store connection.old).now standing) }
     ensures other { HasCleanDisk (state S.Store connection.new) → IsTrue (state S.Store connection.new).is_open
         → IfOk result (λ standing. StandingSays S.Store (state S.Store connection.new).now standing) }
@@ -114,14 +138,14 @@ fn standing_of<S: Alter>(alloc: Global, connection: &mut Connection<S>) -> Resul
     if is_whole(alloc, connection)? {
         return Ok(Standing::Whole);
     }
-    if tells_other(connection)? {
+    if tells_other(connection, 2)? {
         return Ok(Standing::Other);
     }
     Ok(Standing::Broken)
 }
 
 /// Tells want of memory from any other failure.
-fn open_fault_of(error: Error) -> OpenFault
+pub fn open_fault_of(error: Error) -> OpenFault
     ensures told { result ≡ open_fault error }
     ensures either { (result ≡ OpenFault.Memory) ⊎ (result ≡ OpenFault.Store) }
 {
@@ -142,7 +166,7 @@ fn open_again<S: Alter>(
     ensures refused { IsReopened (state S.Store connection) → IfErr result (λ e. IsRefused e.0 → IsSomeAnd e.1 (λ c.
         HasCleanDisk (state S.Store c) → StandsForNone (state S.Store c))) }
     ensures other { IfErr result (λ e. IsRefused e.0 → IsSomeAnd e.1 (λ c. HasCleanDisk (state S.Store c)
-        → IsTrue (state S.Store c).is_open → FaultSays S.Store (state S.Store c).now e.0)) }
+        → IsTrue (state S.Store c).is_open → FaultSays S.Store 2 (state S.Store c).now e.0)) }
 {
     match standing_of(alloc, &mut connection) {
         Ok(Standing::Whole) => Ok(Tables::over(connection)),
@@ -158,7 +182,7 @@ fn open_again<S: Alter>(
 ///
 /// # Errors
 ///
-/// `OtherVersion` where the rows stand for no Office, and `meta` has one row, with another version; `NoStore` where they
+/// `OtherVersion` where the rows stand for no Office, and `meta` has one row, with another version than 2; `NoStore` where they
 /// stand for no Office else. `Memory` is want of memory, `Store` any other failure of the store, also a label or a text
 /// of a node that is not UTF-8. The connection comes back but where the store could not be opened again.
 pub fn open<S: Alter + Drop>(
@@ -176,7 +200,7 @@ pub fn open<S: Alter + Drop>(
     ensures refused { IfErr result (λ e. IsRefused e.0 → IsSomeAnd e.1 (λ c.
         HasCleanDisk (state S.Store c) → StandsForNone (state S.Store c))) }
     ensures other { IfErr result (λ e. IsRefused e.0 → IsSomeAnd e.1 (λ c. HasCleanDisk (state S.Store c)
-        → IsTrue (state S.Store c).is_open → FaultSays S.Store (state S.Store c).now e.0)) }
+        → IsTrue (state S.Store c).is_open → FaultSays S.Store 2 (state S.Store c).now e.0)) }
 {
     match reopen(alloc, connection) {
         Ok(opened) => open_again(alloc, opened),

@@ -23,11 +23,11 @@ fn is_flag(row: &Row, at: usize) -> bool
     matches!(row.get_ref(at), Ok(ValueRef::Int(number)) if number >= 0 && number < 2)
 }
 
-/// Whether the column is a set of the eight leaves.
+/// Whether the column is a set of the nine leaves.
 fn is_mask(row: &Row, at: usize) -> bool
-    ensures { result ≡ tests.is_value_below 256 (column row.now at) }
+    ensures { result ≡ tests.is_value_below 512 (column row.now at) }
 {
-    matches!(row.get_ref(at), Ok(ValueRef::Int(number)) if number >= 0 && number < 256)
+    matches!(row.get_ref(at), Ok(ValueRef::Int(number)) if number >= 0 && number < 512)
 }
 
 /// Whether the columns are the form of a path and its text.
@@ -82,7 +82,7 @@ fn pass_as_entries(rows: &[Row]) -> bool
 
 /// Whether each row of `ace`, shown with all its columns, is in one of the two lists of its node, and is spelled in the
 /// one way (RFC 3744, section 5.5): the form of a path with a text and each other form with none, truth values as 0 or
-/// 1, and a set as a mask below 256.
+/// 1, and a set as a mask below 512.
 pub fn are_entries(rows: &[Row]) -> bool
     ensures { IsTrue result ↔ AllByRecursion IsSpelledEntry rows.now }
 {

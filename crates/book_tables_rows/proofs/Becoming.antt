@@ -24,41 +24,42 @@ use Rattle.book_tables_rows.proofs.Statements.{Wrote, inserts, updates, deletes,
 -- ---- the other tables stay
 
 pub as_book : (d : Database) → IsBook d → IsBook (record { schema = book_schema; trees = d.trees })
-as_book d book = record { schema = refl; rules = subst (λ k. IsDatabase (record { schema = k; trees = d.trees })) book.schema book.rules; rising = book.rising }
+as_book d book = record { schema = refl; rules = subst (λ k. IsDatabase (record { schema = k; trees = d.trees })) book.schema book.rules; rising = book.rising; former = book.former }
 
 -- a book stays one
 pub book_after : (old : Trees) (new : Database) (edit : Edit) → IsBook (record { schema = book_schema; trees = old }) → Wrote old edit new → Applies book_schema Enforced old edit new.trees
-    → IsShaped TableShape (new.trees edit.table.tree) → IsBook new
-book_after old new edit book w applied shaped = record {
+    → IsShaped TableShape (new.trees edit.table.tree) → edit.table.tree ≢ 2 → IsBook new
+book_after old new edit book w applied shaped apart = record {
   schema = w.schema;
   rules = w.sound;
   rising = λ t there. elim (cases_eq t.tree edit.table.tree) [
     | inl is ↦ subst (λ k. IsShaped TableShape (new.trees k)) (sym is) shaped
     | inr differs ↦ subst (IsShaped TableShape) (sym (all_has (λ u. u.tree ≢ edit.table.tree → new.trees u.tree ≡ old u.tree) book_schema.tables t applied.tables there differs)) (book.rising t there)
   ];
+  former = applied.tables.1.0 (λ is. apart (sym is)) ∙ book.former;
 }
 
 module _ (old new : Trees) (edit : Edit) (a : Applies book_schema Enforced old edit new) where
   pub nodes_changed : edit.table.tree ≡ 0 → rows_of new ≡ record (rows_of old) { nodes = new 0 }
   nodes_changed at =
-      let entries = a.tables.1.0 (λ same. omega (arith, same, at)) in
+      let entries = a.tables.1.1.1.1.1.0 (λ same. omega (arith, same, at)) in
       let members = a.tables.1.1.0 (λ same. omega (arith, same, at)) in
       let gone = a.tables.1.1.1.0 (λ same. omega (arith, same, at)) in
       let meta = a.tables.1.1.1.1.0 (λ same. omega (arith, same, at)) in
       λ i. record { nodes = new 0; entries = entries i; members = members i; gone = gone i; meta = meta i }
 
-  pub entries_changed : edit.table.tree ≡ 2 → rows_of new ≡ record (rows_of old) { entries = new 2 }
+  pub entries_changed : edit.table.tree ≡ 13 → rows_of new ≡ record (rows_of old) { entries = new 13 }
   entries_changed at =
       let nodes = a.tables.0 (λ same. omega (arith, same, at)) in
       let members = a.tables.1.1.0 (λ same. omega (arith, same, at)) in
       let gone = a.tables.1.1.1.0 (λ same. omega (arith, same, at)) in
       let meta = a.tables.1.1.1.1.0 (λ same. omega (arith, same, at)) in
-      λ i. record { nodes = nodes i; entries = new 2; members = members i; gone = gone i; meta = meta i }
+      λ i. record { nodes = nodes i; entries = new 13; members = members i; gone = gone i; meta = meta i }
 
   pub members_changed : edit.table.tree ≡ 4 → rows_of new ≡ record (rows_of old) { members = new 4 }
   members_changed at =
       let nodes = a.tables.0 (λ same. omega (arith, same, at)) in
-      let entries = a.tables.1.0 (λ same. omega (arith, same, at)) in
+      let entries = a.tables.1.1.1.1.1.0 (λ same. omega (arith, same, at)) in
       let gone = a.tables.1.1.1.0 (λ same. omega (arith, same, at)) in
       let meta = a.tables.1.1.1.1.0 (λ same. omega (arith, same, at)) in
       λ i. record { nodes = nodes i; entries = entries i; members = new 4; gone = gone i; meta = meta i }
@@ -66,7 +67,7 @@ module _ (old new : Trees) (edit : Edit) (a : Applies book_schema Enforced old e
   pub meta_changed : edit.table.tree ≡ 8 → rows_of new ≡ record (rows_of old) { meta = new 8 }
   meta_changed at =
       let nodes = a.tables.0 (λ same. omega (arith, same, at)) in
-      let entries = a.tables.1.0 (λ same. omega (arith, same, at)) in
+      let entries = a.tables.1.1.1.1.1.0 (λ same. omega (arith, same, at)) in
       let members = a.tables.1.1.0 (λ same. omega (arith, same, at)) in
       let gone = a.tables.1.1.1.0 (λ same. omega (arith, same, at)) in
       λ i. record { nodes = nodes i; entries = entries i; members = members i; gone = gone i; meta = new 8 }
@@ -74,7 +75,7 @@ module _ (old new : Trees) (edit : Edit) (a : Applies book_schema Enforced old e
   pub gone_changed : edit.table.tree ≡ 6 → rows_of new ≡ record (rows_of old) { gone = new 6 }
   gone_changed at =
       let nodes = a.tables.0 (λ same. omega (arith, same, at)) in
-      let entries = a.tables.1.0 (λ same. omega (arith, same, at)) in
+      let entries = a.tables.1.1.1.1.1.0 (λ same. omega (arith, same, at)) in
       let members = a.tables.1.1.0 (λ same. omega (arith, same, at)) in
       let meta = a.tables.1.1.1.1.0 (λ same. omega (arith, same, at)) in
       λ i. record { nodes = nodes i; entries = entries i; members = members i; gone = new 6; meta = meta i }
@@ -92,7 +93,7 @@ unfolding same_name everything
 works_gone olds = refl
 
 -- nor to an entry
-pub works_entries : (olds : List Row) → works book_schema Enforced 0 2 olds [] ≡ []
+pub works_entries : (olds : List Row) → works book_schema Enforced 0 13 olds [] ≡ []
 unfolding same_name everything
 works_entries olds = refl
 
@@ -144,7 +145,7 @@ module _ (old new : State) (path label : List ℕ) (parent owner words : Value) 
         let applied = one_step book_schema Enforced db new.now.trees edit refl w.written in
         let rows : new.now.trees 0 ≡ db 0 ++ new_row ∷ [] = applied.rows ∙ ap (put_all (db 0)) news ∙ put_next (db 0) new_row shaped refl in
         let shaped_after = subst (IsShaped TableShape) (sym (applied.rows ∙ ap (put_all (db 0)) news)) (IsShaped-put_row new_row (db 0) refl shaped) in
-        (book_after db new.now edit (as_book old.now book) w applied shaped_after, nodes_changed db new.now.trees edit applied refl ∙ ap (λ ns. record (rows_of db) { nodes = ns }) rows);
+        (book_after db new.now edit (as_book old.now book) w applied shaped_after (λ e. omega (arith, e)), nodes_changed db new.now.trees edit applied refl ∙ ap (λ ns. record (rows_of db) { nodes = ns }) rows);
   }
 
 -- ---- UPDATE of the node at a path
@@ -229,7 +230,7 @@ module _ (old new : State) (sql path : List ℕ) (more : Row) (columns : List Te
         let made : new.now.trees 0 ≡ put_back db found = applied.rows ∙ makes db rules shaped found there in
         let shaped_after = subst (IsShaped TableShape) (sym made) (stays_shaped (db 0) shaped found there) in
         let listed : new.now.trees 0 ≡ update_where (is_at path) change (db 0) = made ∙ updates_one (is_at path) change same_id (db 0) shaped found once there in
-        (book_after db new.now (edit_for db found) (as_book old.now book) w applied shaped_after, nodes_changed db new.now.trees (edit_for db found) applied refl ∙ ap (λ ns. record (rows_of db) { nodes = ns }) listed);
+        (book_after db new.now (edit_for db found) (as_book old.now book) w applied shaped_after (λ e. omega (arith, e)), nodes_changed db new.now.trees (edit_for db found) applied refl ∙ ap (λ ns. record (rows_of db) { nodes = ns }) listed);
   }
 
   -- whether a row was counted tells whether one is at the path
@@ -285,7 +286,7 @@ module _ (old new : State) (sql : List ℕ) (params : Row) (terms : List Term) (
         let applied = one_step book_schema Enforced db new.now.trees edit (works_gone (taken_by db edit)) it.2.written in
         let listed : new.now.trees 6 ≡ delete_where p (db 6) = applied.rows ∙ deletes_each p (db 6) (ids_of it.0) shaped ids in
         let shaped_after = subst (IsShaped TableShape) (sym listed) (IsShaped-filter TableShape _ (db 6) shaped) in
-        (book_after db new.now edit (as_book old.now book) it.2 applied shaped_after, gone_changed db new.now.trees edit applied refl ∙ ap (λ g. record (rows_of db) { gone = g }) listed);
+        (book_after db new.now edit (as_book old.now book) it.2 applied shaped_after (λ e. omega (arith, e)), gone_changed db new.now.trees edit applied refl ∙ ap (λ g. record (rows_of db) { gone = g }) listed);
   }
 
 pub becomes_unremoved : (old new : State) (id : ℤ) (name : List ℕ) (count : ℕ) → ExecutesInside 0 text.delete_gone_name (Int id ∷ Text name ∷ []) old new (Ok count) → Becomes old new (writes.delete_gone_name (Int id) name)

@@ -1,5 +1,5 @@
 -- The entries of the children of a node, in order of the node, of the list and of the place: no two of them tie.
-use Rattle.book_tables_rows.proofs.Common.{and-true, ◌≡◌, ℕ, ℤ, Bool, true, false, ◌&&◌, List, [], ◌∷◌, map, filter, None, refl, sym, ap, subst, ◌∙◌, true≢false, Ordering, Less, Equal, Greater, is_eq, IsTrue, inl, inr, AllByRecursion, list_any, ordering_then, and_parts, IsPermutation-map, Value, Null, Int, Binary, IsDatabase, is_null, Row, value_cmp, overlay, IsAnswer, Output, output, page, State, Shown, Trees, reads_as, output_cmp, output_cmp_total, plain, first_key-plain, agree_back, agree_chain, IsAscending, IsTable, is_int, NotNull, equal, agree, are_present, keys_are_unique, sort_by, sorted_is-sort_by, sort_by-map, ascending-map, ascending_weaker, ace_node, ace_place, book_schema, node_table, ace_table, is_under}
+use Rattle.book_tables_rows.proofs.Common.{and-true, ◌≡◌, ℕ, ℤ, Bool, true, false, ◌&&◌, List, [], ◌∷◌, map, filter, None, refl, sym, ap, subst, ◌∙◌, true≢false, Ordering, Less, Equal, Greater, is_eq, IsTrue, inl, inr, AllByRecursion, list_any, ordering_then, and_parts, IsPermutation-map, Value, Null, Int, Binary, IsDatabase, is_null, Row, value_cmp, overlay, IsAnswer, Output, output, page, State, Shown, Trees, reads_as, output_cmp, output_cmp_total, plain, first_key-plain, agree_back, agree_chain, IsAscending, IsTable, is_int, NotNull, equal, agree, are_present, keys_are_unique, sort_by, sorted_is-sort_by, sort_by-map, ascending-map, ascending_weaker, ace_node, ace_place, book_schema, node_table, is_under}
 use Rattle.std.proofs.Common.{IsPermutation}
 use Rattle.std.proofs.lemmas.Bool.{not-true}
 use Rattle.std.proofs.lemmas.List.Sorted.{IsPermutation-trans, IsPermutation-sym}
@@ -7,7 +7,7 @@ use Rattle.sqlite.specs.Ops.{binary}
 use Rattle.sqlite_trees.specs.Tree.{rowid}
 use Rattle.sqlite_keyed.proofs.ListLemmas.{ascending-filter}
 use Rattle.book_tables_rows.specs.Columns.{ace_protected}
-use Rattle.book_tables_rows.specs.Schema.{ace_columns}
+use Rattle.book_tables_rows.specs.Schema.{ace2_table, ace_columns}
 use Rattle.book_tables_rows.specs.Texts as text
 use Rattle.book_tables_rows.specs.Writes.{is_below}
 use Rattle.book_tables_rows.specs.Lists.{ShowsChildEntries, by_list, listed_columns}
@@ -117,18 +117,18 @@ module _ (db : Trees) (id : Value) where
       ap (λ o. ordering_then (value_cmp (ace_node a) (ace_node b)) (ordering_then (value_cmp (ace_protected a) (ace_protected b)) o)) (then_equal (value_cmp (ace_place a) (ace_place b)))
 
   abbrev picked : List Row
-  picked = filter (is_below id (db 0)) (db 2)
+  picked = filter (is_below id (db 0)) (db 13)
 
-  joined_picked : IsAscending (AreApart (goes id)) (db 0) → IsPermutation (joined (goes id) (db 2) (db 0)) picked
+  joined_picked : IsAscending (AreApart (goes id)) (db 0) → IsPermutation (joined (goes id) (db 13) (db 0)) picked
   joined_picked apart =
-      subst (IsPermutation (joined (goes id) (db 2) (db 0))) (λ i. filter (λ e. list_any (λ n. is_under id n && and-true (equal Binary (rowid n) (ace_node e)) i) (db 0)) (db 2))
-      (joined_are (goes id) (db 2) (db 0) apart)
+      subst (IsPermutation (joined (goes id) (db 13) (db 0))) (λ i. filter (λ e. list_any (λ n. is_under id n && and-true (equal Binary (rowid n) (ace_node e)) i) (db 0)) (db 13))
+      (joined_are (goes id) (db 13) (db 0) apart)
 
   in_order : (rows : List Row) → IsAnswer child_entries_query db (id ∷ []) rows → IsAscending (AreApart (goes id)) (db 0) → IsAscending (λ a b. is_eq (by_list a b) ≡ false) picked
       → rows ≡ map listed_columns (sort_by by_list picked)
   in_order rows a nodes apart =
-      let kept : a.kept ≡ map out (joined (goes id) (db 2) (db 0)) =
-      a.distinct ∙ ap (map (output child_entries_query)) a.grouped ∙ drawn_are (goes id) (db 2) env (output child_entries_query) out (λ n e. refl) (db 0) in
+      let kept : a.kept ≡ map out (joined (goes id) (db 13) (db 0)) =
+      a.distinct ∙ ap (map (output child_entries_query)) a.grouped ∙ drawn_are (goes id) (db 13) env (output child_entries_query) out (λ n e. refl) (db 0) in
       let same : IsPermutation (map out picked) a.ordered =
       IsPermutation-trans _ _ _ (IsPermutation-sym _ _ (IsPermutation-map out _ _ (joined_picked nodes))) (subst (λ k. IsPermutation k a.ordered) kept a.same) in
       let apart_out = ascending-map (λ x y. is_eq (output_cmp child_entries_query x y) ≡ false) out picked
@@ -145,11 +145,11 @@ shows_child_entries old new id rows h = (
   λ book.
       let db = old.now.trees in
       let rules = subst (λ k. IsDatabase (record { schema = k; trees = db })) book.schema book.rules in
-      let shaped = book.rising ace_table (inr (inl refl)) in
+      let shaped = book.rising ace2_table (inr (inr (inr (inr (inr (inl refl)))))) in
       let nodes = book.rising node_table (inl refl) in
       let read = (reads_as text.list_child_entries (Int id ∷ []) old new book_schema book.schema _ list_child_entries_is list_child_entries_plain list_child_entries_unlisted rows h).answer Null in
-      let distinct_rows = all_distinct (1 ∷ 2 ∷ 3 ∷ []) (db 2) (λ row there. keys_are_unique book_schema db _ 0 (1 ∷ 2 ∷ 3 ∷ []) row rules (inr (inl refl)) refl there) (db 2) (λ r t. t) shaped.0 shaped.1 in
-      let keys = all_keys (db 2) (rules.obeys.rules NotNull).1.0 in
+      let distinct_rows = all_distinct (1 ∷ 2 ∷ 3 ∷ []) (db 13) (λ row there. keys_are_unique book_schema db _ 0 (1 ∷ 2 ∷ 3 ∷ []) row rules (inr (inr (inr (inr (inr (inl refl)))))) refl there) (db 13) (λ r t. t) shaped.0 shaped.1 in
+      let keys = all_keys (db 13) (rules.obeys.rules NotNull).1.1.1.1.1.0 in
       in_order (overlay db []) (Int id) rows read (nodes_apart (Int id) (db 0) nodes.0 nodes.1)
-      (ascending-filter (λ a b. is_eq (by_list a b) ≡ false) (is_below (Int id) (db 0)) (db 2) (lists_apart (db 2) keys distinct_rows)),
+      (ascending-filter (λ a b. is_eq (by_list a b) ≡ false) (is_below (Int id) (db 0)) (db 13) (lists_apart (db 13) keys distinct_rows)),
 )

@@ -1,10 +1,11 @@
 -- What the DELETEs of a book's rows leave.
-use Rattle.book_tables_rows.proofs.Common.{and-true, ◌≡◌, inl, inr, ℕ, suc, ℤ, pos, Bool, true, false, ◌&&◌, ◌||◌, List, [], ◌∷◌, ◌++◌, length, map, filter, flat_map, slice_get, Some, Ok, refl, sym, ap, subst, ◌∙◌, arith, if◌then◌else◌, list_any, IsPermutation, IsPermutation-map, Value, Int, Binary, Row, Term, col, Query, IsAnswer, Output, output, overlay, Delete, Edit, edit_of, id_in, Applies, Given, Table, Trees, rowid, understood, State, Executes, ExecutesInside, IsPlain, command_of, one_step, ids_of, taken_by, Has, Enforced, equal, IsShaped, delete_where, ace_node, ace_node_place, gone_book_place, rowid_place, book_schema, node_table, ace_table, gone_table, rows_of, has, IsBook, AreFree, is_under, Becomes, BecomesIf}
-use Rattle.std.proofs.Common.{min}
+use Rattle.book_tables_rows.proofs.Common.{and-true, ◌≡◌, inl, inr, ℕ, suc, ℤ, pos, Bool, true, false, ◌&&◌, ◌||◌, List, [], ◌∷◌, ◌++◌, length, map, filter, flat_map, slice_get, Some, Ok, refl, sym, ap, subst, ◌∙◌, arith, if◌then◌else◌, list_any, IsPermutation, IsPermutation-map, Value, Int, Binary, Row, Term, col, Query, IsAnswer, Output, output, overlay, Delete, Edit, edit_of, id_in, Applies, Given, Table, Trees, rowid, understood, State, Executes, ExecutesInside, IsPlain, command_of, one_step, ids_of, taken_by, Has, Enforced, equal, IsShaped, delete_where, ace_node, ace_node_place, gone_book_place, rowid_place, book_schema, node_table, gone_table, rows_of, has, IsBook, AreFree, is_under, Becomes, BecomesIf}
+use Rattle.std.proofs.Common.{◌≢◌, min}
 use Rattle.sqlite.specs.Ops.{is_true}
 use Rattle.sqlite_rules.specs.Action.{Writes as EditWrites}
 use Rattle.sqlite_trees.specs.declared.store.Shape.TheVariants.{Table as TableShape}
 use Rattle.sqlite_trees.proofs.TreeLemmas.{IsShaped-filter}
+use Rattle.book_tables_rows.specs.Schema.{ace2_table}
 use Rattle.book_tables_rows.specs.Texts as text
 use Rattle.book_tables_rows.specs.Writes as writes
 use Rattle.book_tables_rows.specs.Writes.{is_below}
@@ -15,7 +16,7 @@ use Rattle.book_tables_rows.proofs.Statements.{deletes, passes, shown_by, simple
 use Rattle.book_tables_rows.proofs.Becoming.{as_book, book_after, gone_changed, entries_changed, nodes_changed, works_gone, works_entries}
 
 -- a DELETE takes out the rows that pass, where no foreign key acts
-module _ (old new : State) (sql : List ℕ) (params : Row) (at : ℕ) (table : Table) (there : slice_get book_schema.tables at ≡ Some table) (listed : Has book_schema.tables table) (q : Query) (p : Row → Bool)
+module _ (old new : State) (sql : List ℕ) (params : Row) (at : ℕ) (table : Table) (there : slice_get book_schema.tables at ≡ Some table) (listed : Has book_schema.tables table) (apart : table.tree ≢ 2) (q : Query) (p : Row → Bool)
     (is : command_of (understood book_schema sql) ≡ Delete at (record { lets = []; body = q })) (plain : IsPlain (understood book_schema sql))
     (picks : (rows : List Row) → IsAnswer q (overlay old.now.trees []) params rows → IsPermutation (map key (filter p (old.now.trees table.tree))) (ids_of rows))
     (quiet : (ids : List ℤ) → IsPermutation (map key (filter p (old.now.trees table.tree))) ids → (next : Trees) → EditWrites book_schema Enforced old.now.trees (edit_of old.now.trees table ids Given 0 []) (Ok next) → Applies book_schema Enforced old.now.trees (edit_of old.now.trees table ids Given 0 []) next) where
@@ -29,7 +30,7 @@ module _ (old new : State) (sql : List ℕ) (params : Row) (at : ℕ) (table : T
       let applied = quiet (ids_of it.0) (picks it.0 it.1) new.now.trees it.2.written in
       let rows : new.now.trees table.tree ≡ delete_where p (db table.tree) = applied.rows ∙ deletes_each p (db table.tree) (ids_of it.0) shaped (picks it.0 it.1) in
       let shaped_after = subst (IsShaped TableShape) (sym rows) (IsShaped-filter TableShape _ (db table.tree) shaped) in
-      (book_after db new.now edit (as_book old.now book) it.2 applied shaped_after, (edit, refl, applied), rows)
+      (book_after db new.now edit (as_book old.now book) it.2 applied shaped_after apart, (edit, refl, applied), rows)
 
 -- the rows that a plain query picks
 pub picks_simple : (db : Trees) (tree : ℕ) (terms : List Term) (params : Row) (p : Row → Bool) → ((r : Row) → passes params terms r ≡ p r)
@@ -47,7 +48,7 @@ becomes_forgotten old new id count h = record {
   is_open = h.1.is_open;
   rows = λ book.
       let db = old.now.trees in
-      let d = deleted old new text.delete_gone (Int id ∷ []) 3 gone_table refl (inr (inr (inr (inl refl)))) (simple 6 (equals 1 0 ∷ []) (col 1 0 ∷ [])) (has gone_book_place (Int id)) delete_gone_is delete_gone_plain
+      let d = deleted old new text.delete_gone (Int id ∷ []) 3 gone_table refl (inr (inr (inr (inl refl)))) (λ e. omega (arith, e)) (simple 6 (equals 1 0 ∷ []) (col 1 0 ∷ [])) (has gone_book_place (Int id)) delete_gone_is delete_gone_plain
       (picks_simple (overlay db []) 6 (equals 1 0 ∷ []) (Int id ∷ []) (has gone_book_place (Int id)) (λ r. and-true (has gone_book_place (Int id) r)))
       (λ ids same next w. one_step book_schema Enforced db next _ (works_gone (taken_by db (edit_of db gone_table ids Given 0 []))) w) count h.0 book in
       (d.0, gone_changed db new.now.trees d.1.0 d.1.2 (ap (λ (t : Table). t.tree) d.1.1) ∙ ap (λ g. record (rows_of db) { gone = g }) d.2);
@@ -62,9 +63,9 @@ becomes_unlisted old new id count h = record {
   is_open = h.1.is_open;
   rows = λ book.
       let db = old.now.trees in
-      let d = deleted old new text.delete_entries (Int id ∷ []) 1 ace_table refl (inr (inl refl)) (simple 2 (equals 1 0 ∷ []) (col 1 0 ∷ [])) (has ace_node_place (Int id)) delete_entries_is delete_entries_plain
-      (picks_simple (overlay db []) 2 (equals 1 0 ∷ []) (Int id ∷ []) (has ace_node_place (Int id)) (λ r. and-true (has ace_node_place (Int id) r)))
-      (λ ids same next w. one_step book_schema Enforced db next _ (works_entries (taken_by db (edit_of db ace_table ids Given 0 []))) w) count h.0 book in
+      let d = deleted old new text.delete_entries (Int id ∷ []) 5 ace2_table refl (inr (inr (inr (inr (inr (inl refl)))))) (λ e. omega (arith, e)) (simple 13 (equals 1 0 ∷ []) (col 1 0 ∷ [])) (has ace_node_place (Int id)) delete_entries_is delete_entries_plain
+      (picks_simple (overlay db []) 13 (equals 1 0 ∷ []) (Int id ∷ []) (has ace_node_place (Int id)) (λ r. and-true (has ace_node_place (Int id) r)))
+      (λ ids same next w. one_step book_schema Enforced db next _ (works_entries (taken_by db (edit_of db ace2_table ids Given 0 []))) w) count h.0 book in
       (d.0, entries_changed db new.now.trees d.1.0 d.1.2 (ap (λ (t : Table). t.tree) d.1.1) ∙ ap (λ e. record (rows_of db) { entries = e }) d.2);
 }
 
@@ -97,16 +98,16 @@ module _ (db : Trees) (id : Value) where
   pub tests : (e : Row) → (is_true (counted_for e) && true) ≡ is_below id (db 0) e
   tests e = and-true (is_true (counted_for e)) ∙ counted_any (child_of e) (λ n. (id ∷ []) ∷ e ∷ n ∷ []) (db 0) ∙ (λ i. list_any (λ n. is_under id n && and-true (equal Binary (rowid n) (ace_node e)) i) (db 0))
 
-  pub picks_below : (rows : List Row) → IsAnswer below_query db (id ∷ []) rows → IsPermutation (map key (filter (is_below id (db 0)) (db 2))) (ids_of rows)
+  pub picks_below : (rows : List Row) → IsAnswer below_query db (id ∷ []) rows → IsPermutation (map key (filter (is_below id (db 0)) (db 13))) (ids_of rows)
   picks_below rows a =
-      let staged : a.staged ≡ map env (filter (λ e. is_true (counted_for e) && true) (db 2)) = a.grouped ∙ matched (λ e. is_true (counted_for e) && true) env (db 2) in
-      let shown : map (λ (o : Output). o.1) a.kept ≡ map (λ e. rowid e ∷ []) (filter (λ e. is_true (counted_for e) && true) (db 2)) =
+      let staged : a.staged ≡ map env (filter (λ e. is_true (counted_for e) && true) (db 13)) = a.grouped ∙ matched (λ e. is_true (counted_for e) && true) env (db 13) in
+      let shown : map (λ (o : Output). o.1) a.kept ≡ map (λ e. rowid e ∷ []) (filter (λ e. is_true (counted_for e) && true) (db 13)) =
       ap (map (λ (o : Output). o.1)) (a.distinct ∙ ap (map (output below_query)) staged)
-      ∙ map-map (λ (o : Output). o.1) (output below_query) (map env (filter (λ e. is_true (counted_for e) && true) (db 2)))
-      ∙ map-map (λ e. (output below_query e).1) env (filter (λ e. is_true (counted_for e) && true) (db 2)) in
-      let same : IsPermutation (map (λ e. rowid e ∷ []) (filter (λ e. is_true (counted_for e) && true) (db 2))) rows =
+      ∙ map-map (λ (o : Output). o.1) (output below_query) (map env (filter (λ e. is_true (counted_for e) && true) (db 13)))
+      ∙ map-map (λ e. (output below_query e).1) env (filter (λ e. is_true (counted_for e) && true) (db 13)) in
+      let same : IsPermutation (map (λ e. rowid e ∷ []) (filter (λ e. is_true (counted_for e) && true) (db 13))) rows =
       subst (λ xs. IsPermutation xs rows) shown (subst (IsPermutation (map (λ (o : Output). o.1) a.kept)) (sym a.shown) (IsPermutation-map (λ (o : Output). o.1) _ _ a.same)) in
-      subst (λ xs. IsPermutation xs (ids_of rows)) (map-map (λ r. id_in (rowid r)) (λ e. rowid e ∷ []) (filter (λ e. is_true (counted_for e) && true) (db 2)) ∙ (λ i. map key (filter (λ e. tests e i) (db 2))))
+      subst (λ xs. IsPermutation xs (ids_of rows)) (map-map (λ r. id_in (rowid r)) (λ e. rowid e ∷ []) (filter (λ e. is_true (counted_for e) && true) (db 13)) ∙ (λ i. map key (filter (λ e. tests e i) (db 13))))
       (IsPermutation-map (λ r. id_in (rowid r)) _ _ same)
 
 pub becomes_unlisted_below : (old new : State) (id : ℤ) (count : ℕ) → ExecutesInside 0 text.delete_entries_below (Int id ∷ []) old new (Ok count) → Becomes old new (writes.delete_entries_below (Int id))
@@ -116,9 +117,9 @@ becomes_unlisted_below old new id count h = record {
   is_open = h.1.is_open;
   rows = λ book.
       let db = old.now.trees in
-      let d = deleted old new text.delete_entries_below (Int id ∷ []) 1 ace_table refl (inr (inl refl)) below_query (is_below (Int id) (db 0)) delete_entries_below_is delete_entries_below_plain
+      let d = deleted old new text.delete_entries_below (Int id ∷ []) 5 ace2_table refl (inr (inr (inr (inr (inr (inl refl)))))) (λ e. omega (arith, e)) below_query (is_below (Int id) (db 0)) delete_entries_below_is delete_entries_below_plain
       (λ rows a. picks_below (overlay db []) (Int id) rows a)
-      (λ ids same next w. one_step book_schema Enforced db next _ (works_entries (taken_by db (edit_of db ace_table ids Given 0 []))) w) count h.0 book in
+      (λ ids same next w. one_step book_schema Enforced db next _ (works_entries (taken_by db (edit_of db ace2_table ids Given 0 []))) w) count h.0 book in
       (d.0, entries_changed db new.now.trees d.1.0 d.1.2 (ap (λ (t : Table). t.tree) d.1.1) ∙ ap (λ e. record (rows_of db) { entries = e }) d.2);
 }
 
@@ -134,9 +135,9 @@ module _ (old new : State) (sql : List ℕ) (id : ℤ) (place : ℕ)
     is_open = h.1.is_open;
     rows = λ book free.
         let db = old.now.trees in
-        let d = deleted old new sql (Int id ∷ []) 0 node_table refl (inl refl) (simple 0 (equals place 0 ∷ []) (col 1 0 ∷ [])) (has place (Int id)) is plain
+        let d = deleted old new sql (Int id ∷ []) 0 node_table refl (inl refl) (λ e. omega (arith, e)) (simple 0 (equals place 0 ∷ []) (col 1 0 ∷ [])) (has place (Int id)) is plain
         (picks_simple (overlay db []) 0 (equals place 0 ∷ []) (Int id ∷ []) (has place (Int id)) (λ r. and-true (has place (Int id) r)))
-        (quiet_nodes db (has place (Int id)) free (book.rising node_table (inl refl))) count h.0 book in
+        (quiet_nodes db (has place (Int id)) free (book.rising node_table (inl refl)) book.former) count h.0 book in
         (d.0, nodes_changed db new.now.trees d.1.0 d.1.2 (ap (λ (t : Table). t.tree) d.1.1) ∙ ap (λ ns. record (rows_of db) { nodes = ns }) d.2);
   }
 

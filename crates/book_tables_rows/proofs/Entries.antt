@@ -1,9 +1,9 @@
 -- No two entries of one list have one place, as the key of `ace` says; so a list is shown in the one order of its places.
-use Rattle.book_tables_rows.proofs.Common.{and-true, ◌≡◌, ℕ, ℤ, pos, Bool, true, false, not, cond, ◌&&◌, List, [], ◌∷◌, map, filter, None, refl, sym, ap, subst, ◌∙◌, true≢false, Ordering, Less, Equal, Greater, is_eq, IsTrue, inl, inr, if◌then◌else◌, AllByRecursion, and_parts, Value, Null, Int, Binary, Row, value_cmp, is_null, Term, col, rowid, IsDatabase, overlay, understood, State, Shown, IsPlain, reads_as, plain, first_key-plain, IsAscending, IsTable, is_int, NotNull, equal, agree, are_present, Has, all_has, agree_back, agree_chain, keys_are_unique, ace_node_place, ace_place, ace_protected_place, book_schema, ace_table, rows_of, has, IsBook, flag, is_entry, by_place, Looks}
+use Rattle.book_tables_rows.proofs.Common.{and-true, ◌≡◌, ℕ, ℤ, pos, Bool, true, false, not, cond, ◌&&◌, List, [], ◌∷◌, map, filter, None, refl, sym, ap, subst, ◌∙◌, true≢false, Ordering, Less, Equal, Greater, is_eq, IsTrue, inl, inr, if◌then◌else◌, AllByRecursion, and_parts, Value, Null, Int, Binary, Row, value_cmp, is_null, Term, col, rowid, IsDatabase, overlay, understood, State, Shown, IsPlain, reads_as, plain, first_key-plain, IsAscending, IsTable, is_int, NotNull, equal, agree, are_present, Has, all_has, agree_back, agree_chain, keys_are_unique, ace_node_place, ace_place, ace_protected_place, book_schema, rows_of, has, IsBook, flag, is_entry, by_place, Looks}
 use Rattle.sqlite.specs.Ops.{binary}
 use Rattle.sqlite_schema.specs.Rules.{differ, clashes}
 use Rattle.sqlite_keyed.proofs.ListLemmas.{none_from_any}
-use Rattle.book_tables_rows.specs.Schema.{ace_columns}
+use Rattle.book_tables_rows.specs.Schema.{ace2_table, ace_columns}
 use Rattle.book_tables_rows.specs.Texts as text
 use Rattle.book_tables_rows.specs.Writes.{entries_of}
 use Rattle.book_tables_rows.specs.Lists.{ShowsList}
@@ -121,14 +121,14 @@ shows_entries old new id protected rows book h =
     let params : Row = Int id ∷ flag protected ∷ [] in
     let terms = equals 1 0 ∷ equals 2 1 ∷ [] in
     let rules = subst (λ k. IsDatabase (record { schema = k; trees = db })) book.schema book.rules in
-    let shaped = book.rising ace_table (inr (inl refl)) in
+    let shaped = book.rising ace2_table (inr (inr (inr (inr (inr (inl refl)))))) in
     let read = (reads_as text.list_entries params old new book_schema book.schema _ entries_is entries_plain entries_unlisted rows h).answer Null in
-    let same : filter (passes params terms) (db 2) ≡ filter (is_entry (Int id) protected) (db 2) =
-    (λ i. filter (λ r. ap (λ b. has ace_node_place (Int id) r && b) (and-true (has ace_protected_place (flag protected) r)) i) (db 2)) in
-    let distinct_rows = all_distinct (1 ∷ 2 ∷ 3 ∷ []) (db 2) (λ row there. keys_are_unique book_schema db _ 0 (1 ∷ 2 ∷ 3 ∷ []) row rules (inr (inl refl)) refl there) (db 2) (λ r t. t) shaped.0 shaped.1 in
-    let places = all_places (db 2) (rules.obeys.rules NotNull).1.0 in
-    let apart = places_apart (Int id) protected (db 2) places distinct_rows in
-    answers_in_order 2 terms entry_terms 3 (overlay db []) params rows read (subst (IsAscending (λ a b. is_eq (by_place a b) ≡ false)) (sym same) apart)
+    let same : filter (passes params terms) (db 13) ≡ filter (is_entry (Int id) protected) (db 13) =
+    (λ i. filter (λ r. ap (λ b. has ace_node_place (Int id) r && b) (and-true (has ace_protected_place (flag protected) r)) i) (db 13)) in
+    let distinct_rows = all_distinct (1 ∷ 2 ∷ 3 ∷ []) (db 13) (λ row there. keys_are_unique book_schema db _ 0 (1 ∷ 2 ∷ 3 ∷ []) row rules (inr (inr (inr (inr (inr (inl refl)))))) refl there) (db 13) (λ r t. t) shaped.0 shaped.1 in
+    let places = all_places (db 13) (rules.obeys.rules NotNull).1.1.1.1.1.0 in
+    let apart = places_apart (Int id) protected (db 13) places distinct_rows in
+    answers_in_order 13 terms entry_terms 3 (overlay db []) params rows read (subst (IsAscending (λ a b. is_eq (by_place a b) ≡ false)) (sym same) apart)
     ∙ ap (λ xs. map (shown_by params entry_terms) (Rattle.sqlite_keyed.specs.Lists.sort_by by_place xs)) same
 
 pub list_looked : (old new : State) (params : Row) (rows : List Row) → Shown text.list_entries params old new rows → Looks old new

@@ -1,6 +1,6 @@
 -- What an INSERT of one row leaves.
 use Rattle.book_tables_rows.proofs.Common.{◌≡◌, ℕ, Bool, true, false, List, [], ◌∷◌, ◌++◌, length, slice_get, Option, Some, None, Ok, refl, sym, ap, subst, ◌∙◌, true≢false, if◌then◌else◌, option_copied, Int, Text, Row, Term, Values, Insert, Edit, edit_of, next_rowid, Applies, put_all, Database, Chosen, Table, Trees, rowid, Tally, understood, State, Executes, IsPlain, command_of, statement_of, runs_as, Has, Enforced, is_int, IsShaped, book_schema, IsBook, or_null}
-use Rattle.std.proofs.Common.{◌/◌, MatchBool}
+use Rattle.std.proofs.Common.{◌≢◌, ◌/◌, MatchBool}
 use denote.Bor.{Bor}
 use Rattle.sqlite.specs.Values as values
 use Rattle.sqlite.specs.Effect.{value_rows}
@@ -25,7 +25,7 @@ unmatched : (P Q : Type 0) (b c : Bool) → b ≡ false → MatchBool (if b then
 unmatched P Q true c e h = absurd (true≢false e)
 unmatched P Q false c e h = h
 
-module _ (old new : State) (sql : List ℕ) (params : Row) (at : ℕ) (table : Table) (there : slice_get book_schema.tables at ≡ Some table) (listed : Has book_schema.tables table) (uncounted : table.is_counted ≡ false)
+module _ (old new : State) (sql : List ℕ) (params : Row) (at : ℕ) (table : Table) (there : slice_get book_schema.tables at ≡ Some table) (listed : Has book_schema.tables table) (apart : table.tree ≢ 2) (uncounted : table.is_counted ≡ false)
     (terms : List Term) (width : ℕ) (is : command_of (understood book_schema sql) ≡ Insert at (Values terms width)) (plain : IsPlain (understood book_schema sql))
     (source : Row) (shows : value_rows (stamped table params) width (length terms / width) terms ≡ source ∷ []) where
   abbrev db : Trees
@@ -69,4 +69,4 @@ module _ (old new : State) (sql : List ℕ) (params : Row) (at : ℕ) (table : T
         let put = applied.rows ∙ ap (put_all (db table.tree)) news in
         let rows : new.now.trees table.tree ≡ db table.tree ++ new_row ∷ [] = put ∙ put_next (db table.tree) new_row shaped next in
         let shaped_after = subst (IsShaped TableShape) (sym put) (IsShaped-put_row new_row (db table.tree) (ap is_int next) shaped) in
-        (book_after db new.now edit (as_book old.now book) w applied shaped_after, (edit, refl, applied), rows)
+        (book_after db new.now edit (as_book old.now book) w applied shaped_after apart, (edit, refl, applied), rows)

@@ -1,5 +1,5 @@
 -- A list is written anew, row by row.
-use Rattle.book_tables_rows.proofs.Common.{and-true, ⊤, ◌≡◌, inl, inr, ℕ, ◌+◌, ℤ, pos, Bool, false, ◌&&◌, List, [], ◌∷◌, find, Option, Some, None, option_map, string_bytes, Ok, refl, sym, ap, subst, ◌∙◌, IsTrue, if◌then◌else◌, length, drop, get_or, Value, Int, Text, Binary, Row, lit, col, overlay, edit_of, id_in, Database, Given, Table, rowid, State, ExecutesInside, one_step, works, taken_by, Enforced, ace_node_place, ace_protected_place, book_schema, ace_table, member_table, FoundNode, Rows, rows_of, has, IsBook, Said, or_null, flag, is_at, is_entry, IsMeta, HasMeta, Told, Finds, ShowsEpoch, told, said, Becomes, BecomesIf, Looks, Makes}
+use Rattle.book_tables_rows.proofs.Common.{and-true, ⊤, ◌≡◌, inl, inr, ℕ, ◌+◌, ℤ, pos, Bool, false, ◌&&◌, List, [], ◌∷◌, find, Option, Some, None, option_map, string_bytes, Ok, refl, sym, ap, subst, ◌∙◌, IsTrue, if◌then◌else◌, length, drop, get_or, arith, Value, Int, Text, Binary, Row, lit, col, overlay, edit_of, id_in, Database, Given, Table, rowid, State, ExecutesInside, one_step, works, taken_by, Enforced, ace_node_place, ace_protected_place, book_schema, member_table, FoundNode, Rows, rows_of, has, IsBook, Said, or_null, flag, is_at, is_entry, IsMeta, HasMeta, Told, Finds, ShowsEpoch, told, said, Becomes, BecomesIf, Looks, Makes}
 use Rattle.std.proofs.Common.{String, ◌<◌, ◌≤◌}
 use Rattle.std.proofs.lemmas.List.{drop_more, drop_all}
 use Rattle.sqlite.specs.Values as values
@@ -10,6 +10,7 @@ use Rattle.sqlite.specs.State.{KeepsCommit}
 use Rattle.sqlite_schema.specs.Names.{same_name}
 use Rattle.sqlite_tied.specs.Compute.{everything}
 use Rattle.book_tables_rows.specs.Columns.{member_group_place}
+use Rattle.book_tables_rows.specs.Schema.{ace2_table}
 use Rattle.book_tables_rows.specs.Texts as text
 use Rattle.book_tables_rows.specs.declared.setting.EntryRow.{EntryRow}
 use Rattle.book_tables_rows.specs.Writes as writes
@@ -32,9 +33,9 @@ becomes_disowned old new id count h = record {
   rows = λ book.
       let db = old.now.trees in
       let terms = equals 1 0 ∷ op2 (Compare Eq Binary) (col 1 2) (lit (Int (pos 0))) ∷ [] in
-      let d = deleted old new text.delete_own (Int id ∷ []) 1 ace_table refl (inr (inl refl)) (simple 2 terms (col 1 0 ∷ [])) (is_entry (Int id) false) delete_own_is delete_own_plain
-      (picks_simple (overlay db []) 2 terms (Int id ∷ []) (is_entry (Int id) false) (λ r. ap (λ b. has ace_node_place (Int id) r && b) (and-true (has ace_protected_place (flag false) r))))
-      (λ ids same next w. one_step book_schema Enforced db next _ (works_entries (taken_by db (edit_of db ace_table ids Given 0 []))) w) count h.0 book in
+      let d = deleted old new text.delete_own (Int id ∷ []) 5 ace2_table refl (inr (inr (inr (inr (inr (inl refl)))))) (λ e. omega (arith, e)) (simple 13 terms (col 1 0 ∷ [])) (is_entry (Int id) false) delete_own_is delete_own_plain
+      (picks_simple (overlay db []) 13 terms (Int id ∷ []) (is_entry (Int id) false) (λ r. ap (λ b. has ace_node_place (Int id) r && b) (and-true (has ace_protected_place (flag false) r))))
+      (λ ids same next w. one_step book_schema Enforced db next _ (works_entries (taken_by db (edit_of db ace2_table ids Given 0 []))) w) count h.0 book in
       (d.0, entries_changed db new.now.trees d.1.0 d.1.2 (ap (λ (t : Table). t.tree) d.1.1) ∙ ap (λ e. record (rows_of db) { entries = e }) d.2);
 }
 
@@ -50,7 +51,7 @@ becomes_unjoined old new group count h = record {
   is_open = h.1.is_open;
   rows = λ book.
       let db = old.now.trees in
-      let d = deleted old new text.delete_members (Text group ∷ []) 2 member_table refl (inr (inr (inl refl))) (simple 4 (equals 1 0 ∷ []) (col 1 0 ∷ [])) (has member_group_place (Text group)) delete_members_is delete_members_plain
+      let d = deleted old new text.delete_members (Text group ∷ []) 2 member_table refl (inr (inr (inl refl))) (λ e. omega (arith, e)) (simple 4 (equals 1 0 ∷ []) (col 1 0 ∷ [])) (has member_group_place (Text group)) delete_members_is delete_members_plain
       (picks_simple (overlay db []) 4 (equals 1 0 ∷ []) (Text group ∷ []) (has member_group_place (Text group)) (λ r. and-true (has member_group_place (Text group) r)))
       (λ ids same next w. one_step book_schema Enforced db next _ (works_members (taken_by db (edit_of db member_table ids Given 0 []))) w) count h.0 book in
       (d.0, members_changed db new.now.trees d.1.0 d.1.2 (ap (λ (t : Table). t.tree) d.1.1) ∙ ap (λ m. record (rows_of db) { members = m }) d.2);

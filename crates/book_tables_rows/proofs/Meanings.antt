@@ -11,7 +11,7 @@ use Rattle.sqlite.specs.Compile.{table_defined_by, index_defined_by}
 use Rattle.sqlite_catalog.specs.Change.{created, indexed}
 use Rattle.sqlite_tied.specs.Compute.{everything}
 use Rattle.sqlite.specs.Listing.{understood, reads_listing}
-use Rattle.book_tables_rows.specs.Schema.{plain_index}
+use Rattle.book_tables_rows.specs.Schema.{ace2_table, plain_index, first_schema}
 use Rattle.book_tables_rows.specs.Texts as text
 
 -- ---- the tables
@@ -23,6 +23,10 @@ node_is = refl
 pub ace_is : table_defined_by text.create_ace ≡ Ok (record ace_table { tree = 0 })
 unfolding understood everything
 ace_is = refl
+
+pub ace2_is : table_defined_by text.create_ace2 ≡ Ok (record ace2_table { tree = 0 })
+unfolding understood everything
+ace2_is = refl
 
 pub member_is : table_defined_by text.create_member ≡ Ok (record member_table { tree = 0 })
 unfolding understood everything
@@ -64,8 +68,22 @@ with_owner = indexed with_parent node_table (plain_index (codes "node_owner") 0 
 abbrev pub with_principal : Schema
 with_principal = indexed with_owner ace_table (plain_index (codes "ace_principal") 0 0 (5 ∷ []))
 
+abbrev pub with_first : Schema
+with_first = indexed with_principal member_table (plain_index (codes "member_member") 0 0 (2 ∷ []))
+
+-- the schema of version 1
+pub first_is : with_first ≡ first_schema
+unfolding everything
+first_is = refl
+
+abbrev pub with_ace2 : Schema
+with_ace2 = created with_first ace2_table
+
+abbrev pub with_entries : Schema
+with_entries = indexed with_ace2 ace2_table (plain_index (codes "ace2_principal") 0 0 (5 ∷ []))
+
 abbrev pub made_schema : Schema
-made_schema = indexed with_principal member_table (plain_index (codes "member_member") 0 0 (2 ∷ []))
+made_schema = indexed with_entries gone_table (plain_index (codes "gone_book") 0 0 (1 ∷ 3 ∷ []))
 
 pub made_is : made_schema ≡ book_schema
 unfolding everything
@@ -103,7 +121,7 @@ find_is = refl
 
 abbrev pub entries_query : Query
 entries_query = record plain_query {
-  from = inner 2 end;
+  from = inner 13 end;
   filter = equals 1 0 ∷ equals 2 1 ∷ [];
   project = col 1 4 ∷ col 1 5 ∷ col 1 6 ∷ col 1 7 ∷ col 1 8 ∷ [];
   order = (col 1 3, ascending Binary) ∷ [];
@@ -165,7 +183,7 @@ pub delete_gone_is : command_of (understood book_schema text.delete_gone) ≡ De
 unfolding understood everything
 delete_gone_is = refl
 
-pub delete_entries_is : command_of (understood book_schema text.delete_entries) ≡ Delete 1 (record { lets = []; body = rows_where 2 (equals 1 0 ∷ []) })
+pub delete_entries_is : command_of (understood book_schema text.delete_entries) ≡ Delete 5 (record { lets = []; body = rows_where 13 (equals 1 0 ∷ []) })
 unfolding understood everything
 delete_entries_is = refl
 
@@ -180,12 +198,12 @@ delete_node_is = refl
 -- the entries of which some child of a node is the node
 abbrev pub below_query : Query
 below_query = record plain_query {
-  from = inner 2 (counted 1 (inner 0 end) (op2 (Compare Eq Binary) (col 2 3) (col 0 0) ∷ op2 (Compare Eq Binary) (col 2 0) (col 1 1) ∷ []) end);
+  from = inner 13 (counted 1 (inner 0 end) (op2 (Compare Eq Binary) (col 2 3) (col 0 0) ∷ op2 (Compare Eq Binary) (col 2 0) (col 1 1) ∷ []) end);
   filter = col 2 0 ∷ [];
   project = col 1 0 ∷ [];
 }
 
-pub delete_entries_below_is : command_of (understood book_schema text.delete_entries_below) ≡ Delete 1 (record { lets = []; body = below_query })
+pub delete_entries_below_is : command_of (understood book_schema text.delete_entries_below) ≡ Delete 5 (record { lets = []; body = below_query })
 unfolding understood everything
 delete_entries_below_is = refl
 
@@ -256,8 +274,9 @@ abbrev pub MakesIndex : Schema → ℕ → List ℕ → Type 0
 MakesIndex schema at sql = (command_of (understood schema sql) ≡ CreateIndex at) × (statement_of sql (understood schema sql) ≡ sql) × IsPlain (understood schema sql)
 
 pub tables_run : MakesTable no_schema text.create_node × MakesTable with_node text.create_ace × MakesTable with_ace text.create_member × MakesTable with_member text.create_gone × MakesTable with_gone text.create_meta
+    × MakesTable with_first text.create_ace2
 unfolding understood everything
-tables_run = ((refl, refl, (refl, refl)), (refl, refl, (refl, refl)), (refl, refl, (refl, refl)), (refl, refl, (refl, refl)), (refl, refl, (refl, refl)))
+tables_run = ((refl, refl, (refl, refl)), (refl, refl, (refl, refl)), (refl, refl, (refl, refl)), (refl, refl, (refl, refl)), (refl, refl, (refl, refl)), (refl, refl, (refl, refl)))
 
 pub indexes_run : MakesIndex with_meta 0 text.index_parent × MakesIndex with_parent 0 text.index_owner × MakesIndex with_owner 1 text.index_principal × MakesIndex with_principal 2 text.index_member
 unfolding understood everything
@@ -309,7 +328,7 @@ list_children_unlisted = refl
 -- node, list, form, principal, invert, deny and mask of the entries that nodes are joined with, in order of the node, of the list and of the place
 abbrev pub joined_query : List Term → Query
 joined_query terms = record plain_query {
-  from = inner 0 (inner 2 end);
+  from = inner 0 (inner 13 end);
   filter = terms;
   project = col 2 1 ∷ col 2 2 ∷ col 2 4 ∷ col 2 5 ∷ col 2 6 ∷ col 2 7 ∷ col 2 8 ∷ [];
   order = (col 2 1, ascending Binary) ∷ (col 2 2, ascending Binary) ∷ (col 2 3, ascending Binary) ∷ [];
@@ -390,7 +409,7 @@ insert_gone_plain = (refl, refl)
 abbrev pub entry_terms : List Term
 entry_terms = lit Null ∷ col 0 0 ∷ col 0 1 ∷ col 0 2 ∷ col 0 3 ∷ col 0 4 ∷ col 0 5 ∷ col 0 6 ∷ col 0 7 ∷ []
 
-pub insert_entry_is : command_of (understood book_schema text.insert_entry) ≡ Insert 1 (Values entry_terms 9)
+pub insert_entry_is : command_of (understood book_schema text.insert_entry) ≡ Insert 5 (Values entry_terms 9)
 unfolding understood everything
 insert_entry_is = refl
 
@@ -419,7 +438,7 @@ insert_meta_plain = (refl, refl)
 
 -- ---- the other DELETEs and UPDATEs
 
-pub delete_own_is : command_of (understood book_schema text.delete_own) ≡ Delete 1 (record { lets = []; body = rows_where 2 (equals 1 0 ∷ op2 (Compare Eq Binary) (col 1 2) (lit (Int (pos 0))) ∷ []) })
+pub delete_own_is : command_of (understood book_schema text.delete_own) ≡ Delete 5 (record { lets = []; body = rows_where 13 (equals 1 0 ∷ op2 (Compare Eq Binary) (col 1 2) (lit (Int (pos 0))) ∷ []) })
 unfolding understood everything
 delete_own_is = refl
 

@@ -14,7 +14,7 @@ shows_epoch old new rows h = (
   shown_open text.read_epoch [] old new rows h,
   λ book n meta.
       let db = old.now.trees in
-      let r : Row = meta.0 ∷ Int (pos 1) ∷ Int (pos n) ∷ [] in
+      let r : Row = meta.0 ∷ Int (pos 2) ∷ Int (pos n) ∷ [] in
       let read = (reads_as text.read_epoch [] old new book_schema book.schema _ read_epoch_is read_epoch_plain read_epoch_unlisted rows h).answer Rattle.sqlite.specs.declared.types.Value.TheVariants.Null in
       let answer = answers 8 [] columns (overlay db []) [] rows read in
       let given = one_permutation (shown_by [] columns r) rows (subst (λ rs. IsPermutation (map (shown_by [] columns) (filter (passes [] []) rs)) rows) meta.1 answer) in

@@ -14,7 +14,7 @@ use Rattle.sqlite_tied.specs.Compute.{everything}
 use Rattle.sqlite_trees.specs.declared.store.Shape.TheVariants.{Table as TableShape}
 use Rattle.sqlite_keyed.proofs.KeyedLemmas.{same_int}
 use Rattle.book_tables_rows.specs.Columns.{node_parent_place}
-use Rattle.book_tables_rows.specs.Schema.{to_node, to_path}
+use Rattle.book_tables_rows.specs.Schema.{ace2_table, to_node, to_path}
 use Rattle.book_tables_rows.proofs.Cascades.{IsIdle, one_step_idle}
 use Rattle.book_tables_rows.proofs.Shapes.{key, key_is, has_key_is, deletes_each}
 
@@ -77,20 +77,22 @@ idle_work mid olds child place apart r there = no_child (work_on olds child plac
 
 pub works_idle : (mid : Trees) (olds : List Row)
     → ((r : Row) → Has (mid 0) r → (old : Row) → Has olds old → has node_parent_place (rowid old) r ≡ false)
-    → ((r : Row) → Has (mid 2) r → (old : Row) → Has olds old → has ace_node_place (rowid old) r ≡ false)
+    → ((r : Row) → Has (mid 13) r → (old : Row) → Has olds old → has ace_node_place (rowid old) r ≡ false)
     → ((r : Row) → Has (mid 6) r → (old : Row) → Has olds old → has gone_book_place (rowid old) r ≡ false)
+    → mid 2 ≡ []
     → AllByRecursion (IsIdle mid) (works book_schema Enforced 0 0 olds [])
-works_idle mid olds nodes entries gone =
+works_idle mid olds nodes entries gone former =
     let on_nodes = λ (w : Work) (e : work_for book_schema Enforced 0 0 olds [] node_table (to_node 3) ≡ Some w). subst (IsIdle mid) (by_number olds 3 node_table w e) (idle_work mid olds node_table 3 nodes) in
-    let on_entries = λ (w : Work) (e : work_for book_schema Enforced 0 0 olds [] ace_table (to_node 1) ≡ Some w). subst (IsIdle mid) (by_number olds 1 ace_table w e) (idle_work mid olds ace_table 1 entries) in
+    let on_entries = λ (w : Work) (e : work_for book_schema Enforced 0 0 olds [] ace2_table (to_node 1) ≡ Some w). subst (IsIdle mid) (by_number olds 1 ace2_table w e) (idle_work mid olds ace2_table 1 entries) in
+    let on_former = λ (w : Work) (e : work_for book_schema Enforced 0 0 olds [] ace_table (to_node 1) ≡ Some w). subst (IsIdle mid) (by_number olds 1 ace_table w e) (idle_work mid olds ace_table 1 (λ r there. absurd (subst (λ rows. Has rows r) former there))) in
     let on_gone = λ (w : Work) (e : work_for book_schema Enforced 0 0 olds [] gone_table (to_node 1) ≡ Some w). subst (IsIdle mid) (by_number olds 1 gone_table w e) (idle_work mid olds gone_table 1 gone) in
     of_tables (IsIdle mid) olds book_schema.tables (
       (on_nodes, ((λ w e. absurd (by_path olds 5 node_table w e)), tt)),
       (
-        (on_entries, ((λ w e. absurd (by_path olds 5 ace_table w e)), tt)),
+        (on_former, ((λ w e. absurd (by_path olds 5 ace_table w e)), tt)),
         (
           ((λ w e. absurd (by_path olds 1 member_table w e)), ((λ w e. absurd (by_path olds 2 member_table w e)), tt)),
-          ((on_gone, tt), (tt, tt)),
+          ((on_gone, tt), (tt, ((on_entries, ((λ w e. absurd (by_path olds 5 ace2_table w e)), tt)), tt))),
         ),
       ),
     )
@@ -151,9 +153,9 @@ in_left p (x ∷ rows) r h = go (p x) refl h (in_left p rows r)
     go false e (inr h) more = let m = more h in (inr m.0, m.1)
 
 -- so where the rows are free, a DELETE of nodes is its one step
-pub quiet_nodes : (db : Trees) (p : Row → Bool) → AreFree p (rows_of db) → IsShaped TableShape (db 0) → (ids : List ℤ) → IsPermutation (map key (filter p (db 0))) ids → (next : Trees)
+pub quiet_nodes : (db : Trees) (p : Row → Bool) → AreFree p (rows_of db) → IsShaped TableShape (db 0) → db 2 ≡ [] → (ids : List ℤ) → IsPermutation (map key (filter p (db 0))) ids → (next : Trees)
     → EditWrites book_schema Enforced db (edit_of db node_table ids Given 0 []) (Ok next) → Applies book_schema Enforced db (edit_of db node_table ids Given 0 []) next
-quiet_nodes db p free shaped ids same next w =
+quiet_nodes db p free shaped former ids same next w =
     one_step_idle book_schema Enforced db next (edit_of db node_table ids Given 0 []) (λ mid applied.
     works_idle mid (map (row_at (db 0)) ids)
     (λ r there old in_olds.
@@ -162,7 +164,8 @@ quiet_nodes db p free shaped ids same next w =
     ap (λ v. has node_parent_place v r) n.3 ∙ free.nodes n.0 r n.1 n.2 left.0 left.1)
     (λ r there old in_olds.
     let n = taken_row p (db 0) ids shaped same old in_olds in
-    ap (λ v. has ace_node_place v r) n.3 ∙ free.entries n.0 r n.1 n.2 (subst (λ rows. Has rows r) (applied.tables.1.0 (λ e. omega (arith, e))) there))
+    ap (λ v. has ace_node_place v r) n.3 ∙ free.entries n.0 r n.1 n.2 (subst (λ rows. Has rows r) (applied.tables.1.1.1.1.1.0 (λ e. omega (arith, e))) there))
     (λ r there old in_olds.
     let n = taken_row p (db 0) ids shaped same old in_olds in
-    ap (λ v. has gone_book_place v r) n.3 ∙ free.gone n.0 r n.1 n.2 (subst (λ rows. Has rows r) (applied.tables.1.1.1.0 (λ e. omega (arith, e))) there))) w
+    ap (λ v. has gone_book_place v r) n.3 ∙ free.gone n.0 r n.1 n.2 (subst (λ rows. Has rows r) (applied.tables.1.1.1.0 (λ e. omega (arith, e))) there))
+    (applied.tables.1.0 (λ e. omega (arith, e)) ∙ former)) w

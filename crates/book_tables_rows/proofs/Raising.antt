@@ -1,5 +1,5 @@
 -- What the UPDATE of the epoch leaves.
-use Rattle.book_tables_rows.proofs.Common.{◌≡◌, inl, inr, ℕ, pos, true, not, cond, List, [], ◌∷◌, map, filter, Ok, refl, sym, ap, subst, ◌∙◌, IsTrue, is_eq, IsPermutation, Int, Row, value_cmp, Term, col, overlay, Edit, edit_of, id_in, put_all, Given, without_rowid, State, ExecutesInside, one_step, one_permutation, ids_of, cast_row, without_all, Enforced, is_int, IsShaped, update_where, book_schema, meta_table, rows_of, HasMeta, BecomesIf}
+use Rattle.book_tables_rows.proofs.Common.{◌≡◌, inl, inr, ℕ, pos, true, not, cond, List, [], ◌∷◌, map, filter, Ok, refl, sym, ap, subst, ◌∙◌, IsTrue, is_eq, arith, IsPermutation, Int, Row, value_cmp, Term, col, overlay, Edit, edit_of, id_in, put_all, Given, without_rowid, State, ExecutesInside, one_step, one_permutation, ids_of, cast_row, without_all, Enforced, is_int, IsShaped, update_where, book_schema, meta_table, rows_of, HasMeta, BecomesIf}
 use Rattle.std.proofs.lemmas.Cmp.{tied_itself}
 use Rattle.sqlite.specs.Tree.{put_row}
 use Rattle.sqlite_value.proofs.OrderLemmas.{value_cmp_total}
@@ -28,7 +28,7 @@ module _ (old new : State) (epoch : ℕ) where
     rows = λ book meta.
         let db = old.now.trees in
         let shaped = book.rising meta_table (inr (inr (inr (inr (inl refl))))) in
-        let r : Row = meta.1.0 ∷ Int (pos 1) ∷ Int (pos meta.0) ∷ [] in
+        let r : Row = meta.1.0 ∷ Int (pos 2) ∷ Int (pos meta.0) ∷ [] in
         let is : db 8 ≡ r ∷ [] = meta.1.1 in
         let int : IsTrue (is_int meta.1.0) = (subst (IsShaped TableShape) is shaped).1.0 in
         let id_is : meta.1.0 ≡ Int (id_in meta.1.0) = key_is r int in
@@ -39,14 +39,14 @@ module _ (old new : State) (epoch : ℕ) where
         let edit : Edit = edit_of db meta_table (ids_of (shown ∷ [])) Given 1 (shown ∷ []) in
         let w : Wrote db edit new.now = subst (λ all. Wrote db (edit_of db meta_table (ids_of all) Given 1 all) new.now) given it.2 in
         let applied = one_step book_schema Enforced db new.now.trees edit refl w.written in
-        let row : Row = meta.1.0 ∷ Int (pos 1) ∷ Int (pos epoch) ∷ [] in
-        let cast_is : cast_row meta_table row ≡ row = rw (id_is, cast_integer (Int (id_in meta.1.0)) refl, cast_integer (Int (pos 1)) refl, cast_integer (Int (pos epoch)) refl) refl in
+        let row : Row = meta.1.0 ∷ Int (pos 2) ∷ Int (pos epoch) ∷ [] in
+        let cast_is : cast_row meta_table row ≡ row = rw (id_is, cast_integer (Int (id_in meta.1.0)) refl, cast_integer (Int (pos 2)) refl, cast_integer (Int (pos epoch)) refl) refl in
         let out : without_rowid (id_in meta.1.0) (r ∷ []) ≡ [] =
         ap (λ b. cond (not b) (r ∷ []) []) (ap (λ v. is_eq (value_cmp v (Int (id_in meta.1.0)))) id_is ∙ ap is_eq (tied_itself value_cmp_total (Int (id_in meta.1.0)))) in
         let made : new.now.trees 8 ≡ row ∷ [] =
         applied.rows ∙ ap (λ rows. put_all (without_all rows (id_in meta.1.0 ∷ [])) (cast_row meta_table row ∷ [])) is ∙ ap (λ rows. put_row (cast_row meta_table row) rows) out ∙ ap (λ x. x ∷ []) cast_is in
         let shaped_after : IsShaped TableShape (new.now.trees 8) = subst (IsShaped TableShape) (sym made) ((tt, tt), (int, tt)) in (
-          book_after db new.now edit (as_book old.now book) w applied shaped_after,
+          book_after db new.now edit (as_book old.now book) w applied shaped_after (λ e. omega (arith, e)),
           meta_changed db new.now.trees edit applied refl ∙ ap (λ m. record (rows_of db) { meta = m }) (made ∙ sym (ap (update_where (λ _. true) (with_epoch epoch)) is)),
         );
   }

@@ -1,5 +1,5 @@
 -- Tables as lists in the order of their numbers: what an INSERT, an UPDATE and a DELETE make of the list.
-use Rattle.book_tables_rows.proofs.Common.{◌≡◌, ℕ, ℤ, Bool, true, false, not, ◌||◌, List, [], ◌∷◌, ◌++◌, filter, map, Option, Some, None, refl, sym, ap, subst, ◌∙◌, true≢false, IsTrue, Less, Equal, Greater, is_eq, arith, AllByRecursion, list_any, option_to_list, IsPermutation, ints, Value, Null, Int, Real, Text, Blob, Row, value_cmp, next_rowid, id_in, rowid, without_rowid, is_int, IsShaped, ids_of, without_all, Has, value_cmp-Int, update_where, delete_where}
+use Rattle.book_tables_rows.proofs.Common.{◌≡◌, ℤ, Bool, true, false, not, ◌||◌, List, [], ◌∷◌, ◌++◌, filter, map, Option, Some, None, refl, sym, ap, subst, ◌∙◌, true≢false, IsTrue, Less, Equal, Greater, is_eq, arith, AllByRecursion, list_any, option_to_list, IsPermutation, ints, Value, Null, Int, Real, Text, Blob, Row, value_cmp, next_rowid, id_in, rowid, without_rowid, is_int, IsShaped, ids_of, without_all, Has, value_cmp-Int, update_where, delete_where}
 use Rattle.std.proofs.Common.{◌<ℤ◌, fold, int_cmp, int_eq}
 use Rattle.std.specs.Ordering.{match_ordering}
 use Rattle.std.proofs.lemmas.List.Sorted.{list_any-IsPermutation, IsPermutation-sym}

@@ -1,5 +1,5 @@
 -- What a statement of the fixed texts leaves of the tables.
-use Rattle.book_tables_rows.proofs.Common.{◌≡◌, ◌⊎◌, inl, inr, ℕ, ℤ, Bool, true, false, List, [], ◌∷◌, ◌++◌, map, filter, flat_map, slice_get, length, unwrap_or, Some, None, Result, Ok, Err, refl, sym, ap, subst, ◌∙◌, if◌then◌else◌, IsPermutation, IsPermutation-map, Value, Null, Row, Term, Query, IsAnswer, Output, inner, end, output, overlay, Values, Insert, Update, Delete, Edit, edit_of, Chosen, Given, Table, Trees, Tally, ids_of, understood, Database, IsDatabase, Enforced, State, Executes, IsPlain, command_of, statement_of, runs_as, book_schema, node_table}
+use Rattle.book_tables_rows.proofs.Common.{◌≡◌, ◌⊎◌, inl, inr, ℕ, Bool, true, false, List, [], ◌∷◌, ◌++◌, map, filter, flat_map, slice_get, length, unwrap_or, Some, None, Result, Ok, Err, refl, sym, ap, subst, ◌∙◌, if◌then◌else◌, IsPermutation, IsPermutation-map, Value, Null, Row, Term, Query, IsAnswer, Output, inner, end, output, overlay, Values, Insert, Update, Delete, Edit, edit_of, Chosen, Given, Table, Trees, Tally, ids_of, understood, Database, IsDatabase, Enforced, State, Executes, IsPlain, command_of, statement_of, runs_as, book_schema, node_table}
 use Rattle.std.specs.List.{list_all}
 use Rattle.sqlite.specs.Term.{eval_all}
 use Rattle.sqlite_sql.specs.Term.{holds}

@@ -1,4 +1,5 @@
--- The tables of a store, their columns and their rules (schema version 1).
+-- The tables of a store, their columns and their rules (schema version 2: the tables of version 1, of which `ace` stays empty, then
+-- `ace2` and an index of removed names).
 use Rattle.std.specs.Prelude.{Bool, true, false, List, [], ◌∷◌, ◌++◌, Option, Some, None, codes, ℕ}
 use Rattle.sqlite.specs.Collation.TheVariants.{Binary}
 use Rattle.sqlite.specs.declared.types.Value.TheVariants.{Null}
@@ -54,6 +55,9 @@ node_tree = 0
 abbrev pub ace_tree : ℕ
 ace_tree = 2
 
+abbrev pub ace2_tree : ℕ
+ace2_tree = 13
+
 abbrev pub member_tree : ℕ
 member_tree = 4
 
@@ -72,13 +76,16 @@ node_columns = strict_column (codes "id") Integer false ∷ text_column (codes "
 abbrev pub node_table : Table
 node_table = plain_table (codes "node") node_tree node_columns (Some 0) (0 ∷ []) ((2 ∷ []) ∷ []) (plain ∷ []) (to_node 3 ∷ to_path 5 ∷ [])
 
--- a row of `ace` has from place 1 on: node, protected, place, form, principal, invert, deny, mask
+-- a row of `ace` or `ace2` has from place 1 on: node, protected, place, form, principal, invert, deny, mask
 abbrev pub ace_columns : List Column
 ace_columns = number_column (codes "node") ∷ number_column (codes "protected") ∷ number_column (codes "place") ∷ number_column (codes "form")
     ∷ strict_column (codes "principal") Text false ∷ number_column (codes "invert") ∷ number_column (codes "deny") ∷ number_column (codes "mask") ∷ []
 
 abbrev pub ace_table : Table
 ace_table = plain_table (codes "ace") ace_tree ace_columns None (1 ∷ 2 ∷ 3 ∷ []) ((1 ∷ 2 ∷ 3 ∷ []) ∷ []) (plain ∷ []) (to_node 1 ∷ to_path 5 ∷ [])
+
+abbrev pub ace2_table : Table
+ace2_table = plain_table (codes "ace2") ace2_tree ace_columns None (1 ∷ 2 ∷ 3 ∷ []) ((1 ∷ 2 ∷ 3 ∷ []) ∷ []) (plain ∷ []) (to_node 1 ∷ to_path 5 ∷ [])
 
 abbrev pub member_columns : List Column
 member_columns = text_column (codes "grp") ∷ text_column (codes "member") ∷ []
@@ -120,9 +127,24 @@ speed_indexes =
     ∷ plain_index (codes "ace_principal") 11 ace_tree (5 ∷ [])
     ∷ plain_index (codes "member_member") 12 member_tree (2 ∷ []) ∷ []
 
-abbrev pub book_schema : Schema
-book_schema = record {
+-- those of `ace2`, and the removed names of a book by number
+abbrev pub second_indexes : List Index
+second_indexes =
+    unique_index (codes "sqlite_autoindex_ace2_1") 14 ace2_tree (1 ∷ 2 ∷ 3 ∷ [])
+    ∷ plain_index (codes "ace2_principal") 15 ace2_tree (5 ∷ [])
+    ∷ plain_index (codes "gone_book") 16 gone_tree (1 ∷ 3 ∷ []) ∷ []
+
+-- the schema of version 1
+abbrev pub first_schema : Schema
+first_schema = record {
   tables = node_table ∷ ace_table ∷ member_table ∷ gone_table ∷ meta_table ∷ [];
   indexes = key_indexes ++ speed_indexes;
+  views = [];
+}
+
+abbrev pub book_schema : Schema
+book_schema = record {
+  tables = node_table ∷ ace_table ∷ member_table ∷ gone_table ∷ meta_table ∷ ace2_table ∷ [];
+  indexes = key_indexes ++ (speed_indexes ++ second_indexes);
   views = [];
 }

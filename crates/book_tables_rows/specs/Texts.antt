@@ -9,6 +9,9 @@ create_node = codes "CREATE TABLE node (id INTEGER PRIMARY KEY, path TEXT NOT NU
 abbrev pub create_ace : List ℕ
 create_ace = codes "CREATE TABLE ace (node INTEGER NOT NULL REFERENCES node ON DELETE CASCADE, protected INTEGER NOT NULL, place INTEGER NOT NULL, form INTEGER NOT NULL, principal TEXT REFERENCES node (path), invert INTEGER NOT NULL, deny INTEGER NOT NULL, mask INTEGER NOT NULL, PRIMARY KEY (node, protected, place)) STRICT"
 
+abbrev pub create_ace2 : List ℕ
+create_ace2 = codes "CREATE TABLE ace2 (node INTEGER NOT NULL REFERENCES node ON DELETE CASCADE, protected INTEGER NOT NULL, place INTEGER NOT NULL, form INTEGER NOT NULL, principal TEXT REFERENCES node (path), invert INTEGER NOT NULL, deny INTEGER NOT NULL, mask INTEGER NOT NULL, PRIMARY KEY (node, protected, place)) STRICT"
+
 abbrev pub create_member : List ℕ
 create_member = codes "CREATE TABLE member (grp TEXT NOT NULL REFERENCES node (path), member TEXT NOT NULL REFERENCES node (path), PRIMARY KEY (grp, member)) STRICT"
 
@@ -30,17 +33,23 @@ index_principal = codes "CREATE INDEX ace_principal ON ace (principal)"
 abbrev pub index_member : List ℕ
 index_member = codes "CREATE INDEX member_member ON member (member)"
 
+abbrev pub index_entries : List ℕ
+index_entries = codes "CREATE INDEX ace2_principal ON ace2 (principal)"
+
+abbrev pub index_gone : List ℕ
+index_gone = codes "CREATE INDEX gone_book ON gone (book, number)"
+
 -- ---- those that read
 
 abbrev pub find_node : List ℕ
 find_node = codes "SELECT id, kind, owner, label, text, number FROM node WHERE path = ?1"
 
 abbrev pub list_entries : List ℕ
-list_entries = codes "SELECT form, principal, invert, deny, mask FROM ace WHERE node = ?1 AND protected = ?2 ORDER BY place"
+list_entries = codes "SELECT form, principal, invert, deny, mask FROM ace2 WHERE node = ?1 AND protected = ?2 ORDER BY place"
 
 -- the entries of the node at a path
 abbrev pub list_entries_at : List ℕ
-list_entries_at = codes "SELECT ace.node, protected, form, principal, invert, deny, mask FROM node, ace WHERE path = ?1 AND ace.node = node.id ORDER BY ace.node, protected, place"
+list_entries_at = codes "SELECT ace2.node, protected, form, principal, invert, deny, mask FROM node, ace2 WHERE path = ?1 AND ace2.node = node.id ORDER BY ace2.node, protected, place"
 
 -- ---- those that write
 
@@ -60,10 +69,10 @@ abbrev pub delete_gone : List ℕ
 delete_gone = codes "DELETE FROM gone WHERE book = ?1"
 
 abbrev pub delete_entries_below : List ℕ
-delete_entries_below = codes "DELETE FROM ace WHERE EXISTS (SELECT 1 FROM node WHERE parent = ?1 AND id = ace.node)"
+delete_entries_below = codes "DELETE FROM ace2 WHERE EXISTS (SELECT 1 FROM node WHERE parent = ?1 AND id = ace2.node)"
 
 abbrev pub delete_entries : List ℕ
-delete_entries = codes "DELETE FROM ace WHERE node = ?1"
+delete_entries = codes "DELETE FROM ace2 WHERE node = ?1"
 
 abbrev pub delete_children : List ℕ
 delete_children = codes "DELETE FROM node WHERE parent = ?1"
@@ -84,7 +93,7 @@ abbrev pub insert_gone : List ℕ
 insert_gone = codes "INSERT INTO gone (book, name, number) VALUES (?1, ?2, ?3)"
 
 abbrev pub insert_entry : List ℕ
-insert_entry = codes "INSERT INTO ace (node, protected, place, form, principal, invert, deny, mask) VALUES (?1, ?2, ?3, ?4, ?5, ?6, ?7, ?8)"
+insert_entry = codes "INSERT INTO ace2 (node, protected, place, form, principal, invert, deny, mask) VALUES (?1, ?2, ?3, ?4, ?5, ?6, ?7, ?8)"
 
 abbrev pub insert_member : List ℕ
 insert_member = codes "INSERT INTO member (grp, member) VALUES (?1, ?2)"
@@ -93,7 +102,7 @@ abbrev pub insert_meta : List ℕ
 insert_meta = codes "INSERT INTO meta (version, epoch) VALUES (?1, ?2)"
 
 abbrev pub delete_own : List ℕ
-delete_own = codes "DELETE FROM ace WHERE node = ?1 AND protected = 0"
+delete_own = codes "DELETE FROM ace2 WHERE node = ?1 AND protected = 0"
 
 abbrev pub delete_members : List ℕ
 delete_members = codes "DELETE FROM member WHERE grp = ?1"
@@ -122,7 +131,7 @@ count_children = codes "SELECT (SELECT count(*) FROM node AS child WHERE child.p
 
 -- the entries of all children of a node
 abbrev pub list_child_entries : List ℕ
-list_child_entries = codes "SELECT ace.node, protected, form, principal, invert, deny, mask FROM node, ace WHERE parent = ?1 AND node.id = ace.node ORDER BY ace.node, protected, place"
+list_child_entries = codes "SELECT ace2.node, protected, form, principal, invert, deny, mask FROM node, ace2 WHERE parent = ?1 AND node.id = ace2.node ORDER BY ace2.node, protected, place"
 
 abbrev pub list_children : List ℕ
 list_children = codes "SELECT id, path, kind, owner, label, number FROM node WHERE parent = ?1 ORDER BY path"

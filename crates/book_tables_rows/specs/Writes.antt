@@ -274,9 +274,9 @@ pub record AreFree (p : Row → Bool) (rows : Rows) : Type 0 where
   pub entries : (node entry : Row) → Has rows.nodes node → p node ≡ true → Has rows.entries entry → has ace_node_place (rowid node) entry ≡ false
   pub gone : (node name : Row) → Has rows.nodes node → p node ≡ true → Has rows.gone name → has gone_book_place (rowid node) name ≡ false
 
--- one row, with version 1 and the epoch
+-- one row, with version 2 and the epoch
 abbrev pub IsMeta : List Row → ℕ → Type 0
-IsMeta meta epoch = (id : Value) × (meta ≡ (id ∷ Int (pos 1) ∷ Int (pos epoch) ∷ []) ∷ [])
+IsMeta meta epoch = (id : Value) × (meta ≡ (id ∷ Int (pos 2) ∷ Int (pos epoch) ∷ []) ∷ [])
 
 abbrev pub HasMeta : Rows → Type 0
 HasMeta rows = (epoch : ℕ) × IsMeta rows.meta epoch

@@ -24,7 +24,7 @@ pub fn entry_rows<S: Alter>(
         → IfOk result (λ rows. ShowsList (state S.Store transaction.old.conn.now) node protected rows.items) }
 {
     transaction.query_all(
-        "SELECT form, principal, invert, deny, mask FROM ace WHERE node = ?1 AND protected = ?2 ORDER BY place",
+        "SELECT form, principal, invert, deny, mask FROM ace2 WHERE node = ?1 AND protected = ?2 ORDER BY place",
         params![node, protected],
     )
 }
@@ -45,7 +45,7 @@ pub fn entry_rows_at<S: Alter>(
         → IfOk result (λ rows. ShowsEntriesAt (state S.Store transaction.old.conn.now) path.now rows.items) }
 {
     transaction.query_all(
-        "SELECT ace.node, protected, form, principal, invert, deny, mask FROM node, ace WHERE path = ?1 AND ace.node = node.id ORDER BY ace.node, protected, place",
+        "SELECT ace2.node, protected, form, principal, invert, deny, mask FROM node, ace2 WHERE path = ?1 AND ace2.node = node.id ORDER BY ace2.node, protected, place",
         params![path],
     )
 }
@@ -86,7 +86,7 @@ pub fn child_entry_rows<S: Alter>(
         → IfOk result (λ rows. ShowsChildEntries (state S.Store transaction.old.conn.now) node rows.items) }
 {
     transaction.query_all(
-        "SELECT ace.node, protected, form, principal, invert, deny, mask FROM node, ace WHERE parent = ?1 AND node.id = ace.node ORDER BY ace.node, protected, place",
+        "SELECT ace2.node, protected, form, principal, invert, deny, mask FROM node, ace2 WHERE parent = ?1 AND node.id = ace2.node ORDER BY ace2.node, protected, place",
         params![node],
     )
 }

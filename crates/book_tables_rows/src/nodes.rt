@@ -163,7 +163,7 @@ pub(crate) fn delete_entries<S: Alter>(
     ensures done { Writes (state S.Store transaction.old.conn.now) (state S.Store transaction.new.conn.now) result
         (writes.delete_entries (Int node)) }
 {
-    transaction.execute("DELETE FROM ace WHERE node = ?1", params![node])?;
+    transaction.execute("DELETE FROM ace2 WHERE node = ?1", params![node])?;
     Ok(())
 }
 

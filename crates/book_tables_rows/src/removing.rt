@@ -28,7 +28,7 @@ pub(crate) fn delete_entries_below<S: Alter>(
         (writes.delete_entries_below (Int node)) }
 {
     transaction.execute(
-        "DELETE FROM ace WHERE EXISTS (SELECT 1 FROM node WHERE parent = ?1 AND id = ace.node)",
+        "DELETE FROM ace2 WHERE EXISTS (SELECT 1 FROM node WHERE parent = ?1 AND id = ace2.node)",
         params![node],
     )?;
     Ok(())

@@ -39,7 +39,7 @@ fn delete_own<S: Alter>(transaction: &mut Transaction<'_, S>, node: i64) -> Resu
         (writes.delete_own (Int node)) }
 {
     transaction.execute(
-        "DELETE FROM ace WHERE node = ?1 AND protected = 0",
+        "DELETE FROM ace2 WHERE node = ?1 AND protected = 0",
         params![node],
     )?;
     Ok(())
@@ -62,7 +62,7 @@ fn insert_entry<S: Alter>(
         (writes.insert_listed (Int node) protected place (said entry.now)) }
 {
     transaction.execute(
-        "INSERT INTO ace (node, protected, place, form, principal, invert, deny, mask) VALUES (?1, ?2, ?3, ?4, ?5, ?6, ?7, ?8)",
+        "INSERT INTO ace2 (node, protected, place, form, principal, invert, deny, mask) VALUES (?1, ?2, ?3, ?4, ?5, ?6, ?7, ?8)",
         params![
             node,
             protected,

@@ -23,12 +23,12 @@ module _ (db : Database) (bare : IsBare book_schema db) where
   shaped (u ∷ tables) empty t (inr there) = shaped tables empty.1 t there
 
   pub bare_book : IsDatabase db → IsBook db
-  bare_book sound = record { schema = bare.schema_is; rules = sound; rising = shaped book_schema.tables bare.empty }
+  bare_book sound = record { schema = bare.schema_is; rules = sound; rising = shaped book_schema.tables bare.empty; former = bare.empty.1.0 }
 
   pub bare_rows : rows_of db.trees ≡ no_rows
   bare_rows =
       let nodes : db.trees 0 ≡ [] = bare.empty.0 in
-      let entries : db.trees 2 ≡ [] = bare.empty.1.0 in
+      let entries : db.trees 13 ≡ [] = bare.empty.1.1.1.1.1.0 in
       let members : db.trees 4 ≡ [] = bare.empty.1.1.0 in
       let gone : db.trees 6 ≡ [] = bare.empty.1.1.1.0 in
       let meta : db.trees 8 ≡ [] = bare.empty.1.1.1.1.0 in

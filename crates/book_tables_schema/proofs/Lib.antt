@@ -3,3 +3,6 @@ pub mod Tabling
 pub mod FirstRows
 pub mod RisingRows
 pub mod WholeTables
+pub mod FormerRows
+pub mod SecondVersion
+pub mod WidenedRows

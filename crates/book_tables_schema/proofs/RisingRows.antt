@@ -1,5 +1,5 @@
 -- The rows of a table rise by their numbers while its store is not broken.
-use Rattle.book_tables_schema.proofs.Common.{◌≡◌, false, refl, sym, subst, ◌∙◌, Database, Schema, IsBook, book_schema}
+use Rattle.book_tables_schema.proofs.Common.{◌≡◌, false, refl, sym, subst, ◌∙◌, Database, Schema}
 use Rattle.std.proofs.Common.{Bool, true, IsTrue, true≢false}
 use Rattle.sqlite.specs.Effect.{IsDatabase}
 use Rattle.sqlite.specs.Table as schema_table
@@ -9,6 +9,7 @@ use Rattle.sqlite_trees.specs.View.{View, IsShaped, IsOrdered}
 use Rattle.sqlite_trees.specs.declared.store.Shape.TheVariants.{Table}
 use Rattle.sqlite_catalog.specs.Listing.{IsSound}
 use Rattle.sqlite_catalog.proofs.LayoutLemmas.{table_shape, objects_rise}
+use Rattle.book_tables_schema.specs.Tabled.{HasTables}
 
 rows_rise : (v : View) (schema : Schema) → IsSound schema v.trees → IsListed (v.trees catalog_tree) v.shape v.reals → IsOrdered v.shape v.trees
     → (t : schema_table.Table) → Has schema.tables t → IsShaped Table (v.trees t.tree)
@@ -16,9 +17,9 @@ rows_rise v schema sound listed ordered t there =
     let shape = table_shape listed (objects_rise v listed ordered).0 sound.lists.listed t there in
     subst (λ s. IsShaped s (v.trees t.tree)) shape.0 (ordered t.tree)
 
--- tables with the schema of a store, read from a store that is not broken, are those of a store
-pub book_of : (v : View) (db : Database) → db.trees ≡ v.trees → IsDatabase db → IsListed (v.trees catalog_tree) v.shape v.reals → IsOrdered v.shape v.trees → db.schema ≡ book_schema → IsBook db
-book_of v db trees rules listed ordered has = record {
+-- tables with a schema, read from a store that is not broken, rise by their numbers
+pub tabled_of : (wanted : Schema) (v : View) (db : Database) → db.trees ≡ v.trees → IsDatabase db → IsListed (v.trees catalog_tree) v.shape v.reals → IsOrdered v.shape v.trees → db.schema ≡ wanted → HasTables wanted db
+tabled_of wanted v db trees rules listed ordered has = record {
   schema = has;
   rules = rules;
   rising = λ t there.

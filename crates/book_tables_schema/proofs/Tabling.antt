@@ -1,5 +1,5 @@
 -- What the texts that make tables and indexes leave.
-use Rattle.book_tables_schema.proofs.Common.{◌≡◌, false, List, [], ◌∷◌, refl, sym, subst, ◌∙◌, Database, Schema, State, Extends, no_schema, with_all}
+use Rattle.book_tables_schema.proofs.Common.{◌≡◌, false, List, [], ◌∷◌, codes, refl, sym, subst, ◌∙◌, Database, Schema, State, Extends, no_schema, with_all}
 use Rattle.std.proofs.Common.{ℕ, slice_get, Some, None, Ok, ap}
 use Rattle.std.specs.List.{AllByRecursion}
 use Rattle.sqlite.specs.Command.TheVariants.{CreateIndex}
@@ -17,10 +17,10 @@ use Rattle.book_tables_rows.proofs.Creating.{creates, AddsIndex}
 use Rattle.book_tables_rows.proofs.Meanings as meaning
 use Rattle.book_tables_rows.proofs.Meanings.{MakesTable}
 use Rattle.book_tables_rows.proofs.Statements.{went, same_value}
-use Rattle.book_tables_rows.specs.Schema.{node_table, ace_table, member_table, gone_table, meta_table}
+use Rattle.book_tables_rows.specs.Schema.{node_table, ace_table, member_table, gone_table, meta_table, ace2_table, plain_index}
 use Rattle.book_tables_rows.specs.Texts as text
 use Rattle.book_tables_rows.proofs.NodeDeletes.{all_append}
-use Rattle.book_tables_schema.specs.Founding.{Ran, with_node, with_ace, with_member, with_gone, with_meta, with_parent, with_owner, with_principal}
+use Rattle.book_tables_schema.specs.Founding.{Renews, Ran, with_node, with_ace, with_member, with_gone, with_meta, with_parent, with_owner, with_principal, with_first, with_ace2, with_entries}
 
 still_empty : (old new : Trees) (tables : List Table) → AllByRecursion (λ t. old t.tree ≡ []) tables → KeepsRows tables old new → AllByRecursion (λ t. new t.tree ≡ []) tables
 still_empty old new [] empty kept = tt
@@ -114,6 +114,59 @@ member_runs : meaning.MakesIndex with_principal 2 text.index_member
 unfolding understood everything
 member_runs = (refl, refl, (refl, refl))
 
-pub adds_members : (old new : State) → Ran text.index_member old new → Extends old new with_principal with_all
+pub adds_members : (old new : State) → Ran text.index_member old new → Extends old new with_principal with_first
 unfolding everything
 adds_members old new = adds_index old new with_principal 2 text.index_member (record member_table { tree = 4 }) _ member_runs refl meaning.indexes_are.3
+
+ace2_runs : MakesTable with_first text.create_ace2
+unfolding understood everything
+ace2_runs = (refl, refl, (refl, refl))
+
+pub adds_ace2 : (old new : State) → Ran text.create_ace2 old new → Extends old new with_first with_ace2
+unfolding everything
+adds_ace2 old new = adds_table old new with_first text.create_ace2 (record ace2_table { tree = 0 }) ace2_runs meaning.ace2_is refl
+
+entries_run : meaning.MakesIndex with_ace2 5 text.index_entries
+unfolding understood everything
+entries_run = (refl, refl, (refl, refl))
+
+entries_are : index_defined_by (record ace2_table { tree = 13 }) text.index_entries ≡ Ok (plain_index (codes "ace2_principal") 0 13 (5 ∷ []))
+unfolding understood everything
+entries_are = refl
+
+pub adds_entries : (old new : State) → Ran text.index_entries old new → Extends old new with_ace2 with_entries
+unfolding everything
+adds_entries old new = adds_index old new with_ace2 5 text.index_entries (record ace2_table { tree = 13 }) _ entries_run refl entries_are
+
+gone_run : meaning.MakesIndex with_entries 3 text.index_gone
+unfolding understood everything
+gone_run = (refl, refl, (refl, refl))
+
+gone_are : index_defined_by gone_table text.index_gone ≡ Ok (plain_index (codes "gone_book") 0 6 (1 ∷ 3 ∷ []))
+unfolding understood everything
+gone_are = refl
+
+pub adds_removed : (old new : State) → Ran text.index_gone old new → Extends old new with_entries with_all
+unfolding everything
+adds_removed old new = adds_index old new with_entries 3 text.index_gone gone_table _ gone_run refl gone_are
+
+-- the same three texts, where the tables of version 1 have rows
+pub renewed : (old between with_index new : State) → Ran text.create_ace2 old between → Ran text.index_entries between with_index → Ran text.index_gone with_index new → Renews old new
+unfolding everything
+renewed old between with_index new first second third = record {
+  inside = third.1.1.mode;
+  was_open = first.1.1.was_open;
+  is_open = third.1.1.is_open;
+  made = λ has.
+      let table = creates old between with_first text.create_ace2 (record ace2_table { tree = 0 }) (has ∙ sym meaning.first_is) ace2_runs meaning.ace2_is refl first.0 first.1.0 in
+      let index = indexes between with_index with_ace2 5 text.index_entries (record ace2_table { tree = 13 }) _ table.schema_is entries_run refl entries_are second.0 second.1.0 in
+      let last = indexes with_index new with_entries 3 text.index_gone gone_table _ index.schema_is gone_run refl gone_are third.0 third.1.0 in
+      let a = table.others in
+      let b = index.others in
+      let c = last.others in (
+        last.schema_is ∙ meaning.made_is,
+        last.sound,
+        (c.0 ∙ b.0 ∙ a.0, (c.1.0 ∙ b.1.0 ∙ a.1.0, (c.1.1.0 ∙ b.1.1.0 ∙ a.1.1.0, (c.1.1.1.0 ∙ b.1.1.1.0 ∙ a.1.1.1.0, (c.1.1.1.1.0 ∙ b.1.1.1.1.0 ∙ a.1.1.1.1.0, tt))))),
+        c.1.1.1.1.1.0 ∙ b.1.1.1.1.1.0 ∙ table.empty,
+      );
+}

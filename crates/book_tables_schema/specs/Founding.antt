@@ -9,9 +9,9 @@ use Rattle.sqlite.specs.Order.{Row}
 use Rattle.sqlite.specs.Schema.{Schema}
 use Rattle.sqlite.specs.State.{State, HasCleanDisk, ExecutesInside}
 use Rattle.sqlite.specs.Tree.{Trees}
-use Rattle.sqlite_catalog.specs.Change.{created, indexed}
+use Rattle.sqlite_catalog.specs.Change.{created, indexed, KeepsRows}
 use Rattle.book_tables_rows.specs.Rows.{Rows, rows_of, IsBook, in_store}
-use Rattle.book_tables_rows.specs.Schema.{node_table, ace_table, member_table, gone_table, meta_table, plain_index}
+use Rattle.book_tables_rows.specs.Schema.{node_table, ace_table, member_table, gone_table, meta_table, ace2_table, ace2_tree, plain_index, first_schema, book_schema}
 use Rattle.book_tables_rows.specs.Writes.{node_row, insert_node, insert_meta}
 
 -- ---- the schemas that the texts make, in their order
@@ -43,8 +43,17 @@ with_owner = indexed with_parent node_table (plain_index (codes "node_owner") 0 
 abbrev pub with_principal : Schema
 with_principal = indexed with_owner ace_table (plain_index (codes "ace_principal") 0 0 (5 ∷ []))
 
+abbrev pub with_first : Schema
+with_first = indexed with_principal member_table (plain_index (codes "member_member") 0 0 (2 ∷ []))
+
+abbrev pub with_ace2 : Schema
+with_ace2 = created with_first ace2_table
+
+abbrev pub with_entries : Schema
+with_entries = indexed with_ace2 ace2_table (plain_index (codes "ace2_principal") 0 0 (5 ∷ []))
+
 abbrev pub with_all : Schema
-with_all = indexed with_principal member_table (plain_index (codes "member_member") 0 0 (2 ∷ []))
+with_all = indexed with_entries gone_table (plain_index (codes "gone_book") 0 0 (1 ∷ 3 ∷ []))
 
 -- a store has these tables, and no row in them
 pub record IsBare (schema : Schema) (db : Database) : Type 0 where
@@ -84,20 +93,20 @@ insert_homes rows = insert_home (codes "/books") (insert_home (codes "/groups") 
 
 -- what is written into the tables without rows
 abbrev pub insert_first : Rows → Rows
-insert_first rows = insert_homes (insert_root (insert_meta 1 0 rows))
+insert_first rows = insert_homes (insert_root (insert_meta 2 0 rows))
 
 -- a node without owner, label and text, which nobody has changed
 abbrev pub bare_node : ℤ → List ℕ → Value → ℕ → Row
 bare_node id path parent kind = node_row id path parent kind None [] None 0
 
--- the rows of a new store: the root and the three homes, no entry, no member and no removed name, version 1 and epoch 0
+-- the rows of a new store: the root and the three homes, no entry, no member and no removed name, version 2 and epoch 0
 abbrev pub first_rows : Rows
 first_rows = record {
   nodes = bare_node (pos 1) (codes "/") Null 0 ∷ bare_node (pos 2) (codes "/people") (Int (pos 1)) 1 ∷ bare_node (pos 3) (codes "/groups") (Int (pos 1)) 1 ∷ bare_node (pos 4) (codes "/books") (Int (pos 1)) 1 ∷ [];
   entries = [];
   members = [];
   gone = [];
-  meta = (Int (pos 1) ∷ Int (pos 1) ∷ Int (pos 0) ∷ []) ∷ [];
+  meta = (Int (pos 1) ∷ Int (pos 2) ∷ Int (pos 0) ∷ []) ∷ [];
 }
 
 -- ---- a store is founded
@@ -124,3 +133,14 @@ pub record MayFound (old : State) (trees : Trees) : Type 0 where
   pub was_empty : old.now.schema ≡ no_schema
   pub book : IsBook (in_store trees)
   pub rows : rows_of trees ≡ first_rows
+
+-- ---- the tables of version 1 are renewed
+
+-- inside a transaction: to the tables of version 1 came the one that version 2 has beside them, without a row, and the indexes; all rows
+-- stayed
+pub record Renews (old new : State) : Type 0 where
+  pub inside : IsTrue new.in_transaction
+  pub was_open : IsTrue old.is_open
+  pub is_open : IsTrue new.is_open
+  pub made : old.now.schema ≡ first_schema
+      → (new.now.schema ≡ book_schema) × IsDatabase new.now × KeepsRows first_schema.tables old.now.trees new.now.trees × (new.now.trees ace2_tree ≡ [])

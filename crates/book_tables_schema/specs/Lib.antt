@@ -2,3 +2,5 @@ pub mod Founding
 pub mod Layout
 pub mod Versions
 pub mod Whole
+pub mod Tabled
+pub mod Renewing

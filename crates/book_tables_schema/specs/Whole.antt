@@ -9,7 +9,11 @@ abbrev pub list_nodes : List ℕ
 list_nodes = codes "SELECT id, path, parent, kind, owner, label, number FROM node"
 
 abbrev pub list_all_entries : List ℕ
-list_all_entries = codes "SELECT node, protected, place, form, principal, invert, deny, mask FROM ace"
+list_all_entries = codes "SELECT node, protected, place, form, principal, invert, deny, mask FROM ace2"
+
+-- the rows of `ace`, if there are any
+abbrev pub list_former : List ℕ
+list_former = codes "SELECT node FROM ace"
 
 abbrev pub list_all_gone : List ℕ
 list_all_gone = codes "SELECT book, name, number FROM gone"

@@ -16,18 +16,18 @@ const HOME: u32 = 1;
 /// The number of the root's row, which is the first.
 const ROOT: i64 = 1;
 
-/// Adds the row of `meta`: version 1 and epoch 0.
+/// Adds the row of `meta`: version 2 and epoch 0.
 fn insert_meta<S: Alter>(transaction: &mut Transaction<'_, S>) -> Result<(), Error>
     ensures same_reference { transaction.new.conn.ghost_name ≡ transaction.old.conn.ghost_name }
     ensures survives { Survives (state S.Store transaction.old.conn.now) (state S.Store transaction.new.conn.now)
         (λ _. ⊥) }
     ensures kept { Keeps (state S.Store transaction.old.conn.now) (state S.Store transaction.new.conn.now) }
     ensures done { Writes (state S.Store transaction.old.conn.now) (state S.Store transaction.new.conn.now) result
-        (writes.insert_meta 1 0) }
+        (writes.insert_meta 2 0) }
 {
     transaction.execute(
         "INSERT INTO meta (version, epoch) VALUES (?1, ?2)",
-        params![1i64, 0i64],
+        params![2i64, 0i64],
     )?;
     Ok(())
 }

@@ -3,7 +3,7 @@
 ghost use Rattle.std.specs.Prelude.{◌≡◌, ◌↔◌, ◌∷◌, [], IsTrue};
 ghost use Rattle.sqlite_value.specs.Keys.{plain};
 ghost use Rattle.book_tables_rows.specs.Schema as wanted;
-ghost use Rattle.book_tables_rows.specs.Schema.{plain_table, to_node, to_path, unique_index, plain_index, book_schema};
+ghost use Rattle.book_tables_rows.specs.Schema.{plain_table, to_node, to_path, unique_index, plain_index, first_schema, book_schema};
 ghost use Rattle.book_tables_schema.specs.Layout as layout;
 
 use crate::columns::{
@@ -121,7 +121,7 @@ fn is_plain(table: &Table) -> bool
         && !table.is_counted
 }
 
-// ---- the five tables
+// ---- the tables
 
 fn is_node_table(table: &Table) -> bool
     ensures { IsTrue result ↔ (table.now ≡ wanted.node_table) }
@@ -193,30 +193,56 @@ fn is_meta_table(table: &Table) -> bool
         && table.references.as_slice().is_empty()
 }
 
-fn are_last_tables(tables: &[Table]) -> bool
-    ensures { IsTrue result ↔ (tables.now ≡ wanted.gone_table ∷ wanted.meta_table ∷ []) }
+fn is_ace2_table(table: &Table) -> bool
+    ensures { IsTrue result ↔ (table.now ≡ wanted.ace2_table) }
 {
-    match tables {
-        [gone, meta] => is_gone_table(gone) && is_meta_table(meta),
+    is_plain(table)
+        && is_name(&table.name, b"ace2")
+        && table.tree == 13
+        && are_ace_columns(table.columns.as_slice())
+        && table.key.is_none()
+        && are_places(&table.primary, &[1, 2, 3])
+        && is_one_key(table.uniques.as_slice(), &[1, 2, 3])
+        && is_plain_order(table.orders.as_slice())
+        && are_to_node_and_path(table.references.as_slice(), 1, 5)
+}
+
+fn are_more_tables(tables: &[Table], second: bool) -> bool
+    ensures { IsTrue result ↔ (tables.now ≡ layout.more_tables second) }
+{
+    match (tables, second) {
+        ([ace2], true) => is_ace2_table(ace2),
+        ([], false) => true,
         _ => false,
     }
 }
 
-fn are_book_tables(tables: &[Table]) -> bool
-    ensures { IsTrue result ↔ (tables.now ≡ book_schema.tables) }
+fn are_last_tables(tables: &[Table], second: bool) -> bool
+    ensures { IsTrue result ↔ (tables.now ≡ layout.last_tables second) }
+{
+    match tables {
+        [gone, meta, more @ ..] => {
+            is_gone_table(gone) && is_meta_table(meta) && are_more_tables(more, second)
+        }
+        _ => false,
+    }
+}
+
+fn are_tables(tables: &[Table], second: bool) -> bool
+    ensures { IsTrue result ↔ (tables.now ≡ layout.tables_of second) }
 {
     match tables {
         [node, ace, member, last @ ..] => {
             is_node_table(node)
                 && is_ace_table(ace)
                 && is_member_table(member)
-                && are_last_tables(last)
+                && are_last_tables(last, second)
         }
         _ => false,
     }
 }
 
-// ---- the eight indexes
+// ---- the indexes
 
 fn is_unique_index(index: &Index, name: &[u8], tree: u32, table: u32, places: &[usize]) -> bool
     ensures { IsTrue result ↔ (index.now ≡ unique_index name.now tree table places.now) }
@@ -240,63 +266,96 @@ fn is_plain_index(index: &Index, name: &[u8], tree: u32, table: u32, places: &[u
         && !index.is_unique
 }
 
-fn are_principal_indexes(indexes: &[Index]) -> bool
-    ensures { IsTrue result ↔ (indexes.now ≡ layout.principal_indexes) }
+fn are_second_indexes(indexes: &[Index]) -> bool
+    ensures { IsTrue result ↔ (indexes.now ≡ wanted.second_indexes) }
 {
     match indexes {
-        [principal, member] => {
-            is_plain_index(principal, b"ace_principal", 11, 2, &[5])
-                && is_plain_index(member, b"member_member", 12, 4, &[2])
+        [key, principal, gone] => {
+            is_unique_index(key, b"sqlite_autoindex_ace2_1", 14, 13, &[1, 2, 3])
+                && is_plain_index(principal, b"ace2_principal", 15, 13, &[5])
+                && is_plain_index(gone, b"gone_book", 16, 6, &[1, 3])
         }
         _ => false,
     }
 }
 
-fn are_node_indexes(indexes: &[Index]) -> bool
-    ensures { IsTrue result ↔ (indexes.now ≡ layout.node_indexes) }
+fn are_more_indexes(indexes: &[Index], second: bool) -> bool
+    ensures { IsTrue result ↔ (indexes.now ≡ layout.more_indexes second) }
+{
+    if second {
+        are_second_indexes(indexes)
+    } else {
+        indexes.is_empty()
+    }
+}
+
+fn are_principal_indexes(indexes: &[Index], second: bool) -> bool
+    ensures { IsTrue result ↔ (indexes.now ≡ layout.principal_indexes second) }
+{
+    match indexes {
+        [principal, member, last @ ..] => {
+            is_plain_index(principal, b"ace_principal", 11, 2, &[5])
+                && is_plain_index(member, b"member_member", 12, 4, &[2])
+                && are_more_indexes(last, second)
+        }
+        _ => false,
+    }
+}
+
+fn are_node_indexes(indexes: &[Index], second: bool) -> bool
+    ensures { IsTrue result ↔ (indexes.now ≡ layout.node_indexes second) }
 {
     match indexes {
         [parent, owner, last @ ..] => {
             is_plain_index(parent, b"node_parent", 9, 0, &[3, 8])
                 && is_plain_index(owner, b"node_owner", 10, 0, &[5])
-                && are_principal_indexes(last)
+                && are_principal_indexes(last, second)
         }
         _ => false,
     }
 }
 
-fn are_last_indexes(indexes: &[Index]) -> bool
-    ensures { IsTrue result ↔ (indexes.now ≡ layout.last_indexes) }
+fn are_last_indexes(indexes: &[Index], second: bool) -> bool
+    ensures { IsTrue result ↔ (indexes.now ≡ layout.last_indexes second) }
 {
     match indexes {
         [member, gone, last @ ..] => {
             is_unique_index(member, b"sqlite_autoindex_member_1", 5, 4, &[1, 2])
                 && is_unique_index(gone, b"sqlite_autoindex_gone_1", 7, 6, &[1, 2])
-                && are_node_indexes(last)
+                && are_node_indexes(last, second)
         }
         _ => false,
     }
 }
 
-fn are_book_indexes(indexes: &[Index]) -> bool
-    ensures { IsTrue result ↔ (indexes.now ≡ book_schema.indexes) }
+fn are_indexes(indexes: &[Index], second: bool) -> bool
+    ensures { IsTrue result ↔ (indexes.now ≡ layout.indexes_of second) }
 {
     match indexes {
         [node, ace, last @ ..] => {
             is_unique_index(node, b"sqlite_autoindex_node_1", 1, 0, &[2])
                 && is_unique_index(ace, b"sqlite_autoindex_ace_1", 3, 2, &[1, 2, 3])
-                && are_last_indexes(last)
+                && are_last_indexes(last, second)
         }
         _ => false,
     }
 }
 
-/// Whether a schema is that of a store of version 1: the five tables with their columns, keys and references, the
-/// eight indexes, and no view.
+/// Whether a schema is that of a store of version 2: the tables with their columns, keys and references, the indexes, and
+/// no view.
 pub fn is_book_schema(schema: &Schema) -> bool
     ensures { IsTrue result ↔ (schema.now ≡ book_schema) }
 {
-    are_book_tables(schema.tables.as_slice())
-        && are_book_indexes(schema.indexes.as_slice())
+    are_tables(schema.tables.as_slice(), true)
+        && are_indexes(schema.indexes.as_slice(), true)
+        && schema.views.as_slice().is_empty()
+}
+
+/// The same of a store of version 1, which has no table of entries with nine leaves and no index of removed names.
+pub fn is_first_schema(schema: &Schema) -> bool
+    ensures { IsTrue result ↔ (schema.now ≡ first_schema) }
+{
+    are_tables(schema.tables.as_slice(), false)
+        && are_indexes(schema.indexes.as_slice(), false)
         && schema.views.as_slice().is_empty()
 }

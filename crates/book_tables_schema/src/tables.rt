@@ -4,7 +4,7 @@ ghost use Rattle.std.specs.Prelude.{◌≡◌, OnOk, IsTrue};
 ghost use Rattle.sqlite.specs.Held.{state};
 ghost use Rattle.sqlite.specs.State.{HasCleanDisk, Survives};
 ghost use Rattle.book_tables_rows.specs.Steps.{Keeps};
-ghost use Rattle.book_tables_schema.specs.Founding.{Extending, Ran, no_schema, with_member, with_meta, with_owner, with_all};
+ghost use Rattle.book_tables_schema.specs.Founding.{Extending, Ran, Renews, no_schema, with_member, with_meta, with_owner, with_first, with_all};
 
 use sqlite::{Alter, Error, Transaction};
 
@@ -22,7 +22,7 @@ fn run<S: Alter>(transaction: &mut Transaction<'_, S>, sql: &str) -> Result<(), 
     Ok(())
 }
 
-/// Makes the tables of nodes, of entries and of members.
+/// Makes the tables of nodes, of entries of version 1, which stays empty, and of members.
 fn make_first_tables<S: Alter>(transaction: &mut Transaction<'_, S>) -> Result<(), Error>
     ensures same_reference { transaction.new.conn.ghost_name ≡ transaction.old.conn.ghost_name }
     ensures survives { Survives (state S.Store transaction.old.conn.now) (state S.Store transaction.new.conn.now)
@@ -87,13 +87,37 @@ fn make_principal_indexes<S: Alter>(transaction: &mut Transaction<'_, S>) -> Res
         (λ _. ⊥) }
     ensures kept { Keeps (state S.Store transaction.old.conn.now) (state S.Store transaction.new.conn.now) }
     ensures done { Extending (state S.Store transaction.old.conn.now) (state S.Store transaction.new.conn.now) result
-        with_owner with_all }
+        with_owner with_first }
 {
     run(transaction, "CREATE INDEX ace_principal ON ace (principal)")?;
     run(transaction, "CREATE INDEX member_member ON member (member)")
 }
 
-/// Makes the five tables with their indexes.
+/// Makes what version 2 has beside the tables of version 1: the table of entries with its index, and the index of removed
+/// names. In a store that is founded, and in one of version 1 that has rows.
+pub fn make_second_tables<S: Alter>(transaction: &mut Transaction<'_, S>) -> Result<(), Error>
+    ensures same_reference { transaction.new.conn.ghost_name ≡ transaction.old.conn.ghost_name }
+    ensures survives { Survives (state S.Store transaction.old.conn.now) (state S.Store transaction.new.conn.now)
+        (λ _. ⊥) }
+    ensures kept { Keeps (state S.Store transaction.old.conn.now) (state S.Store transaction.new.conn.now) }
+    ensures done { Extending (state S.Store transaction.old.conn.now) (state S.Store transaction.new.conn.now) result
+        with_first with_all }
+    ensures renewed { HasCleanDisk (state S.Store transaction.new.conn.now)
+        → IsTrue (state S.Store transaction.old.conn.now).in_transaction
+        → OnOk result (Renews (state S.Store transaction.old.conn.now) (state S.Store transaction.new.conn.now)) }
+{
+    run(
+        transaction,
+        "CREATE TABLE ace2 (node INTEGER NOT NULL REFERENCES node ON DELETE CASCADE, protected INTEGER NOT NULL, place INTEGER NOT NULL, form INTEGER NOT NULL, principal TEXT REFERENCES node (path), invert INTEGER NOT NULL, deny INTEGER NOT NULL, mask INTEGER NOT NULL, PRIMARY KEY (node, protected, place)) STRICT",
+    )?;
+    run(
+        transaction,
+        "CREATE INDEX ace2_principal ON ace2 (principal)",
+    )?;
+    run(transaction, "CREATE INDEX gone_book ON gone (book, number)")
+}
+
+/// Makes the tables with their indexes.
 pub(crate) fn make_tables<S: Alter>(transaction: &mut Transaction<'_, S>) -> Result<(), Error>
     ensures same_reference { transaction.new.conn.ghost_name ≡ transaction.old.conn.ghost_name }
     ensures survives { Survives (state S.Store transaction.old.conn.now) (state S.Store transaction.new.conn.now)
@@ -105,5 +129,6 @@ pub(crate) fn make_tables<S: Alter>(transaction: &mut Transaction<'_, S>) -> Res
     make_first_tables(transaction)?;
     make_last_tables(transaction)?;
     make_node_indexes(transaction)?;
-    make_principal_indexes(transaction)
+    make_principal_indexes(transaction)?;
+    make_second_tables(transaction)
 }

@@ -10,18 +10,18 @@ ghost use Rattle.book_tables_schema.specs.Versions.{SaysOther, read_version};
 use sqlite::types::ValueRef;
 use sqlite::{Alter, Error, Row, Transaction};
 
-fn is_one(row: &Row) -> bool
-    ensures { result ≡ versions.is_one (versions.told_version row.now) }
+fn is_version(row: &Row, version: u32) -> bool
+    ensures { result ≡ versions.is_version version (versions.told_version row.now) }
 {
-    matches!(row.get_ref(0), Ok(ValueRef::Int(1)))
+    matches!(row.get_ref(0), Ok(ValueRef::Int(told)) if told == i64::from(version))
 }
 
-/// Whether there is one row, whose version is not 1.
-fn is_other(rows: &[Row]) -> bool
-    ensures { result ≡ versions.is_other rows.now }
+/// Whether there is one row, whose version is not this one.
+fn is_other(rows: &[Row], version: u32) -> bool
+    ensures { result ≡ versions.is_other version rows.now }
 {
     match rows {
-        [row] => !is_one(row),
+        [row] => !is_version(row, version),
         _ => false,
     }
 }
@@ -43,19 +43,22 @@ fn version_rows<S: Alter>(transaction: &mut Transaction<'_, S>) -> Result<Vec<Ro
     transaction.query_all("SELECT version FROM meta", &[])
 }
 
-/// Whether the table `meta` has one row, whose version is not 1, whatever the schema is: what `SELECT version FROM meta`
+/// Whether the table `meta` has one row, whose version is not this one, whatever the schema is: what `SELECT version FROM meta`
 /// shows decides. Where SQL does not understand that under the schema, no version is said.
-pub fn says_other_version<S: Alter>(transaction: &mut Transaction<'_, S>) -> Result<bool, Error>
+pub fn says_other_version<S: Alter>(
+    transaction: &mut Transaction<'_, S>,
+    version: u32,
+) -> Result<bool, Error>
     ensures same_reference { transaction.new.conn.ghost_name ≡ transaction.old.conn.ghost_name }
     ensures survives { Survives (state S.Store transaction.old.conn.now) (state S.Store transaction.new.conn.now)
         (λ _. ⊥) }
     ensures kept { Keeps (state S.Store transaction.old.conn.now) (state S.Store transaction.new.conn.now) }
     ensures told { HasCleanDisk (state S.Store transaction.new.conn.now)
-        → IfOk result (λ other. SaysOther (state S.Store transaction.old.conn.now)
+        → IfOk result (λ other. SaysOther version (state S.Store transaction.old.conn.now)
         (state S.Store transaction.new.conn.now) other) }
 {
     match version_rows(transaction) {
-        Ok(rows) => Ok(is_other(&rows)),
+        Ok(rows) => Ok(is_other(&rows, version)),
         Err(Error::SqlInputError(_)) => Ok(false),
         Err(error) => Err(error),
     }

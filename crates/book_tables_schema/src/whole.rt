@@ -49,7 +49,7 @@ pub fn all_entry_rows<S: Alter>(transaction: &mut Transaction<'_, S>) -> Result<
         → IfOk result (λ rows. ShowsRows (state S.Store transaction.old.conn.now) entries_shown rows.items) }
 {
     transaction.query_all(
-        "SELECT node, protected, place, form, principal, invert, deny, mask FROM ace",
+        "SELECT node, protected, place, form, principal, invert, deny, mask FROM ace2",
         &[],
     )
 }

@@ -28,6 +28,7 @@ IsMade (content.Listing responses) text = IsText (body_bytes (content.Listing re
 IsMade (content.Synced report) text = IsText (body_bytes (content.Synced report)) text
 IsMade (content.Members book members) text = IsText (body_bytes (content.Members book members)) text
 IsMade (content.Rulings rulings) text = IsText (body_bytes (content.Rulings rulings)) text
+IsMade (content.Names book names) text = IsText (body_bytes (content.Names book names)) text
 IsMade (content.Refusal refusal) text = IsText (body_bytes (content.Refusal refusal)) text
 
 -- the reply that is sent: the machine's, or unavailable in place of one with a content

@@ -10,6 +10,7 @@ use Rattle.book_machine.specs.declared.refusals.Refusal.TheVariants as refusal
 use Rattle.book_wire_json.specs.Refusals.{refusal_data}
 use Rattle.book_wire_json.specs.Listings.{listing_data}
 use Rattle.book_wire_json.specs.Members.{members_data}
+use Rattle.book_wire_json.specs.Names.{names_data}
 use Rattle.book_wire_json.specs.SyncReports.{report_data}
 use Rattle.book_wire_json.specs.Rulings.{rulings_data}
 use Rattle.book_wire_targets.specs.Targets.{phrase_of}
@@ -25,6 +26,7 @@ body_bytes (content.Listing responses) = compact_text (listing_data responses)
 body_bytes (content.Synced report) = compact_text (report_data report)
 body_bytes (content.Members book members) = compact_text (members_data book members)
 body_bytes (content.Rulings rulings) = compact_text (rulings_data rulings)
+body_bytes (content.Names book names) = compact_text (names_data book names)
 body_bytes (content.Refusal r) = compact_text (refusal_data r)
 
 -- the methods that a refusal lists (RFC 9110, section 15.5.6)
@@ -56,6 +58,7 @@ allow_line (content.Listing responses) = []
 allow_line (content.Synced report) = []
 allow_line (content.Members book members) = []
 allow_line (content.Rulings rulings) = []
+allow_line (content.Names book names) = []
 allow_line (content.Refusal r) = refused_allow r
 
 -- the type of JSON, where it is sent
@@ -72,6 +75,7 @@ type_line (content.Listing responses) bare = json_line bare
 type_line (content.Synced report) bare = json_line bare
 type_line (content.Members book members) bare = json_line bare
 type_line (content.Rulings rulings) bare = json_line bare
+type_line (content.Names book names) bare = json_line bare
 type_line (content.Refusal r) bare = json_line bare
 
 -- the length of the body (RFC 9110, section 8.6), but for a 204

@@ -16,7 +16,9 @@ use crate::output::put_joined;
 use crate::stream::StreamFault;
 use arrayvec::ArrayString;
 use book_machine::{AllowedMethods, Content, Refusal, Reply};
-use book_wire_json::{listing_body, members_body, refusal_body, report_body, rulings_body};
+use book_wire_json::{
+    listing_body, members_body, names_body, refusal_body, report_body, rulings_body,
+};
 use book_wire_targets::phrase;
 use itoa::Buffer;
 use std::alloc::{AllocError, Global};
@@ -64,7 +66,8 @@ fn allowed(content: &Content) -> Option<AllowedMethods>
         | Content::Listing(_)
         | Content::Synced(_)
         | Content::Members(_, _)
-        | Content::Rulings(_) => None,
+        | Content::Rulings(_)
+        | Content::Names(_, _) => None,
     }
 }
 
@@ -99,6 +102,7 @@ fn type_line_of(content: &Content, bare: bool) -> &'static str
         | Content::Synced(_)
         | Content::Members(_, _)
         | Content::Rulings(_)
+        | Content::Names(_, _)
         | Content::Refusal(_) => json_line_of(bare),
         Content::Empty | Content::Allow(_) => "",
     }
@@ -188,6 +192,10 @@ fn made_body(alloc: Global, content: &Content) -> Result<Option<String>, AllocEr
             Ok(text) => Ok(Some(text)),
             Err(error) => Err(error),
         },
+        Content::Names(book, names) => match names_body(alloc, book, names.as_slice()) {
+            Ok(text) => Ok(Some(text)),
+            Err(error) => Err(error),
+        },
         Content::Refusal(refusal) => match refusal_body(alloc, refusal) {
             Ok(text) => Ok(Some(text)),
             Err(error) => Err(error),
@@ -217,6 +225,7 @@ fn bytes_of<'r>(content: &'r Content, made: &'r Option<String>) -> &'r [u8]
         | Content::Synced(_)
         | Content::Members(_, _)
         | Content::Rulings(_)
+        | Content::Names(_, _)
         | Content::Refusal(_) => bytes_made(made),
         Content::Empty | Content::Allow(_) => &[],
     }

@@ -8,7 +8,7 @@ use Rattle.book_lists.specs.declared.circles.Caller.{Caller}
 use Rattle.book_lists.specs.declared.circles.Caller.TheVariants as caller
 use Rattle.book_machine.specs.declared.messages.ReportKind.{ReportKind}
 use Rattle.book_machine.specs.declared.messages.ReportKind.TheVariants as report
-use Rattle.book_wire_json.specs.Reports.{IsReport, IsCallerIn, sync_collection, effective, group_members}
+use Rattle.book_wire_json.specs.Reports.{IsReport, IsCallerIn, sync_collection, effective, group_members, names}
 use Rattle.book_lists.specs.declared.entries.Who.{Who}
 use Rattle.book_lists.specs.declared.entries.Who.TheVariants as form
 
@@ -23,12 +23,13 @@ names_more (t ∷ texts) (p ∷ paths) text path all names = (all.0, names_more 
 pub no_person : (text group : List ℕ) → Names text group → IsGroup group → (path : List ℕ) → IsPerson path → Names text path → ⊥
 no_person text group named is path person names = no_group path person (subst IsGroup (one_path text group path named names) is)
 
--- a value that is none of the three asks no report
-pub no_report : (d : Data) → ((text : List ℕ) → d ≢ sync_collection text) → ((who : Data) → d ≢ effective who) → d ≢ group_members
+-- a value that is none of the four asks no report
+pub no_report : (d : Data) → ((text : List ℕ) → d ≢ sync_collection text) → ((who : Data) → d ≢ effective who) → d ≢ group_members → d ≢ names
     → (r : ReportKind) → IsReport d r → ⊥
-no_report d a b e (report.SyncCollection from) is = a is.0 is.1
-no_report d a b e report.GroupMembers is = e is
-no_report d a b e (report.Effective caller) is = b is.0 is.1
+no_report d a b e f (report.SyncCollection from) is = a is.0 is.1
+no_report d a b e f report.GroupMembers is = e is
+no_report d a b e f (report.Effective caller) is = b is.0 is.1
+no_report d a b e f report.Names is = f is
 
 string_same : (d : Data) (a b : List ℕ) → d ≡ string a → d ≡ string b → a ≡ b
 string_same d a b x y = cc (x, y)

@@ -8,6 +8,7 @@ use Rattle.serde_json.specs.Data.{boolean, Members, no_members, member, put}
 use Rattle.serde_json.specs.Written.{has_float, items_have_float, members_have_float}
 use Rattle.book_office_members.specs.declared.members.MemberLine.{MemberLine}
 use Rattle.book_office_members.specs.declared.members.Members.{Members as Members'}
+use Rattle.book_office_members.specs.declared.names.NamedCard.{NamedCard}
 use Rattle.book_rights.specs.declared.privileges.Privilege.{Privilege}
 use Rattle.book_office_listings.specs.declared.messages.Ruling.{Ruling}
 use Rattle.book_office_values.specs.Paths.{card_path, path_text}
@@ -25,6 +26,7 @@ use Rattle.book_office_listings.specs.declared.messages.Response.TheVariants.{To
 use Rattle.book_wire_json.specs.Denials.{entry_data}
 use Rattle.book_wire_json.specs.Listings.{response_data, listing_data}
 use Rattle.book_wire_json.specs.Members.{href_data, line_data, members_data}
+use Rattle.book_wire_json.specs.Names.{formatted_data, named_data, names_data}
 use Rattle.book_wire_json.specs.PropertyValues.{acl_data, acl_entry_data, action_key, form_key, form_text, paths_data, paths_or_null, privilege_data, privileges_data, property_data, property_name, text_or_null, token_or_null, with_inherited, with_protected, with_properties}
 use Rattle.book_wire_json.specs.SyncReports.{changed_data, item_data, remaining_data, report_data}
 use Rattle.book_wire_json.specs.Rulings.{ruling_data, rulings_data}
@@ -134,6 +136,16 @@ pub members_plain : (book : List ℕ) (members : Members') → has_float (member
 members_plain book members =
     rw (items_plain (line_data book) members.lines (line_plain book))
     (rw (items_plain (href_data book) members.reached (λ name. refl)) refl)
+
+formatted_plain : (formatted : Option (List ℕ)) → has_float (formatted_data formatted) ≡ false
+formatted_plain None = refl
+formatted_plain (Some name) = refl
+
+named_plain : (book : List ℕ) (card : NamedCard) → has_float (named_data book card) ≡ false
+named_plain book card = rw (formatted_plain card.formatted) refl
+
+pub names_plain : (book : List ℕ) (names : List NamedCard) → has_float (names_data book names) ≡ false
+names_plain book names = rw (items_plain (named_data book) names (named_plain book)) refl
 
 ruling_plain : (ruling : Ruling) → has_float (ruling_data ruling) ≡ false
 ruling_plain ruling = rw (entry_plain ruling.entry) refl

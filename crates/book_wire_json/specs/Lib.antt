@@ -11,5 +11,6 @@ pub mod Denials
 pub mod PropertyValues
 pub mod Listings
 pub mod Members
+pub mod Names
 pub mod SyncReports
 pub mod Rulings

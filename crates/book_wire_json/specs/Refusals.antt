@@ -1,7 +1,7 @@
 -- The bodies of refusals (RFC 3744, section 7.1.1; own profile). The keys of an object stand in byte order.
 use Rattle.std.specs.Prelude.{ℕ, List, codes}
 use Rattle.serde_json.specs.Data.{Data, number, string, object, member, no_members, unsigned}
-use Rattle.book_rights.specs.Privileges.{leaf_name}
+use Rattle.book_rights.specs.Privileges.{name_of}
 use Rattle.book_cards.specs.FaultTexts.{card_fault_name}
 use Rattle.book_office_values.specs.Paths.{path_text}
 use Rattle.book_office_listings.specs.declared.messages.Denial.{Denial}
@@ -23,7 +23,7 @@ faulty_card fault line =
 abbrev pub denial_data : Denial → Data
 denial_data denial =
     object (member (codes "entry") (entry_data denial.entry) (member (codes "error") (string (codes "need-privileges"))
-    (member (codes "privilege") (string (leaf_name denial.privilege))
+    (member (codes "privilege") (string (name_of denial.privilege))
     (member (codes "resource") (string (path_text denial.resource)) no_members))))
 
 -- what the body of a refusal says

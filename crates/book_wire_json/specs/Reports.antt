@@ -17,9 +17,17 @@ use Rattle.book_lists_explain.specs.Lines.{Names}
 abbrev pub sync_collection : List ℕ → Data
 sync_collection token = object (member (codes "report") (string (codes "sync-collection")) (member (codes "sync-token") (string token) no_members))
 
+-- {"report":NAME}
+abbrev pub report_named : List ℕ → Data
+report_named name = object (member (codes "report") (string name) no_members)
+
 -- {"report":"group-members"}
 abbrev pub group_members : Data
-group_members = object (member (codes "report") (string (codes "group-members")) no_members)
+group_members = report_named (codes "group-members")
+
+-- {"report":"names"}
+abbrev pub names : Data
+names = report_named (codes "names")
 
 -- {"principal":WHO,"report":"effective"}
 abbrev pub effective : Data → Data
@@ -41,6 +49,7 @@ abbrev pub IsReport : Data → ReportKind → Type 0
 IsReport d (report.SyncCollection from) = (text : List ℕ) × (d ≡ sync_collection text) × IsFrom text from
 IsReport d report.GroupMembers = d ≡ group_members
 IsReport d (report.Effective caller) = (who : Data) × (d ≡ effective who) × IsCallerIn who caller
+IsReport d report.Names = d ≡ names
 
 -- the report that is asked; Unread where the value asks none
 abbrev pub IsReportBody : Option Data → Body → Type 0

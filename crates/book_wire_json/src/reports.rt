@@ -5,7 +5,7 @@ ghost use Rattle.serde_json.specs.Data.{Data};
 ghost use Rattle.serde_json.specs.View.{view};
 ghost use Rattle.book_lists.specs.declared.circles.Caller.{Caller};
 ghost use Rattle.book_machine.specs.declared.messages.ReportKind.{ReportKind};
-ghost use Rattle.book_wire_json.specs.Reports.{sync_collection, group_members, effective, IsFrom, IsCallerIn, IsReport, IsReportBody};
+ghost use Rattle.book_wire_json.specs.Reports.{sync_collection, report_named, effective, IsFrom, IsCallerIn, IsReport, IsReportBody};
 
 use crate::principals::person_in;
 use book_lists::Caller;
@@ -70,16 +70,16 @@ fn sync_collection(value: &Value) -> Option<&str>
     }
 }
 
-/// Whether the value asks for the members of a group card.
-fn is_group_members(value: &Value) -> bool
-    ensures { IsTrue result ↔ (view value.now ≡ group_members) }
+/// Whether the value asks for the report with this name, and names nothing else.
+fn is_report_named(value: &Value, name: &str) -> bool
+    ensures { IsTrue result ↔ (view value.now ≡ report_named name.now) }
 {
     match value {
         Value::Object(members) => {
             let mut members = members.iter();
             match (members.next(), members.next()) {
                 (Some((report, Value::String(kind))), None) => {
-                    report.as_str() == "report" && kind.as_str() == "group-members"
+                    report.as_str() == "report" && kind.as_str() == name
                 }
                 _ => false,
             }
@@ -130,8 +130,11 @@ fn report(alloc: Global, value: &Value) -> Result<Option<ReportKind>, AllocError
             None => Ok(None),
         };
     }
-    if is_group_members(value) {
+    if is_report_named(value, "group-members") {
         return Ok(Some(ReportKind::GroupMembers));
+    }
+    if is_report_named(value, "names") {
+        return Ok(Some(ReportKind::Names));
     }
     Ok(None)
 }

@@ -95,6 +95,31 @@ const ANSWERS: &[(&str, &str)] = &[
         "caller -\nneed read bind\ndeny all bind\n",
         "denied bind by 1\ngranted: -\n",
     ),
+    // `read` is the two leaves of texts and names; each may be decided by itself, and is then named by itself
+    (
+        "caller /people/gus\nneed read\ndeny all x-read-names\ngrant all read\n",
+        "denied x-read-names by 1\ngranted: x-read-texts\n",
+    ),
+    (
+        "caller /people/gus\nneed read\ndeny all x-read-texts\ngrant all read\n",
+        "denied read by 1\ngranted: x-read-names\n",
+    ),
+    (
+        "caller /people/gus\nneed x-read-names\ngrant all x-read-names\n",
+        "allowed\ngranted: x-read-names\n",
+    ),
+    (
+        "caller /people/gus\nneed read\ngrant all x-read-names\n",
+        "denied read, none granted\ngranted: x-read-names\n",
+    ),
+    (
+        "caller /people/gus\nneed x-read-texts\ndeny all read\n",
+        "denied x-read-texts by 1\ngranted: -\n",
+    ),
+    (
+        "caller /people/gus\nneed read\ngrant all x-read-names\ngrant all x-read-texts\n",
+        "allowed\ngranted: read\n",
+    ),
 ];
 
 /// A text, and the first of its faults.
@@ -223,16 +248,25 @@ fn members_and_entries_are_counted(rt: HostRuntime) {
 #[test]
 fn short_names_stand_for_whole_aggregates(rt: HostRuntime) {
     let write = Privilege::Write.leaves();
-    let cases: [(LeafSet, &[Privilege]); 3] = [
+    let cases: [(LeafSet, &[Privilege]); 5] = [
         (LeafSet::empty(), &[]),
         (LeafSet::all(), &[Privilege::All]),
         (
-            write.with(Leaf::Read).with(Leaf::ReadAcl),
+            write.union(Privilege::Read.leaves()).with(Leaf::ReadAcl),
             &[
-                Privilege::One(Leaf::Read),
+                Privilege::Read,
                 Privilege::Write,
                 Privilege::One(Leaf::ReadAcl),
             ],
+        ),
+        // half of `read` is named by its leaf
+        (
+            write.with(Leaf::ReadTexts),
+            &[Privilege::One(Leaf::ReadTexts), Privilege::Write],
+        ),
+        (
+            LeafSet::empty().with(Leaf::ReadNames).with(Leaf::Bind),
+            &[Privilege::One(Leaf::Bind), Privilege::One(Leaf::ReadNames)],
         ),
     ];
     for (set, names) in cases {

@@ -17,7 +17,7 @@ fn tell_leaves(rt: &impl Abort, answer: &mut String, set: LeafSet) {
 
 /// Each name, and the leaves that the privilege holds (RFC 3744, section 3.12; own profile).
 const PRIVILEGES: &[(&str, &str)] = &[
-    ("read", " read"),
+    ("x-read-texts", " x-read-texts"),
     ("write-content", " write-content"),
     ("write-properties", " write-properties"),
     ("bind", " bind"),
@@ -28,10 +28,13 @@ const PRIVILEGES: &[(&str, &str)] = &[
         "read-current-user-privilege-set",
         " read-current-user-privilege-set",
     ),
+    ("x-read-names", " x-read-names"),
+    ("read", " x-read-texts x-read-names"),
     ("write", " write-content write-properties bind unbind"),
     (
         "all",
-        " read write-content write-properties bind unbind read-acl write-acl read-current-user-privilege-set",
+        " x-read-texts write-content write-properties bind unbind read-acl write-acl read-current-user-privilege-set \
+         x-read-names",
     ),
 ];
 
@@ -67,34 +70,46 @@ fn sets_of_leaves_are_sets(rt: HostRuntime) {
 
 /// What is asked, what the needs depend on, and the needs: a line for each, with its place and its leaves.
 const NEEDS: &[(Method, &str, &str)] = &[
-    (Method::Get, "target", "Target read\n"),
-    (Method::Head, "target", "Target read\n"),
-    (Method::Options, "target", "Target read\n"),
+    (Method::Get, "target", "Target x-read-texts x-read-names\n"),
+    (Method::Head, "target", "Target x-read-texts x-read-names\n"),
+    (
+        Method::Options,
+        "target",
+        "Target x-read-texts x-read-names\n",
+    ),
     (Method::Put, "", "Parent bind\n"),
     (Method::Put, "target", "Target write-content\n"),
-    (Method::Propfind, "target", "Target read\n"),
-    (Method::Propfind, "target acl", "Target read read-acl\n"),
+    (
+        Method::Propfind,
+        "target",
+        "Target x-read-texts x-read-names\n",
+    ),
+    (
+        Method::Propfind,
+        "target acl",
+        "Target x-read-texts read-acl x-read-names\n",
+    ),
     (
         Method::Propfind,
         "target privileges",
-        "Target read read-current-user-privilege-set\n",
+        "Target x-read-texts read-current-user-privilege-set x-read-names\n",
     ),
     (
         Method::Propfind,
         "target acl privileges",
-        "Target read read-acl read-current-user-privilege-set\n",
+        "Target x-read-texts read-acl read-current-user-privilege-set x-read-names\n",
     ),
     (Method::Proppatch, "target", "Target write-properties\n"),
     (Method::Acl, "target", "Target write-acl\n"),
     (
         Method::Copy,
         "target",
-        "Target read\nDestinationParent bind\n",
+        "Target x-read-texts x-read-names\nDestinationParent bind\n",
     ),
     (
         Method::Copy,
         "target destination",
-        "Target read\nDestination write-content write-properties\n",
+        "Target x-read-texts x-read-names\nDestination write-content write-properties\n",
     ),
     (
         Method::Move,
@@ -113,9 +128,22 @@ const NEEDS: &[(Method, &str, &str)] = &[
         "Parent unbind\nTarget unbind\n",
     ),
     (Method::Mkcol, "", "Parent bind\n"),
-    (Method::Report, "target", "Target read\n"),
-    (Method::Report, "target book", "Target read\n"),
-    (Method::Report, "target effective", "Target read read-acl\n"),
+    (
+        Method::Report,
+        "target",
+        "Target x-read-texts x-read-names\n",
+    ),
+    (
+        Method::Report,
+        "target book",
+        "Target x-read-texts x-read-names\n",
+    ),
+    (
+        Method::Report,
+        "target effective",
+        "Target x-read-texts read-acl x-read-names\n",
+    ),
+    (Method::Report, "target book names", "Target x-read-names\n"),
 ];
 
 fn shape(flags: &str) -> Shape {
@@ -126,6 +154,7 @@ fn shape(flags: &str) -> Shape {
         acl: flags.contains("acl"),
         privileges: flags.contains("privileges"),
         effective: flags.contains("effective"),
+        names: flags.contains("names"),
     }
 }
 
@@ -149,7 +178,7 @@ fn told_needs(rt: &impl Abort, alloc: Global, method: Method, shape: Shape) -> S
     answer
 }
 
-/// Each row of the table (RFC 3744, appendix B; COPY, DELETE of a book and the report effective are own profile).
+/// Each row of the table (RFC 3744, appendix B; COPY, DELETE of a book and the reports effective and names are own profile).
 #[test]
 fn methods_need_their_rows(rt: HostRuntime) {
     for (method, flags, wanted) in NEEDS {

@@ -3,7 +3,7 @@
 use crate::checks::check_fact;
 use crate::entry_lines::{entries, submitted};
 use book_lists::{EditFault, Entry, Submitted, Who, check_edit};
-use book_rights::{Leaf, LeafSet};
+use book_rights::{Leaf, LeafSet, Privilege};
 use std::alloc::Global;
 use std::process::Abort;
 
@@ -193,7 +193,7 @@ fn submitted_entries_become_entries(rt: HostRuntime) {
         who: Who::Owner,
         invert: true,
         deny: true,
-        set: LeafSet::empty().with(Leaf::Read).with(Leaf::Bind),
+        set: Privilege::Read.leaves().with(Leaf::Bind),
     };
     let entry = submitted(&rt, rt.alloc(), line).into_entry();
     check_fact(&rt, entry == Some(wanted), line);

@@ -222,7 +222,7 @@ fn entry(who: Who, deny: bool, set: LeafSet) -> Entry {
 
 /// What ann, who owns the resource, may by a list of three entries, and by the first two.
 fn check_decided(rt: &impl Abort, entries: &[Entry; 3], ann: &Circle, here: &Here) {
-    let read = LeafSet::empty().with(Leaf::Read);
+    let read = Privilege::Read.leaves();
     let second = !applies(&entries[0], ann, here) && applies(&entries[1], ann, here);
     check_fact(rt, second, "the second entry applies");
     let granted = granted(entries, ann, here);
@@ -251,7 +251,7 @@ fn the_first_applicable_entry_decides(rt: HostRuntime) {
         principal: None,
     };
     let ann = circle(&rt, alloc, &Pairs::new(alloc), Some("/people/ann"));
-    let read = LeafSet::empty().with(Leaf::Read);
+    let read = Privilege::Read.leaves();
     let entries = [
         entry(Who::Own, true, read),
         entry(Who::Owner, false, read.with(Leaf::Unbind)),

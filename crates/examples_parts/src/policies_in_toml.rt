@@ -32,11 +32,11 @@ const POLICIES: &[(&str, &str)] = &[
         "person ann []\nperson bob []\nperson gus []\ngroup staff []\n\
          book law [] of /people/ann\nbook sales [Sales] of /people/ann\n\
          member /groups/staff /people/ann\nmember /groups/staff /people/bob\n\
-         protected /books/sales grant /people/ann 12345678\n\
-         own /books/sales grant /groups/staff 14\n\
-         protected /books/law grant owner 12345678\n\
-         own /books/law grant /people/bob 15\n\
-         protected /groups grant /people/ann 13\n",
+         protected /books/sales grant /people/ann 123456789\n\
+         own /books/sales grant /groups/staff 149\n\
+         protected /books/law grant owner 123456789\n\
+         own /books/law grant /people/bob 159\n\
+         protected /groups grant /people/ann 139\n",
     ),
     // nothing but the version, with a comment
     ("# empty\nversion = 1", ""),
@@ -67,7 +67,7 @@ const POLICIES: &[(&str, &str)] = &[
          [[entry]]\nat = \"/books\"\nwho = \"owner\"\ngrant = [\"write-acl\"]\n\
          [[entry]]\nat = \"/people/a\"\nwho = \"self\"\ngrant = [\"write-properties\"]\n\
          [[entry]]\nat = \"/groups/g\"\nwho = \"self\"\ngrant = [\"read-current-user-privilege-set\"]\n",
-        "person a []\ngroup g []\nown / grant all 1\nown /people deny not authenticated 2\n\
+        "person a []\ngroup g []\nown / grant all 19\nown /people deny not authenticated 2\n\
          own /groups grant unauthenticated 5\nown /books grant owner 7\nown /people/a grant self 3\n\
          own /groups/g grant self 8\n",
     ),
@@ -76,7 +76,7 @@ const POLICIES: &[(&str, &str)] = &[
         "version = 1\n[[entry]]\nat = \"/\"\nwho = \"all\"\ndeny = [\"write\", \"read\", \"bind\", \"read\"]\n\
          [[entry]]\nat = \"/\"\nwho = \"all\"\ngrant = [\"bind\", \"bind\", \"bind\", \"bind\", \"bind\", \"bind\", \
          \"bind\", \"bind\", \"bind\", \"bind\", \"bind\", \"bind\", \"bind\", \"bind\", \"bind\", \"bind\"]\n",
-        "own / deny all 12345\nown / grant all 4\n",
+        "own / deny all 123459\nown / grant all 4\n",
     ),
 ];
 

@@ -25,7 +25,7 @@ const NOBODY: &str = "- -";
 
 const DECISIONS: &[Decision] = &[
     // before any list
-    ("read", &[], "denied read by none, looked 0"),
+    ("read", &[], "denied x-read-texts by none, looked 0"),
     ("-", &[], "allowed, looked 0"),
     // an empty need looks at no entry
     (
@@ -110,7 +110,7 @@ const DECISIONS: &[Decision] = &[
             (BOB, "grant not:owner unbind\ngrant owner read"),
             ("/people/bob /people/bob", "deny owner read"),
         ],
-        "open, settled, denied read by 2, looked 3",
+        "open, settled, denied x-read-texts by 2, looked 3",
     ),
     (
         "read",
@@ -118,7 +118,7 @@ const DECISIONS: &[Decision] = &[
             (NOBODY, "grant authenticated read"),
             (ANN, "deny authenticated read"),
         ],
-        "open, settled, denied read by 1, looked 2",
+        "open, settled, denied x-read-texts by 1, looked 2",
     ),
 ];
 

@@ -35,7 +35,7 @@ fn reading(who: Who, deny: bool) -> Entry {
         who,
         invert: false,
         deny,
-        set: Privilege::One(Leaf::Read).leaves(),
+        set: Privilege::Read.leaves(),
     }
 }
 

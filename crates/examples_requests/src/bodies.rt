@@ -6,7 +6,8 @@
 //! - `label TEXT` and `label-of NUMBER`, so many bytes, are labels;
 //! - `members PATH ..`, `persons NUMBER` and `persons-twice NUMBER` are lists of members;
 //! - `sync` asks for the report on a book from the start, and `sync TOKEN` after a token; `group-members` asks for the
-//!   members of a card, and `effective` and `effective PERSON` for what decides each leaf for nobody and for a person;
+//!   members of a card, `names` for the names of the cards of a book, and `effective` and `effective PERSON` for what
+//!   decides each leaf for nobody and for a person;
 //! - `list ENTRY ; ENTRY ..` is a list of entries, and `entries NUMBER` so many that let all read. An entry is
 //!   `grant WHO NAME ..` or `deny WHO NAME ..`, with `not WHO` for `WHO`, and perhaps `protected` or `inherited` before it.
 
@@ -187,6 +188,7 @@ fn report(rt: &impl Abort, alloc: Global, line: &str) -> Option<ReportKind> {
         "sync" => Some(ReportKind::SyncCollection(place(rt, alloc, word(line, 4)))),
         "group-members" => Some(ReportKind::GroupMembers),
         "effective" => Some(ReportKind::Effective(asked_about(rt, alloc, word(line, 4)))),
+        "names" => Some(ReportKind::Names),
         _ => None,
     }
 }

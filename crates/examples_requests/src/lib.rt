@@ -33,6 +33,8 @@ mod members;
 #[cfg(test)]
 mod moves;
 #[cfg(test)]
+mod names;
+#[cfg(test)]
 mod offices;
 #[cfg(test)]
 mod own_reports;

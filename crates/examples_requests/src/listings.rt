@@ -62,8 +62,8 @@ const LISTS: &[Step] = &[
         "ann PROPFIND /books/sales find acl current-user-privilege-set",
         "207\n\
          200 /books/sales | acl protected grant /people/ann all; grant /groups/staff read bind; \
-         | privileges all write read write-content write-properties bind unbind read-acl write-acl \
-         read-current-user-privilege-set",
+         | privileges all read write x-read-texts write-content write-properties bind unbind read-acl write-acl \
+         read-current-user-privilege-set x-read-names",
     ),
     (
         "ann PROPFIND /books/sales find sync-token group-member-set",
@@ -176,7 +176,8 @@ const SHAPES: &[Step] = &[
         "207\n\
          200 /groups | displayname [] | resourcetype Home | owner null \
          | acl grant all read read-acl read-current-user-privilege-set from /; \
-         | privileges read read-acl read-current-user-privilege-set | members null | sync-token null",
+         | privileges read x-read-texts read-acl read-current-user-privilege-set x-read-names \
+         | members null | sync-token null",
     ),
     (
         "gus PROPFIND /groups find displayname resourcetype owner acl current-user-privilege-set \

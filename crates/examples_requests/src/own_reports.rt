@@ -144,28 +144,32 @@ const RULINGS: &[Step] = &[
     ("ann MOVE /books/law/a.vcf /books/sales/f.vcf", "201"),
     (
         "ann REPORT /books/sales/f.vcf effective /people/bob",
-        "200\nread deny by 3 /books/sales/f.vcf\nwrite-content -\nwrite-properties -\n\
+        "200\nx-read-texts deny by 3 /books/sales/f.vcf\nwrite-content -\nwrite-properties -\n\
          bind grant by 4 /books/sales\nunbind -\nread-acl -\nwrite-acl -\n\
-         read-current-user-privilege-set -",
+         read-current-user-privilege-set -\n\
+         x-read-names deny by 3 /books/sales/f.vcf",
     ),
     (
         "ann REPORT /books/sales/f.vcf effective /people/ann",
-        "200\nread grant by 1 /books/sales\nwrite-content grant by 1 /books/sales\n\
+        "200\nx-read-texts grant by 1 /books/sales\nwrite-content grant by 1 /books/sales\n\
          write-properties grant by 1 /books/sales\nbind grant by 1 /books/sales\n\
          unbind grant by 1 /books/sales\nread-acl grant by 1 /books/sales\n\
          write-acl grant by 1 /books/sales\n\
-         read-current-user-privilege-set grant by 1 /books/sales",
+         read-current-user-privilege-set grant by 1 /books/sales\n\
+         x-read-names grant by 1 /books/sales",
     ),
     (
         "ann REPORT /books/sales/f.vcf effective",
-        "200\nread -\nwrite-content -\nwrite-properties -\nbind -\nunbind -\nread-acl -\nwrite-acl -\n\
-         read-current-user-privilege-set -",
+        "200\nx-read-texts -\nwrite-content -\nwrite-properties -\nbind -\nunbind -\nread-acl -\nwrite-acl -\n\
+         read-current-user-privilege-set -\n\
+         x-read-names -",
     ),
     (
         "ann REPORT /books/sales effective /people/bob",
-        "200\nread grant by 2 /books/sales\nwrite-content -\nwrite-properties -\n\
+        "200\nx-read-texts grant by 2 /books/sales\nwrite-content -\nwrite-properties -\n\
          bind grant by 2 /books/sales\nunbind -\nread-acl -\nwrite-acl -\n\
-         read-current-user-privilege-set -",
+         read-current-user-privilege-set -\n\
+         x-read-names grant by 2 /books/sales",
     ),
     (
         "ann REPORT /books/sales/f.vcf effective /people/zoe",
@@ -199,16 +203,18 @@ const READ_AT: &[Step] = &[
     ("ann MOVE /books/sales/b.vcf /books/law/b.vcf", "201"),
     (
         "bob REPORT /books/law/b.vcf effective /people/bob",
-        "200\nread grant by 1 /books/law\nwrite-content grant by 1 /books/law\n\
+        "200\nx-read-texts grant by 1 /books/law\nwrite-content grant by 1 /books/law\n\
          write-properties grant by 1 /books/law\nbind grant by 1 /books/law\n\
          unbind grant by 1 /books/law\nread-acl grant by 1 /books/law\n\
          write-acl grant by 1 /books/law\n\
-         read-current-user-privilege-set grant by 1 /books/law",
+         read-current-user-privilege-set grant by 1 /books/law\n\
+         x-read-names grant by 1 /books/law",
     ),
     (
         "bob REPORT /books/law/b.vcf effective /people/ann",
-        "200\nread -\nwrite-content -\nwrite-properties -\nbind -\nunbind -\nread-acl -\nwrite-acl -\n\
-         read-current-user-privilege-set -",
+        "200\nx-read-texts -\nwrite-content -\nwrite-properties -\nbind -\nunbind -\nread-acl -\nwrite-acl -\n\
+         read-current-user-privilege-set -\n\
+         x-read-names -",
     ),
     ("ann PUT /books/law/c.vcf BO", "201"),
     (
@@ -218,13 +224,15 @@ const READ_AT: &[Step] = &[
     ("adopt other", "changed, epoch 2"),
     (
         "gus REPORT /people/gus effective /people/gus",
-        "200\nread grant by 1 /people\nwrite-content -\nwrite-properties -\nbind -\nunbind -\n\
-         read-acl grant by 2 /\nwrite-acl -\nread-current-user-privilege-set -",
+        "200\nx-read-texts grant by 1 /people\nwrite-content -\nwrite-properties -\nbind -\nunbind -\n\
+         read-acl grant by 2 /\nwrite-acl -\nread-current-user-privilege-set -\n\
+         x-read-names grant by 1 /people",
     ),
     (
         "gus REPORT /people/gus effective /people/zoe",
-        "200\nread -\nwrite-content -\nwrite-properties -\nbind -\nunbind -\nread-acl grant by 2 /\nwrite-acl -\n\
-         read-current-user-privilege-set -",
+        "200\nx-read-texts -\nwrite-content -\nwrite-properties -\nbind -\nunbind -\nread-acl grant by 2 /\nwrite-acl -\n\
+         read-current-user-privilege-set -\n\
+         x-read-names -",
     ),
 ];
 

@@ -2,6 +2,7 @@
 
 use crate::bodies::{body, depth};
 use crate::moves::{destination, overwrite};
+use crate::names::tell_named;
 use crate::own_reports::{tell_members, tell_rulings};
 use crate::responses::{tell_listing, tell_report};
 use crate::words::{method, word};
@@ -83,6 +84,7 @@ fn tell_content(rt: &impl Abort, alloc: Global, content: &Content) -> String {
         Content::Synced(report) => tell_report(rt, alloc, report),
         Content::Members(book, members) => tell_members(rt, alloc, book, members),
         Content::Rulings(rulings) => tell_rulings(rt, alloc, rulings.as_slice()),
+        Content::Names(book, names) => tell_named(rt, alloc, book, names.as_slice()),
         Content::Refusal(refusal) => tell_refusal(rt, alloc, refusal),
     }
 }

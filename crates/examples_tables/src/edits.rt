@@ -77,7 +77,7 @@ fn own_lists_are_written_in_order(rt: HostRuntime) {
         (Who::Unauthenticated, true, false),
         (Who::Owner, false, false),
     ] {
-        let set = LeafSet::empty().with(Leaf::Read).with(Leaf::WriteAcl);
+        let set = LeafSet::empty().with(Leaf::ReadTexts).with(Leaf::WriteAcl);
         let entry = Entry {
             who,
             invert,

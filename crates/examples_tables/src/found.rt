@@ -13,7 +13,7 @@ fn run(rt: &impl Abort, connection: &mut Connection<MemStore>, sql: &str) {
 fn is_other(rt: &impl Abort, connection: &mut Connection<MemStore>) -> bool {
     assert!(rt; connection.is_autocommit());
     let mut transaction = connection.transaction();
-    says_other_version(&mut transaction).expect(rt, "the version")
+    says_other_version(&mut transaction, 2).expect(rt, "the version")
 }
 
 #[test]
@@ -23,13 +23,13 @@ fn schemas_are_told_apart(rt: HostRuntime) {
     assert!(rt; !is_book_schema(connection.schema()));
     create(&mut connection).expect(&rt, "a new store");
     assert!(rt; is_book_schema(connection.schema()));
-    run(&rt, &mut connection, "DROP INDEX member_member");
+    run(&rt, &mut connection, "DROP INDEX gone_book");
     assert!(rt; !is_book_schema(connection.schema()));
-    let index = "CREATE INDEX member_member ON member (grp)";
+    let index = "CREATE INDEX gone_book ON gone (book)";
     run(&rt, &mut connection, index);
     assert!(rt; !is_book_schema(connection.schema()));
-    run(&rt, &mut connection, "DROP INDEX member_member");
-    let index = "CREATE INDEX member_member ON member (member)";
+    run(&rt, &mut connection, "DROP INDEX gone_book");
+    let index = "CREATE INDEX gone_book ON gone (book, number)";
     run(&rt, &mut connection, index);
     assert!(rt; is_book_schema(connection.schema()));
     run(
@@ -46,7 +46,7 @@ fn versions_are_told_apart(rt: HostRuntime) {
     let alloc = rt.alloc();
     let mut connection = store(&rt, alloc);
     assert!(rt; !is_other(&rt, &mut connection));
-    run(&rt, &mut connection, "UPDATE meta SET version = 2");
+    run(&rt, &mut connection, "UPDATE meta SET version = 3");
     assert!(rt; is_other(&rt, &mut connection));
     run(
         &rt,
@@ -86,7 +86,7 @@ fn a_store_that_is_opened_again_has_its_rows(rt: HostRuntime) {
     check(
         &rt,
         whole_rows(&rt, alloc, &mut connection),
-        "7 nodes, 0 entries, 0 removed, meta 1 0",
+        "7 nodes, 0 entries, 0 removed, meta 2 0",
     );
     drop(connection);
 }

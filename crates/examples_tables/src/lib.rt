@@ -1,6 +1,6 @@
 //! Worked examples of the tables of a store, over a store in memory. As rows: founding a store, finding one that is there,
 //! each edit, and each read, once on its happy path. As an Office: each edit through `Tables`, and what is found after it;
-//! and stores that are there, opened as they were left and with rows that are changed by hand. They stand in a crate of
+//! stores that are there, opened as they were left and with rows that are changed by hand, and stores of version 1, migrated. They stand in a crate of
 //! their own, since a crate with tests is proved twice.
 //!
 //! The wanted rows and answers are those of the rules (RFC 3744, RFC 4918 and own profile), worked out by hand. `row_texts`
@@ -21,6 +21,8 @@ mod founded;
 mod kept;
 #[cfg(test)]
 mod lists;
+#[cfg(test)]
+mod migrated;
 #[cfg(test)]
 mod new_tables;
 #[cfg(test)]

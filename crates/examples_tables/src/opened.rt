@@ -71,9 +71,10 @@ const TOLD: &[(&str, &str)] = &[
         "UPDATE node SET label = 'Law' WHERE path = '/books/law'",
         "opened",
     ),
-    ("UPDATE meta SET version = 2", "other-version"),
+    ("UPDATE meta SET version = 3", "other-version"),
+    ("UPDATE meta SET version = 1", "other-version"),
     ("DELETE FROM meta", "no-store"),
-    ("INSERT INTO meta VALUES (1, 0)", "no-store"),
+    ("INSERT INTO meta VALUES (2, 0)", "no-store"),
     ("UPDATE meta SET epoch = 0 - 1", "no-store"),
     (
         "UPDATE node SET kind = 3 WHERE path = '/books/law'",
@@ -131,46 +132,51 @@ const TOLD: &[(&str, &str)] = &[
         "no-store",
     ),
     (
-        "INSERT INTO ace VALUES (1, 0, 7, 5, NULL, 0, 1, 255)",
+        "INSERT INTO ace2 VALUES (1, 0, 7, 5, NULL, 0, 1, 511)",
         "opened",
     ),
     (
-        "INSERT INTO ace VALUES (1, 0, 7, 0, '/people', 0, 1, 255)",
+        "INSERT INTO ace VALUES (1, 0, 7, 5, NULL, 0, 1, 255)",
         "no-store",
     ),
     (
-        "INSERT INTO ace VALUES (1, 0, 7, 5, NULL, 0, 2, 255)",
+        "INSERT INTO ace2 VALUES (1, 0, 7, 0, '/people', 0, 1, 255)",
         "no-store",
     ),
     (
-        "INSERT INTO ace SELECT id, 1, 0, 5, NULL, 0, 1, 255 FROM node WHERE kind = 5",
+        "INSERT INTO ace2 VALUES (1, 0, 7, 5, NULL, 0, 2, 255)",
         "no-store",
     ),
     (
-        "INSERT INTO ace VALUES (1, 0, 0 - 1, 5, NULL, 0, 1, 255)",
+        "INSERT INTO ace2 SELECT id, 1, 0, 5, NULL, 0, 1, 255 FROM node WHERE kind = 5",
         "no-store",
     ),
     (
-        "INSERT INTO ace VALUES (1, 0, 7, 5, NULL, 0, 1, 256)",
+        "INSERT INTO ace2 VALUES (1, 0, 0 - 1, 5, NULL, 0, 1, 255)",
         "no-store",
     ),
     (
-        "INSERT INTO ace VALUES (1, 0, 7, 6, NULL, 0, 1, 255)",
+        "INSERT INTO ace2 VALUES (1, 0, 7, 5, NULL, 0, 1, 512)",
         "no-store",
     ),
     (
-        "INSERT INTO ace VALUES (1, 0, 7, 0, NULL, 0, 1, 255)",
+        "INSERT INTO ace2 VALUES (1, 0, 7, 6, NULL, 0, 1, 255)",
         "no-store",
     ),
     (
-        "INSERT INTO ace VALUES (1, 0, 7, 5, NULL, 2, 1, 255)",
+        "INSERT INTO ace2 VALUES (1, 0, 7, 0, NULL, 0, 1, 255)",
         "no-store",
     ),
     (
-        "INSERT INTO ace VALUES (1, 2, 7, 5, NULL, 0, 1, 255)",
+        "INSERT INTO ace2 VALUES (1, 0, 7, 5, NULL, 2, 1, 255)",
+        "no-store",
+    ),
+    (
+        "INSERT INTO ace2 VALUES (1, 2, 7, 5, NULL, 0, 1, 255)",
         "no-store",
     ),
     ("DROP INDEX node_owner", "no-store"),
+    ("DROP INDEX gone_book", "no-store"),
     ("CREATE INDEX node_label ON node (label)", "no-store"),
     (
         "CREATE TABLE note (id INTEGER PRIMARY KEY) STRICT",
@@ -178,7 +184,7 @@ const TOLD: &[(&str, &str)] = &[
     ),
     ("CREATE VIEW names AS SELECT path FROM node", "no-store"),
     (
-        "DROP TABLE meta; CREATE TABLE meta (version INTEGER, epoch INTEGER NOT NULL) STRICT; INSERT INTO meta VALUES (1, 0)",
+        "DROP TABLE meta; CREATE TABLE meta (version INTEGER, epoch INTEGER NOT NULL) STRICT; INSERT INTO meta VALUES (2, 0)",
         "no-store",
     ),
     (
@@ -186,7 +192,7 @@ const TOLD: &[(&str, &str)] = &[
         "no-store",
     ),
     (
-        "DROP TABLE gone; UPDATE meta SET version = 2",
+        "DROP TABLE gone; UPDATE meta SET version = 3",
         "other-version",
     ),
 ];
@@ -199,11 +205,11 @@ const TOLD_OF_OTHERS: &[(&str, &str)] = &[
         "no-store",
     ),
     (
-        "CREATE TABLE meta (version INTEGER NOT NULL); INSERT INTO meta VALUES (2)",
+        "CREATE TABLE meta (version INTEGER NOT NULL); INSERT INTO meta VALUES (3)",
         "other-version",
     ),
     (
-        "CREATE TABLE meta (version INTEGER NOT NULL); INSERT INTO meta VALUES (2), (2)",
+        "CREATE TABLE meta (version INTEGER NOT NULL); INSERT INTO meta VALUES (3), (3)",
         "no-store",
     ),
 ];

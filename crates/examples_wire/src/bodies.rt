@@ -90,19 +90,19 @@ const LISTS: Cases = &[
     ("{\"acl\":[]}", "list"),
     (
         "{\"acl\":[{\"deny\":[\"all\"],\"principal\":\"/people/ann\"},{\"deny\":[\"read\"],\"principal\":\"/people/bob\"}]}",
-        "list; deny /people/ann read write-content write-properties bind unbind read-acl write-acl read-current-user-privilege-set; deny /people/bob read",
+        "list; deny /people/ann x-read-texts write-content write-properties bind unbind read-acl write-acl read-current-user-privilege-set x-read-names; deny /people/bob x-read-texts x-read-names",
     ),
     (
         "{\"acl\":[{\"principal\":\"all\",\"grant\":[\"read\",\"bind\",\"read\"]},{\"grant\":[\"write\"],\"invert\":\"/groups/staff/\"}]}",
-        "list; grant everyone read bind; grant all but /groups/staff write-content write-properties bind unbind",
+        "list; grant everyone x-read-texts bind x-read-names; grant all but /groups/staff write-content write-properties bind unbind",
     ),
     (
         "{\"acl\":[{\"grant\":[\"read\"],\"principal\":\"authenticated\"},{\"grant\":[\"read\"],\"principal\":\"unauthenticated\"},{\"grant\":[\"read\"],\"principal\":\"owner\"},{\"grant\":[\"read\"],\"principal\":\"self\"}]}",
-        "list; grant known callers read; grant unknown callers read; grant the owner read; grant itself read",
+        "list; grant known callers x-read-texts x-read-names; grant unknown callers x-read-texts x-read-names; grant the owner x-read-texts x-read-names; grant itself x-read-texts x-read-names",
     ),
     (
         "{\"acl\":[{\"grant\":[\"unlock\",\"read\"],\"principal\":\"ann\",\"protected\":true},{\"grant\":[\"read\"],\"principal\":\"All\",\"protected\":false,\"inherited\":\"\"}]}",
-        "list; grant nobody known unknown, protected; grant nobody known read, inherited",
+        "list; grant nobody known unknown, protected; grant nobody known x-read-texts x-read-names, inherited",
     ),
     ("{\"acl\":[{\"grant\":[\"read\"]}]}", "unread"),
     ("{\"acl\":[{\"principal\":\"all\"}]}", "unread"),
@@ -150,7 +150,7 @@ const LISTS: Cases = &[
     ("{\"acl\":[],\"owner\":\"/people/ann\"}", "unread"),
 ];
 
-/// REPORT asks one of three (RFC 3253, section 3.6; RFC 6578, section 3.2; own profile).
+/// REPORT asks one of four (RFC 3253, section 3.6; RFC 6578, section 3.2; own profile).
 const REPORTS: Cases = &[
     ("", "empty"),
     (
@@ -170,6 +170,7 @@ const REPORTS: Cases = &[
         "changes from no token",
     ),
     ("{\"report\":\"group-members\"}", "group members"),
+    ("{\"report\":\"names\"}", "names"),
     (
         "{\"principal\":\"/people/bob/\",\"report\":\"effective\"}",
         "effective for /people/bob",
@@ -202,6 +203,10 @@ const REPORTS: Cases = &[
         "unread",
     ),
     ("{\"report\":\"Effective\",\"principal\":null}", "unread"),
+    ("{\"report\":\"names\",\"sync-token\":\"\"}", "unread"),
+    ("{\"principal\":null,\"report\":\"names\"}", "unread"),
+    ("{\"report\":\"Names\"}", "unread"),
+    ("{\"report\":[\"names\"]}", "unread"),
     ("{\"report\":\"expand-property\"}", "unread"),
     ("{\"report\":null}", "unread"),
 ];

@@ -99,7 +99,7 @@ const LISTS_AND_CHANGES: &[Turn<'static>] = &[
         "PROPFIND /books/sales HTTP/1.1",
         "{\"prop\":[\"current-user-privilege-set\",\"acl\"]}",
         LISTED,
-        "{\"responses\":[{\"href\":\"/books/sales\",\"prop\":{\"acl\":[{\"grant\":[\"all\"],\"principal\":\"/people/ann\",\"protected\":true},{\"grant\":[\"read\",\"bind\"],\"principal\":\"/groups/staff\"}],\"current-user-privilege-set\":[\"all\",\"write\",\"read\",\"write-content\",\"write-properties\",\"bind\",\"unbind\",\"read-acl\",\"write-acl\",\"read-current-user-privilege-set\"]},\"status\":200}]}",
+        "{\"responses\":[{\"href\":\"/books/sales\",\"prop\":{\"acl\":[{\"grant\":[\"all\"],\"principal\":\"/people/ann\",\"protected\":true},{\"grant\":[\"read\",\"bind\"],\"principal\":\"/groups/staff\"}],\"current-user-privilege-set\":[\"all\",\"read\",\"write\",\"x-read-texts\",\"write-content\",\"write-properties\",\"bind\",\"unbind\",\"read-acl\",\"write-acl\",\"read-current-user-privilege-set\",\"x-read-names\"]},\"status\":200}]}",
     ),
     ("bob", "PUT /books/sales/b.vcf HTTP/1.1", BO, CREATED, ""),
     ("ann", "PUT /books/sales/f.vcf HTTP/1.1", BELL, CREATED, ""),
@@ -192,7 +192,77 @@ const OWN_REPORTS: &[Turn<'static>] = &[
         "REPORT /books/sales/f.vcf HTTP/1.1",
         "{\"principal\":\"/people/bob\",\"report\":\"effective\"}",
         TOLD,
-        "{\"leaves\":[{\"entry\":{\"from\":\"/books/sales/f.vcf\",\"number\":3},\"grant\":false,\"privilege\":\"read\"},{\"entry\":null,\"grant\":false,\"privilege\":\"write-content\"},{\"entry\":null,\"grant\":false,\"privilege\":\"write-properties\"},{\"entry\":{\"from\":\"/books/sales\",\"number\":4},\"grant\":true,\"privilege\":\"bind\"},{\"entry\":null,\"grant\":false,\"privilege\":\"unbind\"},{\"entry\":null,\"grant\":false,\"privilege\":\"read-acl\"},{\"entry\":null,\"grant\":false,\"privilege\":\"write-acl\"},{\"entry\":null,\"grant\":false,\"privilege\":\"read-current-user-privilege-set\"}]}",
+        "{\"leaves\":[{\"entry\":{\"from\":\"/books/sales/f.vcf\",\"number\":3},\"grant\":false,\"privilege\":\"x-read-texts\"},{\"entry\":null,\"grant\":false,\"privilege\":\"write-content\"},{\"entry\":null,\"grant\":false,\"privilege\":\"write-properties\"},{\"entry\":{\"from\":\"/books/sales\",\"number\":4},\"grant\":true,\"privilege\":\"bind\"},{\"entry\":null,\"grant\":false,\"privilege\":\"unbind\"},{\"entry\":null,\"grant\":false,\"privilege\":\"read-acl\"},{\"entry\":null,\"grant\":false,\"privilege\":\"write-acl\"},{\"entry\":null,\"grant\":false,\"privilege\":\"read-current-user-privilege-set\"},{\"entry\":{\"from\":\"/books/sales/f.vcf\",\"number\":3},\"grant\":false,\"privilege\":\"x-read-names\"}]}",
+    ),
+];
+
+/// The names of cards are told to who may read names alone: as they are written, without folds, in byte order of the
+/// cards, and none of a card on which that is denied.
+const NAMES: &[Turn<'static>] = &[
+    ("ann", "PUT /books/sales/b.vcf HTTP/1.1", BO, CREATED, ""),
+    (
+        "ann",
+        "ACL /books/sales HTTP/1.1",
+        "{\"acl\":[{\"grant\":[\"x-read-names\"],\"principal\":\"/people/gus\"}]}",
+        DONE,
+        "",
+    ),
+    (
+        "gus",
+        "GET /books/sales/b.vcf HTTP/1.1",
+        "",
+        FORBIDDEN,
+        "{\"entry\":null,\"error\":\"need-privileges\",\"privilege\":\"read\",\"resource\":\"/books/sales/b.vcf\"}",
+    ),
+    (
+        "gus",
+        "REPORT /books/sales HTTP/1.1",
+        "{\"report\":\"names\"}",
+        TOLD,
+        "{\"names\":[{\"fn\":\"Bo\",\"href\":\"/books/sales/b.vcf\"}]}",
+    ),
+    (
+        "bob",
+        "REPORT /books/sales HTTP/1.1",
+        "{\"report\":\"names\"}",
+        FORBIDDEN,
+        "{\"entry\":null,\"error\":\"need-privileges\",\"privilege\":\"x-read-names\",\"resource\":\"/books/sales\"}",
+    ),
+    ("ann", "PUT /books/sales/a.vcf HTTP/1.1", BELL, CREATED, ""),
+    (
+        "ann",
+        "PUT /books/sales/c.vcf HTTP/1.1",
+        "BEGIN:VCARD\r\nVERSION:4.0\r\nFN:Zoë\\, \"Z\"\r\nFN:Z\r\nEND:VCARD\r\n",
+        CREATED,
+        "",
+    ),
+    (
+        "gus",
+        "REPORT /books/sales HTTP/1.1",
+        "{\"report\":\"names\"}",
+        TOLD,
+        "{\"names\":[{\"fn\":\"Ann Bell\",\"href\":\"/books/sales/a.vcf\"},{\"fn\":\"Bo\",\"href\":\"/books/sales/b.vcf\"},{\"fn\":\"Zoë\\\\, \\\"Z\\\"\",\"href\":\"/books/sales/c.vcf\"}]}",
+    ),
+    (
+        "ann",
+        "ACL /books/sales/a.vcf HTTP/1.1",
+        "{\"acl\":[{\"grant\":[\"x-read-texts\"],\"principal\":\"all\"},{\"deny\":[\"read\"],\"principal\":\"/people/gus\"}]}",
+        DONE,
+        "",
+    ),
+    (
+        "gus",
+        "REPORT /books/sales HTTP/1.1",
+        "{\"report\":\"names\"}",
+        TOLD,
+        "{\"names\":[{\"fn\":\"Bo\",\"href\":\"/books/sales/b.vcf\"},{\"fn\":\"Zoë\\\\, \\\"Z\\\"\",\"href\":\"/books/sales/c.vcf\"}]}",
+    ),
+    (
+        "gus",
+        "GET /books/sales/a.vcf HTTP/1.1",
+        "",
+        FORBIDDEN,
+        "{\"entry\":{\"from\":\"/books/sales/a.vcf\",\"number\":3},\"error\":\"need-privileges\",\"privilege\":\"x-read-names\",\"resource\":\"/books/sales/a.vcf\"}",
     ),
 ];
 
@@ -313,6 +383,7 @@ fn requests_have_their_replies(rt: HostRuntime) {
         (POLICY, LISTINGS),
         (POLICY, LISTS_AND_CHANGES),
         (POLICY, OWN_REPORTS),
+        (POLICY, NAMES),
         (FORMS_POLICY, PROPERTIES),
     ] {
         check(&rt, rt.alloc(), policy, turns);

@@ -1,9 +1,10 @@
 //! Bodies that no request of the examples has as its reply.
 
 use book_lists::Name;
+use book_machine::NamedCard;
 use book_office_sync::{Item, Report, Token};
 use book_office_values::Items;
-use book_wire_json::{listing_body, report_body};
+use book_wire_json::{listing_body, names_body, report_body};
 use std::alloc::Global;
 use std::process::Abort;
 
@@ -44,5 +45,31 @@ fn nothing_is_listed_and_changes_remain(rt: HostRuntime) {
     assert_eq!(rt;
         text.as_str(),
         "{\"responses\":[{\"href\":\"/books/sales/f.vcf\",\"status\":404},{\"href\":\"/books/sales\",\"status\":507}],\"sync-token\":\"data:,sales/2/2\"}"
+    );
+}
+
+/// A card of which no name is told, since its text is none.
+fn unnamed(rt: &impl Abort, alloc: Global) -> Vec<NamedCard> {
+    let mut names = Vec::new(alloc);
+    let card = NamedCard {
+        name: name(rt, alloc, "x.vcf"),
+        formatted: None,
+    };
+    names.push(card).expect(rt, "memory");
+    names
+}
+
+#[test]
+fn no_name_is_null(rt: HostRuntime) {
+    let alloc = rt.alloc();
+    let book = name(&rt, alloc, "sales");
+    let text = names_body(alloc, &book, &[]).expect(&rt, "memory");
+    assert_eq!(rt; text.as_str(), "{\"names\":[]}");
+    let names = unnamed(&rt, alloc);
+    let text = names_body(alloc, &book, names.as_slice()).expect(&rt, "memory");
+    drop(names);
+    assert_eq!(rt;
+        text.as_str(),
+        "{\"names\":[{\"fn\":null,\"href\":\"/books/sales/x.vcf\"}]}"
     );
 }

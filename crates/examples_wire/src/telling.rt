@@ -64,6 +64,7 @@ fn property_word(property: Property) -> &'static str {
 fn tell_report(rt: &impl Abort, answer: &mut String, report: &ReportKind) {
     match report {
         ReportKind::GroupMembers => answer.push_str("group members").expect(rt, "memory"),
+        ReportKind::Names => answer.push_str("names").expect(rt, "memory"),
         ReportKind::Effective(Caller::Nobody) => {
             answer.push_str("effective for nobody").expect(rt, "memory")
         }

@@ -7,14 +7,16 @@
 //! It prints a line a kind, `NAME: N stops, B before, A after, W wrong`, where B, A and W count both ways of stopping, and
 //! last `N stops, W wrong`; the status is 1 where one is wrong. Words name the kinds; without any all are tried. Which
 //! Offices are wanted is told by a keeper in memory. The first open of a store, which makes its files, is stopped alike:
-//! its line is `first open: N stops, A taken, W wrong`, where what is left opens and takes the tables.
+//! its line is `first open: N stops, A taken, W wrong`, where what is left opens and takes the tables. The migration of a
+//! store of version 1 is tried where no kind or the word `migrate` is given: before it is of version 1 and can be migrated.
 //!
 //! Read `cases` for what is edited, `crate::disks` for the files, `texts` for what is compared, and then `trials`;
-//! `beginnings` has the first open.
+//! `beginnings` has the first open, and `migrations` the migration.
 
 mod beginnings;
 mod cases;
 mod counts;
+mod migrations;
 mod plans;
 mod texts;
 mod trials;
@@ -24,15 +26,21 @@ use anyhow::{Context, Result};
 use beginnings::stops_of_first_open;
 use cases::{CASES, Case};
 use counts::Count;
+use migrations::stops_of_migration;
 use sqlite_disk::Files;
 use std::alloc::Global;
 use trials::{start_files, stops_of};
 
-/// The kinds that the words name.
+/// The word for the migration of a store of version 1.
+const MIGRATE: &str = "migrate";
+
+/// The kinds of edits that the words name.
 fn asked_cases(alloc: Global, words: &[&str]) -> Result<Vec<Case>> {
     let mut asked = Vec::new(alloc);
     for word in words {
-        asked.push(Case::named(word).context("no such kind of edit")?)?;
+        if *word != MIGRATE {
+            asked.push(Case::named(word).context("no such kind of edit")?)?;
+        }
     }
     Ok(asked)
 }
@@ -59,6 +67,22 @@ fn print_first_stops(rt: &(impl AllocGlobal + Print)) -> Result<Count> {
     Ok(count)
 }
 
+/// Tries the stops of a migration where the words ask for it, and prints their line.
+fn print_migration_stops(rt: &(impl AllocGlobal + Print), words: &[&str]) -> Result<Count> {
+    if !words.is_empty() && !words.contains(&MIGRATE) {
+        return Ok(Count::none());
+    }
+    let count = stops_of_migration(rt.alloc())?;
+    let Count {
+        stops,
+        before,
+        after,
+        wrong,
+    } = count;
+    println!(rt; "migrate: {stops} stops, {before} before, {after} after, {wrong} wrong")?;
+    Ok(count)
+}
+
 /// Tries the stops of each of these kinds.
 fn print_each(
     rt: &(impl AllocGlobal + Print),
@@ -72,9 +96,9 @@ fn print_each(
     Ok(all)
 }
 
-/// Tries the stops of the kinds that are asked for, or of all where none is.
-fn print_asked(rt: &(impl AllocGlobal + Print), asked: &[Case]) -> Result<Count> {
-    let cases = if asked.is_empty() { CASES } else { asked };
+/// Tries the stops of the kinds that are asked for, or of all where there is no word.
+fn print_asked(rt: &(impl AllocGlobal + Print), words: &[&str], asked: &[Case]) -> Result<Count> {
+    let cases = if words.is_empty() { CASES } else { asked };
     let start = start_files(rt.alloc())?;
     let count = print_each(rt, &start, cases);
     drop(start);
@@ -86,7 +110,9 @@ fn print_asked(rt: &(impl AllocGlobal + Print), asked: &[Case]) -> Result<Count>
 pub(crate) fn try_stops(rt: &(impl AllocGlobal + Print), words: &[&str]) -> Result<bool> {
     let asked = asked_cases(rt.alloc(), words)?;
     let first = print_first_stops(rt)?;
-    let all = first.plus(print_asked(rt, asked.as_slice())?);
+    let migration = print_migration_stops(rt, words)?;
+    let asked = print_asked(rt, words, asked.as_slice())?;
+    let all = first.plus(migration).plus(asked);
     let (stops, wrong) = (all.stops, all.wrong);
     println!(rt; "{stops} stops, {wrong} wrong")?;
     Ok(wrong == 0)

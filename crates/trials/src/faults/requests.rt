@@ -38,6 +38,8 @@ pub(crate) enum Says {
     ChangesAfter(u64, u64),
     /// The cards to which a group card leads.
     Cards,
+    /// The names of the cards of a book.
+    Names,
     /// The entries that decide for bob.
     Deciding,
 }
@@ -124,6 +126,7 @@ fn report(alloc: Global, says: Says) -> Result<ReportKind, Failure> {
             ReportKind::SyncCollection(changes_after(alloc, epoch, number)?)
         }
         Says::Cards => ReportKind::GroupMembers,
+        Says::Names => ReportKind::Names,
         Says::Deciding => ReportKind::Effective(Caller::Known(principal(alloc, "/people/bob")?)),
         _ => ReportKind::SyncCollection(SyncFrom::Start),
     })
@@ -145,7 +148,7 @@ fn body(alloc: Global, says: Says) -> Result<Body, Failure> {
             let asked = [Property::DisplayName, Property::SyncToken];
             Body::Find(properties(alloc, asked)?)
         }
-        Says::Changes | Says::ChangesAfter(..) | Says::Cards | Says::Deciding => {
+        Says::Changes | Says::ChangesAfter(..) | Says::Cards | Says::Names | Says::Deciding => {
             Body::Report(report(alloc, says)?)
         }
     })

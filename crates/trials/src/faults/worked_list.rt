@@ -287,6 +287,11 @@ const OTHERS: &[Line] = &[
         "",
     ),
     (
+        Step::Ask("bob", Method::Report, "/books/sales", Says::Names),
+        200,
+        "",
+    ),
+    (
         Step::Ask(
             "ann",
             Method::Move,

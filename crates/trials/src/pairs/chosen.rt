@@ -74,18 +74,21 @@ const SETTINGS: [&str; 5] = [
     "{\"set\":{\"group-member-set\":[\"/people/zoe\"]}}",
 ];
 
-const LISTS: [&str; 6] = [
+const LISTS: [&str; 8] = [
     "{\"acl\":[]}",
     "{\"acl\":[{\"grant\":[\"read\"],\"principal\":\"all\"}]}",
     "{\"acl\":[{\"deny\":[\"read\"],\"principal\":\"/people/bob\"},{\"grant\":[\"all\"],\"principal\":\"owner\"}]}",
     "{\"acl\":[{\"grant\":[\"all\"],\"invert\":\"unauthenticated\"},{\"grant\":[\"read\"],\"principal\":\"self\"}]}",
+    "{\"acl\":[{\"grant\":[\"x-read-names\"],\"principal\":\"authenticated\"}]}",
+    "{\"acl\":[{\"deny\":[\"x-read-texts\"],\"principal\":\"/people/bob\"},{\"grant\":[\"read\"],\"principal\":\"all\"}]}",
     "{\"acl\":[{\"grant\":[\"unlock\"],\"principal\":\"all\"}]}",
     "{\"acl\":[{\"grant\":[\"read\"],\"principal\":\"/people/zoe\"}]}",
 ];
 
-const REPORTS: [&str; 4] = [
+const REPORTS: [&str; 5] = [
     "{\"report\":\"sync-collection\",\"sync-token\":\"\"}",
     "{\"report\":\"group-members\"}",
+    "{\"report\":\"names\"}",
     "{\"principal\":\"/people/bob\",\"report\":\"effective\"}",
     "{\"principal\":null,\"report\":\"effective\"}",
 ];
@@ -122,8 +125,8 @@ fn body(chooser: &mut Chooser, method: &str) -> &'static str {
         "PUT" => TEXTS[chooser.below(4)],
         "PROPFIND" => PROPERTIES[chooser.below(3)],
         "PROPPATCH" => SETTINGS[chooser.below(5)],
-        "ACL" => LISTS[chooser.below(6)],
-        "REPORT" => REPORTS[chooser.below(4)],
+        "ACL" => LISTS[chooser.below(8)],
+        "REPORT" => REPORTS[chooser.below(5)],
         _ => "",
     }
 }

@@ -246,6 +246,23 @@ const REPORT_ROWS: &[Row<'static>] = &[
         "",
         "{\"report\":\"group-members\"}",
     ),
+    (BOB, "REPORT", "/books/sales", "", "{\"report\":\"names\"}"),
+    (
+        ANN,
+        "ACL",
+        "/books/sales",
+        "",
+        "{\"acl\":[{\"grant\":[\"x-read-names\"],\"principal\":\"/groups/staff\"}]}",
+    ),
+    (BOB, "REPORT", "/books/sales", "", "{\"report\":\"names\"}"),
+    (BOB, "GET", "/books/sales/g.vcf", "", ""),
+    (
+        NOBODY,
+        "REPORT",
+        "/books/sales",
+        "",
+        "{\"report\":\"names\"}",
+    ),
 ];
 
 /// No entry grants the removal of a book.

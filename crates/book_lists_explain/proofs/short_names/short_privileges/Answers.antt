@@ -19,7 +19,7 @@ loop-leaf-preserved c =
 
 pub returns : goal.returns
 returns c =
-    let whole : c.loop-leaf.leaf-index ≡ 8 = omega arith in
+    let whole : c.loop-leaf.leaf-index ≡ 9 = omega arith in
     let P : (Leaf → Bool) → Type 0 = λ s. IsLeast s c.least.result in
     let least : IsLeast (difference every_leaf c.args.set) c.least.result =
     subst P (c.minus.ensures ∙ ap (λ s. difference s c.args.set) c.all.ensures) c.least.ensures in

@@ -34,7 +34,9 @@ returns-in_ok-deciding_entry-in-Denied c =
     let few : c.in_ok-turn-4.turn.passed < 2 ^ 64 = search rules in
     let fits : length readings < 2 ^ 64 = subst (λ n. n < 2 ^ 64) (told.counted ∙ sym (length-map (bare_entries list) _ ∙ length-map list _)) few in
     record {
+      leaf = c.in-Denied.leaf;
       index = c.in-Denied.entry;
+      privilege = c.denied_name.ensures;
       resource = c.in_ok-copy_of-in-Denied.ensures;
       entry = c.in_ok-deciding_entry-in-Denied.ensures;
       decided = denial_one circle here (bare_entries list) set c.in-Denied.leaf c.in-Denied.entry (c.in-Denied.ensures.denied set readings told.scanned fits);

@@ -7,8 +7,8 @@ returns-then-branch-clause-told g c clean rise = (c.in_ok-is_whole.ensures.told 
 
 pub returns-then-branch-2-clause-other : goal.returns-then-branch-2-clause-other
 returns-then-branch-2-clause-other g c clean open_now =
-    told_still g.S.Store (state g.S.Store c.is_whole.new.connection) (state g.S.Store c.tells_other.new.connection) (c.tells_other.ensures.stays clean) open_now c.in_ok-tells_other.field-0 true c.if-branch-2.true (c.in_ok-tells_other.ensures.told clean)
+    told_still g.S.Store 2 (state g.S.Store c.is_whole.new.connection) (state g.S.Store c.tells_other.new.connection) (c.tells_other.ensures.stays clean) open_now c.in_ok-tells_other.field-0 true c.if-branch-2.true (c.in_ok-tells_other.ensures.told clean)
 
 pub returns-clause-other : goal.returns-clause-other
 returns-clause-other g c clean open_now =
-    told_still g.S.Store (state g.S.Store c.is_whole.new.connection) (state g.S.Store c.tells_other.new.connection) (c.tells_other.ensures.stays clean) open_now c.in_ok-tells_other.field-0 false c.if-branch-2.false (c.in_ok-tells_other.ensures.told clean)
+    told_still g.S.Store 2 (state g.S.Store c.is_whole.new.connection) (state g.S.Store c.tells_other.new.connection) (c.tells_other.ensures.stays clean) open_now c.in_ok-tells_other.field-0 false c.if-branch-2.false (c.in_ok-tells_other.ensures.told clean)

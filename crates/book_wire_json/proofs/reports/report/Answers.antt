@@ -4,4 +4,5 @@ use Rattle.book_wire_json.proofs.reports.report.Goals as goal
 
 pub returns : goal.returns
 returns c = no_report _ c.in_default.ensures c.in_default-effective.ensures
-    (λ e. false≢true (sym c.if-is_group_members.false ∙ c.is_group_members.ensures.1 e))
+    (λ e. false≢true (sym c.if-is_report_named.false ∙ c.is_report_named.ensures.1 e))
+    (λ e. false≢true (sym c.if-is_report_named-2.false ∙ c.is_report_named-2.ensures.1 e))

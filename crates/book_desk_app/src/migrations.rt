@@ -1,0 +1,52 @@
+//! Migrating a store, and telling it.
+
+ghost use Rattle.std.specs.Prelude.{◌≡◌, IfErr, OnOk};
+ghost use Rattle.std.specs.Io.KnownBytes.{Appends, Keeps};
+ghost use Rattle.sqlite.specs.Held.{state};
+ghost use Rattle.book_desk_app.specs.Migrations.{MigratesStore, migration_line};
+ghost use Rattle.book_desk_app.specs.declared.failures.Failure.TheVariants.{Output};
+
+use crate::stores::store_failure;
+use crate::{Failure, tell};
+use book_tables_migrating::migrate;
+use sqlite::{Alter, Connection};
+use std::alloc::Global;
+use std::io::Write;
+
+/// Writes a line: `version 2, entries N`.
+fn write_entries<W: Write>(writer: &mut W, entries: u64) -> Result<(), Failure>
+    ensures written { OnOk result (Appends (W.contents writer.old) (W.contents writer.new) (migration_line entries)) }
+    ensures failed { IfErr result (λ failure. failure ≡ Output) }
+{
+    if writeln!(writer, "version 2, entries {entries}").is_err() || writer.flush().is_err() {
+        return Err(Failure::Output);
+    }
+    Ok(())
+}
+
+/// Makes a store of version 1 one of version 2, writes how many entries it has, and gives the status of the program: 0
+/// where both are done, 3 where the store was not migrated, or the line could not be written. A failure is told on
+/// `errors`. The connection comes back but where the store could not be opened again.
+pub fn run_migration<S: Alter + Drop, W: Write, E: Write>(
+    alloc: Global,
+    store: Connection<S>,
+    writer: &mut W,
+    errors: &mut E,
+) -> (u8, Option<Connection<S>>)
+    ensures runs { MigratesStore (state S.Store) store (W.contents writer.old) (W.contents writer.new) result.0 result.1 }
+    ensures silent { result.0 ≡ 0 → Keeps (E.contents errors.old) (E.contents errors.new) }
+{
+    match migrate(alloc, store) {
+        Ok((tables, entries)) => {
+            let status = match write_entries(writer, entries) {
+                Ok(()) => 0,
+                Err(failure) => tell(errors, &failure),
+            };
+            (status, Some(tables.release()))
+        }
+        Err((fault, connection)) => {
+            let status = tell(errors, &Failure::Store(store_failure(fault)));
+            (status, connection)
+        }
+    }
+}

@@ -1,0 +1,5 @@
+mod MappedOffices
+mod MappedLists
+mod MappedRows
+mod AlikeOffices
+mod Rewritings

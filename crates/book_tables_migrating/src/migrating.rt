@@ -1,0 +1,138 @@
+//! Migrating a store, in one transaction.
+
+ghost use Rattle.std.specs.Prelude.{◌≡◌, IfOk, IfErr, IfSome, IsSomeAnd, OnErr, IsTrue};
+ghost use Rattle.sqlite.specs.Held.{state};
+ghost use Rattle.sqlite.specs.State.{HasCleanDisk, Survives};
+ghost use Rattle.book_tables_rows.specs.Steps.{Keeps, Stays};
+ghost use Rattle.book_tables_opening.specs.Reading.{FaultSays, IsRefused};
+ghost use Rattle.book_tables_migrating.specs.Migrating.{IsReopenedFirst, IsUnmigrated, MayMigrate, StandsForNoneFirst, StandsWidened, TellsMigrated, TellsRewritten};
+
+use book_tables::{OpenFault, Tables};
+use book_tables_opening::{is_office, open_fault_of, tells_other};
+use book_tables_renewing::renew;
+use book_tables_schema::{is_first_schema, reopen};
+use sqlite::{Alter, Connection, Error, ErrorCode, Transaction};
+use std::alloc::Global;
+
+/// Renews the tables, and tells how many entries they have, where their rows are then those of a sound Office.
+fn rewrite<S: Alter>(
+    alloc: Global,
+    transaction: &mut Transaction<'_, S>,
+) -> Result<Option<usize>, Error>
+    ensures same_reference { transaction.new.conn.ghost_name ≡ transaction.old.conn.ghost_name }
+    ensures survives { Survives (state S.Store transaction.old.conn.now) (state S.Store transaction.new.conn.now)
+        (λ _. ⊥) }
+    ensures kept { Keeps (state S.Store transaction.old.conn.now) (state S.Store transaction.new.conn.now) }
+    ensures told { HasCleanDisk (state S.Store transaction.new.conn.now)
+        → IsTrue (state S.Store transaction.old.conn.now).in_transaction
+        → IfOk result (λ count. TellsRewritten (state S.Store transaction.old.conn.now)
+        (state S.Store transaction.new.conn.now) count) }
+{
+    let Some(count) = renew(transaction)? else {
+        return Ok(None);
+    };
+    if !is_office(alloc, transaction)? {
+        return Ok(None);
+    }
+    Ok(Some(count))
+}
+
+/// The same of a connection whose tables are those of version 1, in a transaction of its own: it is committed where they
+/// are, and undone where they are not.
+fn migrate_first<S: Alter>(
+    alloc: Global,
+    connection: &mut Connection<S>,
+) -> Result<Option<usize>, Error>
+    ensures told { HasCleanDisk (state S.Store connection.new)
+        → IfOk result (λ count. TellsMigrated (state S.Store connection.old) (state S.Store connection.new) count) }
+    ensures kept { HasCleanDisk (state S.Store connection.new)
+        → OnErr result (Stays (state S.Store connection.old) (state S.Store connection.new)) }
+    ensures left { Survives (state S.Store connection.old) (state S.Store connection.new)
+        (MayMigrate (state S.Store connection.old)) }
+{
+    if !is_first_schema(connection.schema()) {
+        return Ok(None);
+    }
+    if !connection.is_autocommit() {
+        return Err(Error::SqliteFailure(ErrorCode::TransactionState));
+    }
+    let mut transaction = connection.transaction();
+    let Some(count) = rewrite(alloc, &mut transaction)? else {
+        return Ok(None);
+    };
+    transaction.commit()?;
+    Ok(Some(count))
+}
+
+/// Why a connection was not migrated whose tables stand for no Office as those of version 1.
+fn refusal_of<S: Alter>(connection: &mut Connection<S>) -> OpenFault
+    ensures stays { HasCleanDisk (state S.Store connection.new)
+        → Stays (state S.Store connection.old) (state S.Store connection.new) }
+    ensures survives { Survives (state S.Store connection.old) (state S.Store connection.new) (λ _. ⊥) }
+    ensures says { HasCleanDisk (state S.Store connection.new) → IsTrue (state S.Store connection.new).is_open
+        → FaultSays S.Store 1 (state S.Store connection.new).now result }
+{
+    match tells_other(connection, 1) {
+        Ok(true) => OpenFault::OtherVersion,
+        Ok(false) => OpenFault::NoStore,
+        Err(error) => open_fault_of(error),
+    }
+}
+
+/// The tables of a connection that was opened again.
+fn migrate_again<S: Alter>(
+    alloc: Global,
+    mut connection: Connection<S>,
+) -> Result<(Tables<S>, u64), (OpenFault, Option<Connection<S>>)>
+    ensures stands { IsReopenedFirst (state S.Store connection)
+        → IfOk result (λ t. HasCleanDisk (state S.Store t.0.connection) → HasCleanDisk (state S.Store connection)
+        × StandsWidened (state S.Store connection).now.trees (state S.Store t.0.connection) t.1) }
+    ensures counted { IfOk result (λ t. t.0.failures ≡ 0) }
+    ensures refused { IfErr result (λ e. IsRefused e.0 → IsSomeAnd e.1 (λ c.
+        HasCleanDisk (state S.Store c) → StandsForNoneFirst (state S.Store c))) }
+    ensures other { IfErr result (λ e. IsRefused e.0 → IsSomeAnd e.1 (λ c. HasCleanDisk (state S.Store c)
+        → IsTrue (state S.Store c).is_open → FaultSays S.Store 1 (state S.Store c).now e.0)) }
+    ensures kept { IsReopenedFirst (state S.Store connection)
+        → IfErr result (λ e. IfSome e.1 (λ c. HasCleanDisk (state S.Store c) → HasCleanDisk (state S.Store connection)
+        × IsUnmigrated (state S.Store connection).now.trees (state S.Store c))) }
+{
+    match migrate_first(alloc, &mut connection) {
+        Ok(Some(count)) => Ok((Tables::over(connection), count as u64)),
+        Ok(None) => {
+            let fault = refusal_of(&mut connection);
+            Err((fault, Some(connection)))
+        }
+        Err(error) => Err((open_fault_of(error), Some(connection))),
+    }
+}
+
+/// Makes the tables of a store of version 1 those of version 2, in one transaction, as its last commit left them, and opens
+/// them; tells how many entries they have. Each entry that has `x-read-texts`, which was `read`, has `x-read-names` then;
+/// nothing else changes: the epoch and all change numbers stay, so tokens stay good. Every row is read and tested, as
+/// `open` does.
+///
+/// # Errors
+///
+/// `OtherVersion` where the tables stand for no Office as those of version 1, and `meta` has one row, with another version
+/// than 1; `NoStore` where they stand for none else. `Memory` is want of memory, `Store` any other failure of the store. The
+/// connection comes back but where the store could not be opened again, and shows what was committed; a stop leaves that,
+/// or what is migrated.
+pub fn migrate<S: Alter + Drop>(
+    alloc: Global,
+    connection: Connection<S>,
+) -> Result<(Tables<S>, u64), (OpenFault, Option<Connection<S>>)>
+    ensures stands { IfOk result (λ t. HasCleanDisk (state S.Store t.0.connection)
+        → StandsWidened (state S.Store connection).committed.trees (state S.Store t.0.connection) t.1) }
+    ensures counted { IfOk result (λ t. t.0.failures ≡ 0) }
+    ensures refused { IfErr result (λ e. IsRefused e.0 → IsSomeAnd e.1 (λ c.
+        HasCleanDisk (state S.Store c) → StandsForNoneFirst (state S.Store c))) }
+    ensures other { IfErr result (λ e. IsRefused e.0 → IsSomeAnd e.1 (λ c. HasCleanDisk (state S.Store c)
+        → IsTrue (state S.Store c).is_open → FaultSays S.Store 1 (state S.Store c).now e.0)) }
+    ensures kept { IfErr result (λ e. IfSome e.1 (λ c. HasCleanDisk (state S.Store c)
+        → IsUnmigrated (state S.Store connection).committed.trees (state S.Store c))) }
+{
+    match reopen(alloc, connection) {
+        Ok(opened) => migrate_again(alloc, opened),
+        Err(error) => Err((open_fault_of(error), None)),
+    }
+}

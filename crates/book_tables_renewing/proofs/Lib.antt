@@ -1,0 +1,5 @@
+mod ShownMasks
+mod CopyTexts
+mod CopiedRows
+mod FirstMeta
+mod Renewals

@@ -1,0 +1,8 @@
+use Rattle.book_tables_schema.proofs.Common.{state}
+use Rattle.book_tables_schema.proofs.SecondVersion.{becomes_second}
+use Rattle.book_tables_schema.proofs.former.set_second.Goals as goal
+
+pub returns-clause-done : goal.returns-clause-done
+returns-clause-done g c clean inside =
+    becomes_second (state g.S.Store c.args.transaction.now.conn.now) (state g.S.Store c.execute.new.self.conn.now) c.in_ok-execute.field-0
+    (c.in_ok-execute.ensures.runs clean inside)
