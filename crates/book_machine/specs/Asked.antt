@@ -1,6 +1,7 @@
 -- What a request asks, by its method and its body.
-use Rattle.std.specs.Prelude.{ℕ, Bool, true, false, ◌&&◌, List, [], ◌∷◌, fold, length, nat_le, Option, Some, None, Result, Ok, Err, if◌then◌else◌}
+use Rattle.std.specs.Prelude.{ℕ, Bool, true, false, ◌&&◌, List, [], ◌∷◌, fold, length, nat_le, Option, Some, None, option_and_then, Result, Ok, Err, if◌then◌else◌}
 use Rattle.std.specs.BTreeSet.{insert_key}
+use Rattle.std.specs.Option.{option_map_or}
 use Rattle.std.specs.Str.{bytes_eq}
 use Rattle.book_lists.specs.Principals.{path_cmp}
 use Rattle.book_limits.specs.declared.TheConstants.{MAX_MEMBERS, MAX_LABEL_BYTES}
@@ -11,6 +12,7 @@ use Rattle.book_rights.specs.declared.methods.Method.{Method}
 use Rattle.book_rights.specs.declared.methods.Method.TheVariants as method
 use Rattle.book_office_values.specs.declared.paths.Path.{Path}
 use Rattle.book_office_values.specs.declared.paths.Path.TheVariants as path
+use Rattle.book_machine.specs.Named.{card_of}
 use Rattle.book_machine.specs.Finding.{find_of, may_be_asked, usual_properties}
 use Rattle.book_machine.specs.declared.asked.Asked.{Asked}
 use Rattle.book_machine.specs.declared.asked.Asked.TheVariants as asked
@@ -147,15 +149,7 @@ report_asked body.Unread = Err BadRequest
 
 -- whether a path is that of the card
 abbrev pub is_card : List ℕ → List ℕ → Option Path → Bool
-is_card b c None = false
-is_card b c (Some path.Root) = false
-is_card b c (Some path.People) = false
-is_card b c (Some path.Groups) = false
-is_card b c (Some path.Books) = false
-is_card b c (Some (path.Person n)) = false
-is_card b c (Some (path.Group n)) = false
-is_card b c (Some (path.Book x)) = false
-is_card b c (Some (path.Card x y)) = bytes_eq x b && bytes_eq y c
+is_card b c p = option_map_or (λ card. bytes_eq card.0 b && bytes_eq card.1 c) (option_and_then card_of p) false
 
 -- a card as a destination, and whether it may be replaced: an Overwrite that was read (RFC 4918, section 10.6)
 abbrev pub destination_by : List ℕ → List ℕ → Flag → Result Destination Refusal
@@ -165,15 +159,8 @@ destination_by b c flag.Unread = Err BadRequest
 
 -- a destination is the path of a card (RFC 4918, section 10.3), other than the source (own profile)
 abbrev pub destination_asked : Option Path → Flag → Option Path → Result Destination Refusal
-destination_asked source overwrite None = Err BadRequest
-destination_asked source overwrite (Some path.Root) = Err BadRequest
-destination_asked source overwrite (Some path.People) = Err BadRequest
-destination_asked source overwrite (Some path.Groups) = Err BadRequest
-destination_asked source overwrite (Some path.Books) = Err BadRequest
-destination_asked source overwrite (Some (path.Person n)) = Err BadRequest
-destination_asked source overwrite (Some (path.Group n)) = Err BadRequest
-destination_asked source overwrite (Some (path.Book b)) = Err BadRequest
-destination_asked source overwrite (Some (path.Card b c)) = if is_card b c source then Err BadRequest else destination_by b c overwrite
+destination_asked source overwrite to =
+    option_map_or (λ card. if is_card card.0 card.1 source then Err BadRequest else destination_by card.0 card.1 overwrite) (option_and_then card_of to) (Err BadRequest)
 
 abbrev pub copy_asked : Result Destination Refusal → Result Asked Refusal
 copy_asked (Ok to) = Ok (asked.Copy to)

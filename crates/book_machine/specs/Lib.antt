@@ -6,6 +6,7 @@ pub mod Asking
 pub mod Finding
 pub mod Laws
 pub mod LeadingRuns
+pub mod Named
 pub mod Promises
 pub mod Refusals
 pub mod Runs

@@ -1,5 +1,6 @@
 -- What the machine does for one request before its verdict, and after it.
-use Rattle.std.specs.Prelude.{◌≡◌, ◌⊎◌, ℕ, ◌+◌, ◌<◌, ◌≤◌, length, Bool, true, false, ◌&&◌, ◌||◌, List, map, All, nat_lt, is_some, Option, Some, None, option_map, Result, Ok, Err, if◌then◌else◌}
+use Rattle.std.specs.Prelude.{◌≡◌, ◌⊎◌, ℕ, ◌+◌, ◌<◌, ◌≤◌, length, Bool, true, false, ◌&&◌, ◌||◌, List, map, All, nat_lt, is_some, Option, Some, None, option_map, MatchOption, Result, Ok, Err, if◌then◌else◌}
+use Rattle.std.specs.Option.{option_map_or}
 use Rattle.std.specs.FinMap.{get}
 use Rattle.std.specs.List.{AllZip}
 use Rattle.std.specs.Str.{bytes_eq}
@@ -59,6 +60,7 @@ use Rattle.book_machine.specs.declared.messages.Request.{Request}
 use Rattle.book_machine.specs.declared.messages.SyncFrom.{SyncFrom}
 use Rattle.book_machine.specs.declared.messages.SyncFrom.TheVariants.{Start, After, Unknown}
 use Rattle.book_machine.specs.declared.plans.Plan.{Plan}
+use Rattle.book_machine.specs.Named.{card_of, book_of, group_of}
 use Rattle.book_machine.specs.Targets.{Ready, Target}
 use Rattle.book_machine.specs.declared.refusals.Refusal.{Refusal}
 use Rattle.book_machine.specs.declared.refusals.Refusal.TheVariants.{UnknownCaller, BadCard, NoProtectedAceConflict, NoInheritedAceConflict, LimitedNumberOfAces, NotSupportedPrivilege, RecognizedPrincipal, ValidSyncToken, NotFound, NotAllowed, NoParent, Overwrite, Full}
@@ -82,25 +84,13 @@ caller_of o (Some name) = if is_some (get o.persons name) then Ok (Known (person
 
 -- PUT goes on at the path of a card that is not there, where its book is there
 abbrev pub new_card : Office → Path → Result (Unit {0}) Refusal
-new_card o path.Root = Err NotFound
-new_card o path.People = Err NotFound
-new_card o path.Groups = Err NotFound
-new_card o path.Books = Err NotFound
-new_card o (path.Person n) = Err NotFound
-new_card o (path.Group n) = Err NotFound
-new_card o (path.Book b) = Err (NotAllowed OfNewBook)
-new_card o (path.Card b c) = check (is_some (get o.books b)) NoParent
+new_card o p = option_map_or (λ b. Err (NotAllowed OfNewBook)) (book_of p)
+    (option_map_or (λ card. check (is_some (get o.books card.0)) NoParent) (card_of p) (Err NotFound))
 
 -- MKCOL goes on at the path of a book that is not there
 abbrev pub new_book_at : Office → Path → Result (Unit {0}) Refusal
-new_book_at o path.Root = Err NotFound
-new_book_at o path.People = Err NotFound
-new_book_at o path.Groups = Err NotFound
-new_book_at o path.Books = Err NotFound
-new_book_at o (path.Person n) = Err NotFound
-new_book_at o (path.Group n) = Err NotFound
-new_book_at o (path.Book b) = Ok tt
-new_book_at o (path.Card b c) = check (is_some (get o.books b)) NoParent >>= λ _. Err (NotAllowed OfNewCard)
+new_book_at o p = option_map_or (λ b. Ok tt) (book_of p)
+    (option_map_or (λ card. check (is_some (get o.books card.0)) NoParent >>= λ _. Err (NotAllowed OfNewCard)) (card_of p) (Err NotFound))
 
 abbrev pub at_unmapped : Office → Method → Path → Result (Unit {0}) Refusal
 at_unmapped o method.Get p = Err NotFound
@@ -269,36 +259,17 @@ can_change (Some book) = nat_lt book.number LAST_NUMBER
 
 -- PUT: the number of the book can rise, and it has room for one more card where one is added
 abbrev pub put_limits : Office → Path → Bool → Bool
-put_limits o path.Root mapped = true
-put_limits o path.People mapped = true
-put_limits o path.Groups mapped = true
-put_limits o path.Books mapped = true
-put_limits o (path.Person n) mapped = true
-put_limits o (path.Group n) mapped = true
-put_limits o (path.Book b) mapped = true
-put_limits o (path.Card b c) mapped = can_change (node_at o (path.Book b)) && (mapped || nat_lt (count_at o (path.Book b)) MAX_CARDS)
+put_limits o p mapped =
+    option_map_or (λ card. can_change (node_at o (path.Book card.0)) && (mapped || nat_lt (count_at o (path.Book card.0)) MAX_CARDS)) (card_of p) true
 
 -- DELETE: the number of the card's book can rise, and where a book is removed the epoch
 abbrev pub delete_limits : Office → Path → Bool
-delete_limits o path.Root = true
-delete_limits o path.People = true
-delete_limits o path.Groups = true
-delete_limits o path.Books = true
-delete_limits o (path.Person n) = true
-delete_limits o (path.Group n) = true
-delete_limits o (path.Book b) = nat_lt o.epoch LAST_NUMBER
-delete_limits o (path.Card b c) = can_change (node_at o (path.Book b))
+delete_limits o p = option_map_or (λ b. nat_lt o.epoch LAST_NUMBER) (book_of p)
+    (option_map_or (λ card. can_change (node_at o (path.Book card.0))) (card_of p) true)
 
 -- PROPPATCH: a card's label takes a number of its book; members raise the epoch
 abbrev pub label_limits : Office → Path → Bool
-label_limits o path.Root = true
-label_limits o path.People = true
-label_limits o path.Groups = true
-label_limits o path.Books = true
-label_limits o (path.Person n) = true
-label_limits o (path.Group n) = true
-label_limits o (path.Book b) = true
-label_limits o (path.Card b c) = can_change (node_at o (path.Book b))
+label_limits o p = option_map_or (λ card. can_change (node_at o (path.Book card.0))) (card_of p) true
 
 abbrev pub patch_limits : Office → Patch → Path → Bool
 patch_limits o (patch.DisplayName label) p = label_limits o p
@@ -314,16 +285,12 @@ can_change_twice None = false
 can_change_twice (Some book) = nat_lt (book.number + 1) LAST_NUMBER
 
 -- MOVE: within a book it takes two numbers, and adds no card; else the number of the source's book can rise too
-abbrev pub move_limits : Office → Path → Destination → Bool → Bool
-move_limits o path.Root to taken = true
-move_limits o path.People to taken = true
-move_limits o path.Groups to taken = true
-move_limits o path.Books to taken = true
-move_limits o (path.Person n) to taken = true
-move_limits o (path.Group n) to taken = true
-move_limits o (path.Book b) to taken = true
-move_limits o (path.Card b c) to taken =
+abbrev pub moved_limits : Office → List ℕ → Destination → Bool → Bool
+moved_limits o b to taken =
     if bytes_eq b to.book then can_change_twice (node_at o (path.Book b)) else can_change (node_at o (path.Book b)) && copy_limits o to taken
+
+abbrev pub move_limits : Office → Path → Destination → Bool → Bool
+move_limits o p to taken = option_map_or (λ card. moved_limits o card.0 to taken) (card_of p) true
 
 -- by what is asked of a path, whether it is mapped, and whether the name at the destination is taken
 abbrev pub keeps_limits : Office → Asked → Path → Bool → Bool → Bool
@@ -367,64 +334,23 @@ put_status false = 201
 put_status true = 204
 
 abbrev pub put_edit : Caller → List ℕ → Path → Result Edit Refusal
-put_edit caller text path.Root = Err NotFound
-put_edit caller text path.People = Err NotFound
-put_edit caller text path.Groups = Err NotFound
-put_edit caller text path.Books = Err NotFound
-put_edit caller text (path.Person n) = Err NotFound
-put_edit caller text (path.Group n) = Err NotFound
-put_edit caller text (path.Book b) = Err NotFound
-put_edit caller text (path.Card b c) = Ok (PutCard b c (owner_of caller) text)
+put_edit caller text p = option_map_or (λ card. Ok (PutCard card.0 card.1 (owner_of caller) text)) (card_of p) (Err NotFound)
 
 abbrev pub copy_edit : Caller → Path → Destination → Result Edit Refusal
-copy_edit caller path.Root to = Err NotFound
-copy_edit caller path.People to = Err NotFound
-copy_edit caller path.Groups to = Err NotFound
-copy_edit caller path.Books to = Err NotFound
-copy_edit caller (path.Person n) to = Err NotFound
-copy_edit caller (path.Group n) to = Err NotFound
-copy_edit caller (path.Book b) to = Err NotFound
-copy_edit caller (path.Card b c) to = Ok (CopyCard b c to.book to.card (owner_of caller))
+copy_edit caller p to = option_map_or (λ card. Ok (CopyCard card.0 card.1 to.book to.card (owner_of caller))) (card_of p) (Err NotFound)
 
 abbrev pub move_edit : Path → Destination → Result Edit Refusal
-move_edit path.Root to = Err NotFound
-move_edit path.People to = Err NotFound
-move_edit path.Groups to = Err NotFound
-move_edit path.Books to = Err NotFound
-move_edit (path.Person n) to = Err NotFound
-move_edit (path.Group n) to = Err NotFound
-move_edit (path.Book b) to = Err NotFound
-move_edit (path.Card b c) to = Ok (MoveCard b c to.book to.card)
+move_edit p to = option_map_or (λ card. Ok (MoveCard card.0 card.1 to.book to.card)) (card_of p) (Err NotFound)
 
 abbrev pub delete_edit : Path → Result Edit Refusal
-delete_edit path.Root = Err NotFound
-delete_edit path.People = Err NotFound
-delete_edit path.Groups = Err NotFound
-delete_edit path.Books = Err NotFound
-delete_edit (path.Person n) = Err NotFound
-delete_edit (path.Group n) = Err NotFound
-delete_edit (path.Book b) = Ok (RemoveBook b)
-delete_edit (path.Card b c) = Ok (RemoveCard b c)
+delete_edit p = option_map_or (λ b. Ok (RemoveBook b)) (book_of p)
+    (option_map_or (λ card. Ok (RemoveCard card.0 card.1)) (card_of p) (Err NotFound))
 
 abbrev pub mkcol_edit : Caller → Path → Result Edit Refusal
-mkcol_edit caller path.Root = Err NotFound
-mkcol_edit caller path.People = Err NotFound
-mkcol_edit caller path.Groups = Err NotFound
-mkcol_edit caller path.Books = Err NotFound
-mkcol_edit caller (path.Person n) = Err NotFound
-mkcol_edit caller (path.Group n) = Err NotFound
-mkcol_edit caller (path.Book b) = Ok (AddBook b (owner_of caller))
-mkcol_edit caller (path.Card b c) = Err NotFound
+mkcol_edit caller p = option_map_or (λ b. Ok (AddBook b (owner_of caller))) (book_of p) (Err NotFound)
 
 abbrev pub members_edit : Path → List (List ℕ) → Result Edit Refusal
-members_edit path.Root members = Err NotFound
-members_edit path.People members = Err NotFound
-members_edit path.Groups members = Err NotFound
-members_edit path.Books members = Err NotFound
-members_edit (path.Person n) members = Err NotFound
-members_edit (path.Group n) members = Ok (SetMembers (group_path n) members)
-members_edit (path.Book b) members = Err NotFound
-members_edit (path.Card b c) members = Err NotFound
+members_edit p members = option_map_or (λ n. Ok (SetMembers (group_path n) members)) (group_of p) (Err NotFound)
 
 abbrev pub patch_edit : Path → Patch → Result Edit Refusal
 patch_edit p (patch.DisplayName label) = Ok (SetLabel p label)
@@ -480,28 +406,15 @@ report_plan None = Err ValidSyncToken
 report_plan (Some report) = Ok (replied 207 (content.Synced report) None)
 
 abbrev pub sync_plan : Office → CircleOf → SyncFrom → Path → Result Plan Refusal
-sync_plan o circle from path.Root = Err NotFound
-sync_plan o circle from path.People = Err NotFound
-sync_plan o circle from path.Groups = Err NotFound
-sync_plan o circle from path.Books = Err NotFound
-sync_plan o circle from (path.Person n) = Err NotFound
-sync_plan o circle from (path.Group n) = Err NotFound
-sync_plan o circle from (path.Book b) = report_plan (report_from o circle b from)
-sync_plan o circle from (path.Card b c) = Err NotFound
+sync_plan o circle from p = option_map_or (λ b. report_plan (report_from o circle b from)) (book_of p) (Err NotFound)
 
 -- the members of a card, in the view of the caller with this circle (RFC 6350, section 6.6.5; the report is own profile)
 abbrev pub members_plan : List ℕ → Members → Result Plan Refusal
 members_plan b members = Ok (replied 200 (content.Members b members) None)
 
 abbrev pub AreMembersTold : Office → CircleOf → Path → Result Plan Refusal → Type 0
-AreMembersTold o circle path.Root result = Err NotFound ≡ result
-AreMembersTold o circle path.People result = Err NotFound ≡ result
-AreMembersTold o circle path.Groups result = Err NotFound ≡ result
-AreMembersTold o circle path.Books result = Err NotFound ≡ result
-AreMembersTold o circle (path.Person n) result = Err NotFound ≡ result
-AreMembersTold o circle (path.Group n) result = Err NotFound ≡ result
-AreMembersTold o circle (path.Book b) result = Err NotFound ≡ result
-AreMembersTold o circle (path.Card b c) result = (members : Members) × AreMembersAt o circle b c members × (members_plan b members ≡ result)
+AreMembersTold o circle p result = MatchOption (card_of p) (Err NotFound ≡ result)
+    (λ card. (members : Members) × AreMembersAt o circle card.0 card.1 members × (members_plan card.0 members ≡ result))
 
 -- which entry decides each leaf at a resource for who has this circle; `owner` and `self` are read at the resource (own
 -- profile)
@@ -526,14 +439,8 @@ abbrev pub names_plan : List ℕ → List NamedCard → Result Plan Refusal
 names_plan b names = Ok (replied 200 (content.Names b names) None)
 
 abbrev pub AreNamesTold : Office → CircleOf → Path → Result Plan Refusal → Type 0
-AreNamesTold o circle path.Root result = Err NotFound ≡ result
-AreNamesTold o circle path.People result = Err NotFound ≡ result
-AreNamesTold o circle path.Groups result = Err NotFound ≡ result
-AreNamesTold o circle path.Books result = Err NotFound ≡ result
-AreNamesTold o circle (path.Person n) result = Err NotFound ≡ result
-AreNamesTold o circle (path.Group n) result = Err NotFound ≡ result
-AreNamesTold o circle (path.Book b) result = (names : List NamedCard) × AreNamesAt o circle b names × (names_plan b names ≡ result)
-AreNamesTold o circle (path.Card b c) result = Err NotFound ≡ result
+AreNamesTold o circle p result = MatchOption (book_of p) (Err NotFound ≡ result)
+    (λ b. (names : List NamedCard) × AreNamesAt o circle b names × (names_plan b names ≡ result))
 
 -- what a REPORT tells, by the report that is asked
 abbrev pub IsReportOf : Office → CircleOf → ReportKind → Path → Result Plan Refusal → Type 0

@@ -1,5 +1,6 @@
 -- The verdict on a request: whether each privilege that its method needs is granted (RFC 3744, section 6).
-use Rattle.std.specs.Prelude.{◌≡◌, ◌⊎◌, ℕ, Bool, true, false, List, [], ◌∷◌, Option, option_map, option_and_then, unwrap_or, is_some, Result, Ok, Err}
+use Rattle.std.specs.Prelude.{◌≡◌, ◌⊎◌, ℕ, Bool, true, false, List, [], ◌∷◌, Option, Some, None, option_map, option_and_then, unwrap_or, is_some, Result, Ok, Err}
+use Rattle.std.specs.Option.{option_map_or}
 use Rattle.book_lists.specs.Callers.{IsCircle}
 use Rattle.book_lists.specs.Circles.{CircleOf}
 use Rattle.book_lists.specs.declared.entries.Here.{Here}
@@ -66,6 +67,21 @@ asks_for p asked.Delete = false
 asks_for p asked.Mkcol = false
 asks_for p (asked.Report which) = false
 
+-- the report that is asked for
+abbrev pub report_in : Asked → Option ReportKind
+report_in asked.Get = None
+report_in asked.Head = None
+report_in asked.Options = None
+report_in (asked.Put text) = None
+report_in (asked.Propfind find) = None
+report_in (asked.Proppatch patched) = None
+report_in (asked.Acl list) = None
+report_in (asked.Copy to) = None
+report_in (asked.Move to) = None
+report_in asked.Delete = None
+report_in asked.Mkcol = None
+report_in (asked.Report which) = Some which
+
 -- whether a REPORT asks which entry decides each leaf
 abbrev pub is_effective : ReportKind → Bool
 is_effective (report.SyncCollection from) = false
@@ -74,18 +90,7 @@ is_effective (report.Effective caller) = true
 is_effective report.Names = false
 
 abbrev pub asks_effective : Asked → Bool
-asks_effective asked.Get = false
-asks_effective asked.Head = false
-asks_effective asked.Options = false
-asks_effective (asked.Put text) = false
-asks_effective (asked.Propfind find) = false
-asks_effective (asked.Proppatch patched) = false
-asks_effective (asked.Acl list) = false
-asks_effective (asked.Copy to) = false
-asks_effective (asked.Move to) = false
-asks_effective asked.Delete = false
-asks_effective asked.Mkcol = false
-asks_effective (asked.Report which) = is_effective which
+asks_effective a = option_map_or is_effective (report_in a) false
 
 -- whether a REPORT asks for names alone
 abbrev pub is_of_names : ReportKind → Bool
@@ -95,18 +100,7 @@ is_of_names (report.Effective caller) = false
 is_of_names report.Names = true
 
 abbrev pub asks_names : Asked → Bool
-asks_names asked.Get = false
-asks_names asked.Head = false
-asks_names asked.Options = false
-asks_names (asked.Put text) = false
-asks_names (asked.Propfind find) = false
-asks_names (asked.Proppatch patched) = false
-asks_names (asked.Acl list) = false
-asks_names (asked.Copy to) = false
-asks_names (asked.Move to) = false
-asks_names asked.Delete = false
-asks_names asked.Mkcol = false
-asks_names (asked.Report which) = is_of_names which
+asks_names a = option_map_or is_of_names (report_in a) false
 
 -- what decides the row of needs
 abbrev pub shape_at : Ready → Shape
