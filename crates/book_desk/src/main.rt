@@ -1,8 +1,8 @@
-//! The program `book_desk` of the shared contact books. Its words are read by `book_desk_words`. What `explain`, `card` and
-//! help do is done by `run` of `book_desk_app`, what `import`, `audit` and `pipe` do by `run` of `book_desk_app`, what `migrate`
-//! does by `run_migration` there, and what `serve` does by `serve` of `book_desk_app`, over any store, reader and writers:
-//! their contracts say what is written where these tell their bytes. Nothing stands above it: `main` joins them to the
-//! process, to the files (`files`) and to the port.
+//! The program `book_desk` of the shared contact books. Its words are read by `book_desk_words`. `book_desk_app` does
+//! the rest, over any store, reader and writers: `run_text` what `explain`, `card` and help do, `run` what `import`,
+//! `audit` and `pipe` do, and `run_migration` and `serve` what the commands of their names do. Their contracts say what
+//! is written where these tell their bytes. Nothing stands above it: `main` joins them to the process, to the files
+//! (`files`) and to the port.
 #![tactic(auto)]
 
 ghost use Rattle.std.specs.Prelude.{◌≡◌};

@@ -1,6 +1,6 @@
 -- What connections did to the Office, however they ended, is what a run of requests does.
 use Rattle.book_desk_app.proofs.Common.{◌≡◌, ◌∷◌, [], ◌++◌, ℕ, List, true, Ok, Err, Option, refl, sym, subst, ◌∙◌, inl, inr, Consumes, Served, StreamFault}
-use Rattle.std.proofs.Common.{Bool, false, cond, Result, map, ap₂}
+use Rattle.std.proofs.Common.{Bool, false, cond, Result, ap, ap₂, map}
 use Rattle.std.proofs.KnownBytes.{Appends-kept, Appends-nil, Consumes-kept, Consumes-nil}
 use Rattle.std.specs.Io.KnownBytes.{Appends, Keeps}
 use Rattle.book_office.specs.Keeping.{Standing}
@@ -9,7 +9,7 @@ use Rattle.book_wire.specs.Stream.{answered_of}
 use Rattle.book_wire.specs.Turn.{StopsReading, StopsWriting}
 use Rattle.book_wire.specs.declared.stream.StreamFault.TheVariants.{Memory, Read, Write}
 use Rattle.book_wire.proofs.Servings.{runs_none, runs_then, stays}
-use Rattle.book_desk_app.specs.Connections.{AreConnections, IsConnection, ConnectionStops, had_no_fault, none_had_a_fault}
+use Rattle.book_desk_app.specs.Connections.{AreConnections, ComesTo, ServedConnection, ConnectionStops, IsConnection, had_no_fault, none_had_a_fault, outcomes_of}
 
 abbrev Outcome : Type 0
 Outcome = Result Served StreamFault
@@ -27,32 +27,39 @@ stopped old new before after out sent Memory memory read write =
 stopped old new before after out sent Read memory read write = read refl
 stopped old new before after out sent Write memory read write = write refl
 
-one_runs : (old new : Standing) (outcome : Outcome) → IsConnection old outcome new → (answered : List Answered) × Runs old new answered
-one_runs old new (Ok served) c = (map answered_of c.2.2.exchanges, c.2.2.answers.runs)
-one_runs old new (Err Memory) c = ([], runs_none old new c.2.2)
-one_runs old new (Err Read) c = (map answered_of c.2.so_far.exchanges, c.2.so_far.answers.runs)
-one_runs old new (Err Write) c = elim c.2.stops [
-  | inl x ↦ (map answered_of (c.2.exchanges ++ x.0 ∷ []), x.5)
-  | inr y ↦ (map answered_of c.2.exchanges, y.4)
+one_runs : (old new : Standing) (before after held holds : Option (List ℕ)) (outcome : Outcome)
+    → ComesTo old before after held holds outcome new → (answered : List Answered) × Runs old new answered
+one_runs old new before after held holds (Ok served) c = (map answered_of c.4.2.exchanges, c.4.2.answers.runs)
+one_runs old new before after held holds (Err Memory) c = ([], runs_none old new c.4.2)
+one_runs old new before after held holds (Err Read) c = (map answered_of c.4.so_far.exchanges, c.4.so_far.answers.runs)
+one_runs old new before after held holds (Err Write) c = elim c.4.stops [
+  | inl x ↦ (map answered_of (c.4.exchanges ++ x.0 ∷ []), x.5)
+  | inr y ↦ (map answered_of c.4.exchanges, y.4)
 ]
 
 -- ---- connections in turn
 
-module _ {K : Type 0} (standing : K → Standing) where
-  pub connections_run : (old new : K) (outcomes : List Outcome)
-      → AreConnections standing old outcomes new → (answered : List Answered) × Runs (standing old) (standing new) answered
+module _ {S : Type 0} (remaining contents : S → Option (List ℕ)) {K : Type 0} (standing : K → Standing) where
+  pub connections_run : (old new : K) (connections : List (ServedConnection S))
+      → AreConnections remaining contents standing old connections new → (answered : List Answered) × Runs (standing old) (standing new) answered
   connections_run old new [] same =
       ([], runs_none (standing old) (standing new) (subst (λ k. Stays (standing old) (standing k)) (sym same) (stays (standing old))))
-  connections_run old new (outcome ∷ more) c =
-      let first = one_runs (standing old) (standing c.0) outcome c.1 in
+  connections_run old new (one ∷ more) c =
+      let first =
+      one_runs (standing old) (standing c.0) (remaining one.reader) (remaining one.reader_left) (contents one.writer) (contents one.writer_left) one.outcome c.1 in
       let rest = connections_run c.0 new more c.2 in
       (first.0 ++ rest.0, runs_then (standing old) (standing c.0) (standing new) first.0 rest.0 first.1 rest.1)
 
-  pub one_more : (old between new : K) (outcomes : List Outcome) (outcome : Outcome)
-      → AreConnections standing old outcomes between → IsConnection (standing between) outcome (standing new)
-      → AreConnections standing old (outcomes ++ outcome ∷ []) new
-  one_more old between new [] outcome same last = (new, subst (λ k. IsConnection (standing k) outcome (standing new)) same last, refl)
-  one_more old between new (first ∷ more) outcome c last = (c.0, c.1, one_more c.0 between new more outcome c.2 last)
+  pub one_more : (old between new : K) (connections : List (ServedConnection S)) (last : ServedConnection S)
+      → AreConnections remaining contents standing old connections between → IsConnection remaining contents (standing between) last (standing new)
+      → AreConnections remaining contents standing old (connections ++ last ∷ []) new
+  one_more old between new [] last same is = (new, subst (λ k. IsConnection remaining contents (standing k) last (standing new)) same is, refl)
+  one_more old between new (first ∷ more) last c is = (c.0, c.1, one_more c.0 between new more last c.2 is)
+
+pub outcomes_more : {S : Type 0} (connections : List (ServedConnection S)) (last : ServedConnection S)
+    → outcomes_of (connections ++ last ∷ []) ≡ outcomes_of connections ++ last.outcome ∷ []
+outcomes_more [] last = refl
+outcomes_more (c ∷ more) last = ap (λ rest. c.outcome ∷ rest) (outcomes_more more last)
 
 none_more : (outcomes : List Outcome) (outcome : Outcome)
     → none_had_a_fault (outcomes ++ outcome ∷ []) ≡ cond (none_had_a_fault outcomes) (had_no_fault outcome) false

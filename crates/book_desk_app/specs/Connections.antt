@@ -1,8 +1,9 @@
 -- Connections, one after the other (RFC 9112, section 9): each is a stream of requests by itself, whatever it brought.
-use Rattle.std.specs.Prelude.{◌≡◌, ℕ, List, [], ◌∷◌, Bool, true, false, cond, Result, Ok, Err}
+use Rattle.std.specs.Prelude.{◌≡◌, ℕ, List, [], ◌∷◌, map, Bool, true, false, cond, Option, Result, Ok, Err}
+use Rattle.std.specs.Io.KnownBytes.{Appends, Consumes}
 use Rattle.book_office.specs.Keeping.{Standing}
 use Rattle.book_wire.specs.Serving.{Stays}
-use Rattle.book_wire.specs.Stream.{IsStream}
+use Rattle.book_wire.specs.Stream.{IsInput, IsStream}
 use Rattle.book_wire.specs.Turn.{StopsReading, StopsWriting}
 use Rattle.book_wire.specs.declared.stream.Served.{Served}
 use Rattle.book_wire.specs.declared.stream.StreamFault.{StreamFault}
@@ -14,21 +15,35 @@ ConnectionStops old input written Memory new = (input ≡ []) × (written ≡ []
 ConnectionStops old input written Read new = StopsReading old input written new
 ConnectionStops old input written Write new = StopsWriting old input written new
 
--- what a stream came to, from its input, with what was written
-abbrev pub ComesTo : Standing → List ℕ → List ℕ → Result Served StreamFault → Standing → Type 0
-ComesTo old input written (Ok served) new = IsStream old input written served new
-ComesTo old input written (Err fault) new = ConnectionStops old input written fault new
+-- what a stream came to over a reader with these bytes before and after it, and a writer with these: where it ended, its
+-- input is all that the reader gives; else it is what was taken from the reader; and what was written is what the writer got
+abbrev pub ComesTo : Standing → Option (List ℕ) → Option (List ℕ) → Option (List ℕ) → Option (List ℕ) → Result Served StreamFault → Standing → Type 0
+ComesTo old before after held holds (Ok served) new =
+    (input : List ℕ) × (written : List ℕ) × IsInput before input × Appends held holds written × IsStream old input written served new
+ComesTo old before after held holds (Err fault) new =
+    (input : List ℕ) × (written : List ℕ) × Consumes before after input × Appends held holds written × ConnectionStops old input written fault new
 
--- the connection brought some input and was sent something, and came to this
-abbrev pub IsConnection : Standing → Result Served StreamFault → Standing → Type 0
-IsConnection old outcome new = (input : List ℕ) × (written : List ℕ) × ComesTo old input written outcome new
+-- a connection: the two halves of its stream as they were accepted, and as they were left; and what it came to
+pub record ServedConnection (S : Type 0) : Type 0 where
+  pub reader : S
+  pub writer : S
+  pub reader_left : S
+  pub writer_left : S
+  pub outcome : Result Served StreamFault
 
--- each begins with the keeper that the one before it left
-module _ {K : Type 0} (standing : K → Standing) where
-  abbrev pub AreConnections : K → List (Result Served StreamFault) → K → Type 0
-  AreConnections old [] new = new ≡ old
-  AreConnections old (outcome ∷ more) new =
-      (between : K) × IsConnection (standing old) outcome (standing between) × AreConnections between more new
+abbrev pub outcomes_of : {S : Type 0} → List (ServedConnection S) → List (Result Served StreamFault)
+outcomes_of {S} connections = map (λ (c : ServedConnection S). c.outcome) connections
+
+-- over streams with the bytes that they still give and those that they were given, and keepers with what they stand for
+module _ {S : Type 0} (remaining contents : S → Option (List ℕ)) where
+  abbrev pub IsConnection : Standing → ServedConnection S → Standing → Type 0
+  IsConnection old c new = ComesTo old (remaining c.reader) (remaining c.reader_left) (contents c.writer) (contents c.writer_left) c.outcome new
+
+  module _ {K : Type 0} (standing : K → Standing) where
+    -- each begins with the keeper that the one before it left
+    abbrev pub AreConnections : K → List (ServedConnection S) → K → Type 0
+    AreConnections old [] new = new ≡ old
+    AreConnections old (c ∷ more) new = (between : K) × IsConnection (standing old) c (standing between) × AreConnections between more new
 
 abbrev pub had_no_fault : Result Served StreamFault → Bool
 had_no_fault (Ok served) = true

@@ -1,10 +1,10 @@
 -- What `pipe` and `serve` do, and the status that ends them (own profile).
-use Rattle.std.specs.Prelude.{◌≡◌, ℕ, List, ◌++◌, codes, true, length, Option, Result}
+use Rattle.std.specs.Prelude.{◌≡◌, ℕ, List, ◌++◌, codes, true, length, Option}
 use Rattle.std.specs.Io.KnownBytes.{Appends, Consumes}
 use Rattle.std.specs.declared.net.socket_addr.SocketAddr.{SocketAddr}
 use Rattle.std.specs.Net.Text.{socket_text}
 use Rattle.book_office.specs.Keeping.{Standing}
-use Rattle.book_desk_app.specs.Connections.{AreConnections, ConnectionStops, none_had_a_fault}
+use Rattle.book_desk_app.specs.Connections.{AreConnections, ServedConnection, ConnectionStops, none_had_a_fault, outcomes_of}
 use Rattle.book_wire.specs.Stream.{IsInput, IsStream}
 use Rattle.book_wire.specs.declared.stream.Ended.{Ended}
 use Rattle.book_wire.specs.declared.stream.Ended.TheVariants.{Clean, Cut, Closed}
@@ -38,9 +38,9 @@ abbrev pub listening_line : SocketAddr → List ℕ
 listening_line address = codes "listening on " ++ (socket_text address ++ codes "\n")
 
 -- it said where it listens, and so many connections were served, none of which had a fault
-module _ {K : Type 0} (standing : K → Standing) where
+module _ {S : Type 0} (remaining contents : S → Option (List ℕ)) {K : Type 0} (standing : K → Standing) where
   abbrev pub ServesSoundly : K → Option (List ℕ) → Option (List ℕ) → ℕ → K → Type 0
   ServesSoundly old held holds count new =
       ((address : SocketAddr) × Appends held holds (listening_line address))
-      × ((outcomes : List (Result Served StreamFault)) × AreConnections standing old outcomes new
-      × (length outcomes ≡ count) × (none_had_a_fault outcomes ≡ true))
+      × ((connections : List (ServedConnection S)) × AreConnections remaining contents standing old connections new
+      × (length connections ≡ count) × (none_had_a_fault (outcomes_of connections) ≡ true))

@@ -5,7 +5,7 @@ ghost use Rattle.std.specs.Io.KnownBytes.{Keeps};
 ghost use Rattle.book_wire.specs.Serving.{Answered, Runs};
 ghost use Rattle.book_wire.specs.declared.stream.Served.{Served};
 ghost use Rattle.book_wire.specs.declared.stream.StreamFault.{StreamFault};
-ghost use Rattle.book_desk_app.specs.Connections.{AreConnections, IsConnection, had_no_fault, none_had_a_fault};
+ghost use Rattle.book_desk_app.specs.Connections.{AreConnections, ComesTo, ServedConnection, had_no_fault, none_had_a_fault, outcomes_of};
 
 use crate::serving_failures::StreamFailure;
 use book_machine::Machine;
@@ -25,7 +25,8 @@ fn serve_one<K: Keeper, R: Read, W: Write, E: Write>(
     errors: &mut E,
 ) -> bool
     ensures served { (outcome : Result Served StreamFault) × (result ≡ had_no_fault outcome)
-        × IsConnection (K.standing machine.old.keeper) outcome (K.standing machine.new.keeper) }
+        × ComesTo (K.standing machine.old.keeper) (R.remaining reader.old) (R.remaining reader.new)
+        (W.contents writer.old) (W.contents writer.new) outcome (K.standing machine.new.keeper) }
     ensures silent { result ≡ true → Keeps (E.contents errors.old) (E.contents errors.new) }
 {
     match serve_stream(alloc, machine, reader, writer) {
@@ -42,7 +43,7 @@ fn serve_one<K: Keeper, R: Read, W: Write, E: Write>(
 /// of one that fails is told on `errors`, as a line. True if none failed.
 ///
 /// The Office afterwards is that of the connections in turn, each a stream by itself, and so that of a run of requests.
-/// What a connection was sent is what the contract of `serve_stream` says of its bytes.
+/// What each was sent, by what it brought, is what the contract of `serve_stream` says of the two halves of its stream.
 ///
 /// # Errors
 ///
@@ -59,8 +60,8 @@ pub fn serve_connections<
     count: u16,
     errors: &mut E,
 ) -> io::Result<bool>
-    ensures served { (outcomes : List (Result Served StreamFault)) × AreConnections K.standing machine.old.keeper outcomes machine.new.keeper
-        × IfOk result (λ sound. (length outcomes ≡ count) × (sound ≡ none_had_a_fault outcomes)) }
+    ensures served { (connections : List (ServedConnection S)) × AreConnections S.remaining S.contents K.standing machine.old.keeper connections machine.new.keeper
+        × IfOk result (λ sound. (length connections ≡ count) × (sound ≡ none_had_a_fault (outcomes_of connections))) }
     ensures runs { (answered : List Answered) × Runs (K.standing machine.old.keeper) (K.standing machine.new.keeper) answered }
     ensures silent { IfOk result (λ sound. sound ≡ true → Keeps (E.contents errors.old) (E.contents errors.new)) }
 {

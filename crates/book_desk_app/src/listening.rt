@@ -31,7 +31,7 @@ pub fn serve<
     errors: &mut E,
 ) -> u8
     ensures statuses { (result ≡ 0) ⊎ (result ≡ 3) }
-    ensures sound { result ≡ 0 → ServesSoundly K.standing machine.old.keeper (W.contents writer.old) (W.contents writer.new)
+    ensures sound { result ≡ 0 → ServesSoundly S.remaining S.contents K.standing machine.old.keeper (W.contents writer.old) (W.contents writer.new)
         connections machine.new.keeper }
     ensures runs { (answered : List Answered) × Runs (K.standing machine.old.keeper) (K.standing machine.new.keeper) answered }
     ensures silent { result ≡ 0 → Keeps (E.contents errors.old) (E.contents errors.new) }

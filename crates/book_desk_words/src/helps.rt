@@ -129,8 +129,7 @@ pub(crate) const MIGRATE: &str = "Makes a store of version 1 one of version 2";
 
 pub(crate) const MIGRATE_TEXT: &str = "\
 Version 1 knew eight privileges: each entry that has read, which is x-read-texts and x-read-names now, gets x-read-names
-too. Nothing else changes. Keep a copy of the file, made while no program is at work on it, as in:
-  cp office.db office-1.db
+too. Nothing else changes. While no program is at work on the store, copy FILE, and FILE-wal where it is there; then:
   book_desk migrate --store office.db
 
 Output:

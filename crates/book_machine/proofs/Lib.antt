@@ -10,10 +10,14 @@ pub mod BodyAnswers
 pub mod CopiesOfRuns
 pub mod DestinedCards
 pub mod FittingPlans
+pub mod FoundCircles
+pub mod FoundLists
 pub mod FoundPrincipals
+pub mod FoundSteps
 pub mod Judging
 pub mod LeadingRuns
 pub mod Limits
+pub mod OfficesOfRuns
 pub mod OnePlan
 pub mod Outlines
 pub mod Planning

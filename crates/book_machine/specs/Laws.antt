@@ -1,5 +1,5 @@
 -- What the definition of a step implies, in words of its own.
-use Rattle.std.specs.Prelude.{Bool, true, false, ◌≡◌, ◌≢◌, ◌⊎◌, ◌↔◌, ℕ, ◌<◌, List, Option, Some, Ok}
+use Rattle.std.specs.Prelude.{Bool, true, false, ◌≡◌, ◌≢◌, ◌⊎◌, ◌↔◌, ℕ, ◌+◌, ◌<◌, suc, List, ◌∷◌, slice_get, Option, Some, Ok}
 use Rattle.book_office_values.specs.declared.offices.Office.{Office}
 use Rattle.book_office.specs.Edits.{apply}
 use Rattle.book_office.specs.Sound.{IsSound}
@@ -9,9 +9,12 @@ use Rattle.book_office_listings.specs.declared.messages.Response.{Response}
 use Rattle.book_rights.specs.declared.methods.Method.TheVariants as method
 use Rattle.book_office_values.specs.declared.paths.Path.{Path}
 use Rattle.book_machine.specs.Asking.{HasPaths}
+use Rattle.book_machine.specs.LeadingRuns.{HavePaths}
 use Rattle.book_machine.specs.Refusals.{refused}
+use Rattle.book_machine.specs.Runs.{Call, Run}
 use Rattle.book_machine.specs.Stages.{ready_of, IsBodyAnswer, IsSuccess}
 use Rattle.book_machine.specs.Steps.{Steps}
+use Rattle.book_machine.specs.SyncedCopies.{FindsAt, FindsAfter, ReportsFollow, ReportsBegin, ReportsAreWhole, TokensAreEnded}
 use Rattle.book_machine.specs.Verdicts.{IsGranted, IsDenied}
 use Rattle.book_machine.specs.declared.messages.Content.TheVariants as content
 use Rattle.book_machine.specs.declared.messages.Reply.{Reply}
@@ -26,6 +29,10 @@ use Rattle.book_machine.specs.declared.refusals.Refusal.TheVariants.{BadRequest,
 abbrev pub RequestsHaveOneStep : Type 0
 RequestsHaveOneStep = (o : Office) (name : Option (List ℕ)) (request : Request) (reply other : Reply) (after later : Office)
     → Steps o name request reply after → Steps o name request other later → (reply ≡ other) × (after ≡ later)
+
+-- in each Office each request has a step
+abbrev pub StepsExist : Type 0
+StepsExist = (o : Office) (name : Option (List ℕ)) (request : Request) → (reply : Reply) × (after : Office) × Steps o name request reply after
 
 -- the refusals that come after the verdict, by the body, by the token of a report or by the limits, and no others
 abbrev pub is_late : Refusal → Bool
@@ -89,3 +96,16 @@ abbrev pub ListingsTellTheResource : Type 0
 ListingsTellTheResource = (o : Office) (name : Option (List ℕ)) (request : Request) (p : Path) (reply : Reply) (responses : List Response) (after : Office)
     → request.method ≡ method.Propfind → request.path ≡ Some p → Steps o name request reply after
     → reply.content ≡ content.Listing responses → TellsFirst p responses
+
+-- the call at a place of a run finds the Office that the calls before it left, and from there so does each later one
+abbrev pub FindsItsOffices : Office → List Call → List Reply → List Office → Type 0
+FindsItsOffices o calls replies offices = (i : ℕ) (p : Office) → slice_get (o ∷ offices) i ≡ Some p
+    → FindsAt o calls replies i p × ((k : ℕ) (q : Office) → slice_get (o ∷ offices) (i + suc k) ≡ Some q → FindsAfter o calls replies p i k q)
+
+-- in each run from a sound Office, copies that are kept by reports are what their callers may read, whatever others ask in
+-- between, and the tokens end with the epoch
+abbrev pub RunsAreSynced : Type 0
+RunsAreSynced = (o : Office) (calls : List Call) (replies : List Reply) (offices : List Office)
+    → IsSound o → HavePaths calls → Run o calls replies offices
+    → FindsItsOffices o calls replies offices × ReportsFollow o calls replies × ReportsBegin o calls replies
+    × ReportsAreWhole o calls replies × TokensAreEnded o calls replies

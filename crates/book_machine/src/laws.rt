@@ -2,11 +2,16 @@
 
 ghost use Rattle.book_machine.specs.SyncedCopies.{GrantedReportsAreTold};
 ghost use Rattle.book_machine.specs.Unseen.{AgreeingOfficesMayDiffer, AgreeingOfficesMayDifferWhereNamed, AgreeingOfficesRunAlike, AgreeingOfficesStepAlike, AgreementIsAnEquivalence, EpochsNeverFall, RunsNeverLowerTheEpoch};
-ghost use Rattle.book_machine.specs.Laws.{DenialsAreTold, ListingsTellTheResource, RefusalsChangeNothing, RequestsActWhereGranted, RequestsAreFullAtLimits, RequestsHaveOneStep, StepsAreAvailable, TellingRepliesChangeNothing};
+ghost use Rattle.book_machine.specs.Laws.{DenialsAreTold, ListingsTellTheResource, RefusalsChangeNothing, RequestsActWhereGranted, RequestsAreFullAtLimits, RequestsHaveOneStep, RunsAreSynced, StepsAreAvailable, StepsExist, TellingRepliesChangeNothing};
 
 /// In an Office a request has one reply, and leaves one Office.
 pub fn requests_have_one_step()
     ensures { RequestsHaveOneStep }
+{}
+
+/// In each Office each request has a reply, and leaves an Office.
+pub fn steps_exist()
+    ensures { StepsExist }
 {}
 
 /// Among the requests that pass the stages caller, shape and path, the reply is a success, or a refusal by the body or by
@@ -54,4 +59,10 @@ pub fn unread_contents_stay_unseen()
     ensures epochs { EpochsNeverFall }
     ensures run_epochs { RunsNeverLowerTheEpoch }
     ensures runs { AgreeingOfficesRunAlike }
+{}
+
+/// In each run of calls whose paths have names, from a sound Office, copies that are kept by reports are what their callers
+/// may read, whatever others ask in between (RFC 6578, section 3); a token ends with the epoch (own profile).
+pub fn runs_are_synced()
+    ensures { RunsAreSynced }
 {}

@@ -38,7 +38,7 @@ pub use book_office_sync::{Found, Item, Report, Token};
 pub use laws::{
     granted_reports_are_told, listings_tell_the_resource, refusals_change_nothing,
     requests_act_where_granted, requests_are_full_at_limits, requests_have_one_step,
-    unread_contents_stay_unseen,
+    runs_are_synced, steps_exist, unread_contents_stay_unseen,
 };
 pub use leading::runs_lead_on;
 pub use machine::Machine;

@@ -7,6 +7,9 @@ pub mod AlikeListings
 pub mod OneListing
 pub mod ToldResources
 pub mod ToldValues
+pub mod ViewedCards
+pub mod FoundDecisions
+pub mod FoundListings
 pub mod AppliedEntries
 pub mod SiftedLevels
 pub mod Looking

@@ -25,10 +25,10 @@ use Rattle.book_office_listings.specs.declared.messages.Property.{Property}
 use Rattle.book_office_listings.specs.declared.messages.Property.TheVariants as property
 
 -- ---- memberships in order are determined by their set
-abbrev marked : List Membership → List (Membership × Unit {0})
+abbrev pub marked : List Membership → List (Membership × Unit {0})
 marked pairs = map (λ pair. (pair, tt)) pairs
 
-keys_marked : (pairs : List Membership) → keys_of (marked pairs) ≡ pairs
+pub keys_marked : (pairs : List Membership) → keys_of (marked pairs) ≡ pairs
 keys_marked [] = refl
 keys_marked (pair ∷ pairs) = ap (λ r. pair ∷ r) (keys_marked pairs)
 

@@ -1,5 +1,6 @@
 -- What the definitions of a listing imply.
-use Rattle.std.specs.Prelude.{◌≡◌, ℕ, Bool, true, List, [], ◌∷◌, is_some}
+use Rattle.std.specs.Prelude.{◌≡◌, ◌↔◌, ℕ, Bool, true, List, [], ◌∷◌, Option, Some, is_some}
+use Rattle.std.specs.FinMap.{get}
 use Rattle.std.specs.FinSet.{contains}
 use Rattle.std.specs.List.Sorted.{IsStrictlySortedBy}
 use Rattle.book_rights.specs.Privileges.{is_read}
@@ -8,18 +9,24 @@ use Rattle.book_lists.specs.Circles.{CircleOf, has_path}
 use Rattle.book_lists.specs.Decisions.{IsGrantedSet}
 use Rattle.book_lists.specs.Principals.{path_cmp}
 use Rattle.book_lists.specs.declared.entries.Here.{Here}
+use Rattle.book_office_values.specs.declared.offices.Book.{Book}
 use Rattle.book_office_values.specs.declared.offices.Office.{Office}
+use Rattle.book_office_values.specs.declared.offices.StoredCard.{StoredCard}
 use Rattle.book_office_values.specs.declared.paths.Path.{Path}
+use Rattle.book_office_values.specs.declared.paths.Path.TheVariants as path
 use Rattle.book_office.specs.Levels.{lists_at}
 use Rattle.book_office.specs.Resources.{resource_at}
 use Rattle.book_office.specs.declared.nodes.EffectiveEntry.{EffectiveEntry}
+use Rattle.book_office_sync.specs.Copies.{can_read}
 use Rattle.book_office_listings.specs.Listings.{AreResponses, IsWhole, asks_members, children_paths, subject_at}
+use Rattle.book_office_listings.specs.Rulings.{AreRulingsAt}
 use Rattle.book_office_listings.specs.Values.{granted_by, members_in}
 use Rattle.book_office_listings.specs.Verdicts.{IsGrantedAt, bare_entries, here_of}
 use Rattle.book_office_listings.specs.declared.messages.Find.{Find}
 use Rattle.book_office_listings.specs.declared.messages.Property.{Property}
 use Rattle.book_office_listings.specs.declared.messages.Response.{Response}
 use Rattle.book_office_listings.specs.declared.messages.Response.TheVariants.{Told, Denied}
+use Rattle.book_office_listings.specs.declared.messages.Ruling.{Ruling}
 use Rattle.book_office_listings.specs.declared.subjects.Whole.{Whole}
 
 -- two Offices with the same lists, owners, children, memberships and epoch, and the same resources where `read` is granted: they
@@ -69,3 +76,19 @@ TellsFirst p (Denied denial ∷ rest) = ⊥
 abbrev pub GrantedResourcesAreTold : Type 0
 GrantedResourcesAreTold = (o : Office) (circle : CircleOf) (find : Find) (q : Path) (responses : List Response)
     → IsGrantedAt o circle q find.needed → AreResponses find circle o q responses → TellsFirst q responses
+
+-- a card is in the view of its book exactly where `read` is granted at the card, by the entries in force there (RFC 3744,
+-- section 6)
+abbrev pub ViewsHaveWhatMayBeRead : Type 0
+ViewsHaveWhatMayBeRead = (o : Office) (circle : CircleOf) (b c : List ℕ) (book : Book) (card : StoredCard)
+    → get o.books b ≡ Some book → get book.cards c ≡ Some card
+    → (can_read o circle b c card ≡ true) ↔ IsGrantedAt o circle (path.Card b c) is_read
+
+-- a resource that is there has a listing
+abbrev pub ListingsExist : Type 0
+ListingsExist = (o : Office) (circle : CircleOf) (find : Find) (q : Path) → is_some (resource_at o q) ≡ true
+    → (responses : List Response) × AreResponses find circle o q responses
+
+-- each path has its rulings, or none where nothing is mapped
+abbrev pub RulingsExist : Type 0
+RulingsExist = (o : Office) (circle : CircleOf) (q : Path) → (rulings : Option (List Ruling)) × AreRulingsAt o circle q rulings

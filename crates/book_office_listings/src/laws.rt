@@ -1,6 +1,6 @@
 //! What the definitions imply.
 
-ghost use Rattle.book_office_listings.specs.Laws.{GrantedResourcesAreTold, ListingsHaveOneAnswer, UnreadResourcesStayUnseen};
+ghost use Rattle.book_office_listings.specs.Laws.{GrantedResourcesAreTold, ListingsExist, ListingsHaveOneAnswer, RulingsExist, UnreadResourcesStayUnseen, ViewsHaveWhatMayBeRead};
 ghost use Rattle.book_office_listings.specs.Laws.{MembersToldAreDirect, PrivilegesToldAreGranted};
 ghost use Rattle.book_office_listings.specs.Rulings.{RulingsAreTheGrants};
 
@@ -30,4 +30,15 @@ pub fn values_tell_grants_and_members()
 /// The leaves that rulings grant are those that are granted (RFC 3744, sections 5.4 and 6).
 pub fn rulings_are_the_grants()
     ensures { RulingsAreTheGrants }
+{}
+
+/// The view of a book has exactly the cards at which `read` is granted.
+pub fn views_have_what_may_be_read()
+    ensures { ViewsHaveWhatMayBeRead }
+{}
+
+/// A resource that is there has a listing, and rulings.
+pub fn listings_exist()
+    ensures listings { ListingsExist }
+    ensures rulings { RulingsExist }
 {}

@@ -30,8 +30,8 @@ mod subjects;
 pub use asked_properties::is_asked;
 pub use denials::verdict;
 pub use laws::{
-    granted_resources_are_told, listings_have_one_answer, rulings_are_the_grants,
-    unread_resources_stay_unseen, values_tell_grants_and_members,
+    granted_resources_are_told, listings_exist, listings_have_one_answer, rulings_are_the_grants,
+    unread_resources_stay_unseen, values_tell_grants_and_members, views_have_what_may_be_read,
 };
 pub use listings::listing;
 pub use messages::{

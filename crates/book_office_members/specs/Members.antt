@@ -48,3 +48,7 @@ abbrev pub EqualViewsHaveEqualMembers : Type 0
 EqualViewsHaveEqualMembers = (o p : Office) (circle other : CircleOf) (a b : List ℕ)
     → ((name : List ℕ) → seen o circle a name ≡ seen p other b name)
     → (name : List ℕ) (x y : Members) → AreMembersAt o circle a name x → AreMembersAt p other b name y → x ≡ y
+
+-- each name of each book has members in each view
+abbrev pub MembersExist : Type 0
+MembersExist = (o : Office) (circle : CircleOf) (b name : List ℕ) → (members : Members) × AreMembersAt o circle b name members

@@ -28,6 +28,10 @@ pub record AreNamesAt (o : Office) (circle : CircleOf) (b : List ℕ) (names : L
   pub in_order : T (is_sorted name_cmp (map pair_of names))
   pub told : (c : List ℕ) → find name_cmp c (map pair_of names) ≡ option_map name_told (text_at o circle b ReadNames c)
 
+-- each book has its names in each view
+abbrev pub NamesExist : Type 0
+NamesExist = (o : Office) (circle : CircleOf) (b : List ℕ) → (names : List NamedCard) × AreNamesAt o circle b names
+
 -- ---- how they are read
 abbrev pub named_card : List ℕ × List ℕ → NamedCard
 named_card e = record { name = e.0; formatted = name_told e.1 }

@@ -1,6 +1,7 @@
 //! What the definitions imply.
 
-ghost use Rattle.book_office_members.specs.Members.{EqualViewsHaveEqualMembers};
+ghost use Rattle.book_office_members.specs.Members.{EqualViewsHaveEqualMembers, MembersExist};
+ghost use Rattle.book_office_members.specs.Names.{NamesExist};
 ghost use Rattle.book_office_members.specs.Steps.{MembersAreDetermined};
 
 /// The members of a card among cards are one value.
@@ -12,4 +13,10 @@ pub fn members_are_determined()
 /// members of each name are the same. What a caller may not read of the book changes nothing.
 pub fn equal_views_have_equal_members()
     ensures { EqualViewsHaveEqualMembers }
+{}
+
+/// Each name of each book has members, and each book has its names, in the view of each caller.
+pub fn members_exist()
+    ensures members { MembersExist }
+    ensures names { NamesExist }
 {}

@@ -20,7 +20,7 @@ mod text_sets;
 mod told_cards;
 
 pub use card_refs::CardRef;
-pub use laws::{equal_views_have_equal_members, members_are_determined};
+pub use laws::{equal_views_have_equal_members, members_are_determined, members_exist};
 pub use members::{MemberLine, Members, members_among};
 pub use names::{NamedCard, names_told};
 pub use reporting::group_members;

@@ -1,5 +1,5 @@
 -- The rules of a policy's text, each with the fault of a text that breaks it, and the policy of a text that keeps them.
-use Rattle.std.specs.Prelude.{◌≡◌, ◌≢◌, ◌≤◌, ◌<◌, ℕ, List, [], ◌∷◌, length, map, codes, Bool, true, false, if◌then◌else◌, Some, None, All}
+use Rattle.std.specs.Prelude.{◌≡◌, ◌≢◌, ◌≤◌, ◌<◌, ◌⊎◌, ℕ, List, [], ◌∷◌, length, map, codes, Bool, true, false, if◌then◌else◌, Some, None, All}
 use Rattle.std.specs.Str.{bytes_eq}
 use Rattle.toml.specs.Data.{Members}
 use Rattle.toml.specs.Parse.{parse_document}
@@ -155,3 +155,7 @@ HasOneFault = (text : List ℕ) (fault other : PolicyFault) → IsFaultOf text f
 -- a text that spells a policy has no fault but want of memory
 abbrev pub PolicyExcludesFault : Type 0
 PolicyExcludesFault = (text : List ℕ) (policy : PolicyTables) (fault : PolicyFault) → IsPolicyOf text policy → IsFaultOf text fault → ⊥
+
+-- a text spells a policy or has a fault
+abbrev pub HasPolicyOrFault : Type 0
+HasPolicyOrFault = (text : List ℕ) → ((policy : PolicyTables) × IsPolicyOf text policy) ⊎ ((fault : PolicyFault) × IsFaultOf text fault)

@@ -1,6 +1,6 @@
 //! Laws of the definitions that the contract of `read_policy` cites.
 
-ghost use Rattle.book_policy.specs.Rules.{HasOnePolicy, HasOneFault, PolicyExcludesFault};
+ghost use Rattle.book_policy.specs.Rules.{HasOnePolicy, HasOneFault, HasPolicyOrFault, PolicyExcludesFault};
 
 /// A law: a text spells at most one policy.
 pub fn policies_are_one()
@@ -15,4 +15,9 @@ pub fn policy_faults_are_one()
 /// A law: a text that spells a policy has no fault but want of memory.
 pub fn policies_exclude_faults()
     ensures no_fault { PolicyExcludesFault }
+{}
+
+/// A law: a text spells a policy, or has a fault.
+pub fn texts_have_policy_or_fault()
+    ensures { HasPolicyOrFault }
 {}

@@ -16,5 +16,7 @@ mod policies;
 mod shapes;
 
 pub use faults::PolicyFault;
-pub use laws::{policies_are_one, policies_exclude_faults, policy_faults_are_one};
+pub use laws::{
+    policies_are_one, policies_exclude_faults, policy_faults_are_one, texts_have_policy_or_fault,
+};
 pub use policies::read_policy;

@@ -3,6 +3,7 @@ use Rattle.book_wire.proofs.Common.{◌≡◌, ℕ, List, [], ◌∷◌, ◌++�
 use Rattle.std.proofs.lemmas.List.Concat.{flat_map-append}
 use Rattle.book_office.specs.Keeping.{Leftover}
 use Rattle.book_office_values.specs.declared.offices.Office.{Office}
+use Rattle.book_machine.specs.LeadingRuns.{HavePaths}
 use Rattle.book_machine.specs.Runs.{Call, Run, last_office, MayLeave, MayLeaveAfter}
 use Rattle.book_wire.specs.Serving.{Stays, ServesAny, Answered, Runs, calls_in, calls_answered, replies_in, replies_of}
 
@@ -11,12 +12,14 @@ stays s = record { was_honest = λ h. h; kept = λ h o stands. stands; left = λ
 
 pub runs_none : (old new : Standing) → Stays old new → Runs old new []
 runs_none old new s = record {
+  paths = tt;
   was_honest = s.was_honest;
   run = λ h o stands. ([], s.kept h o stands, tt, λ x left. s.left h x left);
 }
 
 pub runs_stay : (old mid new : Standing) (answered : List Answered) → Runs old mid answered → Stays mid new → Runs old new answered
 runs_stay old mid new answered r s = record {
+  paths = r.paths;
   was_honest = λ h. r.was_honest (s.was_honest h);
   run = λ h o stands.
       let so = r.run (s.was_honest h) o stands in
@@ -62,6 +65,10 @@ leave_then before mid o (c ∷ calls) more (r ∷ replies) others [] later x run
 leave_then before mid o (c ∷ calls) more (r ∷ replies) others (a ∷ offices) later x run may left =
     leave_then (MayLeave before o c r) mid a calls more replies others offices later x run.1 may left
 
+both_have : (calls more : List Call) → HavePaths calls → HavePaths more → HavePaths (calls ++ more)
+both_have [] more have others = others
+both_have (c ∷ calls) more have others = (have.0, both_have calls more have.1 others)
+
 -- the parts of a run, of calls and replies that are given
 IsRun : Standing → Standing → List Call → List Reply → Type 0
 IsRun old new calls replies =
@@ -72,6 +79,7 @@ IsRun old new calls replies =
 pub runs_then : (old mid new : Standing) (answered more : List Answered) → Runs old mid answered → Runs mid new more → Runs old new (answered ++ more)
 unfolding IsRun
 runs_then old mid new answered more r s = record {
+  paths = subst HavePaths (sym (flat_map-append calls_in answered more)) (both_have (calls_answered answered) (calls_answered more) r.paths s.paths);
   was_honest = λ h. r.was_honest (s.was_honest h);
   run = λ h.
       let P : List Call → Type 0 = λ calls. IsRun old new calls (replies_of (answered ++ more)) in
@@ -93,12 +101,14 @@ runs_then old mid new answered more r s = record {
 pub runs_one : (old new : Standing) (name : Option (List ℕ)) (request : Option Request) (reply : Reply)
     → ServesAny old new name request reply → Runs old new (record { name = name; request = request; reply = reply } ∷ [])
 runs_one old new name None reply s = record {
+  paths = tt;
   was_honest = s.was_honest;
   run = λ h o stands. ([], s.kept h o stands, tt, λ x left. s.left h x left);
 }
 runs_one old new name (Some request) reply s = record {
-  was_honest = s.was_honest;
+  paths = (s.1, tt);
+  was_honest = s.0.was_honest;
   run = λ h o stands.
-      let next = s.served h o stands in
-      (next.0 ∷ [], next.1, (next.2, tt), λ x left. s.left h o stands x left);
+      let next = s.0.served h o stands in
+      (next.0 ∷ [], next.1, (next.2, tt), λ x left. s.0.left h o stands x left);
 }

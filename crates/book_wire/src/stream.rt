@@ -125,10 +125,12 @@ fn end_at(unread: &[u8]) -> Ended
 
 /// Serves the requests of a reader one after the other, and writes the replies (RFC 9112; own profile).
 ///
-/// Each whole request is answered as soon as it is there, however the input was cut into pieces. A reply is one write,
-/// where head and body take at most 66,048 bytes, and else two. A request of which memory was refused before it was read is
-/// answered unavailable, and so is one whose reply can't be made for want of memory. The buffers and the router are made
-/// before the first byte is read.
+/// What is written does not depend on how the input was cut into pieces. A request of which memory was refused before it
+/// was read is answered unavailable, and so is one whose reply can't be made for want of memory. The buffers and the router
+/// are made before the first byte is read.
+///
+/// No clause says when it writes: it answers each whole request before it reads on, by one write where head and body take at
+/// most 66,048 bytes, and else by two.
 ///
 /// # Errors
 ///

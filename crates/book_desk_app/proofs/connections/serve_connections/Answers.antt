@@ -3,7 +3,8 @@ use Rattle.std.proofs.Common.{rules, ◌+◌, Bool, cond, false}
 use Rattle.std.proofs.KnownBytes.{Keeps-trans}
 use Rattle.std.proofs.lemmas.Bool.{true≢false}
 use Rattle.std.proofs.lemmas.List.{length-append}
-use Rattle.book_desk_app.proofs.InTurn.{connections_run, one_more, sound_after}
+use Rattle.book_desk_app.specs.Connections.{ServedConnection, none_had_a_fault, outcomes_of}
+use Rattle.book_desk_app.proofs.InTurn.{connections_run, one_more, outcomes_more, sound_after}
 use Rattle.book_desk_app.proofs.connections.serve_connections.Goals as goal
 use Rattle.book_desk_app.proofs.connections.serve_connections.Goals.{then-not-serve_one, else-not-serve_one}
 
@@ -14,18 +15,25 @@ pub loop-preserved : goal.loop-preserved
 loop-preserved g c =
     let so_far = c.loop.invariant in
     let one = c.serve_one.ensures.served in
-    let turns = one_more g.K.Keeper.standing c.args.machine.now.keeper c.loop.machine.keeper c.serve_one.new.machine.keeper so_far.0.0 one.0 so_far.0.1 one.2 in
-    let count : length (so_far.0.0 ++ one.0 ∷ []) ≡ c.loop.counter + 1 = length-append so_far.0.0 (one.0 ∷ []) ∙ ap (λ n. n + 1) so_far.0.2 in
-    let sound = sound_after so_far.0.0 one.0 c.loop.sound c.serve_one.result so_far.0.3 one.1 in
+    let last : ServedConnection g.row.S.Denot = record {
+      reader = c.in_ok-reader.reader;
+      writer = c.in_ok-writer.writer;
+      reader_left = c.serve_one.new.reader;
+      writer_left = c.serve_one.new.writer;
+      outcome = one.0;
+    } in
+    let turns = one_more g.S.Read.remaining g.S.Write.contents g.K.Keeper.standing c.args.machine.now.keeper c.loop.machine.keeper c.serve_one.new.machine.keeper so_far.0.0 last so_far.0.1 one.2 in
+    let count : length (so_far.0.0 ++ last ∷ []) ≡ c.loop.counter + 1 = length-append so_far.0.0 (last ∷ []) ∙ ap (λ n. n + 1) so_far.0.2 in
+    let sound = sound_after (outcomes_of so_far.0.0) one.0 c.loop.sound c.serve_one.result so_far.0.3 one.1 ∙ ap none_had_a_fault (sym (outcomes_more so_far.0.0 last)) in
     elim c.if-not-serve_one.branch [
       | then-not-serve_one w ↦
           let failed : c.serve_one.result ≡ false = search rules in (
-            (so_far.0.0 ++ one.0 ∷ [], turns, count, w.sound-is ∙ sym (ap (λ (b : Bool). cond b c.loop.sound false) failed) ∙ sound),
+            (so_far.0.0 ++ last ∷ [], turns, count, w.sound-is ∙ sym (ap (λ (b : Bool). cond b c.loop.sound false) failed) ∙ sound),
             λ t. absurd (true≢false (sym t ∙ w.sound-is)),
           )
       | else-not-serve_one w ↦
           let passed : c.serve_one.result ≡ true = search rules in (
-            (so_far.0.0 ++ one.0 ∷ [], turns, count, w.sound-is ∙ sym (ap (λ (b : Bool). cond b c.loop.sound false) passed) ∙ sound),
+            (so_far.0.0 ++ last ∷ [], turns, count, w.sound-is ∙ sym (ap (λ (b : Bool). cond b c.loop.sound false) passed) ∙ sound),
             λ t. Keeps-trans (g.E.Write.contents c.args.errors.now) (g.E.Write.contents c.loop.errors) (g.E.Write.contents c.serve_one.new.errors)
                 (so_far.1 (sym w.sound-is ∙ t)) (c.serve_one.ensures.silent passed),
           )
@@ -35,13 +43,13 @@ pub returns-in_err-writer-clause-served : goal.returns-in_err-writer-clause-serv
 returns-in_err-writer-clause-served g c = let so_far = c.loop.invariant.0 in (so_far.0, so_far.1, search rules)
 
 pub returns-in_err-writer-clause-runs : goal.returns-in_err-writer-clause-runs
-returns-in_err-writer-clause-runs g c = let so_far = c.loop.invariant.0 in connections_run g.K.Keeper.standing _ _ so_far.0 so_far.1
+returns-in_err-writer-clause-runs g c = let so_far = c.loop.invariant.0 in connections_run g.S.Read.remaining g.S.Write.contents g.K.Keeper.standing _ _ so_far.0 so_far.1
 
 pub returns-in_err-reader-clause-served : goal.returns-in_err-reader-clause-served
 returns-in_err-reader-clause-served g c = let so_far = c.loop.invariant.0 in (so_far.0, so_far.1, search rules)
 
 pub returns-in_err-reader-clause-runs : goal.returns-in_err-reader-clause-runs
-returns-in_err-reader-clause-runs g c = let so_far = c.loop.invariant.0 in connections_run g.K.Keeper.standing _ _ so_far.0 so_far.1
+returns-in_err-reader-clause-runs g c = let so_far = c.loop.invariant.0 in connections_run g.S.Read.remaining g.S.Write.contents g.K.Keeper.standing _ _ so_far.0 so_far.1
 
 pub returns-clause-served : goal.returns-clause-served
 returns-clause-served g c =
@@ -50,7 +58,7 @@ returns-clause-served g c =
     (so_far.0, so_far.1, (so_far.2 ∙ end, so_far.3))
 
 pub returns-clause-runs : goal.returns-clause-runs
-returns-clause-runs g c = let so_far = c.loop.invariant.0 in connections_run g.K.Keeper.standing _ _ so_far.0 so_far.1
+returns-clause-runs g c = let so_far = c.loop.invariant.0 in connections_run g.S.Read.remaining g.S.Write.contents g.K.Keeper.standing _ _ so_far.0 so_far.1
 
 pub returns-clause-silent : goal.returns-clause-silent
 returns-clause-silent g c = c.loop.invariant.1
