@@ -1,5 +1,6 @@
 -- Tables whose rows are those of a sound Office stand for it, and those of others for none.
 use Rattle.book_tables_opening.proofs.Common.{◌≡◌, inl, inr, Bool, List, [], IsTrue, sym, ap, subst, ◌∙◌, arith, AllByRecursion, Database, Row, State, HasCleanDisk, pairs_of, rows_of, IsBook, book_schema, entries_shown, gone_shown, meta_shown, AreOfficeRows, HasUtf8, whole_nodes}
+use Rattle.std.proofs.Common.{IfSome, None, Option, Some}
 use Rattle.std.proofs.lemmas.List.Sorted.{IsPermutation-sym}
 use Rattle.sqlite.specs.State.{Opens, Survives}
 use Rattle.sqlite.specs.Tree.{Trees}
@@ -9,7 +10,7 @@ use Rattle.book_tables_rows.specs.Steps.{Stays}
 use Rattle.book_tables_schema.specs.Tabled.{IsTabled, book_of}
 use Rattle.book_tables.specs.Stands.{Stands}
 use Rattle.book_tables.proofs.OneOffice.{only_left}
-use Rattle.book_tables_opening.specs.Reading.{ShowsTables, AreReadable, IsWhole, StandsForOne, StandsForNone, TellsStanding, IsOpened}
+use Rattle.book_tables_opening.specs.Reading.{ShowsTables, AreReadable, IsWhole, StandsForOne, StandsForNone, TellsStanding, IsLeft, IsLeftAgain, IsOpened}
 use Rattle.book_tables_opening.proofs.AnyOrder.{any_order}
 use Rattle.book_tables_opening.proofs.GivenRows.{given_rows}
 use Rattle.book_tables_opening.proofs.RowOffices.{office_of_rows}
@@ -76,3 +77,24 @@ module _ (old new : State) (stays : Stays old new) (survives : Survives old new 
   -- one whose tables stood for none stands for none
   pub refused : ¬ (StandsForOne old.now) → StandsForNone new
   refused none open_now one = none (subst StandsForOne (stays open_now).1 one)
+
+  -- one that comes back shows what was committed, and a stop leaves that
+  pub left_over : ((trees : Trees) → IsTrue old.is_open → old.may_leave trees → trees ≡ old.committed.trees) → IsLeftAgain old new
+  left_over settled = (
+    was_clean,
+    record {
+      same = λ open_now. ap (λ (d : Database). d.trees) ((stays open_now).1 ∙ opens.clean);
+      left = λ trees left. settled trees opens.is_open (elim (survives.crash clean trees left) [ inl may ↦ may | inr none ↦ absurd none ]);
+    },
+  )
+
+-- what is left of a connection that was opened again is left of the one before, whose committed tables it shows
+pub left_before : (given reopened new : State) → (HasCleanDisk reopened → Opens reopened) → (HasCleanDisk reopened → reopened.now.trees ≡ given.committed.trees)
+    → IsLeftAgain reopened new → IsLeft given new
+left_before given reopened new opens same h =
+    let trees : reopened.committed.trees ≡ given.committed.trees = sym (ap (λ (d : Database). d.trees) (opens h.0).clean) ∙ same h.0 in
+    record { same = λ open_now. h.1.same open_now ∙ trees; left = λ ts left. h.1.left ts left ∙ trees }
+
+pub some_weaker : {A : Type 0} (P Q : A → Type 0) (found : Option A) → ((x : A) → P x → Q x) → IfSome found P → IfSome found Q
+some_weaker P Q None f h = tt
+some_weaker P Q (Some x) f h = f x h

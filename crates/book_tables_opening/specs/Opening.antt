@@ -1,5 +1,5 @@
 -- Which rows are those of a sound Office: conditions on the rows of the five tables, as whole reads show them.
--- node: number of the row, path, parent, kind, owner, label, text, change number. ace: node, protected, place, form, principal, invert, deny, mask.
+-- node: number of the row, path, parent, kind, owner, label, text, change number. ace2: node, protected, place, form, principal, invert, deny, mask.
 -- member: group, member. gone: book, name, number. meta: version, epoch.
 use Rattle.std.specs.Prelude.{◌≡◌, ◌≢◌, ◌⊎◌, ℕ, ℤ, pos, ◌≤◌, Bool, false, ◌&&◌, List, [], ◌∷◌, ◌++◌, map, filter, length, codes, Option, Some, None, unwrap_or, IsTrue}
 use Rattle.std.specs.List.{AllByRecursion, count_by}

@@ -6,6 +6,7 @@ use Rattle.sqlite.specs.Effect.{Database}
 use Rattle.sqlite.specs.Held.{Held, state}
 use Rattle.sqlite.specs.Order.{Row}
 use Rattle.sqlite.specs.State.{State, HasCleanDisk, Opens}
+use Rattle.sqlite.specs.Tree.{Trees}
 use Rattle.sqlite_trees.specs.declared.store.Store.{Ghosts}
 use Rattle.book_office_values.specs.declared.offices.Office.{Office}
 use Rattle.book_tables_rows.specs.Lists.{ShowsRows, pairs_of}
@@ -102,6 +103,15 @@ pub record IsOpened (old new : State) : Type 0 where
   pub readable : IsTrue new.is_open → AreReadable new.now
   pub clean : HasCleanDisk old
   pub stays : Stays old new
+
+-- a connection that comes back where an open failed shows what was committed before it, and a stop leaves that alone
+pub record IsLeft (old new : State) : Type 0 where
+  pub same : IsTrue new.is_open → new.now.trees ≡ old.committed.trees
+  pub left : (trees : Trees) → new.may_leave trees → trees ≡ old.committed.trees
+
+-- the same of one that was opened again before, on a disk that returned what was written
+abbrev pub IsLeftAgain : State → State → Type 0
+IsLeftAgain old new = HasCleanDisk old × IsLeft old new
 
 -- the tables were read, and stand for no Office
 abbrev pub IsRefused : OpenFault → Type 0

@@ -52,7 +52,8 @@ fn places_by_number(alloc: Global, rows: &[Row]) -> Result<BTreeMap<i64, usize>,
     Ok(places)
 }
 
-/// The rows of all nodes, as a whole read shows them, with their places by path and by number. A contract sees the rows.
+/// The rows of all nodes, as a whole read shows them, with their places by path and by number. A contract sees the
+/// rows.
 #[derive(Drop)]
 pub(crate) struct Directory {
     rows: Vec<Row>,

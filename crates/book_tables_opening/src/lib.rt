@@ -1,17 +1,17 @@
 //! Opening a store that is there: its tables, where their rows are those of a sound Office.
 //!
-//! It stands on `book_tables_schema`, which opens a connection again and compares its schema, on `book_tables_rows`, which reads tables,
-//! and on `book_tables`, whose definition says for which Office tables stand. The crate above uses one promise, that of
-//! `open`: where it answers `Ok`, the connection stands for a sound Office, a stop just after leaves that one alone, and
-//! what it shows is what the last commit left; where it answers `OtherVersion` or `NoStore`, what the connection shows
-//! stands for no Office. For the migration of an older store it has the parts of `open` that are asked of one: `is_office`
-//! in a transaction, `tells_other` and `open_fault_of`.
+//! It stands on `book_tables_schema`, which opens a connection again and compares its schema, on `book_tables_rows`,
+//! which reads tables, and on `book_tables`, whose definition says for which Office tables stand. The crate above uses
+//! one promise, that of `open`: where it answers `Ok`, the connection stands for a sound Office, a stop just after
+//! leaves that one alone, and what it shows is what the last commit left; where it answers `OtherVersion` or `NoStore`,
+//! what the connection shows stands for no Office. For the migration of an older store it has the parts of `open` that
+//! are asked of one: `is_office` in a transaction, `tells_other` and `open_fault_of`.
 //!
 //! Read `specs/Opening` first: `AreOfficeRows`, the conditions that the rows of the five tables have to meet, as whole
-//! reads show them. They are met exactly where the rows give an Office that is sound. Then `specs/Directories`, how rows
-//! of nodes are found, and `specs/Reading`, what is told of a store. Of the code, `directories` finds rows by path and by
-//! number, `keys` and `counting` count what has a limit, each `.._tests` has the test of a condition, `office_tests`
-//! joins them, `whole_nodes` and `reading` read the tables, and `opening` has `open`.
+//! reads show them. They are met exactly where the rows give an Office that is sound. Then `specs/Directories`, how
+//! rows of nodes are found, and `specs/Reading`, what is told of a store. Of the code, `directories` finds rows by path
+//! and by number, `keys` and `counting` count what has a limit, each `.._tests` has the test of a condition,
+//! `office_tests` joins them, `whole_nodes` and `reading` read the tables, and `opening` has `open`.
 #![tactic(auto)]
 
 mod counting;

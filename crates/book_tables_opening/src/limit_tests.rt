@@ -55,8 +55,8 @@ fn are_change_keys(
     Ok(different)
 }
 
-/// Whether the numbers of a book's cards and removed names are from 1 to the book's, and all different. An error is want
-/// of memory.
+/// Whether the numbers of a book's cards and removed names are from 1 to the book's, and all different. An error is
+/// want of memory.
 fn are_changes(alloc: Global, directory: &Directory, gone: &[Row]) -> Result<bool, AllocError>
     ensures { IfOk result (λ are. IsTrue are ↔ AreChanges directory.now gone.now) }
 {

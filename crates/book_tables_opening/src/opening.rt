@@ -1,13 +1,13 @@
 //! Opening the tables of a store that is there.
 
-ghost use Rattle.std.specs.Prelude.{◌≡◌, ◌↔◌, ◌⊎◌, [], IfOk, IfErr, IsSomeAnd, IsTrue};
+ghost use Rattle.std.specs.Prelude.{◌≡◌, ◌↔◌, ◌⊎◌, [], IfOk, IfErr, IfSome, IsSomeAnd, IsTrue};
 ghost use Rattle.sqlite.specs.Held.{state};
 ghost use Rattle.sqlite.specs.State.{HasCleanDisk, Survives};
 ghost use Rattle.book_tables_rows.specs.Schema.{book_schema, ace_tree};
 ghost use Rattle.book_tables_rows.specs.Steps.{Keeps, Spares, Stays};
 ghost use Rattle.book_tables_schema.specs.Tabled.{IsTabled};
 ghost use Rattle.book_tables.specs.Opened.{open_fault};
-ghost use Rattle.book_tables_opening.specs.Reading.{AreReadable, IsWhole, StandsForOne, TellsOther, TellsStanding, IsStanding, StandingSays, FaultSays, IsReopened, IsOpened, IsRefused, StandsForItsOffice, StandsForNone};
+ghost use Rattle.book_tables_opening.specs.Reading.{AreReadable, IsWhole, StandsForOne, TellsOther, TellsStanding, IsStanding, StandingSays, FaultSays, IsReopened, IsLeft, IsLeftAgain, IsOpened, IsRefused, StandsForItsOffice, StandsForNone};
 
 use crate::directories::Directory;
 use crate::office_tests::are_office_rows;
@@ -29,8 +29,8 @@ pub(crate) enum Standing {
     Broken,
 }
 
-/// Whether the rows of the tables are those of a sound Office. Where they are, a label or a text that can't be read is a
-/// failure of the store. Every row is read and tested, in any transaction.
+/// Whether the rows of the tables are those of a sound Office. Where they are, a label or a text that can't be read is
+/// a failure of the store. Every row is read and tested, in any transaction.
 pub fn is_office<S: Alter>(
     alloc: Global,
     transaction: &mut Transaction<'_, S>,
@@ -103,8 +103,8 @@ fn lacks_former<S: Alter>(connection: &mut Connection<S>) -> Result<bool, Error>
     has_no_former(&mut transaction)
 }
 
-/// Whether the tables stand for an Office, where they are the tables of a store: rows in the table of version 1 stand for
-/// none.
+/// Whether the tables stand for an Office, where they are the tables of a store: rows in the table of version 1 stand
+/// for none.
 fn is_whole<S: Alter>(alloc: Global, connection: &mut Connection<S>) -> Result<bool, Error>
     ensures stays { HasCleanDisk (state S.Store connection.new)
         → Stays (state S.Store connection.old) (state S.Store connection.new) }
@@ -167,6 +167,8 @@ fn open_again<S: Alter>(
         HasCleanDisk (state S.Store c) → StandsForNone (state S.Store c))) }
     ensures other { IfErr result (λ e. IsRefused e.0 → IsSomeAnd e.1 (λ c. HasCleanDisk (state S.Store c)
         → IsTrue (state S.Store c).is_open → FaultSays S.Store 2 (state S.Store c).now e.0)) }
+    ensures kept { IsReopened (state S.Store connection) → IfErr result (λ e. IfSome e.1 (λ c.
+        HasCleanDisk (state S.Store c) → IsLeftAgain (state S.Store connection) (state S.Store c))) }
 {
     match standing_of(alloc, &mut connection) {
         Ok(Standing::Whole) => Ok(Tables::over(connection)),
@@ -177,14 +179,15 @@ fn open_again<S: Alter>(
 }
 
 /// Opens the tables of a store that is there, as its last commit left it. They are given where their rows stand for a
-/// sound Office, and a stop just after leaves that one alone; its labels and texts are UTF-8. Every row is read and tested, which takes a number of
-/// comparisons that grows as the number of rows times its logarithm.
+/// sound Office, and a stop just after leaves that one alone; its labels and texts are UTF-8. Every row is read and
+/// tested, which takes a number of comparisons that grows as the number of rows times its logarithm.
 ///
 /// # Errors
 ///
-/// `OtherVersion` where the rows stand for no Office, and `meta` has one row, with another version than 2; `NoStore` where they
-/// stand for no Office else. `Memory` is want of memory, `Store` any other failure of the store, also a label or a text
-/// of a node that is not UTF-8. The connection comes back but where the store could not be opened again.
+/// `OtherVersion` where the rows stand for no Office, and `meta` has one row, with another version than 2; `NoStore`
+/// where they stand for no Office else. `Memory` is want of memory, `Store` any other failure of the store, also a
+/// label or a text of a node that is not UTF-8. The connection comes back but where the store could not be opened
+/// again: it then shows what was committed before the call, and a stop leaves that alone.
 pub fn open<S: Alter + Drop>(
     alloc: Global,
     connection: Connection<S>,
@@ -201,6 +204,8 @@ pub fn open<S: Alter + Drop>(
         HasCleanDisk (state S.Store c) → StandsForNone (state S.Store c))) }
     ensures other { IfErr result (λ e. IsRefused e.0 → IsSomeAnd e.1 (λ c. HasCleanDisk (state S.Store c)
         → IsTrue (state S.Store c).is_open → FaultSays S.Store 2 (state S.Store c).now e.0)) }
+    ensures kept { IfErr result (λ e. IfSome e.1 (λ c. HasCleanDisk (state S.Store c)
+        → IsLeft (state S.Store connection) (state S.Store c))) }
 {
     match reopen(alloc, connection) {
         Ok(opened) => open_again(alloc, opened),

@@ -38,8 +38,8 @@ fn have_utf8(rows: &[Row]) -> bool
     true
 }
 
-/// Hands on whether the rows are those of a sound Office. If they are, their labels and texts have to be UTF-8, since no
-/// reply could tell another one: else it is a failure of the store.
+/// Hands on whether the rows are those of a sound Office. If they are, their labels and texts have to be UTF-8, since
+/// no reply could tell another one: else it is a failure of the store.
 pub(crate) fn readable(directory: &Directory, is_sound: bool) -> Result<bool, Error>
     ensures same { IfOk result (λ is. is ≡ is_sound) }
     ensures texts { IfOk result (λ is. IsTrue is → AllByRecursion HasUtf8 directory.now) }

@@ -36,3 +36,27 @@ returns-in-Ok-Other-clause-other g c refused clean open_now =
 pub returns-in-Ok-Broken-clause-other : goal.returns-in-Ok-Broken-clause-other
 returns-in-Ok-Broken-clause-other g c refused clean open_now =
     subst (StandingSays g.S.Store (state g.S.Store c.standing_of.new.connection).now) c.in-Ok-Broken.field-0-is (c.in-Ok-Broken.ensures.other clean open_now)
+
+pub returns-in-Ok-Other-clause-kept : goal.returns-in-Ok-Other-clause-kept
+returns-in-Ok-Other-clause-kept g c reopened clean =
+    let old = state g.S.Store c.args.connection in
+    let new = state g.S.Store c.standing_of.new.connection in
+    let was : HasCleanDisk old = omega (arith, clean, c.standing_of.ensures.survives.clean) in
+    let both = reopened was in
+    tables.left_over old new (c.standing_of.ensures.stays clean) c.standing_of.ensures.survives clean both.0 (g.met.S.Store.settled c.args.connection.store)
+
+pub returns-in-Ok-Broken-clause-kept : goal.returns-in-Ok-Broken-clause-kept
+returns-in-Ok-Broken-clause-kept g c reopened clean =
+    let old = state g.S.Store c.args.connection in
+    let new = state g.S.Store c.standing_of.new.connection in
+    let was : HasCleanDisk old = omega (arith, clean, c.standing_of.ensures.survives.clean) in
+    let both = reopened was in
+    tables.left_over old new (c.standing_of.ensures.stays clean) c.standing_of.ensures.survives clean both.0 (g.met.S.Store.settled c.args.connection.store)
+
+pub returns-in-Err-clause-kept : goal.returns-in-Err-clause-kept
+returns-in-Err-clause-kept g c reopened clean =
+    let old = state g.S.Store c.args.connection in
+    let new = state g.S.Store c.standing_of.new.connection in
+    let was : HasCleanDisk old = omega (arith, clean, c.standing_of.ensures.survives.clean) in
+    let both = reopened was in
+    tables.left_over old new (c.standing_of.ensures.stays clean) c.standing_of.ensures.survives clean both.0 (g.met.S.Store.settled c.args.connection.store)
