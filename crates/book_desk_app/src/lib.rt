@@ -3,17 +3,17 @@
 //! memory.
 //!
 //! It stands on `book_lists_explain` and `book_cards`, which answer texts, on `book_policy`, which reads a policy, on
-//! `book_office_audit`, which tells an Office as a text, on `book_wire`, which serves a stream, on `book_tables` and its
-//! rooms, which give the tables of a store, and on `book_office_cache`, whose keeper stands in front of the tables while
-//! `pipe` serves. The program above uses that `run_text` ends with status 0 where exactly what the command writes was
-//! written (`Does`), else with the status of a failure that the input has (`Fails`); that `task_of` reads the policy
-//! before any store is touched (`SpellsTask`); that `run`, which does all work but `serve`, ends as the work does over
-//! the store's Office (`Runs`, `Performs`); that `open_store` gives the tables of a store (`AreTablesOf`); and that
-//! `serve_connections` does to the Office what a run of requests does.
+//! `book_office_audit`, which tells an Office as a text, on `book_wire`, which serves a stream, on `book_tables` and
+//! its rooms, which give the tables of a store, and on `book_office_cache`, whose keeper stands in front of the tables
+//! while `pipe` serves. The program above uses that `run_text` ends with status 0 where exactly what the command writes
+//! was written (`Does`), else with the status of a failure that the input has (`Fails`); that `task_of` reads the
+//! policy before any store is touched (`SpellsTask`); that `run`, which does all work but `serve`, ends as the work
+//! does over the store's Office (`Runs`, `Performs`); that `open_store` gives the tables of a store (`AreTablesOf`);
+//! and that `serve_connections` does to the Office what a run of requests does.
 //!
-//! Read `text_commands` and `dispatch` first, then `explaining`, `card_summaries`, and `streams` and `short_texts`, which
-//! read. Then `works`, which makes a task, `tasks`, which joins `policies`, `importing`, `auditing` and `piping`, and
-//! `memory`; `stores` and `running`; `adoptions`, `connections` and `listening`. `failures`, `text_failures` and
+//! Read `text_commands` and `dispatch` first, then `explaining`, `card_summaries`, and `streams` and `short_texts`,
+//! which read. Then `works`, which makes a task, `tasks`, which joins `policies`, `importing`, `auditing` and `piping`,
+//! and `memory`; `stores` and `running`; `adoptions`, `connections` and `listening`. `failures`, `text_failures` and
 //! `serving_failures` have what is told on standard error.
 #![tactic(auto)]
 

@@ -22,8 +22,8 @@ use sqlite::{Alter, Connection};
 use std::alloc::Global;
 use std::io::{Read, Write};
 
-/// Serves the requests that the reader gives over the tables, as `pipe`, and gives them back. What most requests ask of them
-/// is remembered meanwhile.
+/// Serves the requests that the reader gives over the tables, as `pipe`, and gives them back. What most requests ask of
+/// them is remembered meanwhile.
 fn pipe_over<S: Alter + Drop, R: Read, W: Write, E: Write>(
     alloc: Global,
     tables: Tables<S>,
@@ -41,8 +41,8 @@ fn pipe_over<S: Alter + Drop, R: Read, W: Write, E: Write>(
     (status, machine.release().into_inner())
 }
 
-/// Adopts the policy over the tables, if one is given, then serves the requests that the reader gives, and gives the tables
-/// back. Nothing is read or written where the policy was not adopted.
+/// Adopts the policy over the tables, if one is given, then serves the requests that the reader gives, and gives the
+/// tables back. Nothing is read or written where the policy was not adopted.
 fn pipe_after<S: Alter + Drop, R: Read, W: Write, E: Write>(
     alloc: Global,
     policy: &Option<Policy>,

@@ -113,11 +113,11 @@ calls_fine [] have = tt
 calls_fine (call ∷ calls) have = (have.0, calls_fine calls have.1)
 
 module _ (o : Office) (calls : List Call) (replies : List Reply) (sound : IsSound o) (have : HavePaths calls) where
-  pub reports_follow : ReportsFollow o calls replies
+  reports_follow : ReportsFollow o calls replies
   reports_follow p q i k name b token first second finds onwards a c =
       copies_follow machine_steps machine_are o p q calls replies i k name b token None None first second sound (calls_fine calls have) finds onwards a c
 
-  pub reports_begin : ReportsBegin o calls replies
+  reports_begin : ReportsBegin o calls replies
   reports_begin p i name b report finds a = copies_begin machine_steps machine_are o p calls replies i name b None report sound (calls_fine calls have) finds a
 
   told_in : (p : Office) (from : List Call) (answers : List Reply) (i : ℕ) (name : Option (List ℕ)) (b : List ℕ) (token : Option Token) (report : Report) → IsToldAt p from answers i name b token report → IsToldTo p name b token report
@@ -125,13 +125,13 @@ module _ (o : Office) (calls : List Call) (replies : List Reply) (sound : IsSoun
       let at = told_by_step p a.after a.call.0 a.call.1 a.reply b token report a.reported.asked a.reported.is_told a.served in
       (at.0, subst (λ n. IsCircle p.pairs (named n) at.0) a.caller at.1, at.2)
 
-  pub reports_are_whole : ReportsAreWhole o calls replies
+  reports_are_whole : ReportsAreWhole o calls replies
   reports_are_whole p i name b token report finds a =
       let at = told_in p calls replies i name b token report a in
       let h = told_report p at.0 b token None report at.2 in
       ap (λ (r : Report). r.truncated) h.is
 
-  pub tokens_are_ended : TokensAreEnded o calls replies
+  tokens_are_ended : TokensAreEnded o calls replies
   tokens_are_ended p q i k name b other token first call reply ready finds onwards a risen at asks is granted =
       let was = told_in p calls replies i name b token first a in
       let first_is = told_report p was.0 b token None first was.2 in

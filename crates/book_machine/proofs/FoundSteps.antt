@@ -1,5 +1,5 @@
 -- Each request has a step in each Office.
-use Rattle.book_machine.proofs.Common.{◌≡◌, ◌⊎◌, inl, inr, ℕ, List, [], ◌∷◌, true, is_some, option_map, Option, Some, None, Result, Ok, Err, refl, sym, ap, ◌∙◌, subst, Leaf, Bool, Need, CircleOf, Caller, Known, Nobody, card_fault, Office, Path, node_at, unnumbered, Resource, node_of, resource_at, effective_at, Node, IsGrantedAt, here_of, Denial, Find, AreGranted, needs_at, place_path, destination_in, Destination, Asked, Plan, Ready, Target, Reply, Request, Refusal, NeedPrivileges, ReportKind, IsBodyAnswer, IsMembersAnswer, bad_card, AreMembersTold, IsReportOf, sync_plan, IsListed, IsSuccessOf, IsDone, IsGrantedPlan, body_then_limits, ready_of, IsDecided, IsPlannedFrom, settled}
+use Rattle.book_machine.proofs.Common.{◌≡◌, ◌⊎◌, inl, inr, ℕ, List, [], ◌∷◌, true, is_some, option_map, Option, Some, None, Result, Ok, Err, refl, sym, ◌∙◌, subst, Leaf, Bool, Need, CircleOf, Caller, Known, Nobody, card_fault, Office, Path, node_at, unnumbered, Resource, node_of, resource_at, effective_at, Node, IsGrantedAt, here_of, Denial, Find, AreGranted, needs_at, place_path, destination_in, Destination, Asked, Plan, Ready, Target, Reply, Request, Refusal, NeedPrivileges, ReportKind, IsBodyAnswer, IsMembersAnswer, bad_card, AreMembersTold, IsReportOf, sync_plan, IsListed, IsSuccessOf, IsDone, IsGrantedPlan, body_then_limits, ready_of, IsDecided, IsPlannedFrom, settled}
 use Rattle.book_machine.specs.Stages.{acl_plan, allow_plan, card_plan, copy_plan, delete_plan, listed_plan, members_plan, mkcol_plan, move_plan, names_plan, patch_plan, put_plan, rulings_plan, AreNamesTold, IsCallerAnswer, IsReportAnswer}
 use Rattle.book_office_values.specs.declared.paths.Path.TheVariants as path
 use Rattle.book_office_members.proofs.FoundMembers.{members_exist, names_exist}

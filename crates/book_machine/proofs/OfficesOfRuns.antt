@@ -1,9 +1,10 @@
 -- Each call of a run finds the Office that was left before it, and copies that are kept by reports stay right.
-use Rattle.std.proofs.Common.{drop, slice_get, suc, zero}
+use Rattle.std.proofs.Common.{slice_get, suc, zero}
 use Rattle.book_machine.proofs.Common.{◌≡◌, ◌+◌, ℕ, List, [], ◌∷◌, Some, sym, ap, ◌∙◌, subst, arith, Office, Call, Reply}
 use Rattle.book_office_sync.specs.SyncedRuns.{Finds}
-use Rattle.book_machine.proofs.CopiesOfRuns.{reports_follow, reports_begin, reports_are_whole, tokens_are_ended}
-use Rattle.book_machine.specs.Laws.{RunsAreSynced}
+use Rattle.book_machine.proofs.CopiesOfRuns.{synced}
+use Rattle.book_office.specs.Keeping.{in_memory}
+use Rattle.book_machine.specs.Laws.{FindsItsOffices, RunsAreSynced}
 use Rattle.book_machine.specs.Runs.{Run}
 use Rattle.book_machine.specs.SyncedCopies.{machine_steps, FindsAt, FindsAfter}
 
@@ -32,11 +33,8 @@ found_onward o (call ∷ calls) (reply ∷ replies) (after ∷ offices) run (suc
     let further : suc (i + suc k) ≡ suc i + suc k = omega arith in
     found_onward after calls replies offices run.1 i p e k q (ap (slice_get (o ∷ after ∷ offices)) further ∙ f)
 
+pub finds_its_offices : (o : Office) (calls : List Call) (replies : List Reply) (offices : List Office) → Run o calls replies offices → FindsItsOffices o calls replies offices
+finds_its_offices o calls replies offices run i p e = (found_in_run o calls replies offices run i p e, found_onward o calls replies offices run i p e)
+
 pub runs_are_synced : RunsAreSynced
-runs_are_synced o calls replies offices sound have run = (
-  λ i p e. (found_in_run o calls replies offices run i p e, found_onward o calls replies offices run i p e),
-  reports_follow o calls replies sound have,
-  reports_begin o calls replies sound have,
-  reports_are_whole o calls replies sound have,
-  tokens_are_ended o calls replies sound have,
-)
+runs_are_synced o calls replies offices sound have run = (finds_its_offices o calls replies offices run, synced (in_memory o) calls replies have)

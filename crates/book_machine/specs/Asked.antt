@@ -12,7 +12,7 @@ use Rattle.book_rights.specs.declared.methods.Method.{Method}
 use Rattle.book_rights.specs.declared.methods.Method.TheVariants as method
 use Rattle.book_office_values.specs.declared.paths.Path.{Path}
 use Rattle.book_office_values.specs.declared.paths.Path.TheVariants as path
-use Rattle.book_machine.specs.Named.{card_of}
+use Rattle.book_machine.specs.Named.{path_card}
 use Rattle.book_machine.specs.Finding.{find_of, may_be_asked, usual_properties}
 use Rattle.book_machine.specs.declared.asked.Asked.{Asked}
 use Rattle.book_machine.specs.declared.asked.Asked.TheVariants as asked
@@ -149,7 +149,7 @@ report_asked body.Unread = Err BadRequest
 
 -- whether a path is that of the card
 abbrev pub is_card : List ℕ → List ℕ → Option Path → Bool
-is_card b c p = option_map_or (λ card. bytes_eq card.0 b && bytes_eq card.1 c) (option_and_then card_of p) false
+is_card b c p = option_map_or (λ card. bytes_eq card.0 b && bytes_eq card.1 c) (option_and_then path_card p) false
 
 -- a card as a destination, and whether it may be replaced: an Overwrite that was read (RFC 4918, section 10.6)
 abbrev pub destination_by : List ℕ → List ℕ → Flag → Result Destination Refusal
@@ -160,7 +160,7 @@ destination_by b c flag.Unread = Err BadRequest
 -- a destination is the path of a card (RFC 4918, section 10.3), other than the source (own profile)
 abbrev pub destination_asked : Option Path → Flag → Option Path → Result Destination Refusal
 destination_asked source overwrite to =
-    option_map_or (λ card. if is_card card.0 card.1 source then Err BadRequest else destination_by card.0 card.1 overwrite) (option_and_then card_of to) (Err BadRequest)
+    option_map_or (λ card. if is_card card.0 card.1 source then Err BadRequest else destination_by card.0 card.1 overwrite) (option_and_then path_card to) (Err BadRequest)
 
 abbrev pub copy_asked : Result Destination Refusal → Result Asked Refusal
 copy_asked (Ok to) = Ok (asked.Copy to)

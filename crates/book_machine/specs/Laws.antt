@@ -2,6 +2,7 @@
 use Rattle.std.specs.Prelude.{Bool, true, false, ◌≡◌, ◌≢◌, ◌⊎◌, ◌↔◌, ℕ, ◌+◌, ◌<◌, suc, List, ◌∷◌, slice_get, Option, Some, Ok}
 use Rattle.book_office_values.specs.declared.offices.Office.{Office}
 use Rattle.book_office.specs.Edits.{apply}
+use Rattle.book_office.specs.Keeping.{in_memory}
 use Rattle.book_office.specs.Sound.{IsSound}
 use Rattle.book_office.specs.declared.edits.Edit.{Edit}
 use Rattle.book_office_listings.specs.Laws.{TellsFirst}
@@ -14,7 +15,7 @@ use Rattle.book_machine.specs.Refusals.{refused}
 use Rattle.book_machine.specs.Runs.{Call, Run}
 use Rattle.book_machine.specs.Stages.{ready_of, IsBodyAnswer, IsSuccess}
 use Rattle.book_machine.specs.Steps.{Steps}
-use Rattle.book_machine.specs.SyncedCopies.{FindsAt, FindsAfter, ReportsFollow, ReportsBegin, ReportsAreWhole, TokensAreEnded}
+use Rattle.book_machine.specs.SyncedCopies.{FindsAt, FindsAfter, Synced}
 use Rattle.book_machine.specs.Verdicts.{IsGranted, IsDenied}
 use Rattle.book_machine.specs.declared.messages.Content.TheVariants as content
 use Rattle.book_machine.specs.declared.messages.Reply.{Reply}
@@ -107,5 +108,4 @@ FindsItsOffices o calls replies offices = (i : ℕ) (p : Office) → slice_get (
 abbrev pub RunsAreSynced : Type 0
 RunsAreSynced = (o : Office) (calls : List Call) (replies : List Reply) (offices : List Office)
     → IsSound o → HavePaths calls → Run o calls replies offices
-    → FindsItsOffices o calls replies offices × ReportsFollow o calls replies × ReportsBegin o calls replies
-    × ReportsAreWhole o calls replies × TokensAreEnded o calls replies
+    → FindsItsOffices o calls replies offices × Synced (in_memory o) calls replies

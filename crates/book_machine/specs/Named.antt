@@ -4,32 +4,32 @@ use Rattle.book_office_values.specs.declared.paths.Path.{Path}
 use Rattle.book_office_values.specs.declared.paths.Path.TheVariants as path
 
 -- the names of a card and of its book, the book's first
-abbrev pub card_of : Path → Option (List ℕ × List ℕ)
-card_of path.Root = None
-card_of path.People = None
-card_of path.Groups = None
-card_of path.Books = None
-card_of (path.Person n) = None
-card_of (path.Group n) = None
-card_of (path.Book b) = None
-card_of (path.Card b c) = Some (b, c)
+abbrev pub path_card : Path → Option (List ℕ × List ℕ)
+path_card path.Root = None
+path_card path.People = None
+path_card path.Groups = None
+path_card path.Books = None
+path_card (path.Person n) = None
+path_card (path.Group n) = None
+path_card (path.Book b) = None
+path_card (path.Card b c) = Some (b, c)
 
-abbrev pub book_of : Path → Option (List ℕ)
-book_of path.Root = None
-book_of path.People = None
-book_of path.Groups = None
-book_of path.Books = None
-book_of (path.Person n) = None
-book_of (path.Group n) = None
-book_of (path.Book b) = Some b
-book_of (path.Card b c) = None
+abbrev pub path_book : Path → Option (List ℕ)
+path_book path.Root = None
+path_book path.People = None
+path_book path.Groups = None
+path_book path.Books = None
+path_book (path.Person n) = None
+path_book (path.Group n) = None
+path_book (path.Book b) = Some b
+path_book (path.Card b c) = None
 
-abbrev pub group_of : Path → Option (List ℕ)
-group_of path.Root = None
-group_of path.People = None
-group_of path.Groups = None
-group_of path.Books = None
-group_of (path.Person n) = None
-group_of (path.Group n) = Some n
-group_of (path.Book b) = None
-group_of (path.Card b c) = None
+abbrev pub path_group : Path → Option (List ℕ)
+path_group path.Root = None
+path_group path.People = None
+path_group path.Groups = None
+path_group path.Books = None
+path_group (path.Person n) = None
+path_group (path.Group n) = Some n
+path_group (path.Book b) = None
+path_group (path.Card b c) = None

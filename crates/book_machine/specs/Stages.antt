@@ -60,7 +60,7 @@ use Rattle.book_machine.specs.declared.messages.Request.{Request}
 use Rattle.book_machine.specs.declared.messages.SyncFrom.{SyncFrom}
 use Rattle.book_machine.specs.declared.messages.SyncFrom.TheVariants.{Start, After, Unknown}
 use Rattle.book_machine.specs.declared.plans.Plan.{Plan}
-use Rattle.book_machine.specs.Named.{card_of, book_of, group_of}
+use Rattle.book_machine.specs.Named.{path_card, path_book, path_group}
 use Rattle.book_machine.specs.Targets.{Ready, Target}
 use Rattle.book_machine.specs.declared.refusals.Refusal.{Refusal}
 use Rattle.book_machine.specs.declared.refusals.Refusal.TheVariants.{UnknownCaller, BadCard, NoProtectedAceConflict, NoInheritedAceConflict, LimitedNumberOfAces, NotSupportedPrivilege, RecognizedPrincipal, ValidSyncToken, NotFound, NotAllowed, NoParent, Overwrite, Full}
@@ -84,13 +84,13 @@ caller_of o (Some name) = if is_some (get o.persons name) then Ok (Known (person
 
 -- PUT goes on at the path of a card that is not there, where its book is there
 abbrev pub new_card : Office → Path → Result (Unit {0}) Refusal
-new_card o p = option_map_or (λ b. Err (NotAllowed OfNewBook)) (book_of p)
-    (option_map_or (λ card. check (is_some (get o.books card.0)) NoParent) (card_of p) (Err NotFound))
+new_card o p = option_map_or (λ b. Err (NotAllowed OfNewBook)) (path_book p)
+    (option_map_or (λ card. check (is_some (get o.books card.0)) NoParent) (path_card p) (Err NotFound))
 
 -- MKCOL goes on at the path of a book that is not there
 abbrev pub new_book_at : Office → Path → Result (Unit {0}) Refusal
-new_book_at o p = option_map_or (λ b. Ok tt) (book_of p)
-    (option_map_or (λ card. check (is_some (get o.books card.0)) NoParent >>= λ _. Err (NotAllowed OfNewCard)) (card_of p) (Err NotFound))
+new_book_at o p = option_map_or (λ b. Ok tt) (path_book p)
+    (option_map_or (λ card. check (is_some (get o.books card.0)) NoParent >>= λ _. Err (NotAllowed OfNewCard)) (path_card p) (Err NotFound))
 
 abbrev pub at_unmapped : Office → Method → Path → Result (Unit {0}) Refusal
 at_unmapped o method.Get p = Err NotFound
@@ -260,16 +260,16 @@ can_change (Some book) = nat_lt book.number LAST_NUMBER
 -- PUT: the number of the book can rise, and it has room for one more card where one is added
 abbrev pub put_limits : Office → Path → Bool → Bool
 put_limits o p mapped =
-    option_map_or (λ card. can_change (node_at o (path.Book card.0)) && (mapped || nat_lt (count_at o (path.Book card.0)) MAX_CARDS)) (card_of p) true
+    option_map_or (λ card. can_change (node_at o (path.Book card.0)) && (mapped || nat_lt (count_at o (path.Book card.0)) MAX_CARDS)) (path_card p) true
 
 -- DELETE: the number of the card's book can rise, and where a book is removed the epoch
 abbrev pub delete_limits : Office → Path → Bool
-delete_limits o p = option_map_or (λ b. nat_lt o.epoch LAST_NUMBER) (book_of p)
-    (option_map_or (λ card. can_change (node_at o (path.Book card.0))) (card_of p) true)
+delete_limits o p = option_map_or (λ b. nat_lt o.epoch LAST_NUMBER) (path_book p)
+    (option_map_or (λ card. can_change (node_at o (path.Book card.0))) (path_card p) true)
 
 -- PROPPATCH: a card's label takes a number of its book; members raise the epoch
 abbrev pub label_limits : Office → Path → Bool
-label_limits o p = option_map_or (λ card. can_change (node_at o (path.Book card.0))) (card_of p) true
+label_limits o p = option_map_or (λ card. can_change (node_at o (path.Book card.0))) (path_card p) true
 
 abbrev pub patch_limits : Office → Patch → Path → Bool
 patch_limits o (patch.DisplayName label) p = label_limits o p
@@ -290,7 +290,7 @@ moved_limits o b to taken =
     if bytes_eq b to.book then can_change_twice (node_at o (path.Book b)) else can_change (node_at o (path.Book b)) && copy_limits o to taken
 
 abbrev pub move_limits : Office → Path → Destination → Bool → Bool
-move_limits o p to taken = option_map_or (λ card. moved_limits o card.0 to taken) (card_of p) true
+move_limits o p to taken = option_map_or (λ card. moved_limits o card.0 to taken) (path_card p) true
 
 -- by what is asked of a path, whether it is mapped, and whether the name at the destination is taken
 abbrev pub keeps_limits : Office → Asked → Path → Bool → Bool → Bool
@@ -334,23 +334,23 @@ put_status false = 201
 put_status true = 204
 
 abbrev pub put_edit : Caller → List ℕ → Path → Result Edit Refusal
-put_edit caller text p = option_map_or (λ card. Ok (PutCard card.0 card.1 (owner_of caller) text)) (card_of p) (Err NotFound)
+put_edit caller text p = option_map_or (λ card. Ok (PutCard card.0 card.1 (owner_of caller) text)) (path_card p) (Err NotFound)
 
 abbrev pub copy_edit : Caller → Path → Destination → Result Edit Refusal
-copy_edit caller p to = option_map_or (λ card. Ok (CopyCard card.0 card.1 to.book to.card (owner_of caller))) (card_of p) (Err NotFound)
+copy_edit caller p to = option_map_or (λ card. Ok (CopyCard card.0 card.1 to.book to.card (owner_of caller))) (path_card p) (Err NotFound)
 
 abbrev pub move_edit : Path → Destination → Result Edit Refusal
-move_edit p to = option_map_or (λ card. Ok (MoveCard card.0 card.1 to.book to.card)) (card_of p) (Err NotFound)
+move_edit p to = option_map_or (λ card. Ok (MoveCard card.0 card.1 to.book to.card)) (path_card p) (Err NotFound)
 
 abbrev pub delete_edit : Path → Result Edit Refusal
-delete_edit p = option_map_or (λ b. Ok (RemoveBook b)) (book_of p)
-    (option_map_or (λ card. Ok (RemoveCard card.0 card.1)) (card_of p) (Err NotFound))
+delete_edit p = option_map_or (λ b. Ok (RemoveBook b)) (path_book p)
+    (option_map_or (λ card. Ok (RemoveCard card.0 card.1)) (path_card p) (Err NotFound))
 
 abbrev pub mkcol_edit : Caller → Path → Result Edit Refusal
-mkcol_edit caller p = option_map_or (λ b. Ok (AddBook b (owner_of caller))) (book_of p) (Err NotFound)
+mkcol_edit caller p = option_map_or (λ b. Ok (AddBook b (owner_of caller))) (path_book p) (Err NotFound)
 
 abbrev pub members_edit : Path → List (List ℕ) → Result Edit Refusal
-members_edit p members = option_map_or (λ n. Ok (SetMembers (group_path n) members)) (group_of p) (Err NotFound)
+members_edit p members = option_map_or (λ n. Ok (SetMembers (group_path n) members)) (path_group p) (Err NotFound)
 
 abbrev pub patch_edit : Path → Patch → Result Edit Refusal
 patch_edit p (patch.DisplayName label) = Ok (SetLabel p label)
@@ -406,14 +406,14 @@ report_plan None = Err ValidSyncToken
 report_plan (Some report) = Ok (replied 207 (content.Synced report) None)
 
 abbrev pub sync_plan : Office → CircleOf → SyncFrom → Path → Result Plan Refusal
-sync_plan o circle from p = option_map_or (λ b. report_plan (report_from o circle b from)) (book_of p) (Err NotFound)
+sync_plan o circle from p = option_map_or (λ b. report_plan (report_from o circle b from)) (path_book p) (Err NotFound)
 
 -- the members of a card, in the view of the caller with this circle (RFC 6350, section 6.6.5; the report is own profile)
 abbrev pub members_plan : List ℕ → Members → Result Plan Refusal
 members_plan b members = Ok (replied 200 (content.Members b members) None)
 
 abbrev pub AreMembersTold : Office → CircleOf → Path → Result Plan Refusal → Type 0
-AreMembersTold o circle p result = MatchOption (card_of p) (Err NotFound ≡ result)
+AreMembersTold o circle p result = MatchOption (path_card p) (Err NotFound ≡ result)
     (λ card. (members : Members) × AreMembersAt o circle card.0 card.1 members × (members_plan card.0 members ≡ result))
 
 -- which entry decides each leaf at a resource for who has this circle; `owner` and `self` are read at the resource (own
@@ -439,7 +439,7 @@ abbrev pub names_plan : List ℕ → List NamedCard → Result Plan Refusal
 names_plan b names = Ok (replied 200 (content.Names b names) None)
 
 abbrev pub AreNamesTold : Office → CircleOf → Path → Result Plan Refusal → Type 0
-AreNamesTold o circle p result = MatchOption (book_of p) (Err NotFound ≡ result)
+AreNamesTold o circle p result = MatchOption (path_book p) (Err NotFound ≡ result)
     (λ b. (names : List NamedCard) × AreNamesAt o circle b names × (names_plan b names ≡ result))
 
 -- what a REPORT tells, by the report that is asked

@@ -72,7 +72,8 @@ impl<K: Keeper> Machine<K> {
     }
 
     /// Adopts a policy (own profile): what it names is added, and labels, owners of books, members and lists become the
-    /// policy's. The answer tells whether the Office differs from before, and the epoch, which rises by one where it does.
+    /// policy's. The answer tells whether the Office differs from before, and the epoch, which rises by one where it
+    /// does.
     ///
     /// Full comes exactly where the Office would pass a limit or the epoch is at its last value, want of memory and a
     /// failed store aside. Each fault leaves the Office as it was.

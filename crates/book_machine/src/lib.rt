@@ -1,11 +1,11 @@
 //! The machine: from a request to its reply (RFC 3744, section 6; RFC 4918).
 //!
-//! It stands on `book_office` and the crates below, on `book_office_listings` for what PROPFIND tells, and for reports on
-//! `book_office_sync`, `book_office_members` and `book_office_listings`. What a request asks for is found without its number, which PROPFIND
-//! alone tells: it finds the resource once more, with it. The crate above uses
-//! that `Machine::serve` answers as the machine's step says, or that the store is unavailable with the Office as it was;
-//! that `serve_all` is a run of such steps; and that `Machine::adopt` leaves the Office that adopts the policy, or tells
-//! why it does not.
+//! It stands on `book_office` and the crates below, on `book_office_listings` for what PROPFIND tells, and for reports
+//! on `book_office_sync`, `book_office_members` and `book_office_listings`. What a request asks for is found without
+//! its number, which PROPFIND alone tells: it finds the resource once more, with it. The crate above uses that
+//! `Machine::serve` answers as the machine's step says, or that the store is unavailable with the Office as it was;
+//! that `serve_all` is a run of such steps; and that `Machine::adopt` leaves the Office that adopts the policy, or
+//! tells why it does not.
 //!
 //! Read `messages`, `refusals`, `allowed_methods`, `finding` and `asked` first; then `plans`, `stages`,
 //! `entries_in_force`, `destinations`, `syncing`, `reporting` and `machine`; and `adoptions` by itself.

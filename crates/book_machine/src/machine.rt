@@ -216,8 +216,8 @@ impl<K: Keeper> Machine<K> {
         }
     }
 
-    /// The verdict on one need at a resource. The lists in force are told where it is not granted alone: then a denial names
-    /// its entry by them.
+    /// The verdict on one need at a resource. The lists in force are told where it is not granted alone: then a denial
+    /// names its entry by them.
     fn check_here(
         &mut self,
         alloc: Global,
@@ -348,8 +348,8 @@ impl<K: Keeper> Machine<K> {
         Ok(self.keeper.has_room(alloc, path, most)?)
     }
 
-    /// Whether a book has fewer cards than the most. Each card took a number of its own, so that they are counted only where
-    /// the book has had as many changes as it may have cards.
+    /// Whether a book has fewer cards than the most. Each card took a number of its own, so that they are counted only
+    /// where the book has had as many changes as it may have cards.
     fn has_card_room(&mut self, alloc: Global, book: &Name) -> Result<bool, Refusal>
         ensures { StageAsks K.standing self.old self.new result
             (λ o r. Meets r (Ok (nat_lt (count_at o (path.Book book.now)) MAX_CARDS))) }
@@ -557,8 +557,8 @@ impl<K: Keeper> Machine<K> {
         Ok(protected_in(alloc, lists)?)
     }
 
-    /// The list of an ACL: it has no fault at the resource. A list that is too long is refused before its principals are
-    /// looked up.
+    /// The list of an ACL: it has no fault at the resource. A list that is too long is refused before its principals
+    /// are looked up.
     fn check_list(&mut self, alloc: Global, path: &Path, list: &[Submitted]) -> Result<(), Refusal>
         ensures { StageAsks K.standing self.old self.new result (λ o r. MeetsAny (IsAclAnswer o path.now list.now) r) }
     {
@@ -603,8 +603,8 @@ impl<K: Keeper> Machine<K> {
         }
     }
 
-    /// What a PROPFIND tells: a listing of what is mapped at a path. A book's sync token has its number, so that the resource
-    /// is asked for with it.
+    /// What a PROPFIND tells: a listing of what is mapped at a path. A book's sync token has its number, so that the
+    /// resource is asked for with it.
     fn listed(
         &mut self,
         alloc: Global,
@@ -683,10 +683,10 @@ impl<K: Keeper> Machine<K> {
 
     /// Serves one request.
     ///
-    /// The caller is its bare name; none is nobody. The request is worked in this order: the caller, the shape, the path,
-    /// the needs, the body, the limits, and then the edit. The reply is made before the edit, and nothing is allocated
-    /// between the edit and the return. Each refusal leaves the Office as it was. A reply tells nothing of the labels and texts
-    /// of cards that the caller may not read.
+    /// The caller is its bare name; none is nobody. The request is worked in this order: the caller, the shape, the
+    /// path, the needs, the body, the limits, and then the edit. The reply is made before the edit, and nothing is
+    /// allocated between the edit and the return. Each refusal leaves the Office as it was. A reply tells nothing of
+    /// the labels and texts of cards that the caller may not read.
     pub fn serve(&mut self, alloc: Global, name: Option<&str>, request: &Request) -> Reply
         ensures served { ServePromise (K.standing self.old.keeper) (K.standing self.new.keeper) (option_copied name.entry) request.now result }
         ensures unseen { ServeHidesUnread (K.standing self.old.keeper) (K.standing self.new.keeper) (option_copied name.entry) request.now result }

@@ -90,7 +90,8 @@ pub struct Request {
     pub method: Method,
     /// The resource that is asked for; none where its text was no path.
     pub path: Option<Path>,
-    /// The path of the field Destination (RFC 4918, section 10.3); none where there is no such field, or its text was no path.
+    /// The path of the field Destination (RFC 4918, section 10.3); none where there is no such field, or its text was
+    /// no path.
     pub destination: Option<Path>,
     /// The field Overwrite.
     pub overwrite: Flag,

@@ -1,6 +1,6 @@
 -- Each rule on parts is kept or broken, so that each text has a policy or a fault.
-use Rattle.book_policy.proofs.Common.{◌≡◌, ◌∙◌, drop, subst, sym, List, ap, refl, ℕ, [], map, ◌∷◌, arith, inl, inr, length, ◌≤◌, ◌<◌, Bool, None, Some, true, false, ◌++◌, All, AllByRecursion, Path, NamesPrincipal, NamesForm, BookPart, GroupPart, EntryText, Parts, entry_part}
-use Rattle.std.proofs.Common.{◌⊎◌, ◌≢◌, Option, IsTrue, AllPairs, codes, filter, slice_index, slice_index_or, suc, zero, if◌then◌else◌}
+use Rattle.book_policy.proofs.Common.{◌≡◌, ◌∙◌, drop, subst, sym, List, ap, refl, ℕ, [], map, ◌∷◌, arith, inl, inr, length, ◌≤◌, ◌<◌, Bool, None, Some, true, false, ◌++◌, All, AllByRecursion, Path, NamesPrincipal, NamesForm, BookPart, GroupPart, EntryText, Parts}
+use Rattle.std.proofs.Common.{◌⊎◌, ◌≢◌, Option, IsTrue, AllPairs, codes, filter, slice_index, suc, zero, if◌then◌else◌}
 use Rattle.std.proofs.lemmas.Bool.{and_parts, cases_lt, false≢true}
 use Rattle.std.proofs.lemmas.List.Elements.{All-from_recursion, recursion_from_All}
 use Rattle.std.proofs.lemmas.Slice.Eq.{bytes_eq-Decides}

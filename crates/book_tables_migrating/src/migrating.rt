@@ -37,8 +37,8 @@ fn rewrite<S: Alter>(
     Ok(Some(count))
 }
 
-/// The same of a connection whose tables are those of version 1, in a transaction of its own: it is committed where they
-/// are, and undone where they are not.
+/// The same of a connection whose tables are those of version 1, in a transaction of its own: it is committed where
+/// they are, and undone where they are not.
 fn migrate_first<S: Alter>(
     alloc: Global,
     connection: &mut Connection<S>,
@@ -106,17 +106,17 @@ fn migrate_again<S: Alter>(
     }
 }
 
-/// Makes the tables of a store of version 1 those of version 2, in one transaction, as its last commit left them, and opens
-/// them; tells how many entries they have. Each entry that has `x-read-texts`, which was `read`, has `x-read-names` then;
-/// nothing else changes: the epoch and all change numbers stay, so tokens stay good. Every row is read and tested, as
-/// `open` does.
+/// Makes the tables of a store of version 1 those of version 2, in one transaction, as its last commit left them, and
+/// opens them; tells how many entries they have. Each entry that has `x-read-texts`, which was `read`, has
+/// `x-read-names` then; nothing else changes: the epoch and all change numbers stay, so tokens stay good. Every row is
+/// read and tested, as `open` does.
 ///
 /// # Errors
 ///
-/// `OtherVersion` where the tables stand for no Office as those of version 1, and `meta` has one row, with another version
-/// than 1; `NoStore` where they stand for none else. `Memory` is want of memory, `Store` any other failure of the store. The
-/// connection comes back but where the store could not be opened again, and shows what was committed; a stop leaves that,
-/// or what is migrated.
+/// `OtherVersion` where the tables stand for no Office as those of version 1, and `meta` has one row, with another
+/// version than 1; `NoStore` where they stand for none else. `Memory` is want of memory, `Store` any other failure of
+/// the store. The connection comes back but where the store could not be opened again, and shows what was committed; a
+/// stop leaves that, or what is migrated.
 pub fn migrate<S: Alter + Drop>(
     alloc: Global,
     connection: Connection<S>,

@@ -3,9 +3,11 @@ use Rattle.book_wire.proofs.Common.{◌≡◌, ℕ, List, [], ◌∷◌, ◌++�
 use Rattle.std.proofs.lemmas.List.Concat.{flat_map-append}
 use Rattle.book_office.specs.Keeping.{Leftover}
 use Rattle.book_office_values.specs.declared.offices.Office.{Office}
+use Rattle.book_machine.proofs.CopiesOfRuns.{synced}
+use Rattle.book_machine.proofs.OfficesOfRuns.{finds_its_offices}
 use Rattle.book_machine.specs.LeadingRuns.{HavePaths}
 use Rattle.book_machine.specs.Runs.{Call, Run, last_office, MayLeave, MayLeaveAfter}
-use Rattle.book_wire.specs.Serving.{Stays, ServesAny, Answered, Runs, calls_in, calls_answered, replies_in, replies_of}
+use Rattle.book_wire.specs.Serving.{Stays, ServesAny, Answered, Runs, StreamsAreSynced, calls_in, calls_answered, replies_in, replies_of}
 
 pub stays : (s : Standing) → Stays s s
 stays s = record { was_honest = λ h. h; kept = λ h o stands. stands; left = λ h x left. left; counted = refl }
@@ -112,3 +114,12 @@ runs_one old new name (Some request) reply s = record {
       let next = s.0.served h o stands in
       (next.0 ∷ [], next.1, (next.2, tt), λ x left. s.0.left h o stands x left);
 }
+
+pub streams_are_synced : {K : Type 0} (standing : K → Standing) → StreamsAreSynced standing
+streams_are_synced standing old new answered runs honest o stands =
+    let so = runs.run honest o stands in (
+      so.0,
+      so.1,
+      finds_its_offices o (calls_answered answered) (replies_of answered) so.0 so.2,
+      synced (standing old) (calls_answered answered) (replies_of answered) runs.paths,
+    )

@@ -4,9 +4,11 @@ use Rattle.std.specs.List.{flat_map}
 use Rattle.book_office.specs.Keeping.{Leftover, Standing}
 use Rattle.book_office_values.specs.declared.offices.Office.{Office}
 use Rattle.book_machine.specs.Asking.{HasPaths}
+use Rattle.book_machine.specs.Laws.{FindsItsOffices}
 use Rattle.book_machine.specs.LeadingRuns.{HavePaths}
 use Rattle.book_machine.specs.Promises.{ServePromise}
 use Rattle.book_machine.specs.Runs.{Call, Run, last_office, MayLeaveAfter}
+use Rattle.book_machine.specs.SyncedCopies.{Synced}
 use Rattle.book_machine.specs.declared.messages.Reply.{Reply}
 use Rattle.book_machine.specs.declared.messages.Request.{Request}
 
@@ -58,3 +60,12 @@ pub record Runs (old new : Standing) (answered : List Answered) : Type 0 where
   pub run : new.honest → (o : Office) → old.stands o
       → (offices : List Office) × new.stands (last_office o offices) × Run o (calls_answered answered) (replies_of answered) offices
       × ((x : Leftover) → new.left x → MayLeaveAfter old.left o (calls_answered answered) (replies_of answered) offices x)
+
+-- over keepers with what they stand for: copies that are kept by the reports of a stream are what their callers may read, since
+-- each of its calls finds the Office that those before it left
+abbrev pub StreamsAreSynced : {K : Type 0} → (K → Standing) → Type 0
+StreamsAreSynced {K} standing = (old new : K) (answered : List Answered) → Runs (standing old) (standing new) answered
+    → (standing new).honest → (o : Office) → (standing old).stands o
+    → (offices : List Office) × (standing new).stands (last_office o offices)
+    × FindsItsOffices o (calls_answered answered) (replies_of answered) offices
+    × Synced (standing old) (calls_answered answered) (replies_of answered)

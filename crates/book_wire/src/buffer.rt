@@ -49,7 +49,8 @@ impl Buffer {
         &self.bytes[self.start..self.end]
     }
 
-    /// Drops so many bytes at the front. Where none is left, the next ones come to the front of the memory, which is warm.
+    /// Drops so many bytes at the front. Where none is left, the next ones come to the front of the memory, which is
+    /// warm.
     pub(crate) fn consume(&mut self, count: usize)
         requires { count ≤ length self.old }
         ensures { self.new ≡ drop count self.old }

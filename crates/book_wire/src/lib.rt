@@ -1,16 +1,17 @@
 //! The wire: requests of the machine as HTTP/1.1 (RFC 9112) over any reader and writer.
 //!
-//! It stands on `book_machine`, whose run it shows in bytes; on `book_wire_targets` for targets, methods and phrases; on
-//! `book_wire_json` and `book_wire_json` for JSON; and on `httparse`, whose grammar says what a head is. The crate above uses
-//! that `serve_stream` writes the replies of a run of the machine over the requests that the input spells, however the
-//! input was cut into pieces, and what stands where a read or a write fails.
+//! It stands on `book_machine`, whose run it shows in bytes; on `book_wire_targets` for targets, methods and phrases;
+//! on `book_wire_json` and `book_wire_json` for JSON; and on `httparse`, whose grammar says what a head is. The crate
+//! above uses that `serve_stream` writes the replies of a run of the machine over the requests that the input spells,
+//! however the input was cut into pieces, and what stands where a read or a write fails.
 //!
-//! Read `stream` first, with `turns`, which answers one request; then `head` and `members`, `requests`, and `reply`; and
-//! `buffer` and `output`, which have the bytes.
+//! Read `stream` first, with `turns`, which answers one request; then `head` and `members`, `requests`, and `reply`;
+//! and `buffer` and `output`, which have the bytes; and `laws`.
 #![tactic(auto)]
 
 mod buffer;
 mod head;
+mod laws;
 mod members;
 mod output;
 mod reply;
@@ -18,4 +19,5 @@ mod requests;
 mod stream;
 mod turns;
 
+pub use laws::streams_are_synced;
 pub use stream::{Ended, Served, StreamFault, serve_stream};

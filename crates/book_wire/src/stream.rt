@@ -44,10 +44,11 @@ pub enum Ended {
 pub enum StreamFault {
     /// Memory was refused, before the first byte was read. Nothing was done.
     Memory,
-    /// A read failed, or no end came in 18,446,744,073,709,551,615 reads. Each whole request was answered, and no other acted.
+    /// A read failed, or no end came in 18,446,744,073,709,551,615 reads. Each whole request was answered, and no other
+    /// acted.
     Read,
-    /// A write failed, or took nothing. What was written is a beginning of the replies, and only the last request may have
-    /// acted unanswered.
+    /// A write failed, or took nothing. What was written is a beginning of the replies, and only the last request may
+    /// have acted unanswered.
     Write,
 }
 
@@ -125,17 +126,17 @@ fn end_at(unread: &[u8]) -> Ended
 
 /// Serves the requests of a reader one after the other, and writes the replies (RFC 9112; own profile).
 ///
-/// What is written does not depend on how the input was cut into pieces. A request of which memory was refused before it
-/// was read is answered unavailable, and so is one whose reply can't be made for want of memory. The buffers and the router
-/// are made before the first byte is read.
+/// What is written does not depend on how the input was cut into pieces. A request of which memory was refused before
+/// it was read is answered unavailable, and so is one whose reply can't be made for want of memory. The buffers and the
+/// router are made before the first byte is read.
 ///
-/// No clause says when it writes: it answers each whole request before it reads on, by one write where head and body take at
-/// most 66,048 bytes, and else by two.
+/// No clause says when it writes: it answers each whole request before it reads on, by one write where head and body
+/// take at most 66,048 bytes, and else by two.
 ///
 /// # Errors
 ///
-/// `Memory` before the first byte is read. `Read` where a read failed, and `Write` where a write failed or took nothing:
-/// neither is repeated.
+/// `Memory` before the first byte is read. `Read` where a read failed, and `Write` where a write failed or took
+/// nothing: neither is repeated.
 pub fn serve_stream<K: Keeper, R: Read, W: Write>(
     alloc: Global,
     machine: &mut Machine<K>,

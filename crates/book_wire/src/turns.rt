@@ -95,8 +95,8 @@ fn reply_to<K: Keeper, W: Write>(
     )
 }
 
-/// Serves the request that a head and a body spell, and writes the reply: unavailable where memory is refused before the
-/// request is read.
+/// Serves the request that a head and a body spell, and writes the reply: unavailable where memory is refused before
+/// the request is read.
 fn answer<K: Keeper, W: Write>(
     alloc: Global,
     machine: &mut Machine<K>,

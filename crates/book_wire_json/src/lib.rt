@@ -2,14 +2,14 @@
 //! body to what the machine is asked, and the bytes of refusals, listings and reports, compact and with keys in byte
 //! order.
 //!
-//! It stands on `book_machine`, which says what is asked and answered, and on `serde_json`, whose `read` says which value
-//! a text is, and whose `compact_text` says which text a value has. The crate above uses that `body_of` gives the body
-//! that the bytes are, by the method of the request, and that `refusal_body`, `listing_body`, `report_body`,
+//! It stands on `book_machine`, which says what is asked and answered, and on `serde_json`, whose `read` says which
+//! value a text is, and whose `compact_text` says which text a value has. The crate above uses that `body_of` gives the
+//! body that the bytes are, by the method of the request, and that `refusal_body`, `listing_body`, `report_body`,
 //! `members_body` and `rulings_body` give the one text of what is answered.
 //!
 //! For requests read `bodies` first; then `forms`, `principals` and `privileges`, which have what the forms share; then
-//! `properties`, `patches`, `entries` and `reports`. For replies read `denials` first; then `property_values`, `listings`
-//! and `rulings`, which stand on it; then `sync_reports`, `members` and `refusals`.
+//! `properties`, `patches`, `entries` and `reports`. For replies read `denials` first; then `property_values`,
+//! `listings` and `rulings`, which stand on it; then `sync_reports`, `members` and `refusals`.
 #![tactic(auto)]
 
 mod bodies;

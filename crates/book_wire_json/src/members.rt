@@ -51,8 +51,8 @@ fn members_value(alloc: Global, book: &Name, members: &Members) -> Result<Value,
     json!(in alloc; {"members": lines, "reached": reached})
 }
 
-/// The body of the reply to a report on the members of a card of this book (own profile): compact JSON, the keys in byte
-/// order. It may be longer than the book: it has a path for each MEMBER line and each card with its UID.
+/// The body of the reply to a report on the members of a card of this book (own profile): compact JSON, the keys in
+/// byte order. It may be longer than the book: it has a path for each MEMBER line and each card with its UID.
 ///
 /// # Errors
 ///
