@@ -1,5 +1,5 @@
 -- From agreeing Offices a request has one plan.
-use Rattle.book_machine.proofs.Common.{◌≡◌, inl, inr, ℕ, List, [], ◌∷◌, Bool, true, false, Option, Some, None, is_some, option_map, ◌&&◌, ◌||◌, Result, Ok, Err, refl, sym, ap, ◌∙◌, subst, nat_lt, if◌then◌else◌, map, get, AllZip, flat_map, bytes_eq, IsCircle, CircleOf, person_path, Caller, Nobody, Known, Submitted, effective_at, EffectiveEntry, node_at, unnumbered, IsMapped, Node, Method, Get, Head, Options, Put, Propfind, Proppatch, Acl, Copy, Move, Delete, Mkcol, Need, Leaf, Office, MAX_CARDS, MAX_BOOKS, LAST_NUMBER, Path, kind_of, levels, Find, named, MayRead, outline, Agree, goes_on, asked_of, method_of, destination_in, destination_path, ◌>>=◌, check, caller_of, at_unmapped, at_node, target_of, suits_target, ready_of, IsMembersAnswer, IsChecked, protected_entries_at, IsAclAnswer, IsBodyAnswer, can_change, label_limits, limits_of, report_plan, sync_plan, body_then_limits, AreMembersTold, IsReportOf, IsListed, IsSuccessOf, IsDone, IsGrantedPlan, put_edit, replied, replaceable, destination_of, can_change_twice, move_limits, copy_edit, move_edit, IsDecided, IsPlannedFrom, IsPlan, IsGrantedAt, here_of, AreGranted, IsGranted, IsDenied, needs_at, place_path, Asked, Destination, ReportKind, Request, SyncFrom, Plan, Ready, Target, Denial, Refusal, UnknownCaller, Full, NotAllowed, NoParent}
+use Rattle.book_machine.proofs.Common.{◌≡◌, inl, inr, ℕ, List, [], ◌∷◌, Bool, true, false, Option, Some, None, is_some, option_map, ◌&&◌, ◌||◌, Result, Ok, Err, refl, sym, ap, ◌∙◌, subst, nat_lt, if◌then◌else◌, map, get, AllZip, flat_map, bytes_eq, IsCircle, CircleOf, person_path, Caller, Nobody, Known, Submitted, effective_at, EffectiveEntry, node_at, unnumbered, IsMapped, Node, Method, Get, Head, Options, Put, Propfind, Proppatch, Acl, Copy, Move, Delete, Mkcol, Need, Leaf, Office, MAX_CARDS, MAX_BOOKS, LAST_NUMBER, Path, kind_of, levels, Find, named, MayRead, outline, Agree, goes_on, asked_of, method_of, destination_in, destination_path, ◌>>=◌, check, caller_of, at_unmapped, at_node, target_of, suits_target, ready_of, IsMembersAnswer, IsChecked, protected_entries_at, IsAclAnswer, IsBodyAnswer, can_change, label_limits, limits_of, report_plan, sync_plan, body_then_limits, AreMembersTold, IsReportOf, IsListed, IsSuccessOf, IsDone, IsGrantedPlan, put_edit, replied, replaceable, destination_of, can_change_twice, move_limits, copy_edit, move_edit, IsDecided, IsPlannedFrom, IsPlan, IsGrantedAt, here_of, AreGranted, IsGranted, IsDenied, needs_at, place_path, Asked, Destination, ReportKind, Request, SyncRequest, Plan, Ready, Target, Denial, Refusal, UnknownCaller, Full, NotAllowed, NoParent}
 use Rattle.book_office.specs.Levels.{protected_entries}
 use Rattle.book_rights.specs.Needs.{read_and, needs_of}
 use Rattle.book_rights.specs.Privileges.{is_read}
@@ -224,7 +224,7 @@ module _ (o p : Office) (same : outline o ≡ outline p) where
   )
 
   report_answer_same : (which : ReportKind) (answer : Result (Unit {0}) Refusal) → IsReportAnswer o which answer → IsReportAnswer p which answer
-  report_answer_same (report.SyncCollection from) answer is = is
+  report_answer_same (report.SyncCollection asks) answer is = is
   report_answer_same report.GroupMembers answer is = is
   report_answer_same (report.Effective Nobody) answer is = is
   report_answer_same (report.Effective (Known person)) (Ok u) is = subst (λ (x : Office). IsMapped x person) same is
@@ -375,15 +375,15 @@ module _ (a b : Ready) (alike : outline_of_ready a ≡ outline_of_ready b) where
 
   -- what is replied and done rests on the label and text of the target in methods alone that need `read` there
   module _ (o p : Office) (circle : CircleOf) (offices : AreAlike o p circle) (reports : AreReportedAlike o p circle) where
-    sync_same : (from : SyncFrom) (q : Path) → sync_plan o circle from q ≡ sync_plan p circle from q
-    sync_same from path.Root = refl
-    sync_same from path.People = refl
-    sync_same from path.Groups = refl
-    sync_same from path.Books = refl
-    sync_same from (path.Person n) = refl
-    sync_same from (path.Group n) = refl
-    sync_same from (path.Book b) = ap report_plan (reports.synced b from)
-    sync_same from (path.Card b c) = refl
+    sync_same : (asks : SyncRequest) (q : Path) → sync_plan o circle asks q ≡ sync_plan p circle asks q
+    sync_same asks path.Root = refl
+    sync_same asks path.People = refl
+    sync_same asks path.Groups = refl
+    sync_same asks path.Books = refl
+    sync_same asks (path.Person n) = refl
+    sync_same asks (path.Group n) = refl
+    sync_same asks (path.Book b) = ap report_plan (reports.synced b asks.limit asks.from)
+    sync_same asks (path.Card b c) = refl
 
     members_same : (q : Path) (result : Result Plan Refusal) → AreMembersTold o circle q result → AreMembersTold p circle q result
     members_same path.Root result is = is
@@ -406,7 +406,7 @@ module _ (a b : Ready) (alike : outline_of_ready a ≡ outline_of_ready b) where
     names_same (path.Card b c) result is = is
 
     report_same : (which : ReportKind) (q : Path) (result : Result Plan Refusal) → IsReportOf o circle which q result → IsReportOf p circle which q result
-    report_same (report.SyncCollection from) q result is = sym (sync_same from q) ∙ is
+    report_same (report.SyncCollection asks) q result is = sym (sync_same asks q) ∙ is
     report_same report.GroupMembers q result is = members_same q result is
     report_same (report.Effective caller) q result is = rulings_told_alike o p reports.outlines caller q result is
     report_same report.Names q result is = names_same q result is

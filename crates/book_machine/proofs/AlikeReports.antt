@@ -14,9 +14,10 @@ use Rattle.book_office_values.specs.Changes.{Change, changes_after}
 use Rattle.book_office_values.specs.declared.collections.changes.Numbers.{Numbers}
 use Rattle.book_office_values.specs.declared.paths.Path.TheVariants as path
 use Rattle.book_office.specs.OwnLists.{entries_in_force}
+use Rattle.book_office.specs.Resources.{first_of}
 use Rattle.book_office_listings.specs.Rulings.{AreRulings}
 use Rattle.book_office_sync.specs.Granted.{text_at, text_in}
-use Rattle.book_office_sync.specs.Copies.{grants, grants_read, here_of_card, can_read, shown, seen_in, seen, found_of, first_of, last_number, is_cut, start_of, sync_of, sync}
+use Rattle.book_office_sync.specs.Copies.{grants, grants_read, here_of_card, can_read, shown, seen_in, seen, found_of, last_number, is_cut, start_of, sync_of, sync}
 use Rattle.book_office_sync.specs.Reading.{names_place}
 use Rattle.book_office_sync.specs.declared.messages.Item.{Item}
 use Rattle.book_office_sync.specs.declared.messages.Seen.{Seen}
@@ -30,7 +31,7 @@ use Rattle.book_office_listings.proofs.ToldValues.{told_granted}
 -- two Offices tell the same in each report, to who has this circle: in sync reports, in what is seen of each name of a
 -- book, in the names that may be told, and in what rests on outlines
 pub record AreReportedAlike (o p : Office) (circle : CircleOf) : Type 0 where
-  pub synced : (b : List ℕ) (from : SyncFrom) → report_from o circle b from ≡ report_from p circle b from
+  pub synced : (b : List ℕ) (limit : Option ℕ) (from : SyncFrom) → report_from o circle b limit from ≡ report_from p circle b limit from
   pub seen_alike : (b c : List ℕ) → seen o circle b c ≡ seen p circle b c
   pub named_alike : (b c : List ℕ) → option_map name_told (text_at o circle b ReadNames c) ≡ option_map name_told (text_at p circle b ReadNames c)
   pub outlines : outline o ≡ outline p
@@ -197,14 +198,14 @@ module _ (o p : Office) (caller : Caller) (agree : Agree o p caller) (circle : C
   sync_same token limit = books_synced token limit (get o.books b) (get p.books b) (books_alike o p agree.outlines b)
 
 module _ (o p : Office) (caller : Caller) (agree : Agree o p caller) (circle : CircleOf) (is_circle : IsCircle o.pairs caller circle) where
-  syncs_alike : (b : List ℕ) (from : SyncFrom) → report_from o circle b from ≡ report_from p circle b from
-  syncs_alike b Start = sync_same o p caller agree circle is_circle b None None
-  syncs_alike b (After token) = sync_same o p caller agree circle is_circle b (Some token) None
-  syncs_alike b Unknown = refl
+  syncs_alike : (b : List ℕ) (limit : Option ℕ) (from : SyncFrom) → report_from o circle b limit from ≡ report_from p circle b limit from
+  syncs_alike b limit Start = sync_same o p caller agree circle is_circle b None limit
+  syncs_alike b limit (After token) = sync_same o p caller agree circle is_circle b (Some token) limit
+  syncs_alike b limit Unknown = refl
 
   pub reports_alike : AreReportedAlike o p circle
   reports_alike = record {
-    synced = λ b from. syncs_alike b from;
+    synced = λ b limit from. syncs_alike b limit from;
     seen_alike = λ b c. seen_same o p caller agree circle is_circle b c;
     named_alike = λ b c. named_same o p caller agree circle is_circle b c;
     outlines = agree.outlines;

@@ -115,7 +115,7 @@ one_caller_answer o (Known person) (Err e) (Ok v) x y = absurd (x.1 y)
 one_caller_answer o (Known person) (Err e) (Err f) x y = ap Err (x.0 ∙ sym y.0)
 
 one_report_answer : (o : Office) (which : ReportKind) (a b : Answer) → IsReportAnswer o which a → IsReportAnswer o which b → a ≡ b
-one_report_answer o (report.SyncCollection from) a b x y = x ∙ sym y
+one_report_answer o (report.SyncCollection asks) a b x y = x ∙ sym y
 one_report_answer o report.GroupMembers a b x y = x ∙ sym y
 one_report_answer o (report.Effective caller) a b x y = one_caller_answer o caller a b x y
 one_report_answer o report.Names a b x y = x ∙ sym y
@@ -168,7 +168,7 @@ caller_answered o (Known person) (Ok u) is = inl refl
 caller_answered o (Known person) (Err e) is = inr (refusal.RecognizedPrincipal, refl, ap Err is.0)
 
 report_answered : (o : Office) (which : ReportKind) (a : Answer) → IsReportAnswer o which a → IsAnswered a
-report_answered o (report.SyncCollection from) a is = inl is
+report_answered o (report.SyncCollection asks) a is = inl is
 report_answered o report.GroupMembers a is = inl is
 report_answered o (report.Effective caller) a is = caller_answered o caller a is
 report_answered o report.Names a is = inl is

@@ -74,6 +74,7 @@ pub use Rattle.book_machine.specs.declared.messages.Reply.{Reply}
 pub use Rattle.book_machine.specs.declared.messages.ReportKind.{ReportKind}
 pub use Rattle.book_machine.specs.declared.messages.Request.{Request}
 pub use Rattle.book_machine.specs.declared.messages.SyncFrom.{SyncFrom}
+pub use Rattle.book_machine.specs.declared.messages.SyncRequest.{SyncRequest}
 pub use Rattle.book_machine.specs.declared.plans.Plan.{Plan}
 pub use Rattle.book_machine.specs.declared.refusals.Refusal.{Refusal}
 pub use Rattle.book_machine.specs.declared.refusals.Refusal.TheVariants.{Unavailable, NoParent, UnknownCaller, BadRequest, Full, BodyOnMkcol, NeedPrivileges, NotAllowed, Overwrite, ValidSyncToken}

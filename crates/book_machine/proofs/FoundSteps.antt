@@ -46,7 +46,7 @@ module _ (o : Office) where
   members_answer members = elim (all_mapped o members) [ inl is ↦ (Ok tt, is) | inr none ↦ (Err RecognizedPrincipal, (refl, none)) ]
 
   report_answer : (which : ReportKind) → (answer : Answer) × IsReportAnswer o which answer
-  report_answer (report.SyncCollection from) = (Ok tt, refl)
+  report_answer (report.SyncCollection asks) = (Ok tt, refl)
   report_answer report.GroupMembers = (Ok tt, refl)
   report_answer (report.Effective caller) = caller_answer caller
   report_answer report.Names = (Ok tt, refl)
@@ -89,7 +89,7 @@ module _ (o : Office) where
     names_told (path.Card b c) = (Err NotFound, refl)
 
     reported : (which : ReportKind) (p : Path) → (result : Result Plan Refusal) × IsReportOf o circle which p result
-    reported (report.SyncCollection from) p = (sync_plan o circle from p, refl)
+    reported (report.SyncCollection asks) p = (sync_plan o circle asks p, refl)
     reported report.GroupMembers p = members_told p
     reported (report.Effective caller) p =
         let other = circle_exists o.pairs caller in

@@ -53,8 +53,8 @@ names_told o circle (path.Book b) plan is = record { status = 200; what = conten
 names_told o circle (path.Card b c) plan is = absurd (cc (is))
 
 pub reported_told : (o : Office) (circle : CircleOf) (which : ReportKind) (p : Path) (plan : Plan) → IsReportOf o circle which p (Ok plan) → IsTold plan
-reported_told o circle (report.SyncCollection from) p plan is =
-    let told = sync_told o circle from p plan is in
+reported_told o circle (report.SyncCollection asks) p plan is =
+    let told = sync_told o circle asks p plan is in
     record { status = 207; what = content.Synced told.0; low = omega arith; is = told.1 }
 reported_told o circle report.GroupMembers p plan is = members_told o circle p plan is
 reported_told o circle (report.Effective caller) p plan is = rulings_told is.rulings.rulings plan is.rulings.is_told
@@ -86,7 +86,7 @@ names_available o circle (path.Book b) is = let told = is.2 in absurd (cc (told)
 names_available o circle (path.Card b c) is = absurd (cc (is))
 
 pub reported_available : (o : Office) (circle : CircleOf) (which : ReportKind) (p : Path) → IsReportOf o circle which p (Err Unavailable) → ⊥
-reported_available o circle (report.SyncCollection from) p is = sync_available o circle from p is
+reported_available o circle (report.SyncCollection asks) p is = sync_available o circle asks p is
 reported_available o circle report.GroupMembers p is = members_available o circle p is
 reported_available o circle (report.Effective caller) p is = rulings_available is.rulings.rulings is.rulings.is_told
 reported_available o circle report.Names p is = names_available o circle p is
@@ -172,7 +172,7 @@ one_rulings o caller p a b x y =
     sym x.rulings.is_told ∙ ap rulings_plan one ∙ y.rulings.is_told
 
 pub one_report : (o : Office) (circle : CircleOf) (which : ReportKind) (p : Path) (a b : Result Plan Refusal) → IsReportOf o circle which p a → IsReportOf o circle which p b → a ≡ b
-one_report o circle (report.SyncCollection from) p a b x y = sym x ∙ y
+one_report o circle (report.SyncCollection asks) p a b x y = sym x ∙ y
 one_report o circle report.GroupMembers p a b x y = one_members o circle p a b x y
 one_report o circle (report.Effective caller) p a b x y = one_rulings o caller p a b x y
 one_report o circle report.Names p a b x y = one_names o circle p a b x y

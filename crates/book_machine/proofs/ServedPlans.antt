@@ -1,5 +1,5 @@
 -- What the path stage lets through is served: a granted request with an accepted body within the limits has a plan.
-use Rattle.book_machine.proofs.Common.{◌≡◌, ◌⊎◌, ℕ, ◌<◌, List, Bool, true, false, Option, Some, None, is_some, option_map, option_and_then, Result, Ok, Err, inl, inr, refl, sym, ap, ◌∙◌, subst, arith, get, same_Some, kind_of, Book, Office, Properties, StoredCard, Kind, Path, CircleOf, Caller, AreRulingsAt, Ruling, Find, node_of, node_at, unnumbered, properties_resource, card_resource, card_in, number_of, Edit, Node, Method, Report, goes_on, method_of, is_late, ◌>>=◌, at_unmapped, replied, text_of, put_edit, delete_edit, mkcol_edit, patch_edit, report_from, report_plan, sync_plan, AreMembersTold, IsListed, IsReportOf, IsSuccess, IsSuccessOf, copy_edit, move_edit, Asked, Destination, Content, ReportKind, Request, SyncFrom, Plan, Ready, Refusal, ValidSyncToken}
+use Rattle.book_machine.proofs.Common.{◌≡◌, ◌⊎◌, ℕ, ◌<◌, List, Bool, true, false, Option, Some, None, is_some, option_map, option_and_then, Result, Ok, Err, inl, inr, refl, sym, ap, ◌∙◌, subst, arith, get, same_Some, kind_of, Book, Office, Properties, StoredCard, Kind, Path, CircleOf, Caller, AreRulingsAt, Ruling, Find, node_of, node_at, unnumbered, properties_resource, card_resource, card_in, number_of, Edit, Node, Method, Report, goes_on, method_of, is_late, ◌>>=◌, at_unmapped, replied, text_of, put_edit, delete_edit, mkcol_edit, patch_edit, report_from, report_plan, sync_plan, AreMembersTold, IsListed, IsReportOf, IsSuccess, IsSuccessOf, copy_edit, move_edit, Asked, Destination, Content, ReportKind, Request, SyncRequest, Plan, Ready, Refusal, ValidSyncToken}
 use Rattle.book_office_values.specs.declared.paths.Kind.TheVariants as kind
 use Rattle.book_office_values.specs.declared.paths.Path.TheVariants as path
 use Rattle.book_machine.proofs.FittingPlans.{Passed, answered, bind_ok, book_kind, is_taken, ready_at, same_Ok}
@@ -73,15 +73,15 @@ report_served : (report : Option Report) (result : Result Plan Refusal) → repo
 report_served None result is = inr (ValidSyncToken, refl, sym is)
 report_served (Some report) result is = inl (replied 207 (content.Synced report) None, sym is, omega arith)
 
-sync_served : (o : Office) (circle : CircleOf) (from : SyncFrom) (p : Path) (result : Result Plan Refusal) → is_book (kind_of p) ≡ true → sync_plan o circle from p ≡ result → IsServed result
-sync_served o circle from path.Root result suited is = absurd (cc (suited))
-sync_served o circle from path.People result suited is = absurd (cc (suited))
-sync_served o circle from path.Groups result suited is = absurd (cc (suited))
-sync_served o circle from path.Books result suited is = absurd (cc (suited))
-sync_served o circle from (path.Person n) result suited is = absurd (cc (suited))
-sync_served o circle from (path.Group n) result suited is = absurd (cc (suited))
-sync_served o circle from (path.Book b) result suited is = report_served (report_from o circle b from) result is
-sync_served o circle from (path.Card b c) result suited is = absurd (cc (suited))
+sync_served : (o : Office) (circle : CircleOf) (asks : SyncRequest) (p : Path) (result : Result Plan Refusal) → is_book (kind_of p) ≡ true → sync_plan o circle asks p ≡ result → IsServed result
+sync_served o circle asks path.Root result suited is = absurd (cc (suited))
+sync_served o circle asks path.People result suited is = absurd (cc (suited))
+sync_served o circle asks path.Groups result suited is = absurd (cc (suited))
+sync_served o circle asks path.Books result suited is = absurd (cc (suited))
+sync_served o circle asks (path.Person n) result suited is = absurd (cc (suited))
+sync_served o circle asks (path.Group n) result suited is = absurd (cc (suited))
+sync_served o circle asks (path.Book b) result suited is = report_served (report_from o circle b asks.limit asks.from) result is
+sync_served o circle asks (path.Card b c) result suited is = absurd (cc (suited))
 
 -- the members of a card
 members_reported : (o : Office) (circle : CircleOf) (p : Path) (result : Result Plan Refusal) → is_card_kind (kind_of p) ≡ true → AreMembersTold o circle p result → IsServed result
@@ -113,7 +113,7 @@ rulings_reported o circle p n (Some rulings) result there are is = inl (replied 
 
 reported : (o : Office) (circle : CircleOf) (which : ReportKind) (p : Path) (n : Node) (result : Result Plan Refusal)
     → node_at o p ≡ Some n → report_suits which (kind_of p) ≡ true → IsReportOf o circle which p result → IsServed result
-reported o circle (report.SyncCollection from) p n result there suited is = sync_served o circle from p result suited is
+reported o circle (report.SyncCollection asks) p n result there suited is = sync_served o circle asks p result suited is
 reported o circle report.GroupMembers p n result there suited is = members_reported o circle p result suited is
 reported o circle (report.Effective caller) p n result there suited is =
     rulings_reported o is.circle p n is.rulings.rulings result there is.rulings.are is.rulings.is_told

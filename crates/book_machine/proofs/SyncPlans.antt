@@ -1,5 +1,5 @@
 -- What a sync report answers.
-use Rattle.book_machine.proofs.Common.{◌≡◌, Option, Some, None, Result, Ok, Err, CircleOf, Report, Office, Path, replied, report_from, report_plan, sync_plan, SyncFrom, Plan, Refusal, Unavailable}
+use Rattle.book_machine.proofs.Common.{◌≡◌, Option, Some, None, Result, Ok, Err, CircleOf, Report, Office, Path, replied, report_from, report_plan, sync_plan, SyncRequest, Plan, Refusal, Unavailable}
 use Rattle.book_office_values.specs.declared.paths.Path.TheVariants as path
 use Rattle.book_machine.specs.declared.messages.Content.TheVariants as content
 
@@ -12,27 +12,27 @@ report_told : (found : Option Report) (plan : Plan) → report_plan found ≡ Ok
 report_told None plan is = absurd (cc (is))
 report_told (Some report) plan is = (report, is)
 
-pub sync_told : (o : Office) (circle : CircleOf) (from : SyncFrom) (p : Path) (plan : Plan) → sync_plan o circle from p ≡ Ok plan → (report : Report) × (telling report ≡ Ok plan)
-sync_told o circle from path.Root plan is = absurd (cc (is))
-sync_told o circle from path.People plan is = absurd (cc (is))
-sync_told o circle from path.Groups plan is = absurd (cc (is))
-sync_told o circle from path.Books plan is = absurd (cc (is))
-sync_told o circle from (path.Person n) plan is = absurd (cc (is))
-sync_told o circle from (path.Group n) plan is = absurd (cc (is))
-sync_told o circle from (path.Book b) plan is = report_told (report_from o circle b from) plan is
-sync_told o circle from (path.Card b c) plan is = absurd (cc (is))
+pub sync_told : (o : Office) (circle : CircleOf) (asks : SyncRequest) (p : Path) (plan : Plan) → sync_plan o circle asks p ≡ Ok plan → (report : Report) × (telling report ≡ Ok plan)
+sync_told o circle asks path.Root plan is = absurd (cc (is))
+sync_told o circle asks path.People plan is = absurd (cc (is))
+sync_told o circle asks path.Groups plan is = absurd (cc (is))
+sync_told o circle asks path.Books plan is = absurd (cc (is))
+sync_told o circle asks (path.Person n) plan is = absurd (cc (is))
+sync_told o circle asks (path.Group n) plan is = absurd (cc (is))
+sync_told o circle asks (path.Book b) plan is = report_told (report_from o circle b asks.limit asks.from) plan is
+sync_told o circle asks (path.Card b c) plan is = absurd (cc (is))
 
 -- no sync report is unavailable
 report_available : (found : Option Report) → report_plan found ≡ Err Unavailable → ⊥
 report_available None is = absurd (cc (is))
 report_available (Some report) is = absurd (cc (is))
 
-pub sync_available : (o : Office) (circle : CircleOf) (from : SyncFrom) (p : Path) → sync_plan o circle from p ≡ Err Unavailable → ⊥
-sync_available o circle from path.Root is = absurd (cc (is))
-sync_available o circle from path.People is = absurd (cc (is))
-sync_available o circle from path.Groups is = absurd (cc (is))
-sync_available o circle from path.Books is = absurd (cc (is))
-sync_available o circle from (path.Person n) is = absurd (cc (is))
-sync_available o circle from (path.Group n) is = absurd (cc (is))
-sync_available o circle from (path.Book b) is = report_available (report_from o circle b from) is
-sync_available o circle from (path.Card b c) is = absurd (cc (is))
+pub sync_available : (o : Office) (circle : CircleOf) (asks : SyncRequest) (p : Path) → sync_plan o circle asks p ≡ Err Unavailable → ⊥
+sync_available o circle asks path.Root is = absurd (cc (is))
+sync_available o circle asks path.People is = absurd (cc (is))
+sync_available o circle asks path.Groups is = absurd (cc (is))
+sync_available o circle asks path.Books is = absurd (cc (is))
+sync_available o circle asks (path.Person n) is = absurd (cc (is))
+sync_available o circle asks (path.Group n) is = absurd (cc (is))
+sync_available o circle asks (path.Book b) is = report_available (report_from o circle b asks.limit asks.from) is
+sync_available o circle asks (path.Card b c) is = absurd (cc (is))

@@ -58,6 +58,7 @@ use Rattle.book_machine.specs.declared.messages.ReportKind.{ReportKind}
 use Rattle.book_machine.specs.declared.messages.ReportKind.TheVariants as report
 use Rattle.book_machine.specs.declared.messages.Request.{Request}
 use Rattle.book_machine.specs.declared.messages.SyncFrom.{SyncFrom}
+use Rattle.book_machine.specs.declared.messages.SyncRequest.{SyncRequest}
 use Rattle.book_machine.specs.declared.messages.SyncFrom.TheVariants.{Start, After, Unknown}
 use Rattle.book_machine.specs.declared.plans.Plan.{Plan}
 use Rattle.book_machine.specs.Named.{path_card, path_book, path_group}
@@ -139,7 +140,7 @@ patch_suits (patch.DisplayName label) k = true
 patch_suits (patch.GroupMembers members) k = is_group k
 
 abbrev pub report_suits : ReportKind → Kind → Bool
-report_suits (report.SyncCollection from) k = is_book k
+report_suits (report.SyncCollection asks) k = is_book k
 report_suits report.GroupMembers k = is_card_kind k
 report_suits (report.Effective caller) k = true
 report_suits report.Names k = is_book k
@@ -232,7 +233,7 @@ IsCallerAnswer o (Known person) (Ok u) = IsMapped o person
 IsCallerAnswer o (Known person) (Err e) = (e ≡ RecognizedPrincipal) × (IsMapped o person → ⊥)
 
 abbrev pub IsReportAnswer : Office → ReportKind → Result (Unit {0}) Refusal → Type 0
-IsReportAnswer o (report.SyncCollection from) answer = answer ≡ Ok tt
+IsReportAnswer o (report.SyncCollection asks) answer = answer ≡ Ok tt
 IsReportAnswer o report.GroupMembers answer = answer ≡ Ok tt
 IsReportAnswer o (report.Effective caller) answer = IsCallerAnswer o caller answer
 IsReportAnswer o report.Names answer = answer ≡ Ok tt
@@ -394,19 +395,20 @@ abbrev pub IsListed : Office → CircleOf → Find → Path → Option Node → 
 IsListed o circle find p None result = Err NotFound ≡ result
 IsListed o circle find p (Some node) result = (responses : List Response) × AreResponses find circle o p responses × (listed_plan responses ≡ result)
 
--- the report on a book from a place in its history, where the token is valid; a text that is no token names no place
-abbrev pub report_from : Office → CircleOf → List ℕ → SyncFrom → Option Report
-report_from o circle b Start = sync o circle b None None
-report_from o circle b (After token) = sync o circle b (Some token) None
-report_from o circle b Unknown = None
+-- the report on a book from a place in its history, with at most so many items, where the token is valid; a text that is
+-- no token names no place
+abbrev pub report_from : Office → CircleOf → List ℕ → Option ℕ → SyncFrom → Option Report
+report_from o circle b limit Start = sync o circle b None limit
+report_from o circle b limit (After token) = sync o circle b (Some token) limit
+report_from o circle b limit Unknown = None
 
 -- a token that is not valid is refused (RFC 6578, section 3.2, precondition valid-sync-token)
 abbrev pub report_plan : Option Report → Result Plan Refusal
 report_plan None = Err ValidSyncToken
 report_plan (Some report) = Ok (replied 207 (content.Synced report) None)
 
-abbrev pub sync_plan : Office → CircleOf → SyncFrom → Path → Result Plan Refusal
-sync_plan o circle from p = option_map_or (λ b. report_plan (report_from o circle b from)) (path_book p) (Err NotFound)
+abbrev pub sync_plan : Office → CircleOf → SyncRequest → Path → Result Plan Refusal
+sync_plan o circle asks p = option_map_or (λ b. report_plan (report_from o circle b asks.limit asks.from)) (path_book p) (Err NotFound)
 
 -- the members of a card, in the view of the caller with this circle (RFC 6350, section 6.6.5; the report is own profile)
 abbrev pub members_plan : List ℕ → Members → Result Plan Refusal
@@ -444,7 +446,7 @@ AreNamesTold o circle p result = MatchOption (path_book p) (Err NotFound ≡ res
 
 -- what a REPORT tells, by the report that is asked
 abbrev pub IsReportOf : Office → CircleOf → ReportKind → Path → Result Plan Refusal → Type 0
-IsReportOf o circle (report.SyncCollection from) p result = sync_plan o circle from p ≡ result
+IsReportOf o circle (report.SyncCollection asks) p result = sync_plan o circle asks p ≡ result
 IsReportOf o circle report.GroupMembers p result = AreMembersTold o circle p result
 IsReportOf o circle (report.Effective caller) p result = AreRulingsTold o caller p result
 IsReportOf o circle report.Names p result = AreNamesTold o circle p result

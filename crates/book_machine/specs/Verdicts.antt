@@ -84,7 +84,7 @@ report_in (asked.Report which) = Some which
 
 -- whether a REPORT asks which entry decides each leaf
 abbrev pub is_effective : ReportKind → Bool
-is_effective (report.SyncCollection from) = false
+is_effective (report.SyncCollection asks) = false
 is_effective report.GroupMembers = false
 is_effective (report.Effective caller) = true
 is_effective report.Names = false
@@ -94,7 +94,7 @@ asks_effective a = option_map_or is_effective (report_in a) false
 
 -- whether a REPORT asks for names alone
 abbrev pub is_of_names : ReportKind → Bool
-is_of_names (report.SyncCollection from) = false
+is_of_names (report.SyncCollection asks) = false
 is_of_names report.GroupMembers = false
 is_of_names (report.Effective caller) = false
 is_of_names report.Names = true

@@ -5,7 +5,7 @@ ghost use Rattle.book_machine.specs.Asked.{acl_asked, asked_of, copy_asked, dest
 ghost use Rattle.book_machine.specs.Asking.{Meets};
 
 use crate::finding::{find_of, may_be_asked, usual_find};
-use crate::messages::{Body, Depth, Flag, Patch, ReportKind, Request, SyncFrom};
+use crate::messages::{Body, Depth, Flag, Patch, ReportKind, Request, SyncFrom, SyncRequest};
 use crate::refusals::Refusal;
 use book_limits::{MAX_LABEL_BYTES, MAX_MEMBERS};
 use book_lists::{Name, Principal, Submitted};
@@ -277,12 +277,22 @@ fn copy_of_place(from: &SyncFrom) -> Result<SyncFrom, AllocError>
     }
 }
 
+/// A copy of what a sync report is asked for.
+fn copy_of_sync(asked: &SyncRequest) -> Result<SyncRequest, AllocError>
+    ensures { IfOk result (λ copy. copy ≡ asked.now) }
+{
+    Ok(SyncRequest {
+        from: copy_of_place(&asked.from)?,
+        limit: asked.limit.clone()?,
+    })
+}
+
 /// A copy of the report that is asked.
 fn copy_of_kind(kind: &ReportKind) -> Result<ReportKind, AllocError>
     ensures { IfOk result (λ copy. copy ≡ kind.now) }
 {
     match kind {
-        ReportKind::SyncCollection(from) => Ok(ReportKind::SyncCollection(copy_of_place(from)?)),
+        ReportKind::SyncCollection(asked) => Ok(ReportKind::SyncCollection(copy_of_sync(asked)?)),
         ReportKind::GroupMembers => Ok(ReportKind::GroupMembers),
         ReportKind::Effective(caller) => Ok(ReportKind::Effective(caller.clone()?)),
         ReportKind::Names => Ok(ReportKind::Names),

@@ -34,7 +34,7 @@ pub use book_office_listings::{
     AclEntry, DecidingEntry, Denial, Extent, Find, Property, PropertyValue, Response, Ruling,
 };
 pub use book_office_members::{MemberLine, Members, NamedCard};
-pub use book_office_sync::{Found, Item, Report, Token};
+pub use book_office_sync::{Found, Item, Limit, Report, Token};
 pub use laws::{
     granted_reports_are_told, listings_tell_the_resource, refusals_change_nothing,
     requests_act_where_granted, requests_are_full_at_limits, requests_have_one_step,
@@ -42,6 +42,8 @@ pub use laws::{
 };
 pub use leading::runs_lead_on;
 pub use machine::Machine;
-pub use messages::{Body, Content, Depth, Flag, Patch, Reply, ReportKind, Request, SyncFrom};
+pub use messages::{
+    Body, Content, Depth, Flag, Patch, Reply, ReportKind, Request, SyncFrom, SyncRequest,
+};
 pub use plans::{Plan, Ready, Target};
 pub use refusals::{BoxedDenial, Refusal};

@@ -6,7 +6,7 @@ use book_lists::{Caller, Name, Principal, Submitted};
 use book_office::{Items, Path, Text};
 use book_office_listings::{Property, Response, Ruling};
 use book_office_members::{Members, NamedCard};
-use book_office_sync::{Report, Token};
+use book_office_sync::{Limit, Report, Token};
 use book_rights::Method;
 
 /// The field Overwrite (RFC 4918, section 10.6), as it was read.
@@ -51,11 +51,20 @@ pub enum SyncFrom {
     Unknown,
 }
 
+/// What a sync report is asked for.
+#[derive(Debug, Drop)]
+pub struct SyncRequest {
+    /// From where.
+    pub from: SyncFrom,
+    /// How many items at most (RFC 6578, section 3.7); none where the client sets no limit.
+    pub limit: Option<Limit>,
+}
+
 /// Which report is asked (RFC 3253, section 3.6).
 #[derive(Debug, Drop)]
 pub enum ReportKind {
     /// `sync-collection`: what changed in a book (RFC 6578, section 3.2).
-    SyncCollection(SyncFrom),
+    SyncCollection(SyncRequest),
     /// `group-members`: the cards to which a group card leads (own profile).
     GroupMembers,
     /// `effective`: the entries that decide each leaf for a person, or for nobody (own profile).

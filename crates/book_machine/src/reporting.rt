@@ -140,7 +140,7 @@ impl<K: Keeper> Machine<K> {
             (λ o r. MeetsAny (IsReportOf o circle.now kind.now path.now) r) }
     {
         match kind {
-            ReportKind::SyncCollection(from) => self.synced(alloc, circle, path, from),
+            ReportKind::SyncCollection(asked) => self.synced(alloc, circle, path, asked),
             ReportKind::GroupMembers => self.members_at(alloc, circle, path),
             ReportKind::Effective(caller) => self.rulings_at(alloc, caller, path),
             ReportKind::Names => self.names_at(alloc, circle, path),

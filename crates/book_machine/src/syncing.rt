@@ -1,34 +1,53 @@
 //! Sync reports on books (RFC 6578).
 
-ghost use Rattle.std.specs.Prelude.{None};
+ghost use Rattle.std.specs.Prelude.{◌≡◌};
 ghost use Rattle.std.specs.Option.{option_copied};
-ghost use Rattle.book_office_sync.specs.Copies.{sync};
+ghost use Rattle.book_office_sync.specs.Copies.{sync, IsLimit};
 ghost use Rattle.book_machine.specs.Asking.{Meets, StageAsks};
 ghost use Rattle.book_machine.specs.Stages.{report_from, report_plan, sync_plan};
 
 use crate::machine::Machine;
-use crate::messages::{Content, SyncFrom};
+use crate::messages::{Content, SyncFrom, SyncRequest};
 use crate::plans::Plan;
 use crate::refusals::Refusal;
 use crate::stages::replied;
 use book_lists::{Circle, Name};
 use book_office::{Keeper, Path};
-use book_office_sync::{Token, sync_report};
+use book_office_sync::{Limit, Token, sync_report};
 use std::alloc::Global;
 
+/// How many items a limit is.
+fn items_of(limit: &Option<Limit>) -> Option<u32>
+    ensures value { result ≡ limit.now }
+    ensures range { IsLimit result }
+{
+    match limit {
+        Some(limit) => Some(limit.count()),
+        None => None,
+    }
+}
+
 impl<K: Keeper> Machine<K> {
-    /// The report on a book after a token, or the initial one without a token.
+    /// The report on a book after a token, or the initial one without a token, with at most so many items.
     fn synced_after(
         &mut self,
         alloc: Global,
         circle: &Circle,
         book: &Name,
         token: Option<&Token>,
+        limit: &Option<Limit>,
     ) -> Result<Plan, Refusal>
         ensures { StageAsks K.standing self.old self.new result
-            (λ o r. Meets r (report_plan (sync o circle.now book.now (option_copied token.entry) None))) }
+            (λ o r. Meets r (report_plan (sync o circle.now book.now (option_copied token.entry) limit.now))) }
     {
-        match sync_report(alloc, &mut self.keeper, circle, book, token)? {
+        match sync_report(
+            alloc,
+            &mut self.keeper,
+            circle,
+            book,
+            token,
+            items_of(limit),
+        )? {
             Some(report) => Ok(replied(207, Content::Synced(report), None)),
             None => Err(Refusal::ValidSyncToken),
         }
@@ -40,14 +59,16 @@ impl<K: Keeper> Machine<K> {
         alloc: Global,
         circle: &Circle,
         book: &Name,
-        from: &SyncFrom,
+        asked: &SyncRequest,
     ) -> Result<Plan, Refusal>
         ensures { StageAsks K.standing self.old self.new result
-            (λ o r. Meets r (report_plan (report_from o circle.now book.now from.now))) }
+            (λ o r. Meets r (report_plan (report_from o circle.now book.now asked.now.limit asked.now.from))) }
     {
-        match from {
-            SyncFrom::Start => self.synced_after(alloc, circle, book, None),
-            SyncFrom::After(token) => self.synced_after(alloc, circle, book, Some(token)),
+        match &asked.from {
+            SyncFrom::Start => self.synced_after(alloc, circle, book, None, &asked.limit),
+            SyncFrom::After(token) => {
+                self.synced_after(alloc, circle, book, Some(token), &asked.limit)
+            }
             SyncFrom::Unknown => Err(Refusal::ValidSyncToken),
         }
     }
@@ -58,13 +79,13 @@ impl<K: Keeper> Machine<K> {
         alloc: Global,
         circle: &Circle,
         path: &Path,
-        from: &SyncFrom,
+        asked: &SyncRequest,
     ) -> Result<Plan, Refusal>
         ensures { StageAsks K.standing self.old self.new result
-            (λ o r. Meets r (sync_plan o circle.now from.now path.now)) }
+            (λ o r. Meets r (sync_plan o circle.now asked.now path.now)) }
     {
         match path {
-            Path::Book(book) => self.synced_from(alloc, circle, book, from),
+            Path::Book(book) => self.synced_from(alloc, circle, book, asked),
             Path::Root
             | Path::People
             | Path::Groups

@@ -1,4 +1,5 @@
 pub mod Common
+pub mod FirstOf
 pub mod Epochs
 pub mod FittingEdits
 pub mod FittingSettings

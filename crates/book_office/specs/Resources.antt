@@ -1,5 +1,5 @@
 -- What an Office has at a path.
-use Rattle.std.specs.Prelude.{ℕ, List, [], ◌∷◌, map, codes, Option, Some, None, option_map, option_and_then, unwrap_or}
+use Rattle.std.specs.Prelude.{ℕ, List, [], ◌∷◌, map, take, codes, Option, Some, None, option_map, option_and_then, unwrap_or}
 use Rattle.std.specs.FinMap.{get, len, entries}
 use Rattle.book_lists.specs.declared.entries.Entry.{Entry}
 use Rattle.book_office.specs.declared.nodes.Changed.{Changed}
@@ -142,3 +142,8 @@ changed_in book changes = map (λ (c : Change). record { number = c.0; name = c.
 -- the last changes of a book above a number, in order of number
 abbrev pub changed_after : Office → List ℕ → ℕ → List Changed
 changed_after o b n = unwrap_or (option_map (λ (book : Book). changed_in book (changes_after book.changes.last n)) (get o.books b)) []
+
+-- the first so many items; all of them where no number is given
+abbrev pub first_of : {A : Type 0} → Option ℕ → List A → List A
+first_of None items = items
+first_of (Some most) items = take most items

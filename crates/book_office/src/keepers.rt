@@ -5,7 +5,7 @@ ghost use Rattle.book_lists.specs.Callers.{IsCircle};
 ghost use Rattle.book_office.specs.declared.keepers.StoreFault.TheVariants.{Memory};
 ghost use Rattle.book_office_adopting.specs.Adopting.{adoption_of};
 ghost use Rattle.book_office.specs.Keeping.{Standing, Reads, Edits};
-ghost use Rattle.book_office.specs.Resources.{node_at, children_at, count_at, changed_after, unnumbered};
+ghost use Rattle.book_office.specs.Resources.{node_at, children_at, count_at, changed_after, first_of, unnumbered};
 ghost use Rattle.book_office.specs.Levels.{level_at, lists_at};
 ghost use Rattle.book_office.specs.InForce.{AreUnlessGranted};
 
@@ -112,14 +112,16 @@ pub trait Keeper {
     }
 
     /// The last changes of a book above a number, in order of number, each with the card that has the name; none where there
-    /// is no such book.
+    /// is no such book. Where a most is given, these are the first so many of them.
     fn changes_after(
         &mut self,
         alloc: Global,
         book: &Name,
         number: u64,
+        at_most: Option<u32>,
     ) -> Result<Items<Changed>, StoreFault>
-        ensures { Reads (standing self.old) (standing self.new) result (λ o changes. changes ≡ changed_after o book.now number) };
+        ensures { Reads (standing self.old) (standing self.new) result
+            (λ o changes. changes ≡ first_of at_most (changed_after o book.now number)) };
 
     /// The direct members of all groups.
     fn pairs(&mut self, alloc: Global) -> Result<Pairs, StoreFault>

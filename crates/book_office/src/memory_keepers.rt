@@ -119,8 +119,9 @@ impl Keeper for MemoryKeeper {
         alloc: Global,
         book: &Name,
         number: u64,
+        at_most: Option<u32>,
     ) -> Result<Items<Changed>, StoreFault> {
-        Ok(changed(alloc, &self.office, book, number)?)
+        Ok(changed(alloc, &self.office, book, number, at_most)?)
     }
 
     fn pairs(&mut self, _alloc: Global) -> Result<Pairs, StoreFault> {

@@ -6,7 +6,7 @@ ghost use Rattle.std.specs.Option.{option_copied};
 ghost use Rattle.book_lists.specs.Names.{IsName};
 ghost use Rattle.book_office_values.specs.Changes.{changes_after};
 ghost use Rattle.book_office.specs.Levels.{level_at, lists_at, own_at, protected_at};
-ghost use Rattle.book_office.specs.Resources.{changed_after, changed_in, book_resource, card_at, card_in, card_resource, children_at, count_at, as_listed, listed_books, listed_cards, listed_home, listed_homes, listed_principals, node_at, node_of, number_of, properties_at, properties_resource, unnumbered};
+ghost use Rattle.book_office.specs.Resources.{changed_after, changed_in, first_of, book_resource, card_at, card_in, card_resource, children_at, count_at, as_listed, listed_books, listed_cards, listed_home, listed_homes, listed_principals, node_at, node_of, number_of, properties_at, properties_resource, unnumbered};
 ghost use Rattle.book_office_values.specs.declared.paths.Kind.TheVariants as kind;
 
 use crate::nodes::{Changed, Level, Listed, Lists, Node};
@@ -321,11 +321,28 @@ fn changed_name(book: &Book, number: u64, name: Name) -> Result<Changed, AllocEr
     Ok(Changed { number, name, card })
 }
 
-/// The last changes of a book above a number, in order of number.
-fn changes_of(alloc: Global, book: &Book, number: u64) -> Result<Items<Changed>, AllocError>
-    ensures { IfOk result (λ changes. changes ≡ changed_in book.now (changes_after book.now.changes.last number)) }
+/// The first so many items; all of them where no most is given.
+fn first_of(items: Items<(u64, Name)>, at_most: Option<u32>) -> Items<(u64, Name)>
+    ensures { result ≡ first_of at_most items }
 {
-    let after = book.changes.after(alloc, number)?.into_vec();
+    let mut first = items.into_vec();
+    if let Some(most) = at_most {
+        first.truncate(most as usize);
+    }
+    Items::from_vec(first)
+}
+
+/// The last changes of a book above a number, in order of number, and at most so many. Names are looked at up to the
+/// last one, cards are copied of those that are told.
+fn changes_of(
+    alloc: Global,
+    book: &Book,
+    number: u64,
+    at_most: Option<u32>,
+) -> Result<Items<Changed>, AllocError>
+    ensures { IfOk result (λ changes. changes ≡ changed_in book.now (first_of at_most (changes_after book.now.changes.last number))) }
+{
+    let after = first_of(book.changes.after(alloc, number)?, at_most).into_vec();
     let mut changes = Vec::with_capacity(alloc, after.len())?;
     for (number, name) in after {
         changes.push(changed_name(book, number, name)?)?;
@@ -339,11 +356,12 @@ pub(crate) fn changed(
     office: &Office,
     book: &Name,
     number: u64,
+    at_most: Option<u32>,
 ) -> Result<Items<Changed>, AllocError>
-    ensures { IfOk result (λ changes. changes ≡ changed_after office.now book.now number) }
+    ensures { IfOk result (λ changes. changes ≡ first_of at_most (changed_after office.now book.now number)) }
 {
     match office.books.get(book) {
-        Some(book) => changes_of(alloc, book, number),
+        Some(book) => changes_of(alloc, book, number, at_most),
         None => Ok(Items::new(alloc)),
     }
 }

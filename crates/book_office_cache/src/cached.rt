@@ -5,7 +5,7 @@ ghost use Rattle.book_office_adopting.specs.Adopting.{adoption_of};
 ghost use Rattle.book_office_cache.specs.Remembering.{EditsBehind, ReadsBehind, Remembers, remembering};
 ghost use Rattle.book_lists.specs.Callers.{IsCircle};
 ghost use Rattle.book_office.specs.Levels.{level_at, lists_at};
-ghost use Rattle.book_office.specs.Resources.{changed_after, children_at, count_at, node_at};
+ghost use Rattle.book_office.specs.Resources.{changed_after, first_of, children_at, count_at, node_at};
 ghost use Rattle.book_office_values.specs.declared.offices.Office.{Office as OfficeOf};
 ghost use Rattle.book_office_values.specs.declared.paths.Path.TheVariants as paths;
 
@@ -278,10 +278,12 @@ impl<K: Keeper> Keeper for Cached<K> {
         alloc: Global,
         book: &Name,
         number: u64,
+        at_most: Option<u32>,
     ) -> Result<Items<Changed>, StoreFault>
-        ensures { ReadsBehind K.standing self.old self.new result (λ o changes. changes ≡ changed_after o book.now number) }
+        ensures { ReadsBehind K.standing self.old self.new result
+            (λ o changes. changes ≡ first_of at_most (changed_after o book.now number)) }
     {
-        self.keeper.changes_after(alloc, book, number)
+        self.keeper.changes_after(alloc, book, number, at_most)
     }
 
     fn pairs(&mut self, alloc: Global) -> Result<Pairs, StoreFault>

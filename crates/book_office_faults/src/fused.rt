@@ -6,7 +6,7 @@ ghost use Rattle.book_lists.specs.Callers.{IsCircle};
 ghost use Rattle.book_office_adopting.specs.Adopting.{adoption_of};
 ghost use Rattle.book_office.specs.Keeping.{one_more};
 ghost use Rattle.book_office.specs.Levels.{level_at, lists_at};
-ghost use Rattle.book_office.specs.Resources.{changed_after, children_at, count_at, node_at};
+ghost use Rattle.book_office.specs.Resources.{changed_after, first_of, children_at, count_at, node_at};
 ghost use Rattle.book_office.specs.declared.keepers.StoreFault.TheVariants.{Store};
 
 use book_lists::{Caller, Circle, Name, Pairs};
@@ -143,12 +143,14 @@ impl<K: Keeper> Keeper for Fused<K> {
         alloc: Global,
         book: &Name,
         number: u64,
+        at_most: Option<u32>,
     ) -> Result<Items<Changed>, StoreFault>
-        ensures keeper { ReadsBehind K.standing self.old self.new result (λ o changes. changes ≡ changed_after o book.now number) }
+        ensures keeper { ReadsBehind K.standing self.old self.new result
+            (λ o changes. changes ≡ first_of at_most (changed_after o book.now number)) }
         ensures fuse { IsFused self.old self.new result }
     {
         if self.passes() {
-            self.keeper.changes_after(alloc, book, number)
+            self.keeper.changes_after(alloc, book, number, at_most)
         } else {
             self.fail()
         }

@@ -1,6 +1,6 @@
 -- Each resource that is there has a listing, and rulings.
-use Rattle.book_office_listings.proofs.Common.{◌≡◌, ℕ, Bool, true, List, [], ◌∷◌, map, is_some, Option, Some, None, option_map, refl, sym, ap, ◌∙◌, subst, AllZip, Leaf, CircleOf, membership_cmp, Here, Office, Path, effective_at, Resource, resource_at, EffectiveEntry, IsResponse, listed_paths, bare_entries, paths_of, here_of, Find, Response, Denied, Told, Subject, Whole, Children, Extent, all_leaves}
-use Rattle.std.proofs.Common.{◌⊎◌, inl, inr, false, not, unwrap_or, T, option_and_then, codes}
+use Rattle.book_office_listings.proofs.Common.{◌≡◌, ℕ, Bool, true, List, [], ◌∷◌, map, is_some, Option, Some, None, option_map, refl, sym, ap, ◌∙◌, AllZip, Leaf, CircleOf, membership_cmp, Here, Office, Path, effective_at, Resource, resource_at, EffectiveEntry, IsResponse, listed_paths, bare_entries, paths_of, here_of, Find, Response, Denied, Told, Subject, Whole, Children, Extent, all_leaves}
+use Rattle.std.proofs.Common.{◌⊎◌, inl, inr, false, not, unwrap_or, T, option_and_then}
 use Rattle.std.specs.FinMap.{FinMap, contains_key-keys, entries, entries_sorted, from_entries, get, get-from_entries, is_sorted}
 use Rattle.std.specs.FinMap.Entries.{below_all, is_some-find}
 use Rattle.std.specs.FinSet.{contains-from_list, contains-items, items, same_set}
@@ -19,12 +19,12 @@ use Rattle.book_office_values.proofs.NameMapLaws.{names_apart}
 use Rattle.book_office_values.specs.Names.{NamesTo}
 use Rattle.book_office_values.specs.declared.offices.Book.{Book}
 use Rattle.book_office_values.specs.declared.paths.Path.TheVariants as path
-use Rattle.book_office.specs.Resources.{children_at, listed_cards}
+use Rattle.book_office.specs.Resources.{listed_cards}
 use Rattle.book_office.specs.declared.nodes.Listed.{Listed}
 use Rattle.book_office_listings.proofs.FoundDecisions.{decision, found_or_not}
 use Rattle.book_office_listings.proofs.OneListing.{keys_marked, marked}
 use Rattle.book_office_listings.specs.Laws.{ListingsExist, RulingsExist}
-use Rattle.book_office_listings.specs.Listings.{IsWhole, child_path, children_paths, subject_of}
+use Rattle.book_office_listings.specs.Listings.{IsWhole, children_paths, subject_of}
 use Rattle.book_office_listings.specs.Rulings.{AreRulingsAt, IsRuling}
 use Rattle.book_office_listings.specs.Values.{value_of}
 use Rattle.book_office_listings.specs.Verdicts.{IsDeniedBy, IsGrantedBy, deciding_entry}

@@ -1,5 +1,5 @@
 -- The cards of a view are those that may be read.
-use Rattle.book_office_listings.proofs.Common.{◌≡◌, ℕ, Bool, true, List, Option, Some, option_map, sym, ap, ◌∙◌, subst, Leaf, CircleOf, Grants, Here, Office, effective_at, Resource, bare_entries, here_of}
+use Rattle.book_office_listings.proofs.Common.{◌≡◌, ℕ, true, List, Some, option_map, sym, ap, ◌∙◌, subst, Leaf, Grants, Office, effective_at, Resource, bare_entries, here_of}
 use Rattle.std.proofs.Common.{option_and_then}
 use Rattle.std.proofs.lemmas.Bool.{and_from, and_parts}
 use Rattle.std.specs.FinMap.{get}

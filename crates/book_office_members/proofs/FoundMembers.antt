@@ -1,6 +1,6 @@
 -- Each name of each book has members in each view, and each book has its names.
-use Rattle.book_office_members.proofs.Common.{◌≡◌, ◌∙◌, sym, ap, List, [], ◌∷◌, ℕ, map, subst, None, Some, true, refl, arith, length, Option, cond, inl, inr, ◌||◌, nat_list_cmp_total, empty, insert, has_path, NamesTo, Seen, AreCardsOf, AreNamesOf, IsReached, card_named, CardRef}
-use Rattle.std.proofs.Common.{◌⊎◌, ◌<◌, Bool, false, zero, suc, option_and_then, option_map, is_some, T, if◌then◌else◌}
+use Rattle.book_office_members.proofs.Common.{◌≡◌, ◌∙◌, sym, ap, List, [], ◌∷◌, ℕ, map, subst, None, Some, true, refl, arith, length, Option, cond, inl, inr, ◌||◌, nat_list_cmp_total, empty, insert, NamesTo, Seen, AreCardsOf, AreNamesOf, IsReached, card_named, CardRef}
+use Rattle.std.proofs.Common.{◌<◌, Bool, false, zero, suc, option_and_then, option_map, is_some, T, if◌then◌else◌}
 use Rattle.std.proofs.lemmas.Bool.{false≢true}
 use Rattle.std.specs.FinMap.{contains_key-keys, entries, entries_sorted, find, get, get-empty, get-entries, get-insert, is_sorted}
 use Rattle.std.specs.List.{Any, list_any}

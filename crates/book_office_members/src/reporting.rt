@@ -41,7 +41,7 @@ pub fn group_members<K: Keeper>(
 ) -> Result<Members, StoreFault>
     ensures { Reads (K.standing keeper.old) (K.standing keeper.new) result (λ o members. AreMembersAt o circle.now book.now card.now members) }
 {
-    let Some(report) = sync_report(alloc, keeper, circle, book, None)? else {
+    let Some(report) = sync_report(alloc, keeper, circle, book, None, None)? else {
         return Ok(Members {
             lines: Items::new(alloc),
             reached: Items::new(alloc),

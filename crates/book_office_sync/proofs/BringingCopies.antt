@@ -17,15 +17,15 @@ module _ (o : Office) (circle : CircleOf) (b : List ℕ) (sound : IsSound o) whe
       same_path token.book b (and_parts (bytes_eq token.book b) (token.epoch == o.epoch)
       (and_parts (bytes_eq token.book b && token.epoch == o.epoch) (nat_le token.number book.changes.number) e).0).0
 
-  brought : (token : Option Token) (r : Report) → Told o circle b token None r → BringsCopies o circle b token r
-  brought None r t = subst (Begins o circle b) (sym t.is) (begins o circle b t.book None t.at (sound.books b t.book t.at).1)
-  brought (Some token) r t = λ p later was.
+  brought : (token : Option Token) (limit : Option ℕ) (r : Report) → Told o circle b token limit r → BringsCopies o circle b token r
+  brought None limit r t = subst (Begins o circle b) (sym t.is) (begins o circle b t.book limit t.at (sound.books b t.book t.at).1)
+  brought (Some token) limit r t = λ p later was.
       let same = valid_book t.book token t.valid in
       let epoch : o.epoch ≡ p.epoch = sym (valid_epoch o b t.book token t.valid) ∙ was.2 in
       let there : get o.books token.book ≡ Some t.book = ap (get o.books) same ∙ t.at in
-      subst (Follows p o circle token) (ap (λ c. report o circle c t.book (Some token) None) same ∙ sym t.is)
-      (follows p o circle token was.0 t.book None later epoch was.1 there was.3 (sound.books token.book t.book there).1)
+      subst (Follows p o circle token) (ap (λ c. report o circle c t.book (Some token) limit) same ∙ sym t.is)
+      (follows p o circle token was.0 t.book limit later epoch was.1 there was.3 (sound.books token.book t.book there).1)
 
-  pub brings : (token : Option Token) (answer : Option Report) → answer ≡ sync o circle b token None → IfSome answer (BringsCopies o circle b token)
-  brings token None e = tt
-  brings token (Some r) e = brought token r (told o circle b token None r (sym e))
+  pub brings : (token : Option Token) (limit : Option ℕ) (answer : Option Report) → answer ≡ sync o circle b token limit → IfSome answer (BringsCopies o circle b token)
+  brings token limit None e = tt
+  brings token limit (Some r) e = brought token limit r (told o circle b token limit r (sym e))

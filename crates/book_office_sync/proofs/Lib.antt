@@ -6,7 +6,9 @@ pub mod Patches
 pub mod ReportLaws
 pub mod SyncedRuns
 pub mod ReadingLaws
+pub mod CutReports
 pub mod ReadReports
+pub mod Pages
 pub mod ReplicaCopies
 pub mod TokenTexts
 pub mod BringingCopies

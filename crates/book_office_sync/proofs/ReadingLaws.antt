@@ -12,7 +12,8 @@ use Rattle.book_office.specs.declared.nodes.Changed.{Changed}
 use Rattle.book_office.specs.declared.nodes.EffectiveEntry.{EffectiveEntry}
 use Rattle.book_office.specs.Levels.{standing_at, protected_entries, own_entries, effective_of, lists_at}
 use Rattle.book_office.specs.declared.nodes.Lists.{Lists as Lists'}
-use Rattle.book_office.specs.Resources.{Resource, book_resource, changed_after, changed_in}
+use Rattle.book_office.proofs.FirstOf.{first_map}
+use Rattle.book_office.specs.Resources.{Resource, book_resource, changed_after, changed_in, first_of}
 use Rattle.book_office_sync.specs.Copies.{grants, grants_read, here_of_card}
 use Rattle.book_office_sync.specs.Reading.{above_of, entries_under, is_granted, found_in, item_in}
 use Rattle.book_office_sync.specs.declared.reports.Above.{Above}
@@ -103,10 +104,13 @@ module _ (o : Office) (circle : CircleOf) (b : List ℕ) (x : Book) (at : get o.
       λ i. record { name = c.1; number = c.0; found = found i } ∷ items_are cs i
 
 -- what was read is what the definition says
-pub items_read : (o : Office) (circle : CircleOf) (b : List ℕ) (n : ℕ) (lists : Lists') (changes : List Changed) (a : Above) (items : List Item)
-    → lists ≡ lists_at o (path.Book b) → changes ≡ changed_after o b n → a ≡ above_of lists.levels → items ≡ map (item_in a circle) changes
-    → (x : Book) → get o.books b ≡ Some x → items ≡ map (item_of o circle b) (changes_after x.changes.last n)
-items_read o circle b n lists changes a items l k above_is e x at =
+pub items_read : (o : Office) (circle : CircleOf) (b : List ℕ) (n : ℕ) (most : Option ℕ) (lists : Lists') (changes : List Changed) (a : Above) (items : List Item)
+    → lists ≡ lists_at o (path.Book b) → changes ≡ first_of most (changed_after o b n) → a ≡ above_of lists.levels → items ≡ map (item_in a circle) changes
+    → (x : Book) → get o.books b ≡ Some x → items ≡ map (item_of o circle b) (first_of most (changes_after x.changes.last n))
+items_read o circle b n most lists changes a items l k above_is e x at =
+    let first = first_of most (changes_after x.changes.last n) in
     e
-    ∙ (λ i. map (item_in ((above_is ∙ ap (λ (r : Lists'). above_of r.levels) l) i) circle) ((k ∙ ap (λ found. unwrap_or (option_map (λ (book : Book). changed_in book (changes_after book.changes.last n)) found) []) at) i))
-    ∙ items_are o circle b x at (changes_after x.changes.last n)
+    ∙ (λ i. map (item_in ((above_is ∙ ap (λ (r : Lists'). above_of r.levels) l) i) circle)
+    ((k ∙ ap (λ found. first_of most (unwrap_or (option_map (λ (book : Book). changed_in book (changes_after book.changes.last n)) found) [])) at
+    ∙ sym (first_map (λ (c : Change). record { number = c.0; name = c.1; card = get x.cards c.1 }) most (changes_after x.changes.last n))) i))
+    ∙ items_are o circle b x at first

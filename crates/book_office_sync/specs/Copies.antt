@@ -1,5 +1,5 @@
 -- What a caller may read of a book, the reports on it, and the copies that they keep (RFC 6578, section 3).
-use Rattle.std.specs.Prelude.{◌≡◌, ℕ, ◌<◌, ◌≤◌, ◌⊎◌, Bool, true, false, not, List, [], ◌∷◌, map, take, length, nat_lt, nat_le, ◌==◌, ◌&&◌, is_some, filter, Option, Some, None, option_map, option_and_then, unwrap_or, if◌then◌else◌}
+use Rattle.std.specs.Prelude.{◌≡◌, ℕ, ◌<◌, ◌≤◌, ◌⊎◌, Bool, true, false, not, List, [], ◌∷◌, map, length, ⊤, nat_lt, nat_le, ◌==◌, ◌&&◌, is_some, filter, Option, Some, None, option_map, option_and_then, unwrap_or, if◌then◌else◌}
 use Rattle.std.specs.FinMap.{get, insert, remove, empty}
 use Rattle.std.specs.Str.{bytes_eq}
 use Rattle.book_rights.specs.declared.privileges.Leaf.{Leaf}
@@ -15,7 +15,8 @@ use Rattle.book_office_values.specs.declared.offices.StoredCard.{StoredCard}
 use Rattle.book_office_values.specs.declared.offices.Office.{Office}
 use Rattle.book_office_values.specs.declared.paths.Path.TheVariants as path
 use Rattle.book_office.specs.OwnLists.{entries_in_force}
-use Rattle.book_office.specs.Resources.{number_of}
+use Rattle.book_limits.specs.declared.TheConstants.{MAX_CARDS}
+use Rattle.book_office.specs.Resources.{first_of, number_of}
 use Rattle.book_office_sync.specs.declared.messages.Found.{Found}
 use Rattle.book_office_sync.specs.declared.messages.Item.{Item}
 use Rattle.book_office_sync.specs.declared.messages.Report.{Report}
@@ -67,10 +68,10 @@ found_of s = record { label = s.label; text = s.text }
 abbrev pub item_of : Office → CircleOf → List ℕ → Change → Item
 item_of o circle b change = record { name = change.1; number = change.0; found = option_map found_of (seen o circle b change.1) }
 
--- at most so many of the changes
-abbrev pub first_of : Option ℕ → List Change → List Change
-first_of None changes = changes
-first_of (Some limit) changes = take limit changes
+-- a limit on a report is from 1 to the most cards of a book (RFC 6578, section 3.7)
+abbrev pub IsLimit : Option ℕ → Type 0
+IsLimit None = ⊤
+IsLimit (Some limit) = (1 ≤ limit) × (limit ≤ MAX_CARDS)
 
 -- the number of the last of the changes, or else the one before them
 abbrev pub last_number : ℕ → List Change → ℕ
@@ -78,7 +79,7 @@ last_number n [] = n
 last_number n (c ∷ cs) = last_number c.0 cs
 
 -- whether changes remain
-abbrev pub is_cut : Option ℕ → List Change → Bool
+abbrev pub is_cut : {A : Type 0} → Option ℕ → List A → Bool
 is_cut None changes = false
 is_cut (Some limit) changes = nat_lt limit (length changes)
 

@@ -1,12 +1,16 @@
 //! Sync reports over a keeper.
 
-ghost use Rattle.std.specs.Prelude.{◌≡◌, ◌++◌, ◌∷◌, [], Some, None, IfOk, IfSome, OnOk, map, option_map};
+ghost use Rattle.std.specs.Prelude.{◌≡◌, ◌++◌, ◌∷◌, ◌+◌, ◌<◌, ◌^◌, [], Some, None, IfOk, IfSome, OnOk, map, option_map};
 ghost use Rattle.std.specs.FinMap.{get};
 ghost use Rattle.std.specs.Option.{option_copied};
 ghost use Rattle.book_office_values.specs.Changes.{changes_after};
 ghost use Rattle.book_office_values.specs.declared.offices.Book.{Book};
+ghost use Rattle.book_office_values.specs.declared.paths.Path.TheVariants as path;
 ghost use Rattle.book_office.specs.Keeping.{Reads};
-ghost use Rattle.book_office_sync.specs.Copies.{item_of, start_of, sync, BringsCopies};
+ghost use Rattle.book_office.specs.Levels.{lists_at};
+ghost use Rattle.book_office.specs.Resources.{first_of};
+ghost use Rattle.book_office_sync.specs.Copies.{item_of, reported, start_of, sync, BringsCopies, IsLimit};
+ghost use Rattle.book_office_sync.specs.Limits.{AreEnough, IsEnough, IsNextPage, found_items, last_changed, last_of_page, last_told, told_report};
 ghost use Rattle.book_office_sync.specs.Reading.{above_of, first_bearing, found_in, is_granted, is_readable, item_in};
 ghost use Rattle.book_office_sync.specs.Reading.{names_place, listed_items};
 
@@ -16,6 +20,9 @@ use book_office::{Changed, Items, Keeper, Level, Lists, Path, StoreFault};
 use book_office_values::StoredCard;
 use book_rights::Leaf;
 use std::alloc::{AllocError, Global};
+
+/// How many changes an initial report with a limit reads at once.
+const PAGE: u32 = 100;
 
 /// The lists above the cards of a book: the protected entries of the book and of what is above it, and the own entries
 /// likewise. They are read once for all its cards.
@@ -144,23 +151,116 @@ fn items_in(
     Ok(Items::from_vec(items))
 }
 
-/// The items of a report on a book after a number: the lists above its cards are read once, and then all changes at
-/// once, each with its card.
-pub fn items_after<K: Keeper>(
+/// The items of a report on a book after a number, and the first so many of them where a most is given: the lists above
+/// its cards are read once, and then all changes at once, each with its card.
+fn items_after<K: Keeper>(
     alloc: Global,
     keeper: &mut K,
     circle: &Circle,
     book: &Name,
     number: u64,
+    at_most: Option<u32>,
 ) -> Result<Items<Item>, StoreFault>
     ensures { Reads (K.standing keeper.old) (K.standing keeper.new) result
-        (λ o items. (x : Book) → get o.books book.now ≡ Some x → items ≡ map (item_of o circle.now book.now) (changes_after x.changes.last number)) }
+        (λ o items. (x : Book) → get o.books book.now ≡ Some x
+        → items ≡ map (item_of o circle.now book.now) (first_of at_most (changes_after x.changes.last number))) }
 {
     let path = Path::Book(book.clone()?);
     let lists = keeper.lists(alloc, &path)?;
-    let changes = keeper.changes_after(alloc, book, number)?;
+    let changes = keeper.changes_after(alloc, book, number, at_most)?;
     let above = join_levels(alloc, lists)?;
     Ok(items_in(alloc, &above, circle, changes)?)
+}
+
+/// Adds the items of the changes whose cards are there and may be read.
+fn push_found(
+    items: &mut Vec<Item>,
+    above: &Above,
+    circle: &Circle,
+    changes: Items<Changed>,
+) -> Result<(), AllocError>
+    ensures { OnOk result (items.new.items ≡ items.old.items ++ found_items above.now circle.now changes) }
+{
+    for change in changes.into_vec() {
+        let item = item_in(above, circle, change);
+        if item.found.is_some() {
+            items.push(item)?;
+        }
+    }
+    Ok(())
+}
+
+/// The number of the last change, and else the one before them.
+fn last_changed(before: u64, changes: &[Changed]) -> u64
+    ensures { result ≡ last_changed before changes.now }
+{
+    let mut number = before;
+    for change in changes {
+        number = change.number;
+    }
+    number
+}
+
+/// The number of the last of a page of changes, after which more may stand; none where the page is not full.
+fn last_of_page(page: u32, before: u64, changes: &[Changed]) -> Option<u64>
+    ensures { result ≡ last_of_page page before changes.now }
+{
+    if changes.len() < page as usize {
+        return None;
+    }
+    Some(last_changed(before, changes))
+}
+
+/// One page more of a book's changes: adds its items whose cards are there and may be read, and answers the number of its
+/// last change; none where no change stands after it.
+fn next_page<K: Keeper>(
+    alloc: Global,
+    keeper: &mut K,
+    circle: &Circle,
+    book: &Name,
+    above: &Above,
+    after: u64,
+    items: &mut Vec<Item>,
+) -> Result<Option<u64>, StoreFault>
+    ensures { Reads (K.standing keeper.old) (K.standing keeper.new) result
+        (λ o next. (x : Book) → get o.books book.now ≡ Some x → above.now ≡ above_of (lists_at o (path.Book book.now)).levels
+        → IsNextPage o circle.now book.now x after items.old.items items.new.items next) }
+{
+    let changes = keeper.changes_after(alloc, book, after, Some(PAGE))?;
+    let next = last_of_page(PAGE, after, changes.as_slice());
+    push_found(items, above, circle, changes)?;
+    Ok(next)
+}
+
+/// The items of the cards of a book that may be read, in order of number, up to more than so many: they are looked for
+/// page by page, so that no more than a page of other cards is held.
+fn readable_items<K: Keeper>(
+    alloc: Global,
+    keeper: &mut K,
+    circle: &Circle,
+    book: &Name,
+    most: u32,
+) -> Result<Items<Item>, StoreFault>
+    ensures { Reads (K.standing keeper.old) (K.standing keeper.new) result
+        (λ o items. (x : Book) → get o.books book.now ≡ Some x
+        → IsEnough most (map (item_of o circle.now book.now) (reported o circle.now book.now x None)) items) }
+{
+    let path = Path::Book(book.clone()?);
+    let lists = keeper.lists(alloc, &path)?;
+    let above = join_levels(alloc, lists)?;
+    let mut items = Vec::new(alloc);
+    let mut after = 0;
+    'pages: for _page in 0..u64::MAX {
+        let next = next_page(alloc, keeper, circle, book, &above, after, &mut items)?;
+        let Some(number) = next else {
+            return Ok(Items::from_vec(items));
+        };
+        if items.len() > most as usize {
+            return Ok(Items::from_vec(items));
+        }
+        after = number;
+    }
+    Ok(Items::from_vec(items))
 }
 
 /// The number of the last change of a book, if there is such a book.
@@ -213,6 +313,95 @@ fn listed_items(token: Option<&Token>, items: Items<Item>) -> Items<Item>
     }
 }
 
+/// All items of a report on a book.
+fn all_items<K: Keeper>(
+    alloc: Global,
+    keeper: &mut K,
+    circle: &Circle,
+    book: &Name,
+    token: Option<&Token>,
+) -> Result<Items<Item>, StoreFault>
+    ensures { Reads (K.standing keeper.old) (K.standing keeper.new) result
+        (λ o items. (x : Book) → get o.books book.now ≡ Some x
+        → items ≡ map (item_of o circle.now book.now) (reported o circle.now book.now x (option_copied token.entry))) }
+{
+    let items = items_after(alloc, keeper, circle, book, start_of(token), None)?;
+    Ok(listed_items(token, items))
+}
+
+/// The items of a report on a book, up to more than so many.
+fn enough_items<K: Keeper>(
+    alloc: Global,
+    keeper: &mut K,
+    circle: &Circle,
+    book: &Name,
+    token: Option<&Token>,
+    most: u32,
+) -> Result<Items<Item>, StoreFault>
+    requires { most + 1 < 2 ^ 32 }
+    ensures { Reads (K.standing keeper.old) (K.standing keeper.new) result
+        (λ o items. (x : Book) → get o.books book.now ≡ Some x
+        → IsEnough most (map (item_of o circle.now book.now) (reported o circle.now book.now x (option_copied token.entry))) items) }
+{
+    match token {
+        Some(token) => items_after(alloc, keeper, circle, book, token.number, Some(most + 1)),
+        None => readable_items(alloc, keeper, circle, book, most),
+    }
+}
+
+/// The items of a report on a book: all of them, or up to more than a limit.
+fn report_items<K: Keeper>(
+    alloc: Global,
+    keeper: &mut K,
+    circle: &Circle,
+    book: &Name,
+    token: Option<&Token>,
+    limit: Option<u32>,
+) -> Result<Items<Item>, StoreFault>
+    requires { IsLimit limit }
+    ensures { Reads (K.standing keeper.old) (K.standing keeper.new) result
+        (λ o items. (x : Book) → get o.books book.now ≡ Some x
+        → AreEnough limit (map (item_of o circle.now book.now) (reported o circle.now book.now x (option_copied token.entry))) items) }
+{
+    match limit {
+        Some(most) => enough_items(alloc, keeper, circle, book, token, most),
+        None => all_items(alloc, keeper, circle, book, token),
+    }
+}
+
+/// The number of the last item, and else the one given.
+fn last_number(items: &[Item], otherwise: u64) -> u64
+    ensures { result ≡ last_told otherwise items.now }
+{
+    let mut number = otherwise;
+    for item in items {
+        number = item.number;
+    }
+    number
+}
+
+/// The report of these items, cut to the limit where there are more: it is then told up to the last item that is left
+/// (RFC 6578, section 3.6), and else up to the place that is given, which is that of the book's contents. Takes no memory.
+fn cut_report(start: u64, limit: Option<u32>, items: Items<Item>, place: Token) -> Report
+    ensures { result ≡ told_report start limit items place }
+{
+    let mut items = items.into_vec();
+    let mut token = place;
+    let mut truncated = false;
+    if let Some(most) = limit {
+        if items.len() > most as usize {
+            items.truncate(most as usize);
+            token.number = last_number(items.as_slice(), start);
+            truncated = true;
+        }
+    }
+    Report {
+        items: Items::from_vec(items),
+        truncated,
+        token,
+    }
+}
+
 /// The report on a book after a token, or the initial one without a token; none where the token is not valid.
 fn read_report<K: Keeper>(
     alloc: Global,
@@ -220,9 +409,11 @@ fn read_report<K: Keeper>(
     circle: &Circle,
     book: &Name,
     token: Option<&Token>,
+    limit: Option<u32>,
 ) -> Result<Option<Report>, StoreFault>
+    requires { IsLimit limit }
     ensures { Reads (K.standing keeper.old) (K.standing keeper.new) result
-        (λ o report. report ≡ sync o circle.now book.now (option_copied token.entry) None) }
+        (λ o report. report ≡ sync o circle.now book.now (option_copied token.entry) limit) }
 {
     let name = book.clone()?;
     let epoch = keeper.epoch()?;
@@ -232,16 +423,13 @@ fn read_report<K: Keeper>(
     if !is_valid(token, book, epoch, number) {
         return Ok(None);
     }
-    let items = items_after(alloc, keeper, circle, book, start_of(token))?;
-    Ok(Some(Report {
-        items: listed_items(token, items),
-        truncated: false,
-        token: Token {
-            book: name,
-            epoch,
-            number,
-        },
-    }))
+    let items = report_items(alloc, keeper, circle, book, token, limit)?;
+    let place = Token {
+        book: name,
+        epoch,
+        number,
+    };
+    Ok(Some(cut_report(start_of(token), limit, items, place)))
 }
 
 /// The report on a book after a token, or the initial one without a token (RFC 6578, section 3.2): in order of number,
@@ -249,23 +437,30 @@ fn read_report<K: Keeper>(
 /// else as removed; the initial report has the cards that the caller may read. Its token is that of the book's present
 /// contents.
 ///
+/// A limit is a number of items from 1 to 10,000 (RFC 6578, section 3.7). Where there are more, the report has the first
+/// so many, it is truncated (section 3.6), and its token has the number of the last of them: a report after that token
+/// has the rest.
+///
 /// None where there is no such book, or where the token is not valid: it names another book, another epoch than the
 /// present one, or a number that the book has not reached (RFC 6578, section 3.2, precondition valid-sync-token). An
 /// error is want of memory or a failure of the store.
 ///
 /// It makes four calls of the keeper, whatever the size of the book, decides once for each change, and changes nothing.
-/// The circle is that of the caller.
+/// With a limit it reads one change more than that; but an initial report with a limit, which leaves out what may not be
+/// read, makes a call for each 100 changes that it passes. The circle is that of the caller.
 pub fn sync_report<K: Keeper>(
     alloc: Global,
     keeper: &mut K,
     circle: &Circle,
     book: &Name,
     token: Option<&Token>,
+    limit: Option<u32>,
 ) -> Result<Option<Report>, StoreFault>
+    requires { IsLimit limit }
     ensures reads { Reads (K.standing keeper.old) (K.standing keeper.new) result
-        (λ o report. report ≡ sync o circle.now book.now (option_copied token.entry) None) }
+        (λ o report. report ≡ sync o circle.now book.now (option_copied token.entry) limit) }
     ensures copies { Reads (K.standing keeper.old) (K.standing keeper.new) result
         (λ o report. IfSome report (BringsCopies o circle.now book.now (option_copied token.entry))) }
 {
-    read_report(alloc, keeper, circle, book, token)
+    read_report(alloc, keeper, circle, book, token, limit)
 }

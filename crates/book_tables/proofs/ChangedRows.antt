@@ -1,6 +1,8 @@
 -- The changes that rows tell are those of the Office that they give.
-use Rattle.book_tables.proofs.Common.{◌≡◌, inl, inr, ℕ, ℤ, pos, ◌<ℤ◌, ◌<◌, ◌≤◌, Bool, true, false, ◌&&◌, List, [], ◌∷◌, ◌++◌, map, filter, find, codes, Some, None, option_map, option_and_then, unwrap_or, refl, sym, ap, subst, ◌∙◌, arith, Ordering, Less, Equal, Greater, is_gt, int_cmp, true≢false, and_parts, ints, get, same_Some, Value, Int, Text, id_in, Row, column, rowid, Has, all_has, has_filtered, has_kept, value_cmp-Int, LAST_NUMBER, IsName, Book, StoredCard, Office, Path, changes_after, book_path, parent_of, is_same, same_itself, some_apart, by_option, where_some, Changed, Resource, resource_at, card_resource, card_in, number_of, unless_mapped, changed_in, IsSound, IsSoundBook, gone_book_place, gone_name_place, gone_number, node_label, node_number, node_path, number_in, text_in, Rows, has, is_at, is_under, is_gone, PassesOnce, row_at, resource_of, removed_from, IsNodeAt, IsRemoved, Gives, card_shown, removed_shown, changes_of}
+use Rattle.book_tables.proofs.Common.{◌≡◌, inl, inr, ℕ, ℤ, pos, ◌<ℤ◌, ◌<◌, ◌≤◌, Bool, true, false, ◌&&◌, List, [], ◌∷◌, ◌++◌, map, filter, find, codes, Some, None, option_map, option_and_then, unwrap_or, refl, sym, ap, subst, ◌∙◌, arith, Ordering, Less, Equal, Greater, is_gt, int_cmp, true≢false, and_parts, ints, get, same_Some, Value, Int, Text, id_in, Row, column, rowid, Has, all_has, has_filtered, has_kept, value_cmp-Int, LAST_NUMBER, IsName, Book, StoredCard, Office, Path, changes_after, book_path, parent_of, is_same, same_itself, some_apart, by_option, where_some, Changed, Resource, resource_at, card_resource, card_in, number_of, unless_mapped, changed_in, IsSound, IsSoundBook, gone_book_place, gone_name_place, gone_number, node_label, node_number, node_path, number_in, text_in, Rows, has, is_at, is_under, is_gone, PassesOnce, row_at, resource_of, removed_from, IsNodeAt, IsRemoved, Gives, card_shown, removed_shown}
+use Rattle.std.proofs.Common.{nat_lt}
 use Rattle.std.proofs.lemmas.Bool.{and_from}
+use Rattle.std.proofs.lemmas.Bool.Decides.{nat_tests}
 use Rattle.std.proofs.lemmas.Cmp.{int_ranked}
 use Rattle.sqlite.specs.Ops.{binary, is_true, from_truth}
 use Rattle.sqlite_rules.proofs.ListLemmas.{has_left, has_right, has_either}
@@ -16,6 +18,11 @@ use Rattle.book_tables.proofs.Looking.{found_has, has_text}
 use Rattle.book_tables.proofs.LeftRows.{book_name}
 use Rattle.book_tables.proofs.SameLists.{has_map, has_mapped}
 use Rattle.book_office.proofs.StandingResources.{from_map, removed_unmapped}
+
+-- the changes above a number of the book whose row this is
+abbrev pub changes_of : Rows → List ℕ → ℕ → Row → List Changed
+changes_of rows front number book =
+    map (card_shown rows front) (lists.changed_rows (id_in (rowid book)) number rows) ++ map removed_shown (lists.gone_after (id_in (rowid book)) number rows)
 
 -- ---- a number above another
 
@@ -37,6 +44,19 @@ is_greater : (m k : ℕ) (o : Ordering) → o ≡ int_cmp (pos k) (pos m) → m 
 is_greater m k Less e h = absurd (let l : pos k <ℤ pos m = int_ranked (pos k) (pos m) Less e in let r : k < m = grind (arith, ints) in omega (arith, r, h))
 is_greater m k Equal e h = absurd (let l : pos k ≡ pos m = int_ranked (pos k) (pos m) Equal e in let r : k ≡ m = ap (λ z. number_in (Int z)) l in omega (arith, r, h))
 is_greater m k Greater e h = refl
+
+below : (a b : ℕ) → nat_lt a b ≡ true → a < b
+below a b h = grind (arith, nat_tests)
+
+not_below : (a b : ℕ) → nat_lt a b ≡ false → b ≤ a
+not_below a b h = grind (arith, nat_tests)
+
+pub not_greater : (m k : ℕ) → is_gt (int_cmp (pos k) (pos m)) ≡ false → k ≤ m
+not_greater m k h = go (nat_lt m k) refl
+  where
+    go : (t : Bool) → nat_lt m k ≡ t → k ≤ m
+    go true e = absurd (true≢false (sym (is_greater m k _ refl (below m k e)) ∙ h))
+    go false e = not_below m k e
 
 means_above : (place m k : ℕ) (x : Row) → column x place ≡ Int (pos k) → is_above place m x ≡ true → m < k
 means_above place m k x is h = greater m k _ refl (sym (above_is place m k x is) ∙ h)
@@ -99,6 +119,18 @@ module _ (rows : Rows) (o : Office) (gives : Gives rows o) (nodes : AreNodes row
         name = name i;
         card = Some (record { owner = (is i).owner; label = (is i).label; own = own i; text = unwrap_or (is i).text [] });
       }
+
+  -- the number of a changed card's row, and of a removed name's, is a number
+  pub card_number : (x : Row) → Has (filter is_changed rows.nodes) x → node_number x ≡ Int (pos (number_in (node_number x)))
+  card_number x h =
+      let f = has_filtered is_changed rows.nodes x h in
+      let two = and_parts _ _ f.1 in
+      let under = ap (λ v. is_under v x) (sym book_number) ∙ two.0 in
+      let q = child_row rows o gives nodes sound (path.Book b) named node found x (has_kept (is_under (rowid node)) rows.nodes x f.0 under) in
+      q.1.number
+
+  pub name_number : (x : Row) → Has (filter is_removed rows.gone) x → gone_number x ≡ Int (pos (number_in (gone_number x)))
+  name_number x h = (all_has (IsRemoved rows) rows.gone x gives.removed (has_filtered is_removed rows.gone x h).0).number
 
   card_told : (x : Row) → Has (filter is_changed rows.nodes) x → IsChange book n (card_shown rows front (card_columns x))
   card_told x h =

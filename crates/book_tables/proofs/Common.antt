@@ -86,7 +86,7 @@ pub use Rattle.book_tables.specs.Adopting.{Compared, AddsLists, AddsPlaces, comp
 pub use Rattle.book_tables.specs.BareOffice.{place_told, book_told}
 pub use Rattle.book_tables.specs.Children.{ShowsListing, text_above, child_shown}
 pub use Rattle.book_tables.specs.Keeps.{standing_of}
-pub use Rattle.book_tables.specs.LastChanges.{card_shown, ShowsChanges, removed_shown, changes_of}
+pub use Rattle.book_tables.specs.LastChanges.{card_shown, ShowsChanges, removed_shown}
 pub use Rattle.book_tables.specs.Levels.{level_told}
 pub use Rattle.book_tables.specs.Listing.{entry_shown}
 pub use Rattle.book_tables.specs.Rows.{row_at, resource_of, list_in, resource_in, removed_from, entry_of, removed_in, is_member, entry_values}

@@ -36,6 +36,7 @@ pub mod FoundedRows
 pub mod BookChanges
 pub mod GoneOnce
 pub mod ChangedRows
+pub mod FirstChanges
 pub mod ChangesTold
 pub mod ChildrenTold
 pub mod NodeShares

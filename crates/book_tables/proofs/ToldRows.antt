@@ -1,16 +1,18 @@
 -- What is told of rows with their lists, one by one.
-use Rattle.book_tables.proofs.Common.{◌≡◌, ℕ, ℤ, Bool, ◌+◌, ◌<◌, false, List, [], ◌∷◌, ◌++◌, ◌&&◌, map, filter, take, length, get_or, codes, Option, Some, None, option_map, unwrap_or, refl, sym, ap, subst, ◌∙◌, IsPermutation, Int, id_in, Database, Row, State, and_parts, same_Some, all_from, has_filtered, map-map, Entry, Changed, Listed, rowid, some_apart, entry_place, Rows, rows_of, IsBook, Looks, is_under, ShowsListing, child_shown, ShowsChanges, card_shown, removed_shown, changes_of, entry_shown, row_at, DoNotFall, card_among, child_among}
+use Rattle.book_tables.proofs.Common.{◌≡◌, arith, ℕ, ℤ, Bool, ◌+◌, ◌<◌, false, List, [], ◌∷◌, ◌++◌, ◌&&◌, map, filter, take, length, get_or, codes, Option, Some, None, option_map, unwrap_or, refl, sym, ap, subst, ◌∙◌, IsPermutation, Int, id_in, Database, Has, Row, State, and_parts, same_Some, all_from, has_filtered, map-map, Entry, Changed, Listed, rowid, some_apart, entry_place, Rows, rows_of, IsBook, Looks, is_under, ShowsListing, child_shown, ShowsChanges, card_shown, removed_shown, entry_shown, row_at, DoNotFall, card_among, child_among}
 use Rattle.std.proofs.lemmas.List.{map-append, take_more}
-use Rattle.std.proofs.lemmas.List.Sorted.{IsPermutation-refl, IsPermutation-trans, IsPermutation-map, IsPermutation-append}
+use Rattle.std.proofs.lemmas.List.Sorted.{length_permutation, IsPermutation-refl, IsPermutation-trans}
 use Rattle.book_tables_rows.specs.declared.nodes.FoundNode.{FoundNode}
 use Rattle.book_tables_rows.specs.Columns.{node_number_place}
 use Rattle.book_tables_rows.specs.Lists as lists
-use Rattle.book_tables_rows.specs.Lists.{ShowsList, ShowsRows, ShowsChildren, ShowsChildEntries, entry_columns, changed_id}
+use Rattle.book_tables_rows.specs.Lists.{AreFirst, ShowsList, ShowsFirst, ShowsChildren, ShowsChildEntries, changed_number_place, removed_number_place, entry_columns, changed_id}
 use Rattle.book_tables_rows.specs.Nodes.{Finds, Told, told, told_of}
 use Rattle.book_tables_rows.specs.Writes.{entries_of}
-use Rattle.book_tables.specs.LastChanges.{AreCardsOf, ShowsEntries, ShowsCard, ShowsCards, changed_shown, own_shown}
+use Rattle.book_tables.specs.LastChanges.{AreCardsOf, AreChangesAt, ShowsEntries, ShowsCard, ShowsCards, changed_shown, own_shown}
 use Rattle.book_tables.proofs.ChildShares.{cards_are, do_not_fall, shares_are}
 use Rattle.book_tables.proofs.SameLists.{has_mapped, has_permuted}
+use Rattle.book_tables.proofs.FirstChanges.{has_first}
+use Rattle.sqlite.specs.Query.{limited}
 
 pub entries_told : (s : State) (id : ℤ) (protected : Bool) (rows : List Row) (list : List Entry) → ShowsList s id protected rows → list ≡ map (entry_shown entry_place) rows → ShowsEntries s id protected list
 entries_told s id protected rows list shows is = (
@@ -33,17 +35,25 @@ told_next f rows i item so_far y within is told_so_far told_now =
     (λ j. told_so_far j ++ told_now j ∷ []) ∙ sym (map-append f (take i rows) (item ∷ [])) ∙ ap (map f) (sym (take_more rows i item within ∙ ap (λ x. take i rows ++ x ∷ []) is))
 
 -- no row has the path
-pub none_changed : (s : State) (path : List ℕ) (number : ℕ) (found : Option FoundNode) → found ≡ None → Finds s path (option_map told found) → ShowsChanges s path number []
-none_changed s path number found is finds = (finds.0, λ book. go book (row_at (rows_of s.now.trees) path) refl)
+pub none_changed : (s : State) (path : List ℕ) (number : ℕ) (at_most : Option ℕ) (found : Option FoundNode) → found ≡ None → Finds s path (option_map told found) → ShowsChanges s path number at_most []
+none_changed s path number at_most found is finds = (finds.0, λ book. go book (row_at (rows_of s.now.trees) path) refl)
   where
-    go : IsBook s.now → (r : Option Row) → row_at (rows_of s.now.trees) path ≡ r → IsPermutation (unwrap_or (option_map (changes_of (rows_of s.now.trees) (path ++ codes "/") number) r) []) []
-    go book None e = IsPermutation-refl []
+    go : IsBook s.now → (r : Option Row) → row_at (rows_of s.now.trees) path ≡ r → AreChangesAt (rows_of s.now.trees) path number at_most [] r
+    go book None e = refl
     go book (Some node) e = some_apart (sym (ap (option_map told_of) e) ∙ sym (finds.1 book) ∙ ap (option_map told) is)
 
+-- the first of some rows are among them
+pub has_limited : (at_most : Option ℕ) (rows : List Row) (z : Row) → Has (limited at_most rows) z → Has rows z
+has_limited None rows z h = h
+has_limited (Some k) rows z h = has_first k rows z h
+
+pub first_has : (at_most : Option ℕ) (place : ℕ) (all shown : List Row) → AreFirst at_most place all shown → (z : Row) → Has shown z → Has all z
+first_has at_most place all shown are z h = has_permuted all are.ordered are.same z (has_limited at_most are.ordered z (subst (λ l. Has l z) are.first h))
+
 -- what is shown of the changed cards of a book is shown of its cards
-cards_found : (rows : Rows) (id : ℤ) (number : ℕ) (cards : List Row) → IsPermutation (lists.changed_rows id number rows) cards → AreCardsOf rows id cards
-cards_found rows id number cards same = all_from _ cards (λ shown h.
-    let changed = has_mapped _ (filter (λ row. is_under (Int id) row && lists.is_above node_number_place number row) rows.nodes) shown (has_permuted (lists.changed_rows id number rows) cards same shown h) in
+cards_found : (rows : Rows) (id : ℤ) (number : ℕ) (at_most : Option ℕ) (cards : List Row) → AreFirst at_most changed_number_place (lists.changed_rows id number rows) cards → AreCardsOf rows id cards
+cards_found rows id number at_most cards are = all_from _ cards (λ shown h.
+    let changed = has_mapped _ (filter (λ row. is_under (Int id) row && lists.is_above node_number_place number row) rows.nodes) shown (first_has at_most changed_number_place (lists.changed_rows id number rows) cards are shown h) in
     let found = has_filtered (λ row. is_under (Int id) row && lists.is_above node_number_place number row) rows.nodes changed.0 changed.1 in
     (changed.0, found.0, (and_parts (is_under (Int id) changed.0) (lists.is_above node_number_place number changed.0) found.1).0, ap changed_id changed.2))
 
@@ -52,11 +62,11 @@ many_told s id front rows entries changes shows joined book cards =
     let is = shows.1 book in
     joined (subst DoNotFall (sym is) (do_not_fall s.now book id)) ∙ ap (λ es. map (card_among es front) rows) is ∙ cards_are s.now book id front rows cards
 
-module _ (old first second third : State) (path front : List ℕ) (number : ℕ) (f : FoundNode) (found : Option FoundNode) (is : found ≡ Some f) (finds : Finds old path (option_map told found))
+module _ (old first second third : State) (path front : List ℕ) (number : ℕ) (at_most : Option ℕ) (f : FoundNode) (found : Option FoundNode) (is : found ≡ Some f) (finds : Finds old path (option_map told found))
     (look : Looks old first) (look_on : Looks first second) (look_last : Looks second third) (cards names : List Row)
-    (shows_cards : ShowsRows first (lists.changed_rows f.id number) cards) (shows_names : ShowsRows second (lists.gone_after f.id number) names) (front_is : front ≡ path ++ codes "/")
-    (shown changes : List Changed) (are_shown : ShowsCards third f.id front cards shown) (changes_are : changes ≡ shown ++ map removed_shown names) where
-  at_node : IsBook old.now → (r : Option Row) → row_at (rows_of old.now.trees) path ≡ r → IsPermutation (unwrap_or (option_map (changes_of (rows_of old.now.trees) (path ++ codes "/") number) r) []) changes
+    (shows_cards : ShowsFirst first at_most changed_number_place (lists.changed_rows f.id number) cards) (shows_names : ShowsFirst second at_most removed_number_place (lists.gone_after f.id number) names)
+    (front_is : front ≡ path ++ codes "/") (shown changes : List Changed) (are_shown : ShowsCards third f.id front cards shown) (changes_are : changes ≡ shown ++ map removed_shown names) where
+  at_node : IsBook old.now → (r : Option Row) → row_at (rows_of old.now.trees) path ≡ r → AreChangesAt (rows_of old.now.trees) path number at_most changes r
   at_node book None e = some_apart (sym (ap (option_map told) is) ∙ finds.1 book ∙ ap (option_map told_of) e)
   at_node book (Some node) e =
       let same : told f ≡ told_of node = same_Some _ _ (sym (ap (option_map told) is) ∙ finds.1 book ∙ ap (option_map told_of) e) in
@@ -68,23 +78,38 @@ module _ (old first second third : State) (path front : List ℕ) (number : ℕ)
       let b2 : IsBook second.now = subst IsBook (sym e2) book in
       let e3 : third.now ≡ old.now = look_last.same b2 ∙ e2 in
       let b3 : IsBook third.now = subst IsBook (sym e3) book in
-      let in_cards : IsPermutation (lists.changed_rows (id_in (rowid node)) number rows) cards =
-      subst (λ k. IsPermutation (lists.changed_rows k number rows) cards) id (subst (λ (d : Database). IsPermutation (lists.changed_rows f.id number (rows_of d.trees)) cards) e1 (shows_cards.1 b1)) in
-      let in_names : IsPermutation (lists.gone_after (id_in (rowid node)) number rows) names =
-      subst (λ k. IsPermutation (lists.gone_after k number rows) names) id (subst (λ (d : Database). IsPermutation (lists.gone_after f.id number (rows_of d.trees)) names) e2 (shows_names.1 b2)) in
+      let in_cards : AreFirst at_most changed_number_place (lists.changed_rows (id_in (rowid node)) number rows) cards =
+      subst (λ k. AreFirst at_most changed_number_place (lists.changed_rows k number rows) cards) id
+      (subst (λ (d : Database). AreFirst at_most changed_number_place (lists.changed_rows f.id number (rows_of d.trees)) cards) e1 (shows_cards.1 b1)) in
+      let in_names : AreFirst at_most removed_number_place (lists.gone_after (id_in (rowid node)) number rows) names =
+      subst (λ k. AreFirst at_most removed_number_place (lists.gone_after k number rows) names) id
+      (subst (λ (d : Database). AreFirst at_most removed_number_place (lists.gone_after f.id number (rows_of d.trees)) names) e2 (shows_names.1 b2)) in
       let are_cards : AreCardsOf (rows_of third.now.trees) f.id cards =
-      subst (λ (d : Database). AreCardsOf (rows_of d.trees) f.id cards) (sym e3) (subst (λ k. AreCardsOf rows k cards) (sym id) (cards_found rows (id_in (rowid node)) number cards in_cards)) in
+      subst (λ (d : Database). AreCardsOf (rows_of d.trees) f.id cards) (sym e3) (subst (λ k. AreCardsOf rows k cards) (sym id) (cards_found rows (id_in (rowid node)) number at_most cards in_cards)) in
       let all : changes ≡ map (card_shown rows (path ++ codes "/")) cards ++ map removed_shown names =
       changes_are ∙ ap (λ l. l ++ map removed_shown names) (are_shown b3 are_cards ∙ ap (λ (d : Database). map (card_shown (rows_of d.trees) front) cards) e3 ∙ ap (λ t. map (card_shown rows t) cards) front_is) in
-      subst (IsPermutation (changes_of rows (path ++ codes "/") number node)) (sym all)
-      (IsPermutation-append _ _ _ _ (IsPermutation-map (card_shown rows (path ++ codes "/")) _ _ in_cards) (IsPermutation-map removed_shown _ _ in_names))
+      record {
+        cards = cards;
+        names = names;
+        first_cards = in_cards;
+        first_names = in_names;
+        same = subst (IsPermutation (map (card_shown rows (path ++ codes "/")) cards ++ map removed_shown names)) (sym all) (IsPermutation-refl _);
+      }
 
-  pub all_changed : ShowsChanges old path number changes
+  pub all_changed : ShowsChanges old path number at_most changes
   all_changed = (finds.0, λ book. at_node book (row_at (rows_of old.now.trees) path) refl)
 
+pub nothing : (changes : List Changed) → IsPermutation [] changes → changes ≡ []
+nothing [] same = refl
+nothing (c ∷ changes) same = absurd (omega (arith, length_permutation [] (c ∷ changes) same))
+
 -- the order in which changes are shown is free
-pub in_any_order : (s : State) (path : List ℕ) (number : ℕ) (changes ordered : List Changed) → ShowsChanges s path number changes → IsPermutation changes ordered → ShowsChanges s path number ordered
-in_any_order s path number changes ordered shows same = (shows.0, λ book. IsPermutation-trans _ _ _ (shows.1 book) same)
+pub in_any_order : (s : State) (path : List ℕ) (number : ℕ) (at_most : Option ℕ) (changes ordered : List Changed) → ShowsChanges s path number at_most changes → IsPermutation changes ordered → ShowsChanges s path number at_most ordered
+in_any_order s path number at_most changes ordered shows same = (shows.0, λ book. go (row_at (rows_of s.now.trees) path) (shows.1 book))
+  where
+    go : (r : Option Row) → AreChangesAt (rows_of s.now.trees) path number at_most changes r → AreChangesAt (rows_of s.now.trees) path number at_most ordered r
+    go None none = nothing ordered (subst (λ l. IsPermutation l ordered) none same)
+    go (Some node) are = record { cards = are.cards; names = are.names; first_cards = are.first_cards; first_names = are.first_names; same = IsPermutation-trans _ _ _ are.same same }
 
 -- ---- children
 

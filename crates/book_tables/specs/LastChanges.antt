@@ -1,5 +1,5 @@
 -- The last changes of a book, as rows tell them.
-use Rattle.std.specs.Prelude.{◌≡◌, ℕ, ℤ, Bool, ◌<◌, true, false, List, [], ◌++◌, map, drop, length, codes, Some, None, option_map, unwrap_or, IsTrue, IsPermutation}
+use Rattle.std.specs.Prelude.{◌≡◌, ℕ, ℤ, Bool, ◌<◌, true, false, List, [], ◌++◌, map, drop, length, codes, Option, Some, None, unwrap_or, IsTrue, IsPermutation}
 use Rattle.std.specs.List.{AllByRecursion}
 use Rattle.sqlite.specs.declared.types.Value.TheVariants.{Int}
 use Rattle.sqlite.specs.Edit.{id_in}
@@ -11,7 +11,7 @@ use Rattle.sqlite_trees.specs.Tree.{IsAscending}
 use Rattle.book_lists.specs.declared.entries.Entry.{Entry}
 use Rattle.book_office.specs.declared.nodes.Changed.{Changed}
 use Rattle.book_tables_rows.specs.Lists as lists
-use Rattle.book_tables_rows.specs.Lists.{changed_id, changed_label, changed_number, changed_owner, changed_path, changed_text, removed_name, removed_number}
+use Rattle.book_tables_rows.specs.Lists.{AreFirst, changed_id, changed_label, changed_number, changed_number_place, changed_owner, changed_path, changed_text, removed_name, removed_number, removed_number_place}
 use Rattle.book_tables_rows.specs.Nodes.{number_in, text_in}
 use Rattle.book_tables_rows.specs.Rows.{Rows, rows_of, IsBook}
 use Rattle.book_tables_rows.specs.Writes.{is_under}
@@ -36,15 +36,6 @@ card_shown rows front row = changed_shown front (own_shown rows row) row
 abbrev pub removed_shown : Row → Changed
 removed_shown row = record { number = number_in (removed_number row); name = unwrap_or (text_in (removed_name row)) []; card = None }
 
--- the changes above a number of the book whose row this is
-abbrev pub changes_of : Rows → List ℕ → ℕ → Row → List Changed
-changes_of rows front number book =
-    map (card_shown rows front) (lists.changed_rows (id_in (rowid book)) number rows) ++ map removed_shown (lists.gone_after (id_in (rowid book)) number rows)
-
--- those of the book at a path; none where no row has it
-abbrev pub changes_told : Rows → List ℕ → ℕ → List Changed
-changes_told rows path number = unwrap_or (option_map (changes_of rows (path ++ codes "/") number) (row_at rows path)) []
-
 -- an open connection shows the protected or the own list of the node with a number
 abbrev pub ShowsEntries : State → ℤ → Bool → List Entry → Type 0
 ShowsEntries s id protected list = IsTrue s.is_open × (IsBook s.now → list ≡ list_in (rows_of s.now.trees).entries (Int id) protected)
@@ -61,9 +52,23 @@ AreCardsOf rows book = AllByRecursion (λ shown. (card : Row) × Has rows.nodes 
 abbrev pub ShowsCards : State → ℤ → List ℕ → List Row → List Changed → Type 0
 ShowsCards s book front rows changes = IsBook s.now → AreCardsOf (rows_of s.now.trees) book rows → changes ≡ map (card_shown (rows_of s.now.trees) front) rows
 
--- an open connection shows the changes of a book above a number, in some order
-abbrev pub ShowsChanges : State → List ℕ → ℕ → List Changed → Type 0
-ShowsChanges s path number changes = IsTrue s.is_open × (IsBook s.now → IsPermutation (changes_told (rows_of s.now.trees) path number) changes)
+-- the changes of the book whose row this is, from the first so many of its cards and the first so many of its removed names
+-- above a number, in some order
+pub record AreChangesOf (rows : Rows) (front : List ℕ) (number : ℕ) (at_most : Option ℕ) (book : Row) (changes : List Changed) : Type 0 where
+  pub cards : List Row
+  pub names : List Row
+  pub first_cards : AreFirst at_most changed_number_place (lists.changed_rows (id_in (rowid book)) number rows) cards
+  pub first_names : AreFirst at_most removed_number_place (lists.gone_after (id_in (rowid book)) number rows) names
+  pub same : IsPermutation (map (card_shown rows front) cards ++ map removed_shown names) changes
+
+-- those of the book at a path; none where no row has it
+abbrev pub AreChangesAt : Rows → List ℕ → ℕ → Option ℕ → List Changed → Option Row → Type 0
+AreChangesAt rows path number at_most changes None = changes ≡ []
+AreChangesAt rows path number at_most changes (Some book) = AreChangesOf rows (path ++ codes "/") number at_most book changes
+
+-- an open connection shows those changes
+abbrev pub ShowsChanges : State → List ℕ → ℕ → Option ℕ → List Changed → Type 0
+ShowsChanges s path number at_most changes = IsTrue s.is_open × (IsBook s.now → AreChangesAt (rows_of s.now.trees) path number at_most changes (row_at (rows_of s.now.trees) path))
 
 -- each change has a number below those of the changes after it
 abbrev pub DoRise : List Changed → Type 0

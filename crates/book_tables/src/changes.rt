@@ -5,7 +5,7 @@ ghost use Rattle.book_limits.specs.declared.TheConstants.{LAST_NUMBER};
 ghost use Rattle.sqlite.specs.Held.{state};
 ghost use Rattle.sqlite.specs.State.{HasCleanDisk, Survives};
 ghost use Rattle.book_office.specs.Keeping.{Reads};
-ghost use Rattle.book_office.specs.Resources.{changed_after};
+ghost use Rattle.book_office.specs.Resources.{changed_after, first_of};
 ghost use Rattle.book_tables_rows.specs.Rows.{rows_of, IsBook};
 ghost use Rattle.book_tables_rows.specs.Steps.{Keeps, Spares, Stays};
 ghost use Rattle.book_tables.specs.Keeps.{standing_of};
@@ -192,13 +192,15 @@ fn many_cards<S: Alter>(
     cards_joined(alloc, front, rows, &entries)
 }
 
-/// The changes of cards of the book with a number: the lists of few are looked up one by one, those of many at once.
+/// The changes of cards of the book with a number: the lists of few are looked up one by one, those of many at once; but
+/// one by one where a most is given, since such a report is not to cost what stands in the book.
 fn cards_of<S: Alter>(
     alloc: Global,
     transaction: &mut Transaction<'_, S>,
     book: i64,
     front: &str,
     rows: &[Row],
+    at_most: Option<u32>,
 ) -> Result<Vec<Changed>, Error>
     ensures same_reference { transaction.new.conn.ghost_name ≡ transaction.old.conn.ghost_name }
     ensures survives { Survives (state S.Store transaction.old.conn.now) (state S.Store transaction.new.conn.now)
@@ -208,7 +210,7 @@ fn cards_of<S: Alter>(
     ensures shown { HasCleanDisk (state S.Store transaction.new.conn.now)
         → IfOk result (λ changes. ShowsCards (state S.Store transaction.old.conn.now) book front.now rows.now changes.items) }
 {
-    let are_many = rows.len() > FEW_CARDS;
+    let are_many = rows.len() > FEW_CARDS && at_most.is_none();
     if are_many {
         many_cards(alloc, transaction, book, front, rows)
     } else {
@@ -226,12 +228,14 @@ fn push_removed(alloc: Global, changes: &mut Vec<Changed>, rows: &[Row]) -> Resu
     Ok(())
 }
 
-/// The last changes of the book at a path above a number, in some order; none where no row has the path.
+/// The last changes of the book at a path above a number, in some order; none where no row has the path. Where a most is
+/// given, these are the first so many of cards and the first so many of removed names.
 fn changes_at<S: Alter>(
     alloc: Global,
     transaction: &mut Transaction<'_, S>,
     path: &str,
     number: u64,
+    at_most: Option<u32>,
 ) -> Result<Vec<Changed>, Error>
     requires { number < 2 ^ 53 }
     ensures same_reference { transaction.new.conn.ghost_name ≡ transaction.old.conn.ghost_name }
@@ -240,15 +244,15 @@ fn changes_at<S: Alter>(
     ensures kept { Keeps (state S.Store transaction.old.conn.now) (state S.Store transaction.new.conn.now) }
     ensures stays { Spares (state S.Store transaction.old.conn.now) (state S.Store transaction.new.conn.now) result }
     ensures shown { HasCleanDisk (state S.Store transaction.new.conn.now)
-        → IfOk result (λ changes. ShowsChanges (state S.Store transaction.old.conn.now) path.now number changes.items) }
+        → IfOk result (λ changes. ShowsChanges (state S.Store transaction.old.conn.now) path.now number at_most changes.items) }
 {
     let Some(book) = look_up(transaction, path)? else {
         return Ok(Vec::new(alloc));
     };
     let front = format!(in alloc; "{path}/")?;
-    let cards = changed_rows(transaction, book.id, number)?;
-    let names = gone_rows(transaction, book.id, number)?;
-    let mut changes = cards_of(alloc, transaction, book.id, front.as_str(), &cards)?;
+    let cards = changed_rows(transaction, book.id, number, at_most)?;
+    let names = gone_rows(transaction, book.id, number, at_most)?;
+    let mut changes = cards_of(alloc, transaction, book.id, front.as_str(), &cards, at_most)?;
     push_removed(alloc, &mut changes, &names)?;
     Ok(changes)
 }
@@ -259,19 +263,20 @@ fn rows_changed<S: Alter>(
     connection: &mut Connection<S>,
     path: &str,
     number: u64,
+    at_most: Option<u32>,
 ) -> Result<Vec<Changed>, Error>
     requires { number < 2 ^ 53 }
     ensures stays { HasCleanDisk (state S.Store connection.new)
         → Stays (state S.Store connection.old) (state S.Store connection.new) }
     ensures survives { Survives (state S.Store connection.old) (state S.Store connection.new) (λ _. ⊥) }
     ensures found { HasCleanDisk (state S.Store connection.new)
-        → IfOk result (λ changes. ShowsChanges (state S.Store connection.old) path.now number changes.items) }
+        → IfOk result (λ changes. ShowsChanges (state S.Store connection.old) path.now number at_most changes.items) }
 {
     if !connection.is_autocommit() {
         return Err(Error::SqliteFailure(ErrorCode::TransactionState));
     }
     let mut transaction = connection.transaction();
-    changes_at(alloc, &mut transaction, path, number)
+    changes_at(alloc, &mut transaction, path, number, at_most)
 }
 
 /// The changes in order of their numbers; an error where two have one number.
@@ -287,22 +292,34 @@ fn in_order(changes: Vec<Changed>) -> Result<Items<Changed>, Error>
     Ok(Items::from_vec(ordered))
 }
 
-/// The last changes of the book at a path above a number, in order of number; none where no row has the path.
+/// The first so many changes; all of them where no most is given.
+fn first_of(changes: Items<Changed>, at_most: Option<u32>) -> Items<Changed>
+    ensures { result ≡ first_of at_most changes }
+{
+    let mut first = changes.into_vec();
+    if let Some(most) = at_most {
+        first.truncate(most as usize);
+    }
+    Items::from_vec(first)
+}
+
+/// The changes of `changes_at`, in order of number.
 fn shown_changes<S: Alter>(
     alloc: Global,
     connection: &mut Connection<S>,
     path: &str,
     number: u64,
+    at_most: Option<u32>,
 ) -> Result<Items<Changed>, Error>
     requires { number < 2 ^ 53 }
     ensures stays { HasCleanDisk (state S.Store connection.new)
         → Stays (state S.Store connection.old) (state S.Store connection.new) }
     ensures survives { Survives (state S.Store connection.old) (state S.Store connection.new) (λ _. ⊥) }
     ensures found { HasCleanDisk (state S.Store connection.new)
-        → IfOk result (λ changes. ShowsChanges (state S.Store connection.old) path.now number changes) }
+        → IfOk result (λ changes. ShowsChanges (state S.Store connection.old) path.now number at_most changes) }
     ensures rise { IfOk result (λ changes. DoRise changes) }
 {
-    let changes = rows_changed(alloc, connection, path, number)?;
+    let changes = rows_changed(alloc, connection, path, number, at_most)?;
     in_order(changes)
 }
 
@@ -317,21 +334,25 @@ impl<S: Alter> Tables<S> {
     /// The last changes of a book above a number, in order of number, each with the card that has the name; none where
     /// there is no such book. The own lists of few cards are looked up one by one, those of many at once. `Memory` is
     /// want of memory, `Store` any other failure of the store.
+    ///
+    /// Where a most is given, these are the first so many changes. It reads up to so many cards and so many removed names
+    /// in order of their numbers, and the own list of each such card, whatever else stands in the book.
     pub fn changes_after(
         &mut self,
         alloc: Global,
         book: &Name,
         number: u64,
+        at_most: Option<u32>,
     ) -> Result<Items<Changed>, StoreFault>
         ensures { Reads (standing_of (state S.Store self.old.connection) self.old.failures)
             (standing_of (state S.Store self.new.connection) self.new.failures) result
-            (λ o changes. changes ≡ changed_after o book.now number) }
+            (λ o changes. changes ≡ first_of at_most (changed_after o book.now number)) }
     {
         book.known();
         let path = book_text(alloc, book)?;
         let after = up_to_last(number);
-        match shown_changes(alloc, &mut self.connection, path.as_str(), after) {
-            Ok(changes) => Ok(changes),
+        match shown_changes(alloc, &mut self.connection, path.as_str(), after, at_most) {
+            Ok(changes) => Ok(first_of(changes, at_most)),
             Err(error) => Err(fault_of(error, &mut self.failures)),
         }
     }

@@ -40,8 +40,9 @@ impl<S: Alter> Keeper for Tables<S> {
         alloc: Global,
         book: &Name,
         number: u64,
+        at_most: Option<u32>,
     ) -> Result<Items<Changed>, StoreFault> {
-        Tables::changes_after(self, alloc, book, number)
+        Tables::changes_after(self, alloc, book, number, at_most)
     }
 
     fn pairs(&mut self, alloc: Global) -> Result<Pairs, StoreFault> {

@@ -519,7 +519,7 @@ abbrev pub changed_columns : List Term
 changed_columns = col 1 0 ∷ col 1 2 ∷ col 1 5 ∷ col 1 6 ∷ col 1 7 ∷ col 1 8 ∷ []
 
 pub list_changed_is : command_of (understood book_schema text.list_changed)
-    ≡ Select (record { lets = []; body = record plain_query { filter = equals 3 0 ∷ above 8 1 ∷ []; project = changed_columns } })
+    ≡ Select (record { lets = []; body = record plain_query { filter = equals 3 0 ∷ above 8 1 ∷ []; project = changed_columns; order = (col 1 8, ascending Binary) ∷ []; limit = col 0 2 } })
     (codes "id" ∷ codes "path" ∷ codes "owner" ∷ codes "label" ∷ codes "text" ∷ codes "number" ∷ [])
 unfolding understood everything
 list_changed_is = refl
@@ -533,7 +533,7 @@ unfolding understood everything
 list_changed_unlisted = refl
 
 pub list_gone_is : command_of (understood book_schema text.list_gone)
-    ≡ Select (record { lets = []; body = record plain_query { from = inner 6 end; filter = equals 1 0 ∷ above 3 1 ∷ []; project = col 1 2 ∷ col 1 3 ∷ [] } })
+    ≡ Select (record { lets = []; body = record plain_query { from = inner 6 end; filter = equals 1 0 ∷ above 3 1 ∷ []; project = col 1 2 ∷ col 1 3 ∷ []; order = (col 1 3, ascending Binary) ∷ []; limit = col 0 2 } })
     (codes "name" ∷ codes "number" ∷ [])
 unfolding understood everything
 list_gone_is = refl

@@ -1,17 +1,19 @@
 -- What the reads of several rows show.
 use Rattle.book_tables_rows.proofs.Common.{and-true, ◌≡◌, ℕ, ℤ, pos, Bool, true, false, ◌&&◌, cond, List, [], ◌∷◌, map, filter, refl, sym, ap, subst, ◌∙◌, true≢false, is_eq, inl, AllByRecursion, Null, Int, Binary, IsDatabase, understood, is_null, Row, overlay, Term, col, Trees, rowid, State, Shown, IsPlain, command_of, reads_as, plain, first_key-plain, IsAscending, NotNull, equal, agree, are_present, keys_are_unique, and_parts, gone_book_place, node_label, node_number, node_owner, node_path, node_text, book_schema, node_table, has, IsBook, is_under}
-use Rattle.std.proofs.Common.{IsPermutation}
+use Rattle.std.proofs.Common.{IsPermutation, Option}
+use Rattle.sqlite.specs.Order.{column}
+use Rattle.sqlite.specs.declared.types.Value.{Value}
 use Rattle.sqlite.specs.Command.TheVariants.{Select}
 use Rattle.sqlite.specs.Listing.{reads_listing}
 use Rattle.book_tables_rows.specs.Columns.{gone_name, gone_number, gone_number_place, member_group, member_member, node_number_place}
 use Rattle.book_tables_rows.specs.Schema.{node_columns}
 use Rattle.book_tables_rows.specs.Texts as text
-use Rattle.book_tables_rows.specs.Lists.{ShowsRows, ShowsChildren, is_above, pairs_of, gone_after, changed_rows, by_path}
+use Rattle.book_tables_rows.specs.Lists.{AreFirst, ShowsRows, ShowsFirst, ShowsChildren, changed_number_place, removed_number_place, is_above, limit_of, pairs_of, gone_after, changed_rows, by_path}
 use Rattle.book_tables_rows.proofs.Keeping.{shown_open}
 use Rattle.book_tables_rows.proofs.Meanings.{equals, above, changed_columns, children_columns, list_changed_is, list_changed_plain, list_changed_unlisted, list_gone_is, list_gone_plain, list_gone_unlisted, read_members_is, read_members_plain, read_members_unlisted, list_children_is, list_children_plain, list_children_unlisted}
 use Rattle.book_tables_rows.proofs.Statements.{passes, shown_by, simple, answers}
 use Rattle.book_tables_rows.proofs.Entries.{all_distinct, equal_tied, tied}
-use Rattle.book_tables_rows.proofs.Ordering.{answers_in_order}
+use Rattle.book_tables_rows.proofs.Ordering.{answers_in_order, answers_first, count_is, first_ordered}
 
 -- a query of one table, with no order, shows the rows that pass
 module _ (sql : List ℕ) (names : List (List ℕ)) (tree : ℕ) (terms project : List Term) (is : command_of (understood book_schema sql) ≡ Select (record { lets = []; body = simple tree terms project }) names)
@@ -23,19 +25,39 @@ module _ (sql : List ℕ) (names : List (List ℕ)) (tree : ℕ) (terms project 
       let read = (reads_as sql params old new book_schema book.schema _ is plain unlisted rows h).answer Null in
       subst (λ xs. IsPermutation xs rows) (ap (λ xs. map (shown_by params project) (filter (passes params terms) xs)) (own db) ∙ (λ i. map (λ r. shows r i) (filter (λ r. tests r i) (db tree)))) (answers tree terms project (overlay db []) params rows read)
 
-pub shows_changed : (old new : State) (id : ℤ) (number : ℕ) (rows : List Row) → Shown text.list_changed (Int id ∷ Int (pos number) ∷ []) old new rows → ShowsRows old (changed_rows id number) rows
-shows_changed old new id number rows h = (
+-- a query of one table in the order of a column, with a limit, shows the first of the rows that pass
+module _ (sql : List ℕ) (names : List (List ℕ)) (tree : ℕ) (terms project : List Term) (place shown_place : ℕ)
+    (is : command_of (understood book_schema sql) ≡ Select (record { lets = []; body = first_ordered tree terms project place 2 }) names)
+    (plain : IsPlain (understood book_schema sql)) (unlisted : reads_listing book_schema sql ≡ false) (a b : Value) (most : Option ℕ) (p : Row → Bool) (shown : Row → Row)
+    (own : (db : Trees) → overlay db [] tree ≡ db tree) where
+  abbrev given : Row
+  given = a ∷ b ∷ Int (limit_of most) ∷ []
+
+  picks_first : ((r : Row) → passes given terms r ≡ p r) → ((r : Row) → shown_by given project r ≡ shown r) → ((r : Row) → column (shown_by given project r) shown_place ≡ column r place)
+      → (old new : State) (rows : List Row) → Shown sql given old new rows → IsBook old.now → AreFirst most shown_place (map shown (filter p (old.now.trees tree))) rows
+  picks_first tests shows tells old new rows h book =
+      let db = old.now.trees in
+      let read = (reads_as sql given old new book_schema book.schema _ is plain unlisted rows h).answer Null in
+      subst (λ xs. AreFirst most shown_place xs rows)
+      (ap (λ xs. map (shown_by given project) (filter (passes given terms) xs)) (own db) ∙ (λ i. map (λ r. shows r i) (filter (λ r. tests r i) (db tree))))
+      (answers_first tree terms project place shown_place 2 (overlay db []) given tells most (count_is most) rows read)
+
+pub shows_changed : (old new : State) (id : ℤ) (number : ℕ) (most : Option ℕ) (rows : List Row) → Shown text.list_changed (Int id ∷ Int (pos number) ∷ Int (limit_of most) ∷ []) old new rows
+    → ShowsFirst old most changed_number_place (changed_rows id number) rows
+shows_changed old new id number most rows h = (
   shown_open text.list_changed _ old new rows h,
-  λ book. picks text.list_changed _ 0 (equals 3 0 ∷ above 8 1 ∷ []) changed_columns list_changed_is list_changed_plain list_changed_unlisted (Int id ∷ Int (pos number) ∷ [])
+  λ book. picks_first text.list_changed _ 0 (equals 3 0 ∷ above 8 1 ∷ []) changed_columns 8 changed_number_place list_changed_is list_changed_plain list_changed_unlisted (Int id) (Int (pos number)) most
       (λ row. is_under (Int id) row && is_above node_number_place number row) (λ row. rowid row ∷ node_path row ∷ node_owner row ∷ node_label row ∷ node_text row ∷ node_number row ∷ [])
-      (λ db. refl) (λ r. ap (λ b. is_under (Int id) r && b) (and-true (is_above node_number_place number r))) (λ r. refl) old new rows h book,
+      (λ db. refl) (λ r. ap (λ b. is_under (Int id) r && b) (and-true (is_above node_number_place number r))) (λ r. refl) (λ r. refl) old new rows h book,
 )
 
-pub shows_gone : (old new : State) (id : ℤ) (number : ℕ) (rows : List Row) → Shown text.list_gone (Int id ∷ Int (pos number) ∷ []) old new rows → ShowsRows old (gone_after id number) rows
-shows_gone old new id number rows h = (
+pub shows_gone : (old new : State) (id : ℤ) (number : ℕ) (most : Option ℕ) (rows : List Row) → Shown text.list_gone (Int id ∷ Int (pos number) ∷ Int (limit_of most) ∷ []) old new rows
+    → ShowsFirst old most removed_number_place (gone_after id number) rows
+shows_gone old new id number most rows h = (
   shown_open text.list_gone _ old new rows h,
-  λ book. picks text.list_gone _ 6 (equals 1 0 ∷ above 3 1 ∷ []) (col 1 2 ∷ col 1 3 ∷ []) list_gone_is list_gone_plain list_gone_unlisted (Int id ∷ Int (pos number) ∷ [])
-      (λ row. has gone_book_place (Int id) row && is_above gone_number_place number row) (λ row. gone_name row ∷ gone_number row ∷ []) (λ db. refl) (λ r. ap (λ b. has gone_book_place (Int id) r && b) (and-true (is_above gone_number_place number r))) (λ r. refl) old new rows h book,
+  λ book. picks_first text.list_gone _ 6 (equals 1 0 ∷ above 3 1 ∷ []) (col 1 2 ∷ col 1 3 ∷ []) 3 removed_number_place list_gone_is list_gone_plain list_gone_unlisted (Int id) (Int (pos number)) most
+      (λ row. has gone_book_place (Int id) row && is_above gone_number_place number row) (λ row. gone_name row ∷ gone_number row ∷ []) (λ db. refl)
+      (λ r. ap (λ b. has gone_book_place (Int id) r && b) (and-true (is_above gone_number_place number r))) (λ r. refl) (λ r. refl) old new rows h book,
 )
 
 pub all_pass : (rows : List Row) → filter (λ r. true) rows ≡ rows

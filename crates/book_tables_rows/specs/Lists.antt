@@ -1,12 +1,14 @@
 -- What a look-up of a list shows.
-use Rattle.std.specs.Prelude.{◌≡◌, ℕ, ℤ, pos, Bool, true, false, ◌&&◌, List, [], ◌∷◌, map, filter, find, length, min, slice_get, option_map, unwrap_or, IsTrue, IsPermutation}
-use Rattle.std.specs.Ordering.{ordering_then}
+use Rattle.std.specs.Prelude.{◌≡◌, ℕ, ℤ, pos, negsuc, Bool, true, false, ◌&&◌, List, [], ◌∷◌, map, filter, find, length, min, slice_get, Option, Some, None, option_map, unwrap_or, IsTrue, IsPermutation}
+use Rattle.std.specs.Ordering.{ordering_then, is_gt}
 use Rattle.std.specs.declared.cmp.Ordering.{Ordering}
 use Rattle.sqlite.specs.Collation.TheVariants.{Binary}
 use Rattle.sqlite.specs.Ops.{binary, is_true}
 use Rattle.sqlite_sql.specs.declared.ops.BinaryOp.TheVariants.{Compare}
 use Rattle.sqlite_sql.specs.declared.ops.CompareOp.TheVariants.{Gt}
+use Rattle.sqlite.specs.Query.{limited}
 use Rattle.sqlite_keyed.specs.Lists.{sort_by}
+use Rattle.sqlite_trees.specs.Tree.{IsAscending}
 use Rattle.sqlite.specs.declared.types.Value.{Value}
 use Rattle.sqlite.specs.declared.types.Value.TheVariants.{Int}
 use Rattle.sqlite.specs.Order.{Row, column, value_cmp}
@@ -48,6 +50,22 @@ ShowsList s id protected rows = IsTrue s.is_open × (IsBook s.now → rows ≡ m
 abbrev pub ShowsRows : State → (Rows → List Row) → List Row → Type 0
 ShowsRows s picked shown = IsTrue s.is_open × (IsBook s.now → IsPermutation (picked (rows_of s.now.trees)) shown)
 
+-- what LIMIT is given for the first so many rows: less than 0, and so no limit, where no number is given
+abbrev pub limit_of : Option ℕ → ℤ
+limit_of None = negsuc 0
+limit_of (Some most) = pos most
+
+-- the first so many of some rows in order of the values of a column; all of them where no number is given
+pub record AreFirst (at_most : Option ℕ) (place : ℕ) (all shown : List Row) : Type 0 where
+  pub ordered : List Row
+  pub same : IsPermutation all ordered
+  pub in_order : IsAscending (λ a b. is_gt (value_cmp (column a place) (column b place)) ≡ false) ordered
+  pub first : shown ≡ limited at_most ordered
+
+-- an open connection shows the first so many of these rows
+abbrev pub ShowsFirst : State → Option ℕ → ℕ → (Rows → List Row) → List Row → Type 0
+ShowsFirst s at_most place picked shown = IsTrue s.is_open × (IsBook s.now → AreFirst at_most place (picked (rows_of s.now.trees)) shown)
+
 -- a row's number in a column is above another, as SQL compares values
 abbrev pub is_above : ℕ → ℕ → Row → Bool
 is_above place number row = is_true (binary (Compare Gt Binary) (column row place) (Int (pos number)))
@@ -75,8 +93,11 @@ gone_after book number rows = map (λ row. gone_name row ∷ gone_number row ∷
 abbrev pub removed_name : Row → Value
 removed_name removed = column removed 0
 
+abbrev pub removed_number_place : ℕ
+removed_number_place = 1
+
 abbrev pub removed_number : Row → Value
-removed_number removed = column removed 1
+removed_number removed = column removed removed_number_place
 
 -- number of the row, path, owner, label, text and change number of the children of a node whose change numbers are above another
 abbrev pub changed_rows : ℤ → ℕ → Rows → List Row
@@ -98,8 +119,11 @@ changed_label changed = column changed 3
 abbrev pub changed_text : Row → Value
 changed_text changed = column changed 4
 
+abbrev pub changed_number_place : ℕ
+changed_number_place = 5
+
 abbrev pub changed_number : Row → Value
-changed_number changed = column changed 5
+changed_number changed = column changed changed_number_place
 
 abbrev pub by_path : Row → Row → Ordering
 by_path a b = value_cmp (node_path a) (node_path b)

@@ -120,10 +120,10 @@ abbrev pub move_node : List ℕ
 move_node = codes "UPDATE node SET path = ?2, parent = ?3, number = ?4 WHERE path = ?1"
 
 abbrev pub list_changed : List ℕ
-list_changed = codes "SELECT id, path, owner, label, text, number FROM node WHERE parent = ?1 AND number > ?2"
+list_changed = codes "SELECT id, path, owner, label, text, number FROM node WHERE parent = ?1 AND number > ?2 ORDER BY number LIMIT ?3"
 
 abbrev pub list_gone : List ℕ
-list_gone = codes "SELECT name, number FROM gone WHERE book = ?1 AND number > ?2"
+list_gone = codes "SELECT name, number FROM gone WHERE book = ?1 AND number > ?2 ORDER BY number LIMIT ?3"
 
 -- how many children the node at a path has
 abbrev pub count_children : List ℕ

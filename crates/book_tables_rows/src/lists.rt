@@ -3,7 +3,7 @@
 ghost use Rattle.std.specs.Prelude.{◌≡◌, ◌<◌, ◌^◌, IfOk};
 ghost use Rattle.sqlite.specs.Held.{state};
 ghost use Rattle.sqlite.specs.State.{HasCleanDisk, Survives};
-ghost use Rattle.book_tables_rows.specs.Lists.{ShowsList, ShowsRows, ShowsChildren, ShowsChildEntries, ShowsEntriesAt, pairs_of, gone_after, changed_rows};
+ghost use Rattle.book_tables_rows.specs.Lists.{ShowsList, ShowsRows, ShowsChildren, ShowsChildEntries, ShowsEntriesAt, ShowsFirst, changed_number_place, removed_number_place, pairs_of, gone_after, changed_rows, limit_of};
 ghost use Rattle.book_tables_rows.specs.Steps.{Keeps, Spares};
 
 use sqlite::{Alter, Error, Row, Transaction, params};
@@ -91,12 +91,24 @@ pub fn child_entry_rows<S: Alter>(
     )
 }
 
-/// The children of the node with a number that have a change number above another, in some order: number of the row,
-/// path, owner, label, text and change number of each.
+/// What `LIMIT` says for the first so many rows: less than 0 where no most is given, and all rows are wanted.
+fn limit_of(at_most: Option<u32>) -> i64
+    ensures { result ≡ limit_of at_most }
+{
+    match at_most {
+        Some(most) => most as i64,
+        None => -1,
+    }
+}
+
+/// The children of the node with a number that have a change number above another, in order of change number, and the
+/// first so many of them where a most is given: number of the row, path, owner, label, text and change number of each.
+/// An index has them in this order, so the look-up ends with the last one that is answered.
 pub fn changed_rows<S: Alter>(
     transaction: &mut Transaction<'_, S>,
     node: i64,
     number: u64,
+    at_most: Option<u32>,
 ) -> Result<Vec<Row>, Error>
     requires { number < 2 ^ 53 }
     ensures same_reference { transaction.new.conn.ghost_name ≡ transaction.old.conn.ghost_name }
@@ -105,21 +117,22 @@ pub fn changed_rows<S: Alter>(
     ensures kept { Keeps (state S.Store transaction.old.conn.now) (state S.Store transaction.new.conn.now) }
     ensures stays { Spares (state S.Store transaction.old.conn.now) (state S.Store transaction.new.conn.now) result }
     ensures shown { HasCleanDisk (state S.Store transaction.new.conn.now)
-        → IfOk result (λ rows. ShowsRows (state S.Store transaction.old.conn.now) (changed_rows node number)
-        rows.items) }
+        → IfOk result (λ rows. ShowsFirst (state S.Store transaction.old.conn.now) at_most changed_number_place
+        (changed_rows node number) rows.items) }
 {
     transaction.query_all(
-        "SELECT id, path, owner, label, text, number FROM node WHERE parent = ?1 AND number > ?2",
-        params![node, number as i64],
+        "SELECT id, path, owner, label, text, number FROM node WHERE parent = ?1 AND number > ?2 ORDER BY number LIMIT ?3",
+        params![node, number as i64, limit_of(at_most)],
     )
 }
 
-/// The removed names of the book with a number that have a change number above another, in some order: name and
-/// change number of each.
+/// The removed names of the book with a number that have a change number above another, in order of change number, and
+/// the first so many of them where a most is given: name and change number of each. An index has them in this order.
 pub fn gone_rows<S: Alter>(
     transaction: &mut Transaction<'_, S>,
     book: i64,
     number: u64,
+    at_most: Option<u32>,
 ) -> Result<Vec<Row>, Error>
     requires { number < 2 ^ 53 }
     ensures same_reference { transaction.new.conn.ghost_name ≡ transaction.old.conn.ghost_name }
@@ -128,11 +141,12 @@ pub fn gone_rows<S: Alter>(
     ensures kept { Keeps (state S.Store transaction.old.conn.now) (state S.Store transaction.new.conn.now) }
     ensures stays { Spares (state S.Store transaction.old.conn.now) (state S.Store transaction.new.conn.now) result }
     ensures shown { HasCleanDisk (state S.Store transaction.new.conn.now)
-        → IfOk result (λ rows. ShowsRows (state S.Store transaction.old.conn.now) (gone_after book number) rows.items) }
+        → IfOk result (λ rows. ShowsFirst (state S.Store transaction.old.conn.now) at_most removed_number_place
+        (gone_after book number) rows.items) }
 {
     transaction.query_all(
-        "SELECT name, number FROM gone WHERE book = ?1 AND number > ?2",
-        params![book, number as i64],
+        "SELECT name, number FROM gone WHERE book = ?1 AND number > ?2 ORDER BY number LIMIT ?3",
+        params![book, number as i64, limit_of(at_most)],
     )
 }
 

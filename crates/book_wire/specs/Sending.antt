@@ -1,5 +1,5 @@
 -- What of a reply is made before it is written.
-use Rattle.std.specs.Prelude.{◌≡◌, ◌≢◌, ◌⊎◌, ℕ, List, [], ◌++◌, codes, Option, Some, None, String, string_bytes}
+use Rattle.std.specs.Prelude.{◌≡◌, ◌≢◌, ◌⊎◌, ℕ, List, [], ◌++◌, codes, Option, Some, None, Vec}
 use Rattle.std.specs.declared.alloc.Global.{Global}
 use Rattle.book_machine.specs.AllowedMethods.{allowed_text}
 use Rattle.book_machine.specs.Refusals.{refused}
@@ -14,22 +14,22 @@ abbrev pub allowed_line : Option AllowedMethods → List ℕ
 allowed_line None = []
 allowed_line (Some methods) = codes "Allow: " ++ (allowed_text methods ++ codes "\r\n")
 
--- the text of a body was made
-abbrev pub IsText : List ℕ → Option (String Global) → Type 0
-IsText bytes (Some text) = string_bytes text ≡ bytes
+-- the bytes of a body were made
+abbrev pub IsText : List ℕ → Option (Vec ℕ Global) → Type 0
+IsText bytes (Some made) = made.items ≡ bytes
 IsText bytes None = ⊥
 
--- the text of a body that is no text in the reply already was made
-abbrev pub IsMade : Content → Option (String Global) → Type 0
-IsMade content.Empty text = Unit {0}
-IsMade (content.Card card) text = Unit {0}
-IsMade (content.Allow methods) text = Unit {0}
-IsMade (content.Listing responses) text = IsText (body_bytes (content.Listing responses)) text
-IsMade (content.Synced report) text = IsText (body_bytes (content.Synced report)) text
-IsMade (content.Members book members) text = IsText (body_bytes (content.Members book members)) text
-IsMade (content.Rulings rulings) text = IsText (body_bytes (content.Rulings rulings)) text
-IsMade (content.Names book names) text = IsText (body_bytes (content.Names book names)) text
-IsMade (content.Refusal refusal) text = IsText (body_bytes (content.Refusal refusal)) text
+-- the bytes of a body that is no text in the reply already were made
+abbrev pub IsMade : Content → Option (Vec ℕ Global) → Type 0
+IsMade content.Empty made = Unit {0}
+IsMade (content.Card card) made = Unit {0}
+IsMade (content.Allow methods) made = Unit {0}
+IsMade (content.Listing responses) made = IsText (body_bytes (content.Listing responses)) made
+IsMade (content.Synced report) made = IsText (body_bytes (content.Synced report)) made
+IsMade (content.Members book members) made = IsText (body_bytes (content.Members book members)) made
+IsMade (content.Rulings rulings) made = IsText (body_bytes (content.Rulings rulings)) made
+IsMade (content.Names book names) made = IsText (body_bytes (content.Names book names)) made
+IsMade (content.Refusal refusal) made = IsText (body_bytes (content.Refusal refusal)) made
 
 -- the reply that is sent: the machine's, or unavailable in place of one with a content
 abbrev pub IsSent : Reply → Reply → Type 0

@@ -1,6 +1,6 @@
 //! The bytes of replies (RFC 9112, section 4).
 
-ghost use Rattle.std.specs.Prelude.{◌≡◌, ◌≢◌, ℕ, ◌+◌, ◌≤◌, Bool, List, ◌++◌, [], length, IfOk, OnOk, OnErr, IfErr, IfSome, string_bytes};
+ghost use Rattle.std.specs.Prelude.{◌≡◌, ◌≢◌, ℕ, ◌+◌, ◌≤◌, Bool, List, ◌++◌, [], length, IfOk, OnOk, OnErr, IfErr, IfSome};
 ghost use Rattle.std.specs.Io.KnownBytes.{Appends};
 ghost use Rattle.arrayvec.specs.ArrayString.{array_string_len};
 ghost use Rattle.book_machine.specs.AllowedMethods.{allowed_text};
@@ -169,53 +169,53 @@ fn push_head(
     text.push_str("\r\n");
 }
 
-/// The text of a body that is made for the reply; none where the reply has its text already, or no body. An error is
+/// The bytes of a body that is made for the reply; none where the reply has its text already, or no body. An error is
 /// want of memory.
-fn made_body(alloc: Global, content: &Content) -> Result<Option<String>, AllocError>
+fn made_body(alloc: Global, content: &Content) -> Result<Option<Vec<u8>>, AllocError>
     ensures made { IfOk result (λ made. IsMade content.now made) }
     ensures telling { OnErr result (content.now ≢ contents.Empty) }
 {
     match content {
         Content::Listing(responses) => match listing_body(alloc, responses.as_slice()) {
-            Ok(text) => Ok(Some(text)),
+            Ok(bytes) => Ok(Some(bytes)),
             Err(error) => Err(error),
         },
         Content::Synced(report) => match report_body(alloc, report) {
-            Ok(text) => Ok(Some(text)),
+            Ok(bytes) => Ok(Some(bytes)),
             Err(error) => Err(error),
         },
         Content::Members(book, members) => match members_body(alloc, book, members) {
-            Ok(text) => Ok(Some(text)),
+            Ok(bytes) => Ok(Some(bytes)),
             Err(error) => Err(error),
         },
         Content::Rulings(rulings) => match rulings_body(alloc, rulings.as_slice()) {
-            Ok(text) => Ok(Some(text)),
+            Ok(bytes) => Ok(Some(bytes)),
             Err(error) => Err(error),
         },
         Content::Names(book, names) => match names_body(alloc, book, names.as_slice()) {
-            Ok(text) => Ok(Some(text)),
+            Ok(bytes) => Ok(Some(bytes)),
             Err(error) => Err(error),
         },
         Content::Refusal(refusal) => match refusal_body(alloc, refusal) {
-            Ok(text) => Ok(Some(text)),
+            Ok(bytes) => Ok(Some(bytes)),
             Err(error) => Err(error),
         },
         Content::Empty | Content::Card(_) | Content::Allow(_) => Ok(None),
     }
 }
 
-/// The bytes of a text that was made.
-fn bytes_made(made: &Option<String>) -> &[u8]
-    ensures { IfSome made.now (λ text. result.now ≡ string_bytes text) }
+/// The bytes of a body that was made.
+fn bytes_made(made: &Option<Vec<u8>>) -> &[u8]
+    ensures { IfSome made.now (λ bytes. result.now ≡ bytes.items) }
 {
     match made {
-        Some(text) => text.as_str().as_bytes(),
+        Some(bytes) => bytes.as_slice(),
         None => &[],
     }
 }
 
-/// The body of a reply, whose text was made before.
-fn bytes_of<'r>(content: &'r Content, made: &'r Option<String>) -> &'r [u8]
+/// The body of a reply, whose bytes were made before.
+fn bytes_of<'r>(content: &'r Content, made: &'r Option<Vec<u8>>) -> &'r [u8]
     requires { IsMade content.now made.now }
     ensures { result.now ≡ body_bytes content.now }
 {
@@ -238,13 +238,13 @@ fn sent_body(body: &[u8], bare: bool) -> &[u8]
     if bare { &[] } else { body }
 }
 
-/// Writes a reply. The text of its body is made before.
+/// Writes a reply. The bytes of its body are made before.
 #[tactic(auto, unfolding(crate::specs::Spelling::spelling))]
 fn write_reply<W: Write>(
     writer: &mut W,
     out: &mut [u8],
     reply: &Reply,
-    made: &Option<String>,
+    made: &Option<Vec<u8>>,
     bare: bool,
     closes: bool,
 ) -> Result<(), StreamFault>

@@ -1,5 +1,7 @@
 pub mod Common
 pub mod Utf8
 pub mod Naming
+pub mod Limits
 pub mod EntryLists
-pub mod NoFloats
+pub mod Written
+pub mod Ordered

@@ -6,6 +6,7 @@ pub mod Entries
 pub mod Patches
 pub mod Reports
 pub mod Bodies
+pub mod Writing
 pub mod Refusals
 pub mod Denials
 pub mod PropertyValues

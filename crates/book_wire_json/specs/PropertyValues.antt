@@ -1,5 +1,6 @@
 -- Properties as JSON (RFC 4918, section 15; RFC 3744, sections 4 and 5; RFC 6578, section 4; own profile).
-use Rattle.std.specs.Prelude.{ℕ, Bool, true, false, List, [], ◌∷◌, map, codes, Option, Some, None}
+use Rattle.std.specs.Prelude.{ℕ, Bool, true, false, List, [], ◌∷◌, ◌++◌, map, codes, Option, Some, None}
+use Rattle.std.specs.Borrow.{Bor}
 use Rattle.serde_json.specs.Data.{Data, null, boolean, string, array, object, Members, no_members, put}
 use Rattle.serde_json.specs.View.{items_of}
 use Rattle.book_rights.specs.Privileges.{name_of}
@@ -12,6 +13,7 @@ use Rattle.book_office_values.specs.declared.paths.Kind.TheVariants as kind
 use Rattle.book_office_values.specs.declared.paths.Path.{Path}
 use Rattle.book_office_sync.specs.Tokens.{token_text}
 use Rattle.book_office_sync.specs.declared.messages.Token.{Token}
+use Rattle.book_wire_json.specs.Writing.{members_of}
 use Rattle.book_office_listings.specs.declared.messages.AclEntry.{AclEntry}
 use Rattle.book_office_listings.specs.declared.messages.PropertyValue.{PropertyValue}
 use Rattle.book_office_listings.specs.declared.messages.PropertyValue.TheVariants as value
@@ -48,26 +50,25 @@ abbrev pub form_key : Bool → List ℕ
 form_key true = codes "invert"
 form_key false = codes "principal"
 
--- the mark of an entry that is protected
-abbrev pub with_protected : Bool → Members → Members
-with_protected true members = put (codes "protected") (boolean true) members
-with_protected false members = members
-
 -- where an entry stands that is inherited
-abbrev pub with_inherited : Option Path → Members → Members
-with_inherited None members = members
-with_inherited (Some from) members = put (codes "inherited") (string (path_text from)) members
+abbrev pub inherited_member : Option Path → List (List ℕ × Data)
+inherited_member None = []
+inherited_member (Some from) = (codes "inherited", string (path_text from)) ∷ []
 
--- an entry (RFC 3744, section 5.5): `grant` or `deny`, `principal` or `invert`, `protected` true where it is protected, and
--- `inherited` where it stands at an ancestor; keys in byte order
-abbrev pub entry_members : AclEntry → Members
+-- the mark of an entry that is protected
+abbrev pub protected_member : Bool → List (List ℕ × Data)
+protected_member true = (codes "protected", boolean true) ∷ []
+protected_member false = []
+
+-- an entry (RFC 3744, section 5.5): `grant` or `deny`, `inherited` where it stands at an ancestor, `principal` or `invert`, and
+-- `protected` true where it is protected; keys in byte order
+abbrev pub entry_members : AclEntry → List (List ℕ × Data)
 entry_members e =
-    with_inherited e.inherited (with_protected e.protected
-    (put (form_key e.invert) (string (form_text e.who))
-    (put (action_key e.deny) (privileges_data e.privileges) no_members)))
+    (action_key e.deny, privileges_data e.privileges) ∷ inherited_member e.inherited
+    ++ (form_key e.invert, string (form_text e.who)) ∷ protected_member e.protected
 
 abbrev pub acl_entry_data : AclEntry → Data
-acl_entry_data e = object (entry_members e)
+acl_entry_data e = object (members_of (entry_members e))
 
 -- [ENTRY, ..]
 abbrev pub acl_data : List AclEntry → Data
@@ -117,3 +118,7 @@ with_properties members (v ∷ vs) = with_properties (put (property_name v) (pro
 -- {NAME:VALUE, ..}
 abbrev pub prop_data : List PropertyValue → Data
 prop_data values = object (with_properties no_members values)
+
+-- a value under its name
+abbrev pub named_value : (Bor (List ℕ) × Bor PropertyValue) → List ℕ × Data
+named_value e = (e.0.now, property_data e.1.now)

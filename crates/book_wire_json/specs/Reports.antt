@@ -1,9 +1,10 @@
 -- The body of a REPORT (RFC 3253, section 3.6; RFC 6578, section 3.2).
 use Rattle.std.specs.Prelude.{◌≡◌, ℕ, List, [], ◌∷◌, codes, Option, None, Some}
-use Rattle.serde_json.specs.Data.{Data, null, string, object, member, no_members}
+use Rattle.serde_json.specs.Data.{Data, Members, null, number, string, object, member, no_members, unsigned}
 use Rattle.book_lists.specs.Principals.{IsPerson}
 use Rattle.book_lists.specs.declared.circles.Caller.{Caller}
 use Rattle.book_lists.specs.declared.circles.Caller.TheVariants as caller
+use Rattle.book_office_sync.specs.Copies.{IsLimit}
 use Rattle.book_office_sync.specs.Tokens.{IsToken, IsNoToken, token_text}
 use Rattle.book_machine.specs.declared.messages.Body.{Body}
 use Rattle.book_machine.specs.declared.messages.Body.TheVariants as body
@@ -13,9 +14,16 @@ use Rattle.book_machine.specs.declared.messages.SyncFrom.{SyncFrom}
 use Rattle.book_machine.specs.declared.messages.SyncFrom.TheVariants as from
 use Rattle.book_lists_explain.specs.Lines.{Names}
 
--- {"report":"sync-collection","sync-token":TEXT}
-abbrev pub sync_collection : List ℕ → Data
-sync_collection token = object (member (codes "report") (string (codes "sync-collection")) (member (codes "sync-token") (string token) no_members))
+-- {"report":"sync-collection","sync-token":TEXT}, with "limit":N where the number of items is limited (RFC 6578, section 3.7)
+abbrev pub of_changes : List ℕ → Members
+of_changes token = member (codes "report") (string (codes "sync-collection")) (member (codes "sync-token") (string token) no_members)
+
+abbrev pub limited_collection : Data → List ℕ → Data
+limited_collection limit token = object (member (codes "limit") limit (of_changes token))
+
+abbrev pub sync_collection : List ℕ → Option ℕ → Data
+sync_collection token None = object (of_changes token)
+sync_collection token (Some limit) = limited_collection (number (unsigned limit)) token
 
 -- {"report":NAME}
 abbrev pub report_named : List ℕ → Data
@@ -46,7 +54,7 @@ IsCallerIn who caller.Nobody = who ≡ null
 IsCallerIn who (caller.Known person) = (text : List ℕ) × (who ≡ string text) × IsPerson person × Names text person
 
 abbrev pub IsReport : Data → ReportKind → Type 0
-IsReport d (report.SyncCollection from) = (text : List ℕ) × (d ≡ sync_collection text) × IsFrom text from
+IsReport d (report.SyncCollection asks) = (text : List ℕ) × (d ≡ sync_collection text asks.limit) × IsLimit asks.limit × IsFrom text asks.from
 IsReport d report.GroupMembers = d ≡ group_members
 IsReport d (report.Effective caller) = (who : Data) × (d ≡ effective who) × IsCallerIn who caller
 IsReport d report.Names = d ≡ names

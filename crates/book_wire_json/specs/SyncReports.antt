@@ -8,6 +8,11 @@ use Rattle.book_office_sync.specs.declared.messages.Found.{Found}
 use Rattle.book_office_sync.specs.declared.messages.Item.{Item}
 use Rattle.book_office_sync.specs.declared.messages.Report.{Report}
 
+-- {"href":PATH,"status":STATUS}
+abbrev pub status_data : List ℕ → ℕ → Data
+status_data href status =
+    object (member (codes "href") (string href) (member (codes "status") (number (unsigned status)) no_members))
+
 -- {"displayname":LABEL,"href":PATH,"number":N,"status":200,"text":TEXT}, or {"href":PATH,"status":404} of a name that is
 -- removed or may not be read
 abbrev pub changed_data : List ℕ → ℕ → Option Found → Data
@@ -15,16 +20,14 @@ changed_data href change (Some found) =
     object (member (codes "displayname") (string found.label) (member (codes "href") (string href)
     (member (codes "number") (number (unsigned change)) (member (codes "status") (number (unsigned 200))
     (member (codes "text") (string found.text) no_members)))))
-changed_data href change None =
-    object (member (codes "href") (string href) (member (codes "status") (number (unsigned 404)) no_members))
+changed_data href change None = status_data href 404
 
 abbrev pub item_data : List ℕ → Item → Data
 item_data book i = changed_data (card_path book i.name) i.number i.found
 
 -- {"href":BOOK,"status":507}, where changes remain (RFC 6578, section 3.6)
 abbrev pub remaining_data : List ℕ → Bool → List Data
-remaining_data book true =
-    object (member (codes "href") (string (book_path book)) (member (codes "status") (number (unsigned 507)) no_members)) ∷ []
+remaining_data book true = status_data (book_path book) 507 ∷ []
 remaining_data book false = []
 
 -- {"responses":[RESPONSE, ..],"sync-token":TOKEN}

@@ -5,11 +5,12 @@
 //! It stands on `book_machine`, which says what is asked and answered, and on `serde_json`, whose `read` says which
 //! value a text is, and whose `compact_text` says which text a value has. The crate above uses that `body_of` gives the
 //! body that the bytes are, by the method of the request, and that `refusal_body`, `listing_body`, `report_body`,
-//! `members_body` and `rulings_body` give the one text of what is answered.
+//! `members_body`, `names_body` and `rulings_body` give the one text of what is answered.
 //!
 //! For requests read `bodies` first; then `forms`, `principals` and `privileges`, which have what the forms share; then
-//! `properties`, `patches`, `entries` and `reports`. For replies read `denials` first; then `property_values`,
-//! `listings` and `rulings`, which stand on it; then `sync_reports`, `members` and `refusals`.
+//! `properties`, `patches`, `entries` and `reports`. For replies read `writing` first, which writes a text as it goes, and
+//! `denials`; then `property_values`, `listings` and `rulings`, which stand on it; then `sync_reports`, `members`, `names`
+//! and `refusals`.
 #![tactic(auto)]
 
 mod bodies;
@@ -28,9 +29,9 @@ mod refusals;
 mod reports;
 mod rulings;
 mod sync_reports;
+mod writing;
 
 pub use bodies::body_of;
-pub use denials::entry_value;
 pub use listings::listing_body;
 pub use members::members_body;
 pub use names::names_body;

@@ -1,54 +1,112 @@
 //! The members of a group card.
 
-ghost use Rattle.std.specs.Prelude.{◌≡◌, map, IfOk, string_bytes};
+ghost use Rattle.std.specs.Prelude.{◌≡◌, map, IfOk};
 ghost use Rattle.serde_json.specs.Data.{array};
-ghost use Rattle.serde_json.specs.View.{items_of, view};
+ghost use Rattle.serde_json.specs.View.{items_of};
 ghost use Rattle.serde_json.specs.Written.{compact_text};
-ghost use Rattle.book_wire_json.specs.Members.{hrefs_data, line_data, members_data};
+ghost use Rattle.book_wire_json.specs.Members.{href_data, hrefs_data, line_data, members_data};
+ghost use Rattle.book_wire_json.specs.Writing.{Tells, TellsEach};
 
 use crate::sync_reports::card_href;
+use crate::writing::JsonText;
 use book_lists::Name;
 use book_office_members::{MemberLine, Members};
-use serde_json::{Value, json};
 use std::alloc::{AllocError, Global};
 
-/// Paths of cards of a book. An error is want of memory.
-fn hrefs_value(alloc: Global, book: &Name, names: &[Name]) -> Result<Value, AllocError>
-    ensures { IfOk result (λ value. view value ≡ hrefs_data book.now names.now) }
+/// Writes the path of each card of a book. An error is want of memory.
+fn write_each_href(
+    alloc: Global,
+    out: &mut JsonText,
+    book: &Name,
+    names: &[Name],
+) -> Result<(), AllocError>
+    ensures { TellsEach result out.old out.new (map (href_data book.now) names.now) }
 {
-    let mut list = Vec::with_capacity(alloc, names.len())?;
     for name in names {
-        list.push(Value::String(card_href(alloc, book, name)?))?;
+        let href = card_href(alloc, book, name)?;
+        out.string(href.as_str())?;
     }
-    Ok(Value::Array(list))
+    Ok(())
 }
 
-/// What the report says of a MEMBER line. An error is want of memory.
-fn line_value(alloc: Global, book: &Name, line: &MemberLine) -> Result<Value, AllocError>
-    ensures { IfOk result (λ value. view value ≡ line_data book.now line.now) }
+/// Writes the paths of cards of a book. An error is want of memory.
+#[tactic(auto, using(crate::proofs::Written::array_told))]
+fn write_hrefs(
+    alloc: Global,
+    out: &mut JsonText,
+    book: &Name,
+    names: &[Name],
+) -> Result<(), AllocError>
+    ensures { Tells result out.old out.new (hrefs_data book.now names.now) }
 {
-    let hrefs = hrefs_value(alloc, book, line.names.as_slice())?;
-    json!(in alloc; {"hrefs": hrefs, "uri": line.value.as_str()})
+    out.begin_array()?;
+    write_each_href(alloc, out, book, names)?;
+    out.end_array()
 }
 
-/// What the report says of each MEMBER line. An error is want of memory.
-fn lines_value(alloc: Global, book: &Name, lines: &[MemberLine]) -> Result<Value, AllocError>
-    ensures { IfOk result (λ value. view value ≡ array (items_of (map (line_data book.now) lines.now))) }
+/// Writes what the report says of a MEMBER line. An error is want of memory.
+#[tactic(auto, using(crate::proofs::Written::added_three))]
+fn write_line(
+    alloc: Global,
+    out: &mut JsonText,
+    book: &Name,
+    line: &MemberLine,
+) -> Result<(), AllocError>
+    ensures { Tells result out.old out.new (line_data book.now line.now) }
 {
-    let mut list = Vec::with_capacity(alloc, lines.len())?;
+    out.begin_object()?;
+    out.key("hrefs")?;
+    write_hrefs(alloc, out, book, line.names.as_slice())?;
+    out.string_member("uri", line.value.as_str())?;
+    out.end_object()
+}
+
+/// Writes what the report says of each MEMBER line. An error is want of memory.
+fn write_each_line(
+    alloc: Global,
+    out: &mut JsonText,
+    book: &Name,
+    lines: &[MemberLine],
+) -> Result<(), AllocError>
+    ensures { TellsEach result out.old out.new (map (line_data book.now) lines.now) }
+{
     for line in lines {
-        list.push(line_value(alloc, book, line)?)?;
+        write_line(alloc, out, book, line)?;
     }
-    Ok(Value::Array(list))
+    Ok(())
 }
 
-/// What the report says. An error is want of memory.
-fn members_value(alloc: Global, book: &Name, members: &Members) -> Result<Value, AllocError>
-    ensures { IfOk result (λ value. view value ≡ members_data book.now members.now) }
+/// Writes what the report says of the MEMBER lines. An error is want of memory.
+#[tactic(auto, using(crate::proofs::Written::array_told))]
+fn write_lines(
+    alloc: Global,
+    out: &mut JsonText,
+    book: &Name,
+    lines: &[MemberLine],
+) -> Result<(), AllocError>
+    ensures { Tells result out.old out.new (array (items_of (map (line_data book.now) lines.now))) }
 {
-    let lines = lines_value(alloc, book, members.lines.as_slice())?;
-    let reached = hrefs_value(alloc, book, members.reached.as_slice())?;
-    json!(in alloc; {"members": lines, "reached": reached})
+    out.begin_array()?;
+    write_each_line(alloc, out, book, lines)?;
+    out.end_array()
+}
+
+/// Writes what the report says. An error is want of memory.
+#[tactic(auto, using(crate::proofs::Written::added_between))]
+fn write_members(
+    alloc: Global,
+    out: &mut JsonText,
+    book: &Name,
+    members: &Members,
+) -> Result<(), AllocError>
+    ensures { Tells result out.old out.new (members_data book.now members.now) }
+{
+    out.begin_object()?;
+    out.key("members")?;
+    write_lines(alloc, out, book, members.lines.as_slice())?;
+    out.key("reached")?;
+    write_hrefs(alloc, out, book, members.reached.as_slice())?;
+    out.end_object()
 }
 
 /// The body of the reply to a report on the members of a card of this book (own profile): compact JSON, the keys in
@@ -57,9 +115,10 @@ fn members_value(alloc: Global, book: &Name, members: &Members) -> Result<Value,
 /// # Errors
 ///
 /// Want of memory.
-#[tactic(auto, using(crate::proofs::NoFloats::members_plain))]
-pub fn members_body(alloc: Global, book: &Name, members: &Members) -> Result<String, AllocError>
-    ensures { IfOk result (λ text. string_bytes text ≡ compact_text (members_data book.now members.now)) }
+pub fn members_body(alloc: Global, book: &Name, members: &Members) -> Result<Vec<u8>, AllocError>
+    ensures { IfOk result (λ bytes. bytes.items ≡ compact_text (members_data book.now members.now)) }
 {
-    members_value(alloc, book, members)?.to_string(alloc)
+    let mut out = JsonText::new(alloc);
+    write_members(alloc, &mut out, book, members)?;
+    Ok(out.into_bytes())
 }

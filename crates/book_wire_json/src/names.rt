@@ -1,54 +1,90 @@
 //! The names of a book's cards.
 
-ghost use Rattle.std.specs.Prelude.{◌≡◌, map, IfOk, string_bytes};
+ghost use Rattle.std.specs.Prelude.{◌≡◌, map, IfOk};
 ghost use Rattle.serde_json.specs.Data.{array};
-ghost use Rattle.serde_json.specs.View.{items_of, view};
+ghost use Rattle.serde_json.specs.View.{items_of};
 ghost use Rattle.serde_json.specs.Written.{compact_text};
 ghost use Rattle.book_wire_json.specs.Names.{formatted_data, named_data, names_data};
+ghost use Rattle.book_wire_json.specs.Writing.{Tells, TellsEach};
 
 use crate::sync_reports::card_href;
+use crate::writing::JsonText;
 use book_lists::Name;
 use book_office_members::NamedCard;
 use book_office_values::Text;
-use serde_json::{Value, json};
 use std::alloc::{AllocError, Global};
 
-/// The name that a card says, or null. An error is want of memory.
-fn formatted_value(alloc: Global, formatted: &Option<Text>) -> Result<Value, AllocError>
-    ensures { IfOk result (λ value. view value ≡ formatted_data formatted.now) }
+/// Writes the name that a card says, or null. An error is want of memory.
+fn write_formatted(out: &mut JsonText, formatted: &Option<Text>) -> Result<(), AllocError>
+    ensures { Tells result out.old out.new (formatted_data formatted.now) }
 {
     match formatted {
-        Some(name) => json!(in alloc; name.as_str()),
-        None => Ok(Value::Null),
+        Some(name) => out.string(name.as_str()),
+        None => out.null(),
     }
 }
 
-/// What the report says of a card. An error is want of memory.
-fn named_value(alloc: Global, book: &Name, card: &NamedCard) -> Result<Value, AllocError>
-    ensures { IfOk result (λ value. view value ≡ named_data book.now card.now) }
+/// Writes what the report says of a card. An error is want of memory.
+fn write_named(
+    alloc: Global,
+    out: &mut JsonText,
+    book: &Name,
+    card: &NamedCard,
+) -> Result<(), AllocError>
+    ensures { Tells result out.old out.new (named_data book.now card.now) }
 {
-    let formatted = formatted_value(alloc, &card.formatted)?;
     let href = card_href(alloc, book, &card.name)?;
-    json!(in alloc; {"fn": formatted, "href": href})
+    out.begin_object()?;
+    out.key("fn")?;
+    write_formatted(out, &card.formatted)?;
+    out.string_member("href", href.as_str())?;
+    out.end_object()
 }
 
-/// What the report says of each card. An error is want of memory.
-fn cards_value(alloc: Global, book: &Name, names: &[NamedCard]) -> Result<Value, AllocError>
-    ensures { IfOk result (λ value. view value ≡ array (items_of (map (named_data book.now) names.now))) }
+/// Writes what the report says of each card. An error is want of memory.
+fn write_each(
+    alloc: Global,
+    out: &mut JsonText,
+    book: &Name,
+    names: &[NamedCard],
+) -> Result<(), AllocError>
+    ensures { TellsEach result out.old out.new (map (named_data book.now) names.now) }
 {
-    let mut list = Vec::with_capacity(alloc, names.len())?;
     for card in names {
-        list.push(named_value(alloc, book, card)?)?;
+        write_named(alloc, out, book, card)?;
     }
-    Ok(Value::Array(list))
+    Ok(())
 }
 
-/// What the report says. An error is want of memory.
-fn names_value(alloc: Global, book: &Name, names: &[NamedCard]) -> Result<Value, AllocError>
-    ensures { IfOk result (λ value. view value ≡ names_data book.now names.now) }
+/// Writes what the report says of the cards. An error is want of memory.
+#[tactic(auto, using(crate::proofs::Written::array_told))]
+fn write_cards(
+    alloc: Global,
+    out: &mut JsonText,
+    book: &Name,
+    names: &[NamedCard],
+) -> Result<(), AllocError>
+    ensures { Tells result out.old out.new (array (items_of (map (named_data book.now) names.now))) }
 {
-    let cards = cards_value(alloc, book, names)?;
-    json!(in alloc; {"names": cards})
+    out.begin_array()?;
+    write_each(alloc, out, book, names)?;
+    out.end_array()
+}
+
+/// Writes what the report says. An error is want of memory.
+#[tactic(auto, using(crate::proofs::Written::added_one))]
+fn write_names(
+    alloc: Global,
+    out: &mut JsonText,
+    book: &Name,
+    names: &[NamedCard],
+) -> Result<(), AllocError>
+    ensures { Tells result out.old out.new (names_data book.now names.now) }
+{
+    out.begin_object()?;
+    out.key("names")?;
+    write_cards(alloc, out, book, names)?;
+    out.end_object()
 }
 
 /// The body of the reply to a report on the names of this book's cards (own profile): compact JSON, the keys in byte
@@ -57,9 +93,10 @@ fn names_value(alloc: Global, book: &Name, names: &[NamedCard]) -> Result<Value,
 /// # Errors
 ///
 /// Want of memory.
-#[tactic(auto, using(crate::proofs::NoFloats::names_plain))]
-pub fn names_body(alloc: Global, book: &Name, names: &[NamedCard]) -> Result<String, AllocError>
-    ensures { IfOk result (λ text. string_bytes text ≡ compact_text (names_data book.now names.now)) }
+pub fn names_body(alloc: Global, book: &Name, names: &[NamedCard]) -> Result<Vec<u8>, AllocError>
+    ensures { IfOk result (λ bytes. bytes.items ≡ compact_text (names_data book.now names.now)) }
 {
-    names_value(alloc, book, names)?.to_string(alloc)
+    let mut out = JsonText::new(alloc);
+    write_names(alloc, &mut out, book, names)?;
+    Ok(out.into_bytes())
 }

@@ -1,16 +1,18 @@
 //! The properties of a resource.
 
-ghost use Rattle.std.specs.Prelude.{◌≡◌, IfOk, OnOk};
-ghost use Rattle.serde_json.specs.View.{members_view, view};
-ghost use Rattle.book_wire_json.specs.PropertyValues.{acl_data, acl_entry_data, action_key, form_key, form_text, kind_name, paths_data, paths_or_null, privileges_data, prop_data, property_data, property_name, text_or_null, token_or_null, with_inherited, with_protected};
+ghost use Rattle.std.specs.Prelude.{◌≡◌, IfOk, OnOk, map};
+ghost use Rattle.serde_json.specs.Data.{no_members, put, string};
+ghost use Rattle.book_wire_json.specs.PropertyValues.{acl_data, acl_entry_data, action_key, form_key, form_text, inherited_member, kind_name, named_value, paths_data, paths_or_null, privilege_data, privileges_data, prop_data, property_data, property_name, protected_member, text_or_null, token_or_null, with_properties};
+ghost use Rattle.book_wire_json.specs.Writing.{Tells, TellsEach, TellsMembers, members_of};
 
+use crate::writing::JsonText;
 use book_lists::{Principal, Who};
 use book_office_listings::{AclEntry, PropertyValue};
 use book_office_sync::Token;
 use book_office_values::{Items, Kind, Path};
 use book_rights::Privilege;
-use serde_json::{Map, Value, put};
 use std::alloc::{AllocError, Global};
+use std::collections::BTreeMap;
 
 /// The text of a principal form (RFC 3744, section 5.5.1).
 fn form_text(who: &Who) -> &str
@@ -52,113 +54,139 @@ fn form_key(invert: bool) -> &'static str
     if invert { "invert" } else { "principal" }
 }
 
-/// The names of privileges. An error is want of memory.
-fn privileges_value(alloc: Global, privileges: &[Privilege]) -> Result<Value, AllocError>
-    ensures { IfOk result (λ value. view value ≡ privileges_data privileges.now) }
+/// Writes the name of each privilege. An error is want of memory.
+fn write_each_privilege(out: &mut JsonText, privileges: &[Privilege]) -> Result<(), AllocError>
+    ensures { TellsEach result out.old out.new (map privilege_data privileges.now) }
 {
-    let mut list = Vec::with_capacity(alloc, privileges.len())?;
     for privilege in privileges {
-        list.push(Value::try_from_str(alloc, privilege.name())?)?;
-    }
-    Ok(Value::Array(list))
-}
-
-/// Adds the mark of an entry that is protected (RFC 3744, section 5.5.3). An error is want of memory.
-fn put_protected(
-    alloc: Global,
-    members: &mut Map<String, Value>,
-    protected: bool,
-) -> Result<(), AllocError>
-    ensures { OnOk result (members_view members.new.entries
-        ≡ with_protected protected (members_view members.old.entries)) }
-{
-    if protected {
-        put(members, alloc, "protected", Value::Bool(true))?;
+        out.string(privilege.name())?;
     }
     Ok(())
 }
 
-/// Adds where an entry stands that is inherited (RFC 3744, section 5.5.4). An error is want of memory.
-fn put_inherited(
+/// Writes the names of privileges. An error is want of memory.
+#[tactic(auto, using(crate::proofs::Written::array_told))]
+fn write_privileges(out: &mut JsonText, privileges: &[Privilege]) -> Result<(), AllocError>
+    ensures { Tells result out.old out.new (privileges_data privileges.now) }
+{
+    out.begin_array()?;
+    write_each_privilege(out, privileges)?;
+    out.end_array()
+}
+
+/// Writes where an entry stands that is inherited (RFC 3744, section 5.5.4). An error is want of memory.
+fn write_inherited(
     alloc: Global,
-    members: &mut Map<String, Value>,
+    out: &mut JsonText,
     inherited: &Option<Path>,
 ) -> Result<(), AllocError>
-    ensures { OnOk result (members_view members.new.entries
-        ≡ with_inherited inherited.now (members_view members.old.entries)) }
+    ensures { TellsMembers result out.old out.new (inherited_member inherited.now) }
 {
-    match inherited {
-        Some(from) => {
-            let from = Value::String(from.text(alloc)?);
-            put(members, alloc, "inherited", from)
-        }
-        None => Ok(()),
+    if let Some(from) = inherited {
+        let from = from.text(alloc)?;
+        out.string_member("inherited", from.as_str())?;
     }
+    Ok(())
 }
 
-/// An entry of the property `acl` (RFC 3744, section 5.5). An error is want of memory.
-fn acl_entry_value(alloc: Global, entry: &AclEntry) -> Result<Value, AllocError>
-    ensures { IfOk result (λ value. view value ≡ acl_entry_data entry.now) }
+/// Writes the mark of an entry that is protected (RFC 3744, section 5.5.3). An error is want of memory.
+fn write_protected(out: &mut JsonText, protected: bool) -> Result<(), AllocError>
+    ensures { TellsMembers result out.old out.new (protected_member protected) }
 {
-    let mut members = Map::new(alloc);
-    let privileges = privileges_value(alloc, entry.privileges.as_slice())?;
-    put(&mut members, alloc, action_key(entry.deny), privileges)?;
-    let form = Value::try_from_str(alloc, form_text(&entry.who))?;
-    put(&mut members, alloc, form_key(entry.invert), form)?;
-    put_protected(alloc, &mut members, entry.protected)?;
-    put_inherited(alloc, &mut members, &entry.inherited)?;
-    Ok(Value::Object(members))
+    if protected {
+        out.key("protected")?;
+        out.boolean(true)?;
+    }
+    Ok(())
 }
 
-/// The effective list (RFC 3744, section 5.5). An error is want of memory.
-fn acl_value(alloc: Global, entries: &[AclEntry]) -> Result<Value, AllocError>
-    ensures { IfOk result (λ value. view value ≡ acl_data entries.now) }
+/// Writes an entry of the property `acl` (RFC 3744, section 5.5). An error is want of memory.
+fn write_acl_entry(alloc: Global, out: &mut JsonText, entry: &AclEntry) -> Result<(), AllocError>
+    ensures { Tells result out.old out.new (acl_entry_data entry.now) }
 {
-    let mut list = Vec::with_capacity(alloc, entries.len())?;
+    out.begin_object()?;
+    out.key(action_key(entry.deny))?;
+    write_privileges(out, entry.privileges.as_slice())?;
+    write_inherited(alloc, out, &entry.inherited)?;
+    out.string_member(form_key(entry.invert), form_text(&entry.who))?;
+    write_protected(out, entry.protected)?;
+    out.end_object()
+}
+
+/// Writes each entry of the effective list. An error is want of memory.
+fn write_each_entry(
+    alloc: Global,
+    out: &mut JsonText,
+    entries: &[AclEntry],
+) -> Result<(), AllocError>
+    ensures { TellsEach result out.old out.new (map acl_entry_data entries.now) }
+{
     for entry in entries {
-        list.push(acl_entry_value(alloc, entry)?)?;
+        write_acl_entry(alloc, out, entry)?;
     }
-    Ok(Value::Array(list))
+    Ok(())
 }
 
-/// An owner (RFC 3744, section 5.1); null where there is none. An error is want of memory.
-fn owner_value(alloc: Global, owner: &Option<Principal>) -> Result<Value, AllocError>
-    ensures { IfOk result (λ value. view value ≡ text_or_null owner.now) }
+/// Writes the effective list (RFC 3744, section 5.5). An error is want of memory.
+#[tactic(auto, using(crate::proofs::Written::array_told))]
+fn write_acl(alloc: Global, out: &mut JsonText, entries: &[AclEntry]) -> Result<(), AllocError>
+    ensures { Tells result out.old out.new (acl_data entries.now) }
+{
+    out.begin_array()?;
+    write_each_entry(alloc, out, entries)?;
+    out.end_array()
+}
+
+/// Writes an owner (RFC 3744, section 5.1); null where there is none. An error is want of memory.
+fn write_owner(out: &mut JsonText, owner: &Option<Principal>) -> Result<(), AllocError>
+    ensures { Tells result out.old out.new (text_or_null owner.now) }
 {
     match owner {
-        Some(principal) => Value::try_from_str(alloc, principal.text()),
-        None => Ok(Value::Null),
+        Some(principal) => out.string(principal.text()),
+        None => out.null(),
     }
 }
 
-/// Paths of principals. An error is want of memory.
-fn paths_value(alloc: Global, principals: &[Principal]) -> Result<Value, AllocError>
-    ensures { IfOk result (λ value. view value ≡ paths_data principals.now) }
+/// Writes the path of each principal. An error is want of memory.
+fn write_each_path(out: &mut JsonText, principals: &[Principal]) -> Result<(), AllocError>
+    ensures { TellsEach result out.old out.new (map string principals.now) }
 {
-    let mut list = Vec::with_capacity(alloc, principals.len())?;
     for principal in principals {
-        list.push(Value::try_from_str(alloc, principal.text())?)?;
+        out.string(principal.text())?;
     }
-    Ok(Value::Array(list))
+    Ok(())
 }
 
-/// The members of a group (RFC 3744, section 4.3); null where the resource is no group. An error is want of memory.
-fn members_value(alloc: Global, members: &Option<Items<Principal>>) -> Result<Value, AllocError>
-    ensures { IfOk result (λ value. view value ≡ paths_or_null members.now) }
+/// Writes paths of principals. An error is want of memory.
+#[tactic(auto, using(crate::proofs::Written::array_told))]
+fn write_paths(out: &mut JsonText, principals: &[Principal]) -> Result<(), AllocError>
+    ensures { Tells result out.old out.new (paths_data principals.now) }
+{
+    out.begin_array()?;
+    write_each_path(out, principals)?;
+    out.end_array()
+}
+
+/// Writes the members of a group (RFC 3744, section 4.3); null where the resource is no group. An error is want of memory.
+fn write_members(out: &mut JsonText, members: &Option<Items<Principal>>) -> Result<(), AllocError>
+    ensures { Tells result out.old out.new (paths_or_null members.now) }
 {
     match members {
-        Some(members) => paths_value(alloc, members.as_slice()),
-        None => Ok(Value::Null),
+        Some(members) => write_paths(out, members.as_slice()),
+        None => out.null(),
     }
 }
 
-/// A token (RFC 6578, section 4); null where the resource is no book. An error is want of memory.
-fn token_value(alloc: Global, token: &Option<Token>) -> Result<Value, AllocError>
-    ensures { IfOk result (λ value. view value ≡ token_or_null token.now) }
+/// Writes a token (RFC 6578, section 4); null where the resource is no book. An error is want of memory.
+fn write_token(alloc: Global, out: &mut JsonText, token: &Option<Token>) -> Result<(), AllocError>
+    ensures { Tells result out.old out.new (token_or_null token.now) }
 {
     match token {
-        Some(token) => Ok(Value::String(token.text(alloc)?)),
-        None => Ok(Value::Null),
+        Some(token) => {
+            let text = token.text(alloc)?;
+            out.string(text.as_str())
+        }
+        None => out.null(),
     }
 }
 
@@ -177,31 +205,75 @@ fn property_name(value: &PropertyValue) -> &'static str
     }
 }
 
-/// The value of a property. An error is want of memory.
-fn property_value(alloc: Global, value: &PropertyValue) -> Result<Value, AllocError>
-    ensures { IfOk result (λ told. view told ≡ property_data value.now) }
+/// Writes the value of a property. An error is want of memory.
+fn write_value(alloc: Global, out: &mut JsonText, value: &PropertyValue) -> Result<(), AllocError>
+    ensures { Tells result out.old out.new (property_data value.now) }
 {
     match value {
-        PropertyValue::DisplayName(label) => Value::try_from_str(alloc, label.as_str()),
-        PropertyValue::ResourceType(kind) => Value::try_from_str(alloc, kind_name(*kind)),
-        PropertyValue::Owner(owner) => owner_value(alloc, owner),
-        PropertyValue::Acl(entries) => acl_value(alloc, entries.as_slice()),
+        PropertyValue::DisplayName(label) => out.string(label.as_str()),
+        PropertyValue::ResourceType(kind) => out.string(kind_name(*kind)),
+        PropertyValue::Owner(owner) => write_owner(out, owner),
+        PropertyValue::Acl(entries) => write_acl(alloc, out, entries.as_slice()),
         PropertyValue::CurrentUserPrivilegeSet(privileges) => {
-            privileges_value(alloc, privileges.as_slice())
+            write_privileges(out, privileges.as_slice())
         }
-        PropertyValue::GroupMemberSet(members) => members_value(alloc, members),
-        PropertyValue::SyncToken(token) => token_value(alloc, token),
+        PropertyValue::GroupMemberSet(members) => write_members(out, members),
+        PropertyValue::SyncToken(token) => write_token(alloc, out, token),
     }
 }
 
-/// The properties by their names. An error is want of memory.
-pub(crate) fn prop_value(alloc: Global, values: &[PropertyValue]) -> Result<Value, AllocError>
-    ensures { IfOk result (λ told. view told ≡ prop_data values.now) }
+/// Puts a value under its name. An error is want of memory.
+fn put_named<'v>(
+    named: &mut BTreeMap<&'static str, &'v PropertyValue>,
+    value: &'v PropertyValue,
+) -> Result<(), AllocError>
+    ensures { OnOk result (members_of (map named_value named.new.entries)
+        ≡ put (property_name value.now) (property_data value.now) (members_of (map named_value named.old.entries))) }
 {
-    let mut members = Map::new(alloc);
+    named.insert(property_name(value), value)?;
+    Ok(())
+}
+
+/// The values by their names, in byte order. An error is want of memory.
+fn named_values<'v>(
+    alloc: Global,
+    values: &'v [PropertyValue],
+) -> Result<BTreeMap<&'static str, &'v PropertyValue>, AllocError>
+    ensures { IfOk result (λ named. members_of (map named_value named.entries) ≡ with_properties no_members values.now) }
+{
+    let mut named = BTreeMap::new(alloc);
     for value in values {
-        let told = property_value(alloc, value)?;
-        put(&mut members, alloc, property_name(value), told)?;
+        put_named(&mut named, value)?;
     }
-    Ok(Value::Object(members))
+    Ok(named)
+}
+
+/// Writes each value under its name. An error is want of memory.
+fn write_each_value<'v>(
+    alloc: Global,
+    out: &mut JsonText,
+    named: &BTreeMap<&'static str, &'v PropertyValue>,
+) -> Result<(), AllocError>
+    ensures { TellsMembers result out.old out.new (map named_value named.now.entries) }
+{
+    for (name, value) in named.iter() {
+        out.key(name)?;
+        write_value(alloc, out, value)?;
+    }
+    Ok(())
+}
+
+/// Writes the properties by their names. An error is want of memory.
+#[tactic(auto, using(crate::proofs::Written::object_told))]
+pub(crate) fn write_prop(
+    alloc: Global,
+    out: &mut JsonText,
+    values: &[PropertyValue],
+) -> Result<(), AllocError>
+    ensures { Tells result out.old out.new (prop_data values.now) }
+{
+    let named = named_values(alloc, values)?;
+    out.begin_object()?;
+    write_each_value(alloc, out, &named)?;
+    out.end_object()
 }

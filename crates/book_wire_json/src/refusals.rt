@@ -1,54 +1,60 @@
 //! The bodies of refusals.
 
-ghost use Rattle.std.specs.Prelude.{◌≡◌, IfOk, string_bytes};
-ghost use Rattle.serde_json.specs.View.{view};
+ghost use Rattle.std.specs.Prelude.{◌≡◌, IfOk};
 ghost use Rattle.serde_json.specs.Written.{compact_text};
 ghost use Rattle.book_wire_json.specs.Refusals.{named, faulty_card, denial_data, refusal_data};
+ghost use Rattle.book_wire_json.specs.Writing.{Tells};
 
-use crate::denials::entry_value;
+use crate::denials::write_entry;
+use crate::writing::JsonText;
 use book_machine::{Denial, Refusal};
-use serde_json::{Value, json};
 use std::alloc::{AllocError, Global};
 
-/// An error by its name. An error is want of memory.
-fn named(alloc: Global, name: &str) -> Result<Value, AllocError>
-    ensures { IfOk result (λ value. view value ≡ named name.now) }
+/// Writes an error by its name. An error is want of memory.
+fn write_named(out: &mut JsonText, name: &str) -> Result<(), AllocError>
+    ensures { Tells result out.old out.new (named name.now) }
 {
-    json!(in alloc; {"error": name})
+    out.begin_object()?;
+    out.string_member("error", name)?;
+    out.end_object()
 }
 
-/// A faulty card: the name of its fault, and the line. An error is want of memory.
-fn faulty_card(alloc: Global, fault: &str, line: u64) -> Result<Value, AllocError>
-    ensures { IfOk result (λ value. view value ≡ faulty_card fault.now line) }
+/// Writes a faulty card: the name of its fault, and the line. An error is want of memory.
+fn write_faulty_card(out: &mut JsonText, fault: &str, line: u64) -> Result<(), AllocError>
+    ensures { Tells result out.old out.new (faulty_card fault.now line) }
 {
-    json!(in alloc; {"error": "bad-card", "fault": fault, "line": line})
+    out.begin_object()?;
+    out.string_member("error", "bad-card")?;
+    out.string_member("fault", fault)?;
+    out.number_member("line", line)?;
+    out.end_object()
 }
 
-/// A denial (RFC 3744, section 7.1.1). An error is want of memory.
-fn denial_value(alloc: Global, denial: &Denial) -> Result<Value, AllocError>
-    ensures { IfOk result (λ value. view value ≡ denial_data denial.now) }
+/// Writes a denial (RFC 3744, section 7.1.1). An error is want of memory.
+fn write_denial(alloc: Global, out: &mut JsonText, denial: &Denial) -> Result<(), AllocError>
+    ensures { Tells result out.old out.new (denial_data denial.now) }
 {
-    let entry = entry_value(alloc, &denial.entry)?;
     let resource = denial.resource.text(alloc)?;
-    json!(in alloc; {
-        "entry": &entry,
-        "error": "need-privileges",
-        "privilege": denial.privilege.name(),
-        "resource": resource.as_str()
-    })
+    out.begin_object()?;
+    out.key("entry")?;
+    write_entry(alloc, out, &denial.entry)?;
+    out.string_member("error", "need-privileges")?;
+    out.string_member("privilege", denial.privilege.name())?;
+    out.string_member("resource", resource.as_str())?;
+    out.end_object()
 }
 
-/// What a refusal says. An error is want of memory.
-fn refusal_value(alloc: Global, refusal: &Refusal) -> Result<Value, AllocError>
-    ensures { IfOk result (λ value. view value ≡ refusal_data refusal.now) }
+/// Writes what a refusal says. An error is want of memory.
+fn write_refusal(alloc: Global, out: &mut JsonText, refusal: &Refusal) -> Result<(), AllocError>
+    ensures { Tells result out.old out.new (refusal_data refusal.now) }
 {
     match refusal {
         Refusal::BadCard(fault) => {
             let kind = fault.kind;
             let name = format!(in alloc; "{kind}")?;
-            faulty_card(alloc, name.as_str(), fault.line as u64)
+            write_faulty_card(out, name.as_str(), fault.line as u64)
         }
-        Refusal::NeedPrivileges(denial) => denial_value(alloc, denial.denial()),
+        Refusal::NeedPrivileges(denial) => write_denial(alloc, out, denial.denial()),
         Refusal::BadRequest
         | Refusal::UnknownCaller
         | Refusal::NoProtectedAceConflict
@@ -63,14 +69,16 @@ fn refusal_value(alloc: Global, refusal: &Refusal) -> Result<Value, AllocError>
         | Refusal::Overwrite
         | Refusal::BodyOnMkcol
         | Refusal::Full
-        | Refusal::Unavailable => named(alloc, refusal.name()),
+        | Refusal::Unavailable => write_named(out, refusal.name()),
     }
 }
 
 /// The body of a refusal (RFC 3744, section 7.1.1; own profile): compact JSON, the keys in byte order. An error is
 /// want of memory.
-pub fn refusal_body(alloc: Global, refusal: &Refusal) -> Result<String, AllocError>
-    ensures { IfOk result (λ text. string_bytes text ≡ compact_text (refusal_data refusal.now)) }
+pub fn refusal_body(alloc: Global, refusal: &Refusal) -> Result<Vec<u8>, AllocError>
+    ensures { IfOk result (λ bytes. bytes.items ≡ compact_text (refusal_data refusal.now)) }
 {
-    refusal_value(alloc, refusal)?.to_string(alloc)
+    let mut out = JsonText::new(alloc);
+    write_refusal(alloc, &mut out, refusal)?;
+    Ok(out.into_bytes())
 }

@@ -1,41 +1,59 @@
 //! What decides each leaf.
 
-ghost use Rattle.std.specs.Prelude.{◌≡◌, map, IfOk, string_bytes};
+ghost use Rattle.std.specs.Prelude.{◌≡◌, map, IfOk};
 ghost use Rattle.serde_json.specs.Data.{array};
-ghost use Rattle.serde_json.specs.View.{items_of, view};
+ghost use Rattle.serde_json.specs.View.{items_of};
 ghost use Rattle.serde_json.specs.Written.{compact_text};
 ghost use Rattle.book_wire_json.specs.Rulings.{ruling_data, rulings_data};
+ghost use Rattle.book_wire_json.specs.Writing.{Tells, TellsEach};
 
-use crate::denials::entry_value;
+use crate::denials::write_entry;
+use crate::writing::JsonText;
 use book_office_listings::Ruling;
-use serde_json::{Value, json};
 use std::alloc::{AllocError, Global};
 
-/// What the report says of a leaf. An error is want of memory.
-fn ruling_value(alloc: Global, ruling: &Ruling) -> Result<Value, AllocError>
-    ensures { IfOk result (λ value. view value ≡ ruling_data ruling.now) }
+/// Writes what the report says of a leaf. An error is want of memory.
+fn write_ruling(alloc: Global, out: &mut JsonText, ruling: &Ruling) -> Result<(), AllocError>
+    ensures { Tells result out.old out.new (ruling_data ruling.now) }
 {
-    let entry = entry_value(alloc, &ruling.entry)?;
-    json!(in alloc; {"entry": entry, "grant": ruling.grant, "privilege": ruling.leaf.name()})
+    out.begin_object()?;
+    out.key("entry")?;
+    write_entry(alloc, out, &ruling.entry)?;
+    out.key("grant")?;
+    out.boolean(ruling.grant)?;
+    out.string_member("privilege", ruling.leaf.name())?;
+    out.end_object()
 }
 
-/// What the report says of each leaf. An error is want of memory.
-fn leaves_value(alloc: Global, rulings: &[Ruling]) -> Result<Value, AllocError>
-    ensures { IfOk result (λ value. view value ≡ array (items_of (map ruling_data rulings.now))) }
+/// Writes what the report says of each leaf. An error is want of memory.
+fn write_each(alloc: Global, out: &mut JsonText, rulings: &[Ruling]) -> Result<(), AllocError>
+    ensures { TellsEach result out.old out.new (map ruling_data rulings.now) }
 {
-    let mut list = Vec::with_capacity(alloc, rulings.len())?;
     for ruling in rulings {
-        list.push(ruling_value(alloc, ruling)?)?;
+        write_ruling(alloc, out, ruling)?;
     }
-    Ok(Value::Array(list))
+    Ok(())
 }
 
-/// What the report says. An error is want of memory.
-fn rulings_value(alloc: Global, rulings: &[Ruling]) -> Result<Value, AllocError>
-    ensures { IfOk result (λ value. view value ≡ rulings_data rulings.now) }
+/// Writes what the report says of the leaves. An error is want of memory.
+#[tactic(auto, using(crate::proofs::Written::array_told))]
+fn write_leaves(alloc: Global, out: &mut JsonText, rulings: &[Ruling]) -> Result<(), AllocError>
+    ensures { Tells result out.old out.new (array (items_of (map ruling_data rulings.now))) }
 {
-    let leaves = leaves_value(alloc, rulings)?;
-    json!(in alloc; {"leaves": leaves})
+    out.begin_array()?;
+    write_each(alloc, out, rulings)?;
+    out.end_array()
+}
+
+/// Writes what the report says. An error is want of memory.
+#[tactic(auto, using(crate::proofs::Written::added_one))]
+fn write_rulings(alloc: Global, out: &mut JsonText, rulings: &[Ruling]) -> Result<(), AllocError>
+    ensures { Tells result out.old out.new (rulings_data rulings.now) }
+{
+    out.begin_object()?;
+    out.key("leaves")?;
+    write_leaves(alloc, out, rulings)?;
+    out.end_object()
 }
 
 /// The body of the reply to a report on what decides each leaf (own profile): compact JSON, the keys in byte order.
@@ -43,9 +61,10 @@ fn rulings_value(alloc: Global, rulings: &[Ruling]) -> Result<Value, AllocError>
 /// # Errors
 ///
 /// Want of memory.
-#[tactic(auto, using(crate::proofs::NoFloats::rulings_plain))]
-pub fn rulings_body(alloc: Global, rulings: &[Ruling]) -> Result<String, AllocError>
-    ensures { IfOk result (λ text. string_bytes text ≡ compact_text (rulings_data rulings.now)) }
+pub fn rulings_body(alloc: Global, rulings: &[Ruling]) -> Result<Vec<u8>, AllocError>
+    ensures { IfOk result (λ bytes. bytes.items ≡ compact_text (rulings_data rulings.now)) }
 {
-    rulings_value(alloc, rulings)?.to_string(alloc)
+    let mut out = JsonText::new(alloc);
+    write_rulings(alloc, &mut out, rulings)?;
+    Ok(out.into_bytes())
 }

@@ -1,15 +1,16 @@
 //! Sync reports.
 
-ghost use Rattle.std.specs.Prelude.{◌≡◌, ◌++◌, map, IfOk, OnOk, string_bytes};
+ghost use Rattle.std.specs.Prelude.{◌≡◌, ◌++◌, map, IfOk, Some, string_bytes};
 ghost use Rattle.serde_json.specs.Data.{array};
-ghost use Rattle.serde_json.specs.View.{items_of, view};
+ghost use Rattle.serde_json.specs.View.{items_of};
 ghost use Rattle.serde_json.specs.Written.{compact_text};
 ghost use Rattle.book_office_values.specs.Paths.{book_path, card_path};
-ghost use Rattle.book_wire_json.specs.SyncReports.{changed_data, item_data, remaining_data, report_data};
+ghost use Rattle.book_wire_json.specs.SyncReports.{changed_data, item_data, remaining_data, report_data, status_data};
+ghost use Rattle.book_wire_json.specs.Writing.{Tells, TellsEach};
 
+use crate::writing::JsonText;
 use book_lists::Name;
 use book_office_sync::{Found, Item, Report};
-use serde_json::{Value, json};
 use std::alloc::{AllocError, Global};
 
 /// The path of a book. An error is want of memory.
@@ -29,81 +30,94 @@ pub(crate) fn card_href(alloc: Global, book: &Name, card: &Name) -> Result<Strin
     format!(in alloc; "/books/{book}/{card}")
 }
 
-/// What a report says of a name. An error is want of memory.
-fn changed_value(
-    alloc: Global,
-    href: &str,
-    number: u64,
-    found: &Option<Found>,
-) -> Result<Value, AllocError>
-    ensures { IfOk result (λ value. view value ≡ changed_data href.now number found.now) }
+/// Writes what a report says of a card that is there and may be read. An error is want of memory.
+fn write_found(out: &mut JsonText, href: &str, number: u64, found: &Found) -> Result<(), AllocError>
+    ensures { Tells result out.old out.new (changed_data href.now number (Some found.now)) }
 {
-    match found {
-        Some(found) => json!(in alloc; {
-            "displayname": found.label.as_str(),
-            "href": href,
-            "number": number,
-            "status": 200u64,
-            "text": found.text.as_str()
-        }),
-        None => json!(in alloc; {"href": href, "status": 404u64}),
-    }
+    out.begin_object()?;
+    out.string_member("displayname", found.label.as_str())?;
+    out.string_member("href", href)?;
+    out.number_member("number", number)?;
+    out.number_member("status", 200)?;
+    out.string_member("text", found.text.as_str())?;
+    out.end_object()
 }
 
-/// What a report says of an item. An error is want of memory.
-fn item_value(alloc: Global, book: &Name, item: &Item) -> Result<Value, AllocError>
-    ensures { IfOk result (λ value. view value ≡ item_data book.now item.now) }
+/// Writes a path with a status alone. An error is want of memory.
+fn write_status(out: &mut JsonText, href: &str, status: u64) -> Result<(), AllocError>
+    ensures { Tells result out.old out.new (status_data href.now status) }
+{
+    out.begin_object()?;
+    out.string_member("href", href)?;
+    out.number_member("status", status)?;
+    out.end_object()
+}
+
+/// Writes what a report says of an item. An error is want of memory.
+fn write_item(alloc: Global, out: &mut JsonText, book: &Name, item: &Item) -> Result<(), AllocError>
+    ensures { Tells result out.old out.new (item_data book.now item.now) }
 {
     let href = card_href(alloc, book, &item.name)?;
-    changed_value(alloc, href.as_str(), item.number, &item.found)
-}
-
-/// What a report says of each item. An error is want of memory.
-fn item_values(alloc: Global, book: &Name, items: &[Item]) -> Result<Vec<Value>, AllocError>
-    ensures { IfOk result (λ list. map view list.items ≡ map (item_data book.now) items.now) }
-{
-    let mut list = Vec::with_capacity(alloc, items.len())?;
-    for item in items {
-        list.push(item_value(alloc, book, item)?)?;
+    match &item.found {
+        Some(found) => write_found(out, href.as_str(), item.number, found),
+        None => write_status(out, href.as_str(), 404),
     }
-    Ok(list)
 }
 
-/// Adds that changes remain, where they do. An error is want of memory.
-fn push_remaining(
+/// Writes what a report says of each item. An error is want of memory.
+fn write_items(
     alloc: Global,
-    list: &mut Vec<Value>,
+    out: &mut JsonText,
     book: &Name,
-    truncated: bool,
+    items: &[Item],
 ) -> Result<(), AllocError>
-    ensures { OnOk result (map view list.new.items ≡ map view list.old.items ++ remaining_data book.now truncated) }
+    ensures { TellsEach result out.old out.new (map (item_data book.now) items.now) }
 {
-    if truncated {
-        let href = book_href(alloc, book)?;
-        let told = json!(in alloc; {"href": href, "status": 507u64})?;
-        list.push(told)?;
+    for item in items {
+        write_item(alloc, out, book, item)?;
     }
     Ok(())
 }
 
-/// The responses of a report. An error is want of memory.
-fn responses_value(alloc: Global, report: &Report) -> Result<Value, AllocError>
-    ensures { IfOk result (λ value. view value ≡ array (items_of
+/// Writes that changes remain, where they do. An error is want of memory.
+fn write_remaining(
+    alloc: Global,
+    out: &mut JsonText,
+    book: &Name,
+    truncated: bool,
+) -> Result<(), AllocError>
+    ensures { TellsEach result out.old out.new (remaining_data book.now truncated) }
+{
+    if truncated {
+        let href = book_href(alloc, book)?;
+        write_status(out, href.as_str(), 507)?;
+    }
+    Ok(())
+}
+
+/// Writes the responses of a report. An error is want of memory.
+#[tactic(auto, using(crate::proofs::Written::array_told, crate::proofs::Written::told_append))]
+fn write_responses(alloc: Global, out: &mut JsonText, report: &Report) -> Result<(), AllocError>
+    ensures { Tells result out.old out.new (array (items_of
         (map (item_data report.now.token.book) report.now.items ++ remaining_data report.now.token.book report.now.truncated))) }
 {
     let book = &report.token.book;
-    let mut list = item_values(alloc, book, report.items.as_slice())?;
-    push_remaining(alloc, &mut list, book, report.truncated)?;
-    Ok(Value::Array(list))
+    out.begin_array()?;
+    write_items(alloc, out, book, report.items.as_slice())?;
+    write_remaining(alloc, out, book, report.truncated)?;
+    out.end_array()
 }
 
-/// What a report says. An error is want of memory.
-fn report_value(alloc: Global, report: &Report) -> Result<Value, AllocError>
-    ensures { IfOk result (λ value. view value ≡ report_data report.now) }
+/// Writes what a report says. An error is want of memory.
+fn write_report(alloc: Global, out: &mut JsonText, report: &Report) -> Result<(), AllocError>
+    ensures { Tells result out.old out.new (report_data report.now) }
 {
-    let responses = responses_value(alloc, report)?;
     let token = report.token.text(alloc)?;
-    json!(in alloc; {"responses": responses, "sync-token": token})
+    out.begin_object()?;
+    out.key("responses")?;
+    write_responses(alloc, out, report)?;
+    out.string_member("sync-token", token.as_str())?;
+    out.end_object()
 }
 
 /// The body of the reply to a sync report (RFC 6578, section 3; own profile): compact JSON, the keys in byte order.
@@ -111,9 +125,10 @@ fn report_value(alloc: Global, report: &Report) -> Result<Value, AllocError>
 /// # Errors
 ///
 /// Want of memory.
-#[tactic(auto, using(crate::proofs::NoFloats::report_plain))]
-pub fn report_body(alloc: Global, report: &Report) -> Result<String, AllocError>
-    ensures { IfOk result (λ text. string_bytes text ≡ compact_text (report_data report.now)) }
+pub fn report_body(alloc: Global, report: &Report) -> Result<Vec<u8>, AllocError>
+    ensures { IfOk result (λ bytes. bytes.items ≡ compact_text (report_data report.now)) }
 {
-    report_value(alloc, report)?.to_string(alloc)
+    let mut out = JsonText::new(alloc);
+    write_report(alloc, &mut out, report)?;
+    Ok(out.into_bytes())
 }

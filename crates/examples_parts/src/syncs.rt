@@ -4,13 +4,15 @@
 //! bob: `a.vcf` with the label A and the text one, and `b.vcf` with the label B and the text two. Everyone may read the
 //! books, but ann not `b.vcf`: its own list denies it, before the list of `/books` grants it.
 
+ghost use Rattle.book_office_sync.specs.Copies.{IsLimit};
+
 use crate::checks::{check_fact, check_text};
 use book_lists::{Caller, Entry, Name, Pairs, Principal, Who};
 use book_office::{
     Book, Changes, Edit, Items, Keeper, MemoryKeeper, NameMap, Office, Properties, StoredCard, Text,
 };
 use book_office_sync::{
-    Item, Replica, Token, apply_report, edits_lead_on, sync_report,
+    Item, Limit, Replica, Token, apply_report, edits_lead_on, sync_report,
     synced_copies_are_the_readable_book,
 };
 use book_rights::{Leaf, Privilege};
@@ -144,6 +146,18 @@ fn edit(rt: &impl Abort, alloc: Global, line: &str) -> Edit {
     }
 }
 
+/// The limit that a word says; none where there is no word.
+fn limit(rt: &impl Abort, word: &str) -> Option<u32>
+    ensures { IsLimit result }
+{
+    if word.is_empty() {
+        return None;
+    }
+    let count = word.parse::<u64>().ok().expect(rt, "a number");
+    let limit = Limit::new(count).expect(rt, "a limit");
+    Some(limit.count())
+}
+
 fn tell(rt: &impl Abort, answer: &mut String, item: &Item) {
     let number = item.number;
     let name = item.name.text();
@@ -157,7 +171,8 @@ fn tell(rt: &impl Abort, answer: &mut String, item: &Item) {
     }
 }
 
-/// The report of a line `sync CALLER BOOK TOKEN`, where `-` is nobody and no token; the replica takes it over.
+/// The report of a line `sync CALLER BOOK TOKEN LIMIT`, where `-` is nobody and no token, and the limit may be left out; the
+/// replica takes it over.
 fn sync<K: Keeper>(
     rt: &impl Abort,
     alloc: Global,
@@ -172,7 +187,8 @@ fn sync<K: Keeper>(
     let circle = keeper.circle(alloc, &caller).expect(rt, "memory");
     let book = name(rt, alloc, word(line, 2));
     let token = Token::parse(alloc, word(line, 3)).expect(rt, "memory");
-    let report = sync_report(alloc, keeper, &circle, &book, token.as_ref());
+    let limit = limit(rt, word(line, 4));
+    let report = sync_report(alloc, keeper, &circle, &book, token.as_ref(), limit);
     let mut answer = String::new(alloc);
     let Some(report) = report.expect(rt, "memory") else {
         answer.push_str("not valid").expect(rt, "memory");
@@ -182,9 +198,11 @@ fn sync<K: Keeper>(
     for item in report.items.as_slice() {
         tell(rt, &mut answer, item);
     }
-    check_fact(rt, !report.truncated, line);
     let token = report.token.text(alloc).expect(rt, "memory");
     answer.push_str(token.as_str()).expect(rt, "memory");
+    if report.truncated {
+        answer.push_str(" more").expect(rt, "memory");
+    }
     answer
 }
 
@@ -333,4 +351,54 @@ const TOKENS: &[(&str, &str)] = &[
 #[test]
 fn tokens_name_a_book_an_epoch_and_a_number(rt: HostRuntime) {
     follow(&rt, rt.alloc(), TOKENS);
+}
+
+/// A limit counts items: the initial report leaves out what may not be read before it counts, and a later one counts what is
+/// told as removed. A report of as many items as its limit is whole. Others edit between two pages.
+const PAGES_OF_ANN: &[(&str, &str)] = &[
+    ("put c.vcf three", ""),
+    ("put d.vcf four", ""),
+    ("remove d.vcf", ""),
+    (
+        "sync ann sales - 1",
+        "1 a.vcf [A] one\ndata:,sales/4/1 more",
+    ),
+    (
+        "sync ann sales - 2",
+        "1 a.vcf [A] one\n3 c.vcf [] three\ndata:,sales/4/5",
+    ),
+    (
+        "sync bob sales - 2",
+        "1 a.vcf [A] one\n2 b.vcf [B] two\ndata:,sales/4/2 more",
+    ),
+    (
+        "sync ann sales data:,sales/4/1 1",
+        "2 b.vcf removed\ndata:,sales/4/2 more",
+    ),
+    ("put a.vcf five", ""),
+    (
+        "sync ann sales data:,sales/4/2 2",
+        "3 c.vcf [] three\n5 d.vcf removed\ndata:,sales/4/5 more",
+    ),
+    (
+        "sync ann sales data:,sales/4/5 1",
+        "6 a.vcf [A] five\ndata:,sales/4/6",
+    ),
+    ("has a.vcf", "6 [A] five"),
+    ("has c.vcf", "3 [] three"),
+    ("cards", "2"),
+];
+
+#[test]
+fn pages_make_the_replica_that_ann_may_read(rt: HostRuntime) {
+    follow(&rt, rt.alloc(), PAGES_OF_ANN);
+}
+
+/// A limit is from 1 to 10,000.
+#[test]
+fn limits_have_a_range(rt: HostRuntime) {
+    check_fact(&rt, Limit::new(0).is_none(), "0");
+    check_fact(&rt, Limit::new(1).is_some(), "1");
+    check_fact(&rt, Limit::new(10_000).is_some(), "10,000");
+    check_fact(&rt, Limit::new(10_001).is_none(), "10,001");
 }

@@ -188,9 +188,14 @@ fn ask_changes<K: Keeper>(
     answer: &mut String,
     book: &str,
     after: &str,
+    most: &str,
 ) {
     let book = name(rt, alloc, book);
-    let changes = keeper.changes_after(alloc, &book, number(rt, after));
+    let most = match most {
+        "" => None,
+        said => Some(u32::try_from(number(rt, said)).ok().expect(rt, "a count")),
+    };
+    let changes = keeper.changes_after(alloc, &book, number(rt, after), most);
     let changes = changes.expect(rt, "memory");
     for change in changes.as_slice() {
         tell_change(rt, answer, change);
@@ -231,7 +236,15 @@ pub(crate) fn ask<K: Keeper>(rt: &impl Abort, alloc: Global, keeper: &mut K, lin
         "children" => ask_children(rt, alloc, keeper, &mut answer, at),
         "lists" => ask_lists(rt, alloc, keeper, &mut answer, at),
         "effective" => ask_effective(rt, alloc, keeper, &mut answer, at),
-        "changes" => ask_changes(rt, alloc, keeper, &mut answer, at, word(line, 2)),
+        "changes" => ask_changes(
+            rt,
+            alloc,
+            keeper,
+            &mut answer,
+            at,
+            word(line, 2),
+            word(line, 3),
+        ),
         "belongs" => {
             let belongs = belongs(rt, alloc, keeper, at, word(line, 2));
             write!(answer, "{belongs}").expect(rt, "memory");

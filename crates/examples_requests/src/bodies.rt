@@ -5,7 +5,8 @@
 //! - nothing is no body, `unread` one that could not be read, and a name of `words` or any other word a text;
 //! - `label TEXT` and `label-of NUMBER`, so many bytes, are labels;
 //! - `members PATH ..`, `persons NUMBER` and `persons-twice NUMBER` are lists of members;
-//! - `sync` asks for the report on a book from the start, and `sync TOKEN` after a token; `group-members` asks for the
+//! - `sync` asks for the report on a book from the start, and `sync TOKEN` after a token; `page LIMIT` and
+//!   `page LIMIT TOKEN` ask for so many items of it; `group-members` asks for the
 //!   members of a card, `names` for the names of the cards of a book, and `effective` and `effective PERSON` for what
 //!   decides each leaf for nobody and for a person;
 //! - `list ENTRY ; ENTRY ..` is a list of entries, and `entries NUMBER` so many that let all read. An entry is
@@ -13,7 +14,7 @@
 
 use crate::words::{form, number, principal, text, text_named, word};
 use book_lists::{Caller, Principal, Submitted, Who};
-use book_machine::{Body, Depth, Patch, Property, ReportKind, SyncFrom, Token};
+use book_machine::{Body, Depth, Limit, Patch, Property, ReportKind, SyncFrom, SyncRequest, Token};
 use book_office::Items;
 use book_rights::{LeafSet, Privilege};
 use std::alloc::Global;
@@ -174,6 +175,18 @@ fn place(rt: &impl Abort, alloc: Global, word: &str) -> SyncFrom {
     }
 }
 
+/// A sync report from a place, with a limit if the line says one.
+fn sync(rt: &impl Abort, alloc: Global, place_word: &str, limit: &str) -> ReportKind {
+    let limit = match limit {
+        "" => None,
+        said => Some(Limit::new(number(rt, said)).expect(rt, "a limit")),
+    };
+    ReportKind::SyncCollection(SyncRequest {
+        from: place(rt, alloc, place_word),
+        limit,
+    })
+}
+
 /// Who is asked about: nobody, or a person.
 fn asked_about(rt: &impl Abort, alloc: Global, word: &str) -> Caller {
     if word.is_empty() {
@@ -185,7 +198,8 @@ fn asked_about(rt: &impl Abort, alloc: Global, word: &str) -> Caller {
 /// The report that the line asks for, if it asks for one.
 fn report(rt: &impl Abort, alloc: Global, line: &str) -> Option<ReportKind> {
     match word(line, 3) {
-        "sync" => Some(ReportKind::SyncCollection(place(rt, alloc, word(line, 4)))),
+        "sync" => Some(sync(rt, alloc, word(line, 4), "")),
+        "page" => Some(sync(rt, alloc, word(line, 5), word(line, 4))),
         "group-members" => Some(ReportKind::GroupMembers),
         "effective" => Some(ReportKind::Effective(asked_about(rt, alloc, word(line, 4)))),
         "names" => Some(ReportKind::Names),

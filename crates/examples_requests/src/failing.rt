@@ -107,9 +107,10 @@ impl Keeper for Failing {
         alloc: Global,
         book: &Name,
         number: u64,
+        at_most: Option<u32>,
     ) -> Result<Items<Changed>, StoreFault> {
         self.pass()?;
-        answered(self.keeper.changes_after(alloc, book, number))
+        answered(self.keeper.changes_after(alloc, book, number, at_most))
     }
 
     fn pairs(&mut self, alloc: Global) -> Result<Pairs, StoreFault> {

@@ -199,11 +199,59 @@ fn reports_are_of_books(rt: HostRuntime) {
     run_on(&rt, rt.alloc(), &[], REFUSED);
 }
 
+/// The worked example of three pages, each of at most two items: a page that is cut has the number of its last item as its
+/// token, and the last page is whole. What a page told of a name goes on in the next where it changed in between.
+const PAGES: &[Step] = &[
+    ("adopt office", "changed, epoch 1"),
+    ("bob PUT /books/sales/b.vcf BO", "201"),
+    ("bob PUT /books/sales/h.vcf BO", "201"),
+    ("ann PUT /books/sales/p.vcf CARD_P", "201"),
+    ("ann PUT /books/sales/g.vcf BELL", "201"),
+    ("ann DELETE /books/sales/b.vcf", "204"),
+    ("ann ACL /books/sales/h.vcf list deny owner read", "200"),
+    (
+        "bob REPORT /books/sales page 1",
+        "207\n3 p.vcf [] 59 bytes\ndata:,sales/2/3 more",
+    ),
+    (
+        "bob REPORT /books/sales page 2",
+        "207\n3 p.vcf [] 59 bytes\n4 g.vcf [] 47 bytes\ndata:,sales/2/5",
+    ),
+    (
+        "bob REPORT /books/sales page 2 data:,sales/2/0",
+        "207\n2 h.vcf removed\n3 p.vcf [] 59 bytes\ndata:,sales/2/3 more",
+    ),
+    ("ann PUT /books/sales/p.vcf BO", "204"),
+    (
+        "bob REPORT /books/sales page 2 data:,sales/2/3",
+        "207\n4 g.vcf [] 47 bytes\n5 b.vcf removed\ndata:,sales/2/5 more",
+    ),
+    (
+        "bob REPORT /books/sales page 2 data:,sales/2/5",
+        "207\n6 p.vcf [] 44 bytes\ndata:,sales/2/6",
+    ),
+    (
+        "bob REPORT /books/sales page 10000 data:,sales/2/6",
+        "207\ndata:,sales/2/6",
+    ),
+    (
+        "bob REPORT /books/sales page 2 data:,sales/2/7",
+        "403 valid-sync-token",
+    ),
+];
+
+#[test]
+fn reports_are_told_page_by_page(rt: HostRuntime) {
+    run_on_new(&rt, rt.alloc(), PAGES);
+}
+
 /// What bob has of the book of sales, and his token; empty before the first report.
 #[derive(Drop)]
 struct Kept {
     replica: Replica,
     token: String,
+    /// Whether changes remain.
+    more: bool,
 }
 
 fn take_over(rt: &impl Abort, alloc: Global, kept: &mut Kept, reply: &Reply) {
@@ -211,19 +259,27 @@ fn take_over(rt: &impl Abort, alloc: Global, kept: &mut Kept, reply: &Reply) {
         Content::Synced(report) => {
             apply_report(&mut kept.replica, report).expect(rt, "memory");
             kept.token = report.token.text(alloc).expect(rt, "memory");
+            kept.more = report.truncated;
         }
         _ => {
             kept.replica = Replica::new(alloc);
             kept.token = String::new(alloc);
+            kept.more = true;
         }
     }
 }
 
-/// Asks for the report after the token, and takes it over. Where the token is refused, the next report is the initial
-/// one.
-fn sync(rt: &impl Abort, alloc: Global, machine: &mut Machine<MemoryKeeper>, kept: &mut Kept) {
+/// Asks for the report after the token, and takes it over: for all of it by `sync`, and for a page of it by `page LIMIT`.
+/// Where the token is refused, the next report is the initial one.
+fn sync(
+    rt: &impl Abort,
+    alloc: Global,
+    machine: &mut Machine<MemoryKeeper>,
+    kept: &mut Kept,
+    asked: &str,
+) {
     let token = kept.token.as_str();
-    let line = format!(in alloc; "bob REPORT /books/sales sync {token}").expect(rt, "memory");
+    let line = format!(in alloc; "bob REPORT /books/sales {asked} {token}").expect(rt, "memory");
     let request = request(rt, alloc, line.as_str());
     let reply = machine.serve(alloc, Some("bob"), &request);
     take_over(rt, alloc, kept, &reply);
@@ -270,14 +326,14 @@ fn take(
     line: &str,
     wanted: &str,
 ) {
-    if word(line, 0) != "sync" {
+    if word(line, 0) != "sync" && word(line, 0) != "page" {
         let told = answer(rt, alloc, machine, line);
         assert_eq!(rt; told.as_str(), wanted, "{line}");
         return;
     }
-    sync(rt, alloc, machine, kept);
+    sync(rt, alloc, machine, kept, line);
     assert_eq!(rt; kept.token.as_str(), wanted);
-    if !wanted.is_empty() {
+    if !kept.more {
         check_copy(rt, alloc, machine, &kept.replica);
     }
 }
@@ -304,24 +360,56 @@ const COPY: &[Step] = &[
     ("sync", "data:,sales/2/8"),
 ];
 
-#[test]
-fn a_copy_is_what_may_be_read(rt: HostRuntime) {
-    let alloc = rt.alloc();
+/// The same by pages: while one remains the copy lags behind, and after the last page it is what bob may read, whatever
+/// others did between two pages.
+const COPY_BY_PAGES: &[Step] = &[
+    ("ann PUT /books/sales/a.vcf BO", "201"),
+    ("ann PUT /books/sales/b.vcf BELL", "201"),
+    ("ann PUT /books/sales/c.vcf BO", "201"),
+    ("page 1", "data:,sales/1/1"),
+    ("ann DELETE /books/sales/a.vcf", "204"),
+    ("ann PUT /books/sales/b.vcf BO", "204"),
+    ("page 1", "data:,sales/1/3"),
+    ("page 1", "data:,sales/1/4"),
+    ("ann PUT /books/sales/a.vcf BELL", "201"),
+    ("ann PUT /books/sales/d.vcf BO", "201"),
+    ("ann DELETE /books/sales/c.vcf", "204"),
+    ("page 2", "data:,sales/1/6"),
+    ("page 2", "data:,sales/1/8"),
+    (
+        "ann ACL /books/sales/a.vcf list deny /people/bob read",
+        "200",
+    ),
+    ("page 1", ""),
+    ("page 1", "data:,sales/2/5"),
+    ("ann PUT /books/sales/a.vcf BO", "204"),
+    ("page 3", "data:,sales/2/9"),
+];
+
+/// Takes the steps with a new copy, on a new Office with the policy of the examples.
+fn keep_copy(rt: &impl Abort, alloc: Global, steps: &[Step]) {
     let mut machine = Machine::new(MemoryKeeper::new(alloc));
-    follow(
-        &rt,
-        alloc,
-        &mut machine,
-        &[("adopt office", "changed, epoch 1")],
-    );
+    let adopted = &[("adopt office", "changed, epoch 1")];
+    follow(rt, alloc, &mut machine, adopted);
     let mut kept = Kept {
         replica: Replica::new(alloc),
         token: String::new(alloc),
+        more: true,
     };
-    for (line, wanted) in COPY {
-        take(&rt, alloc, &mut machine, &mut kept, line, wanted);
+    for (line, wanted) in steps {
+        take(rt, alloc, &mut machine, &mut kept, line, wanted);
     }
-    assert_eq!(&rt; kept.replica.len(), 2);
+    assert_eq!(rt; kept.replica.len(), 2);
     drop(kept);
     drop(machine);
+}
+
+#[test]
+fn a_copy_is_what_may_be_read(rt: HostRuntime) {
+    keep_copy(&rt, rt.alloc(), COPY);
+}
+
+#[test]
+fn a_copy_of_pages_is_what_may_be_read(rt: HostRuntime) {
+    keep_copy(&rt, rt.alloc(), COPY_BY_PAGES);
 }

@@ -146,6 +146,7 @@ pub(crate) fn tell_report(rt: &impl Abort, alloc: Global, report: &Report) -> St
         tell_item(rt, &mut answer, item);
     }
     let token = report.token.text(alloc).expect(rt, "memory");
-    write!(answer, "\n{token}").expect(rt, "memory");
+    let more = if report.truncated { " more" } else { "" };
+    write!(answer, "\n{token}{more}").expect(rt, "memory");
     answer
 }

@@ -110,8 +110,9 @@ impl Keeper for Stopping {
         alloc: Global,
         book: &Name,
         number: u64,
+        at_most: Option<u32>,
     ) -> Result<Items<Changed>, StoreFault> {
-        self.keeper.changes_after(alloc, book, number)
+        self.keeper.changes_after(alloc, book, number, at_most)
     }
 
     fn pairs(&mut self, alloc: Global) -> Result<Pairs, StoreFault> {

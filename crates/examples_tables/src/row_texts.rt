@@ -163,7 +163,7 @@ pub(crate) fn changed(
     assert!(rt; connection.is_autocommit());
     assert!(rt; after < 1000);
     let mut transaction = connection.transaction();
-    let rows = changed_rows(&mut transaction, id, after).expect(rt, path);
+    let rows = changed_rows(&mut transaction, id, after, None).expect(rt, path);
     told(rt, alloc, &rows, "nttttn")
 }
 
@@ -179,7 +179,7 @@ pub(crate) fn gone(
     assert!(rt; connection.is_autocommit());
     assert!(rt; after < 1000);
     let mut transaction = connection.transaction();
-    let rows = gone_rows(&mut transaction, id, after).expect(rt, path);
+    let rows = gone_rows(&mut transaction, id, after, None).expect(rt, path);
     told(rt, alloc, &rows, "tn")
 }
 

@@ -186,6 +186,48 @@ const REPORTS: Cases = &[
     ),
     (
         "{\"report\":\"sync-collection\",\"sync-token\":\"\",\"limit\":1}",
+        "changes from the start, at most 1",
+    ),
+    (
+        "{\"limit\":10000,\"report\":\"sync-collection\",\"sync-token\":\"data:,sales/2/3\"}",
+        "changes of sales in 2 after 3, at most 10000",
+    ),
+    (
+        "{\"report\":\"sync-collection\",\"sync-token\":\"\",\"limit\":0}",
+        "unread",
+    ),
+    (
+        "{\"report\":\"sync-collection\",\"sync-token\":\"\",\"limit\":10001}",
+        "unread",
+    ),
+    (
+        "{\"report\":\"sync-collection\",\"sync-token\":\"\",\"limit\":1.0}",
+        "unread",
+    ),
+    (
+        "{\"report\":\"sync-collection\",\"sync-token\":\"\",\"limit\":1e3}",
+        "unread",
+    ),
+    (
+        "{\"report\":\"sync-collection\",\"sync-token\":\"\",\"limit\":-1}",
+        "unread",
+    ),
+    (
+        "{\"report\":\"sync-collection\",\"sync-token\":\"\",\"limit\":\"1\"}",
+        "unread",
+    ),
+    (
+        "{\"report\":\"sync-collection\",\"sync-token\":\"\",\"limit\":null}",
+        "unread",
+    ),
+    ("{\"report\":\"group-members\",\"limit\":1}", "unread"),
+    ("{\"report\":\"names\",\"limit\":1}", "unread"),
+    (
+        "{\"report\":\"effective\",\"principal\":null,\"limit\":1}",
+        "unread",
+    ),
+    (
+        "{\"report\":\"sync-collection\",\"sync-token\":null,\"limit\":1}",
         "unread",
     ),
     (

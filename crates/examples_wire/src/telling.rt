@@ -1,7 +1,7 @@
 //! A body of a request, told in words.
 
 use book_lists::{Caller, Submitted, Who};
-use book_machine::{Body, Patch, Property, ReportKind, SyncFrom};
+use book_machine::{Body, Patch, Property, ReportKind, SyncFrom, SyncRequest};
 use book_rights::{Leaf, LeafSet};
 use book_wire_json::body_of;
 use book_wire_targets::method_named;
@@ -61,6 +61,27 @@ fn property_word(property: Property) -> &'static str {
     }
 }
 
+fn tell_sync(rt: &impl Abort, answer: &mut String, asked: &SyncRequest) {
+    match &asked.from {
+        SyncFrom::Start => answer
+            .push_str("changes from the start")
+            .expect(rt, "memory"),
+        SyncFrom::Unknown => answer
+            .push_str("changes from no token")
+            .expect(rt, "memory"),
+        SyncFrom::After(token) => {
+            let book = token.book.text();
+            let epoch = token.epoch;
+            let number = token.number;
+            write!(answer, "changes of {book} in {epoch} after {number}").expect(rt, "memory")
+        }
+    }
+    if let Some(limit) = &asked.limit {
+        let count = limit.count();
+        write!(answer, ", at most {count}").expect(rt, "memory");
+    }
+}
+
 fn tell_report(rt: &impl Abort, answer: &mut String, report: &ReportKind) {
     match report {
         ReportKind::GroupMembers => answer.push_str("group members").expect(rt, "memory"),
@@ -72,22 +93,7 @@ fn tell_report(rt: &impl Abort, answer: &mut String, report: &ReportKind) {
             let person = person.text();
             write!(answer, "effective for {person}").expect(rt, "memory")
         }
-        ReportKind::SyncCollection(SyncFrom::Start) => {
-            answer
-                .push_str("changes from the start")
-                .expect(rt, "memory")
-        }
-        ReportKind::SyncCollection(SyncFrom::Unknown) => {
-            answer
-                .push_str("changes from no token")
-                .expect(rt, "memory")
-        }
-        ReportKind::SyncCollection(SyncFrom::After(token)) => {
-            let book = token.book.text();
-            let epoch = token.epoch;
-            let number = token.number;
-            write!(answer, "changes of {book} in {epoch} after {number}").expect(rt, "memory")
-        }
+        ReportKind::SyncCollection(asked) => tell_sync(rt, answer, asked),
     }
 }
 

@@ -41,7 +41,7 @@ fn push_changes<K: Keeper>(
     keeper: &mut K,
     book: &Listed,
 ) -> Result<()> {
-    let changes = keeper.changes_after(alloc, &book.name, 0);
+    let changes = keeper.changes_after(alloc, &book.name, 0, None);
     let changes = changes.ok().context("changes")?;
     write!(text, "{changes:?}\n")?;
     Ok(())

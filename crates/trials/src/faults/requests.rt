@@ -2,7 +2,9 @@
 
 use crate::faults::failures::Failure;
 use book_lists::{Caller, Name, Principal, Submitted, Who};
-use book_machine::{Body, Depth, Flag, Patch, Property, ReportKind, Request, SyncFrom, Token};
+use book_machine::{
+    Body, Depth, Flag, Patch, Property, ReportKind, Request, SyncFrom, SyncRequest, Token,
+};
 use book_office::{Items, Path, Text};
 use book_rights::{LeafSet, Method, Privilege};
 use std::alloc::{AllocError, Global};
@@ -120,15 +122,20 @@ fn changes_after(alloc: Global, epoch: u64, number: u64) -> Result<SyncFrom, Fai
     }))
 }
 
+/// A sync report without a limit.
+fn whole(from: SyncFrom) -> SyncRequest {
+    SyncRequest { from, limit: None }
+}
+
 fn report(alloc: Global, says: Says) -> Result<ReportKind, Failure> {
     Ok(match says {
         Says::ChangesAfter(epoch, number) => {
-            ReportKind::SyncCollection(changes_after(alloc, epoch, number)?)
+            ReportKind::SyncCollection(whole(changes_after(alloc, epoch, number)?))
         }
         Says::Cards => ReportKind::GroupMembers,
         Says::Names => ReportKind::Names,
         Says::Deciding => ReportKind::Effective(Caller::Known(principal(alloc, "/people/bob")?)),
-        _ => ReportKind::SyncCollection(SyncFrom::Start),
+        _ => ReportKind::SyncCollection(whole(SyncFrom::Start)),
     })
 }
 

@@ -8,8 +8,11 @@ use crate::policies::{ALL_BOOKS, TWO_BOOKS};
 use anyhow::Result;
 use std::alloc::Global;
 
-/// How many requests are chosen.
-const REQUESTS: usize = 1000;
+/// How often the policy is adopted again, so that what was removed or locked is there for the next requests.
+const ROUNDS: usize = 20;
+
+/// How many requests are chosen after each adoption.
+const REQUESTS: usize = 50;
 
 const METHODS: [&str; 12] = [
     "GET",
@@ -26,15 +29,23 @@ const METHODS: [&str; 12] = [
     "REPORT",
 ];
 
-const CALLERS: [&str; 4] = [ANN, BOB, GUS, NOBODY];
+/// Those who may do more are chosen more often.
+const CALLERS: [&str; 6] = [ANN, ANN, BOB, BOB, GUS, NOBODY];
 
-const PATHS: [&str; 10] = [
+/// Books and cards are chosen more often, since most methods are of them.
+const PATHS: [&str; 16] = [
     "/",
     "/people/bob",
     "/groups/staff",
     "/books",
     "/books/sales",
     "/books/law",
+    "/books/sales",
+    "/books/law",
+    "/books/sales/a.vcf",
+    "/books/sales/b.vcf",
+    "/books/law/a.vcf",
+    "/books/law/b.vcf",
     "/books/sales/a.vcf",
     "/books/sales/b.vcf",
     "/books/law/a.vcf",
@@ -44,7 +55,7 @@ const PATHS: [&str; 10] = [
 const DESTINATIONS: [&str; 6] = [
     "Destination: /books/sales/a.vcf\r\n",
     "Destination: /books/sales/b.vcf\r\nOverwrite: F\r\n",
-    "Destination: /books/law/a.vcf\r\n",
+    "Destination: /books/law/a.vcf\r\nOverwrite: F\r\n",
     "Destination: /books/law/b.vcf\r\n",
     "Destination: /books/none/a.vcf\r\n",
     "Overwrite: T\r\n",
@@ -85,8 +96,9 @@ const LISTS: [&str; 8] = [
     "{\"acl\":[{\"grant\":[\"read\"],\"principal\":\"/people/zoe\"}]}",
 ];
 
-const REPORTS: [&str; 5] = [
+const REPORTS: [&str; 6] = [
     "{\"report\":\"sync-collection\",\"sync-token\":\"\"}",
+    "{\"limit\":1,\"report\":\"sync-collection\",\"sync-token\":\"\"}",
     "{\"report\":\"group-members\"}",
     "{\"report\":\"names\"}",
     "{\"principal\":\"/people/bob\",\"report\":\"effective\"}",
@@ -126,7 +138,7 @@ fn body(chooser: &mut Chooser, method: &str) -> &'static str {
         "PROPFIND" => PROPERTIES[chooser.below(3)],
         "PROPPATCH" => SETTINGS[chooser.below(5)],
         "ACL" => LISTS[chooser.below(8)],
-        "REPORT" => REPORTS[chooser.below(5)],
+        "REPORT" => REPORTS[chooser.below(6)],
         _ => "",
     }
 }
@@ -134,22 +146,29 @@ fn body(chooser: &mut Chooser, method: &str) -> &'static str {
 /// Puts the next request at the end of a stream.
 fn push_chosen(alloc: Global, chooser: &mut Chooser, stream: &mut String) -> Result<()> {
     let method = METHODS[chooser.below(12)];
-    let caller = CALLERS[chooser.below(4)];
-    let path = PATHS[chooser.below(10)];
+    let caller = CALLERS[chooser.below(6)];
+    let path = PATHS[chooser.below(16)];
     let lines = lines(chooser, method);
     let body = body(chooser, method);
     push_request(alloc, stream, (caller, method, path, lines, body))
 }
 
-/// All books are opened to the staff, and then the requests are served, the numbers beginning after 1.
-pub(crate) fn chosen_steps(alloc: Global) -> Result<Vec<Step>> {
+/// The next requests, one after the other, on one connection.
+fn chosen_stream(alloc: Global, chooser: &mut Chooser) -> Result<String> {
     let mut stream = String::new(alloc);
-    let mut chooser = Chooser { last: 1 };
     for _ in 0..REQUESTS {
-        push_chosen(alloc, &mut chooser, &mut stream)?;
+        push_chosen(alloc, chooser, &mut stream)?;
     }
+    Ok(stream)
+}
+
+/// In each round all books are opened to the staff, and then the requests are served, the numbers beginning after 1.
+pub(crate) fn chosen_steps(alloc: Global) -> Result<Vec<Step>> {
+    let mut chooser = Chooser { last: 1 };
     let mut steps = Vec::new(alloc);
-    steps.push(Step::Adopt(format!(in alloc; "{TWO_BOOKS}{ALL_BOOKS}")?))?;
-    steps.push(Step::Serve(stream))?;
+    for _ in 0..ROUNDS {
+        steps.push(Step::Adopt(format!(in alloc; "{TWO_BOOKS}{ALL_BOOKS}")?))?;
+        steps.push(Step::Serve(chosen_stream(alloc, &mut chooser)?))?;
+    }
     Ok(steps)
 }

@@ -12,7 +12,7 @@ returns g c =
     record {
       was_honest = λ h. first.was_honest (second.was_honest h);
       value = λ h o stands.
-          items_read o c.args.circle.now c.args.book.now c.args.number c.in_ok-lists.lists c.in_ok-changes.changes c.in_ok-above.above c.in_ok-items_in.field-0
+          items_read o c.args.circle.now c.args.book.now c.args.number c.args.at_most c.in_ok-lists.lists c.in_ok-changes.changes c.in_ok-above.above c.in_ok-items_in.field-0
           (first.value (second.was_honest h) o stands ∙ ap (λ b. lists_at o (path.Book b)) same)
           (second.value h o (first.kept (second.was_honest h) o stands))
           c.in_ok-above.ensures

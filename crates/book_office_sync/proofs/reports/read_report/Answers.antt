@@ -1,4 +1,5 @@
-use Rattle.book_office_sync.proofs.Common.{◌≡◌, ◌∙◌, sym, ap, map, false, Some, option_copied, changes_after, item_of}
+use Rattle.book_office_sync.proofs.Common.{◌≡◌, ◌∙◌, sym, ap, Some, option_copied}
+use Rattle.book_office_sync.specs.Limits.{told_report}
 use Rattle.book_office_sync.proofs.ReadReports.{report_read}
 use Rattle.book_office_sync.proofs.reports.read_report.Goals as goal
 
@@ -16,11 +17,10 @@ returns g c =
           let o1 = first.kept h1 o stands in
           let o2 = second.kept h2 o o1 in
           let told = third.value h o o2 in
-          let is = report_read o c.args.circle.now c.args.book.now (option_copied c.args.token) c.in_ok-name.name c.in_ok-epoch.epoch c.in-Some.number c.in_ok-items.items c.in_ok-number.field-0
-          same (first.value h1 o stands) (second.value h2 o o1) c.in-Some.is (sym c.is_valid.ensures ∙ c.if-not-is_valid.false)
-          (λ x at. told x at ∙ ap (λ n. map (item_of o c.args.circle.now c.args.book.now) (changes_after x.changes.last n)) c.start_of.ensures) in
-          ap (λ items. Some (record { items = items; truncated = false; token = record { book = c.in_ok-name.name; epoch = c.in_ok-epoch.epoch; number = c.in-Some.number } })) c.listed_items.ensures
-          ∙ is;
+          ap Some c.cut_report.ensures
+          ∙ ap (λ start. Some (told_report start c.args.limit c.in_ok-items.items (record { book = c.in_ok-name.name; epoch = c.in_ok-epoch.epoch; number = c.in-Some.number }))) c.start_of.ensures
+          ∙ report_read o c.args.circle.now c.args.book.now (option_copied c.args.token) c.args.limit c.in_ok-name.name c.in_ok-epoch.epoch c.in-Some.number c.in_ok-items.items c.in_ok-number.field-0
+          same (first.value h1 o stands) (second.value h2 o o1) c.in-Some.is (sym c.is_valid.ensures ∙ c.if-not-is_valid.false) (λ x at. told x at);
       kept = λ h o stands. third.kept h o (second.kept (third.was_honest h) o (first.kept (second.was_honest (third.was_honest h)) o stands));
       left = λ h x l. first.left (second.was_honest (third.was_honest h)) x (second.left (third.was_honest h) x (third.left h x l));
       counted = third.counted ∙ second.counted ∙ first.counted;

@@ -9,7 +9,7 @@ returns-clause-copies g c =
     record {
       was_honest = read.was_honest;
       value = λ h. IfOk-weaker c.read_report.result _ _ (λ report told o stands.
-          brings o c.args.circle.now c.args.book.now ((g.K.Keeper.standing c.args.keeper.now).sound o stands) (option_copied c.args.token) report (told o stands)) (read.value h);
+          brings o c.args.circle.now c.args.book.now ((g.K.Keeper.standing c.args.keeper.now).sound o stands) (option_copied c.args.token) c.args.limit report (told o stands)) (read.value h);
       kept = read.kept;
       left = read.left;
       counted = read.counted;

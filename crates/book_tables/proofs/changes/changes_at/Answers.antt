@@ -9,7 +9,7 @@ returns-in_default-clause-shown g c clean =
     let old = state g.S.Store c.args.transaction.now.conn.now in
     let empty : c.new.result.items ≡ [] = search rules in
     let none : c.in_ok-book.field-0 ≡ None = search rules in
-    subst (ShowsChanges old c.args.path.now c.args.number) (sym empty) (none_changed old c.args.path.now c.args.number c.in_ok-book.field-0 none (c.in_ok-book.ensures.found clean))
+    subst (ShowsChanges old c.args.path.now c.args.number c.args.at_most) (sym empty) (none_changed old c.args.path.now c.args.number c.args.at_most c.in_ok-book.field-0 none (c.in_ok-book.ensures.found clean))
 
 pub returns-clause-shown : goal.returns-clause-shown
 returns-clause-shown g c clean =
@@ -23,7 +23,7 @@ returns-clause-shown g c clean =
     let range : FitsSigned w64 c.in-Some.book.id = search rules in
     let id = to_z-of_z w64 c.in-Some.book.id range in
     let front_is : c.as_str.result.now ≡ c.args.path.now ++ codes "/" = search rules in
-    all_changed old first second third c.args.path.now c.as_str.result.now c.args.number c.in-Some.book c.in_ok-book.field-0 c.in-Some.is (c.in_ok-book.ensures.found clean_first)
+    all_changed old first second third c.args.path.now c.as_str.result.now c.args.number c.args.at_most c.in-Some.book c.in_ok-book.field-0 c.in-Some.is (c.in_ok-book.ensures.found clean_first)
     (c.in_ok-book.ensures.stays clean_first) (c.in_ok-cards.ensures.stays clean_second) (c.in_ok-names.ensures.stays clean_third) c.in_ok-cards.cards.items c.in_ok-names.names.items
     (rw id at (c.in_ok-cards.ensures.shown clean_second)) (rw id at (c.in_ok-names.ensures.shown clean_third)) front_is c.in_ok-changes.changes.items c.push_removed.new.changes.items
     (subst (λ l. ShowsCards third c.in-Some.book.id c.as_str.result.now l c.in_ok-changes.changes.items) c.deref.ensures.value (rw id at (c.in_ok-changes.ensures.shown clean)))

@@ -1,6 +1,6 @@
-use Rattle.book_tables.proofs.Common.{rules, ◌≡◌, List, state, HasCleanDisk, LAST_NUMBER, Office, book_path, Changed, ShowsChanges}
+use Rattle.book_tables.proofs.Common.{rules, ◌≡◌, ◌∙◌, List, state, HasCleanDisk, LAST_NUMBER, Office, book_path, Changed, ShowsChanges}
 use Rattle.std.proofs.Common.{min}
-use Rattle.book_office.specs.Resources.{changed_after}
+use Rattle.book_office.specs.Resources.{changed_after, first_of}
 use Rattle.book_tables.proofs.Told.{read_made, read_failed}
 use Rattle.book_tables.proofs.ChangesTold.{changes_told_are}
 use Rattle.book_tables.proofs.tables.Tables.changes_after.Goals as goal
@@ -12,9 +12,10 @@ returns-in-Ok g c =
     let b = c.args.book.now in
     let n = c.args.number in
     let text : c.as_str.result.now ≡ book_path b = search rules in
-    let shows : HasCleanDisk new → ShowsChanges old (book_path b) (min n LAST_NUMBER) c.in-Ok.changes = rw (text, c.up_to_last-after.ensures) at c.in-Ok.ensures.found in
-    read_made old new c.shown_changes.ensures.survives c.shown_changes.ensures.stays c.args.self.now.failures c.in-Ok.changes (λ (o : Office) (changes : List Changed). changes ≡ changed_after o b n)
-    (λ h o stands. changes_told_are old b c.known.ensures n c.in-Ok.changes (shows h) c.in-Ok.ensures.rise o stands)
+    let most = c.args.at_most in
+    let shows : HasCleanDisk new → ShowsChanges old (book_path b) (min n LAST_NUMBER) most c.in-Ok.changes = rw (text, c.up_to_last-after.ensures) at c.in-Ok.ensures.found in
+    read_made old new c.shown_changes.ensures.survives c.shown_changes.ensures.stays c.args.self.now.failures c.first_of.result (λ (o : Office) (changes : List Changed). changes ≡ first_of most (changed_after o b n))
+    (λ h o stands. c.first_of.ensures ∙ changes_told_are old b c.known.ensures n most c.in-Ok.changes (shows h) c.in-Ok.ensures.rise o stands)
 
 pub returns : goal.returns
 returns g c =
@@ -22,4 +23,4 @@ returns g c =
     let new = state g.S.Store c.shown_changes.new.connection in
     let b = c.args.book.now in
     let n = c.args.number in
-    read_failed old new c.shown_changes.ensures.survives c.shown_changes.ensures.stays c.args.self.now.failures _ _ c.fault_of.ensures (λ (o : Office) (changes : List Changed). changes ≡ changed_after o b n)
+    read_failed old new c.shown_changes.ensures.survives c.shown_changes.ensures.stays c.args.self.now.failures _ _ c.fault_of.ensures (λ (o : Office) (changes : List Changed). changes ≡ first_of c.args.at_most (changed_after o b n))
