@@ -11,7 +11,8 @@
 #   make wrong   tries the wrong bodies that are too dear for each run of the gate: each must be refused
 #   make turned  turns meanings of the code, and sees that the example that guards each fails: no proof is tried
 #   make faults  makes stores, memory and disks fail at each point at which they can, and compares what is answered and kept
-#   make bench   builds the program, and prints the processor time that it takes for many workloads
+#   make bench   builds the program, and prints the processor time that it takes for many workloads, and the instructions
+#                of requests at two sizes of what they should not rest on
 #   make figures builds the program, and prints what its requests over a store in a file take
 #   make clients tests the gateway with clients as they are: vdirsyncer, khard, curl, nginx, Chromium (gateway/packages.txt)
 #   make gateway-demo runs the server and the gateway with two persons, for at most an hour
@@ -58,6 +59,7 @@ faults:
 
 bench: build
 	@tools/bench build/book_desk
+	@tools/counts build/book_desk
 
 figures: build
 	@tools/figures build/book_desk
