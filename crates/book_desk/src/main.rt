@@ -1,8 +1,8 @@
 //! The program `book_desk` of the shared contact books. Its words are read by `book_desk_words`. `book_desk_app` does
 //! the rest, over any store, reader and writers: `run_text` what `explain`, `card` and help do, `run` what `import`,
-//! `audit` and `pipe` do, and `run_migration` and `serve` what the commands of their names do. Their contracts say what
-//! is written where these tell their bytes. Nothing stands above it: `main` joins them to the process, to the files
-//! (`files`) and to the port.
+//! `audit` and `pipe` do, `run_migration` and `serve` what the commands of their names do, and `prepare` what `serve`
+//! does before it listens. Their contracts say what is written where these tell their bytes. Nothing stands above it:
+//! `main` joins them to the process, to the files (`files`) and to the port.
 #![tactic(auto)]
 
 ghost use Rattle.std.specs.Prelude.{◌≡◌};
@@ -11,13 +11,12 @@ ghost use Rattle.book_desk_words.specs.WordsFaults.{words_status};
 mod files;
 
 use book_desk_app::{
-    Failure, InputFault, StoreFailure, TextCommand, Work, adopt_given, given_policy, open_store,
-    run, run_migration, run_text, serve, tell,
+    Failure, InputFault, Prepared, StoreFailure, TextCommand, Work, prepare, run, run_migration,
+    run_text, serve, tell,
 };
 use book_desk_words::{Command, WordsFault, command_of, words_not_text};
 use book_machine::Machine;
-use book_office::{Keeper, MemoryKeeper, Policy};
-use book_office_cache::Cached;
+use book_office::Keeper;
 use files::{Opened, close, open_inputs};
 use sqlite::{Alter, Connection};
 use std::env;
@@ -123,22 +122,17 @@ struct Service {
     connections: u16,
 }
 
-/// Adopts the policy, if there is one, then listens on the port, and then serves the connections.
+/// Listens on the port, and serves the connections.
 fn serve_on<K: Keeper, N: Net + AllocGlobal, W: Write, E: Write>(
     rt: &N,
     machine: &mut Machine<K>,
-    policy: &Option<Policy>,
     service: Service,
     writer: &mut W,
     errors: &mut E,
 ) -> u8 {
-    let alloc = rt.alloc();
-    if let Err(failure) = adopt_given(alloc, machine, policy) {
-        return tell(errors, &failure);
-    }
     match TcpListener::bind(rt, ("127.0.0.1", service.port)) {
         Ok(listener) => serve(
-            alloc,
+            rt.alloc(),
             machine,
             &listener,
             service.connections,
@@ -149,75 +143,19 @@ fn serve_on<K: Keeper, N: Net + AllocGlobal, W: Write, E: Write>(
     }
 }
 
-/// Serves an empty Office in memory.
-fn serve_in_memory<N: Net + AllocGlobal, W: Write, E: Write>(
+/// Serves the Office of a machine that is ready, and gives its store back, if there is one.
+fn serve_prepared<S: Alter + Drop, N: Net + AllocGlobal, W: Write, E: Write>(
     rt: &N,
-    policy: &Option<Policy>,
-    service: Service,
-    writer: &mut W,
-    errors: &mut E,
-) -> u8 {
-    let mut machine = Machine::new(MemoryKeeper::new(rt.alloc()));
-    let status = serve_on(rt, &mut machine, policy, service, writer, errors);
-    drop(machine);
-    status
-}
-
-/// Serves the Office of a store, and gives the store back, but where its tables could not be had. What most requests ask
-/// is remembered.
-fn serve_in_store<S: Alter + Drop, N: Net + AllocGlobal, W: Write, E: Write>(
-    rt: &N,
-    store: Connection<S>,
-    policy: &Option<Policy>,
+    mut prepared: Prepared<S>,
     service: Service,
     writer: &mut W,
     errors: &mut E,
 ) -> (u8, Option<Connection<S>>) {
-    match open_store(rt.alloc(), store) {
-        Ok(tables) => {
-            let mut machine = Machine::new(Cached::new(rt.alloc(), tables));
-            let status = serve_on(rt, &mut machine, policy, service, writer, errors);
-            (status, Some(machine.release().into_inner().release()))
-        }
-        Err(failure) => (tell(errors, &Failure::Store(failure)), None),
-    }
-}
-
-/// Serves the Office of a store, or where there is none an empty one in memory.
-fn serve_given<S: Alter + Drop, N: Net + AllocGlobal, W: Write, E: Write>(
-    rt: &N,
-    store: Option<Connection<S>>,
-    policy: &Option<Policy>,
-    service: Service,
-    writer: &mut W,
-    errors: &mut E,
-) -> (u8, Option<Connection<S>>) {
-    match store {
-        Some(store) => serve_in_store(rt, store, policy, service, writer, errors),
-        None => {
-            let status = serve_in_memory(rt, policy, service, writer, errors);
-            (status, None)
-        }
-    }
-}
-
-/// Reads the policy's text, before the store is touched, and serves.
-fn serve_over<S: Alter + Drop, N: Net + AllocGlobal, W: Write, E: Write>(
-    rt: &N,
-    store: Option<Connection<S>>,
-    policy: Option<Vec<u8>>,
-    service: Service,
-    writer: &mut W,
-    errors: &mut E,
-) -> (u8, Option<Connection<S>>) {
-    match given_policy(rt.alloc(), policy) {
-        Ok(policy) => {
-            let served = serve_given(rt, store, &policy, service, writer, errors);
-            drop(policy);
-            served
-        }
-        Err(failure) => (tell(errors, &failure), store),
-    }
+    let status = match &mut prepared {
+        Prepared::Memory(machine) => serve_on(rt, machine, service, writer, errors),
+        Prepared::Store(machine) => serve_on(rt, machine, service, writer, errors),
+    };
+    (status, prepared.release())
 }
 
 /// The command `serve`: the policy's file is read, the store's file is opened, and connections are served.
@@ -236,7 +174,15 @@ fn serve_with<W: Write, E: Write>(
         Ok(opened) => opened,
         Err(failure) => return tell(errors, &failure),
     };
-    let (status, store) = serve_over(rt, store, policy, service, writer, errors);
+    let (status, store) = match prepare(rt.alloc(), store, policy) {
+        Ok(prepared) => serve_prepared(rt, prepared, service, writer, errors),
+        // A store whose tables were not had is let go as it is.
+        Err((Failure::Store(failure), store)) => {
+            drop(store);
+            (tell(errors, &Failure::Store(failure)), None)
+        }
+        Err((failure, store)) => (tell(errors, &failure), store),
+    };
     close(rt, &named.store, before, store);
     status
 }

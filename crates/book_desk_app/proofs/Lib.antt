@@ -3,4 +3,5 @@ pub mod Answering
 pub mod ShortTexts
 pub mod Ending
 pub mod Behind
+pub mod GivenBack
 pub mod InTurn

@@ -1,5 +1,6 @@
 -- What is told where a command was not done, and the status that ends the program (own profile).
-use Rattle.std.specs.Prelude.{ℕ, List, ◌++◌, codes}
+use Rattle.std.specs.Prelude.{◌≡◌, ℕ, List, ◌++◌, codes, Option}
+use Rattle.std.specs.Io.KnownBytes.{Appends}
 use Rattle.book_machine.specs.declared.adoptions.AdoptFault.{AdoptFault}
 use Rattle.book_machine.specs.declared.adoptions.AdoptFault.TheVariants.{Full, Unavailable}
 use Rattle.book_office.specs.declared.keepers.StoreFault.{StoreFault}
@@ -59,3 +60,7 @@ failure_status (Policy fault) = policy_status fault
 failure_status (Store failure) = 3
 failure_status (Adoption failure) = adopt_status failure.fault
 failure_status (Stream failure) = 3
+
+-- a line that is told: the writer got a beginning of it, which is all of it but where a write failed
+abbrev pub IsTold : List ℕ → Option (List ℕ) → Option (List ℕ) → Type 0
+IsTold text held holds = (front : List ℕ) × (left : List ℕ) × (text ++ codes "\n" ≡ front ++ left) × Appends held holds front

@@ -10,6 +10,7 @@ pub mod Audits
 pub mod Streams
 pub mod Failures
 pub mod Runs
+pub mod Preparing
 pub mod Migrations
 pub mod Connections
 pub mod ServingFailures

@@ -1,16 +1,17 @@
 -- What a run over a store does (own profile).
 use Rattle.std.specs.Prelude.{◌≡◌, ◌≢◌, ◌⊎◌, ℕ, List, Option, Some, None, IsTrue}
 use Rattle.std.specs.Io.KnownBytes.{Keeps}
+use Rattle.sqlite.specs.Effect.{Database}
 use Rattle.sqlite.specs.State.{State, HasCleanDisk}
 use Rattle.book_office_values.specs.declared.offices.Office.{Office}
 use Rattle.book_office.specs.Edits.{empty_office}
 use Rattle.book_office.specs.Keeping.{Standing, in_memory}
 use Rattle.book_tables_schema.specs.Founding.{no_schema}
 use Rattle.book_tables.specs.Keeps.{standing_of}
-use Rattle.book_tables.specs.Opened.{StandsAlone}
+use Rattle.book_tables.specs.Opened.{IsUnfounded, StandsAlone}
 use Rattle.book_tables.specs.declared.opening.OpenFault.{OpenFault}
 use Rattle.book_tables.specs.declared.opening.OpenFault.TheVariants as faults
-use Rattle.book_tables_opening.specs.Reading.{StandsForItsOffice}
+use Rattle.book_tables_opening.specs.Reading.{IsLeft, IsRefused, StandsForItsOffice, StandsForNone}
 use Rattle.book_desk_app.specs.Failures.{failure_status}
 use Rattle.book_desk_app.specs.Tasks.{Performs}
 use Rattle.book_desk_app.specs.Works.{GivesNoTask, SpellsTask}
@@ -35,6 +36,24 @@ pub record IsOpenedFrom (before after : State) : Type 0 where
   pub opened : before.now.schema ≢ no_schema → StandsForItsOffice after
   pub same : before.now.schema ≢ no_schema → IsTrue after.is_open → after.now.trees ≡ before.committed.trees
 
+-- a store that could not be opened: without tables it shows what it showed, and a stop leaves that or the empty Office; else it
+-- shows what was committed, and a stop leaves that alone. Where it is refused, its rows were read, and stand for no Office
+pub record IsGivenBack (says : Database → OpenFault → Type 0) (before after : State) (fault : OpenFault) : Type 0 where
+  pub bare : before.now.schema ≡ no_schema → IsUnfounded before after empty_office
+  pub left : before.now.schema ≢ no_schema → IsLeft before after
+  pub none : IsRefused fault → StandsForNone after
+  pub other : IsRefused fault → IsTrue after.is_open → says after.now fault
+
+module _ {C : Type 0} (state : C → State) (says : Database → OpenFault → Type 0) where
+  -- none comes back where a store with tables could not be opened again
+  abbrev pub LeavesStore : C → OpenFault → Option C → Type 0
+  LeavesStore store fault None = ((state store).now.schema ≢ no_schema) × ¬ (IsRefused fault)
+  LeavesStore store fault (Some left) = HasCleanDisk (state left) → IsGivenBack says (state store) (state left) fault
+
+  -- why the tables of a store were not had, and what came back
+  abbrev pub FailsToOpen : C → StoreFailure → Option C → Type 0
+  FailsToOpen store failure left = (fault : OpenFault) × (failure ≡ store_failure fault) × LeavesStore store fault left
+
 -- over connections with their state, and keepers with their connection and the number of their failures
 module _ {C K : Type 0} (state : C → State) (connection : K → C) (failures : K → ℕ) where
   -- the keeper has the tables of the store, and none of its calls has failed
@@ -46,24 +65,27 @@ module _ {C K : Type 0} (state : C → State) (connection : K → C) (failures :
   abbrev pub standing_in : K → Standing
   standing_in tables = standing_of (state (connection tables)) (failures tables)
 
-  -- the tables were not had, and nothing was read or written; or the task was done over them
-  abbrev pub RunsOver : Task → C → Option (List ℕ) → Option (List ℕ) → Option (List ℕ) → Option (List ℕ) → ℕ → Option C → Type 0
-  RunsOver task store before after held holds status back =
-      ((status ≡ 3) × (back ≡ None) × Keeps before after × Keeps held holds)
-      ⊎ ((old : K) × (new : K) × AreTablesOf store old × Performs standing_in task old before after held holds status new
-      × (back ≡ Some (connection new)))
+  -- what the query for the version says of tables that are refused
+  module _ (says : Database → OpenFault → Type 0) where
+    -- the tables were not had, and nothing was read or written; or the task was done over them
+    abbrev pub RunsOver : Task → C → Option (List ℕ) → Option (List ℕ) → Option (List ℕ) → Option (List ℕ) → ℕ → Option C → Type 0
+    RunsOver task store before after held holds status back =
+        ((failure : StoreFailure) × (left : Option C) × FailsToOpen state says store failure left × (status ≡ 3) × (back ≡ None)
+        × Keeps before after × Keeps held holds)
+        ⊎ ((old : K) × (new : K) × AreTablesOf store old × Performs standing_in task old before after held holds status new
+        × (back ≡ Some (connection new)))
 
-  -- without a store it is done over the empty Office in memory
-  abbrev pub RunsIn : Task → Option C → Option (List ℕ) → Option (List ℕ) → Option (List ℕ) → Option (List ℕ) → ℕ → Option C → Type 0
-  RunsIn task None before after held holds status back =
-      ((new : Office) × Performs in_memory task empty_office before after held holds status new) × (back ≡ None)
-  RunsIn task (Some store) before after held holds status back = RunsOver task store before after held holds status back
+    -- without a store it is done over the empty Office in memory
+    abbrev pub RunsIn : Task → Option C → Option (List ℕ) → Option (List ℕ) → Option (List ℕ) → Option (List ℕ) → ℕ → Option C → Type 0
+    RunsIn task None before after held holds status back =
+        ((new : Office) × Performs in_memory task empty_office before after held holds status new) × (back ≡ None)
+    RunsIn task (Some store) before after held holds status back = RunsOver task store before after held holds status back
 
-  -- ---- a run, where the policy's file has such bytes
+    -- ---- a run, where the policy's file has such bytes
 
-  -- the file makes no task of the work, and nothing was touched; or its task was done
-  abbrev pub Runs : {F : Type 0} → (F → List ℕ) → Work → Option C → Option F → Option (List ℕ) → Option (List ℕ) → Option (List ℕ) → Option (List ℕ) → ℕ → Option C → Type 0
-  Runs bytes work store file before after held holds status back =
-      ((failure : Failure) × (status ≡ failure_status failure) × GivesNoTask bytes work file failure × (back ≡ store)
-      × Keeps before after × Keeps held holds)
-      ⊎ ((task : Task) × SpellsTask bytes work file task × RunsIn task store before after held holds status back)
+    -- the file makes no task of the work, and nothing was touched; or its task was done
+    abbrev pub Runs : {F : Type 0} → (F → List ℕ) → Work → Option C → Option F → Option (List ℕ) → Option (List ℕ) → Option (List ℕ) → Option (List ℕ) → ℕ → Option C → Type 0
+    Runs bytes work store file before after held holds status back =
+        ((failure : Failure) × (status ≡ failure_status failure) × GivesNoTask bytes work file failure × (back ≡ store)
+        × Keeps before after × Keeps held holds)
+        ⊎ ((task : Task) × SpellsTask bytes work file task × RunsIn task store before after held holds status back)

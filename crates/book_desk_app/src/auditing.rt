@@ -1,4 +1,4 @@
-//! Telling who is in which group, and the access lists.
+//! Telling the direct members of groups, and each resource with its owner and its lists.
 
 ghost use Rattle.std.specs.Prelude.{IfErr, OnOk};
 ghost use Rattle.book_desk_app.specs.Audits.{Audits, FailsToAudit};

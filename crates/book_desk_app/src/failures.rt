@@ -1,16 +1,22 @@
 //! Why a command was not done: its text for standard error, and the status of the program.
 
 ghost use Rattle.std.specs.Prelude.{◌≡◌};
-ghost use Rattle.book_desk_app.specs.Failures.{adopt_status, failure_status, policy_status};
+ghost use Rattle.book_desk_app.specs.Failures.{IsTold, adopt_status, failure_status, failure_text, policy_status};
 
+use crate::lines::put_front;
 use crate::serving_failures::{AdoptionFailure, StreamFailure};
 use crate::text_failures::{BROKEN, InputFault, REFUSED};
+use arrayvec::ArrayString;
 use book_machine::AdoptFault;
 use book_office::StoreFault;
 use book_policy::PolicyFault;
 use std::error::Error;
 use std::fmt;
+use std::fmt::Write as _;
 use std::io::Write;
+
+/// The most bytes of a line that tells a failure.
+const MAX_LINE: usize = 64;
 
 /// Why a store was not opened, or could not be read (own profile). It prints as what is told on standard error.
 #[derive(Clone, Copy, Debug, PartialEq, Eq)]
@@ -139,11 +145,16 @@ impl fmt::Display for Failure {
 
 impl Error for Failure {}
 
-/// Tells a failure on `errors`, as a line, and gives the status of the program.
+/// Tells a failure on `errors`, as a line, and gives the status of the program. Where the line can't be written to its
+/// end, a beginning of it was, and the status alone tells it.
 pub fn tell<E: Write>(errors: &mut E, failure: &Failure) -> u8
-    ensures { result ≡ failure_status failure.now }
+    ensures status { result ≡ failure_status failure.now }
+    ensures told { IsTold (failure_text failure.now) (E.contents errors.old) (E.contents errors.new) }
 {
-    // Where this can't be written, the status alone tells it.
-    let _ = writeln!(errors, "{failure}");
+    let mut line = ArrayString::<MAX_LINE>::new();
+    // No failure has a longer text.
+    if writeln!(line, "{failure}").is_ok() {
+        put_front(errors, line.as_bytes());
+    }
     failure.status()
 }

@@ -8,13 +8,14 @@
 //! while `pipe` serves. The program above uses that `run_text` ends with status 0 where exactly what the command writes
 //! was written (`Does`), else with the status of a failure that the input has (`Fails`); that `task_of` reads the
 //! policy before any store is touched (`SpellsTask`); that `run`, which does all work but `serve`, ends as the work
-//! does over the store's Office (`Runs`, `Performs`); that `open_store` gives the tables of a store (`AreTablesOf`);
-//! and that `serve_connections` does to the Office what a run of requests does.
+//! does over the store's Office (`Runs`, `Performs`); that `open_store` gives the tables of a store (`AreTablesOf`), or
+//! the store back as it was (`FailsToOpen`); that `prepare` does what `serve` does before it listens (`Prepares`); and
+//! that `serve_connections` does to the Office what a run of requests does.
 //!
 //! Read `text_commands` and `dispatch` first, then `explaining`, `card_summaries`, and `streams` and `short_texts`,
 //! which read. Then `works`, which makes a task, `tasks`, which joins `policies`, `importing`, `auditing` and `piping`,
-//! and `memory`; `stores` and `running`; `adoptions`, `connections` and `listening`. `failures`, `text_failures` and
-//! `serving_failures` have what is told on standard error.
+//! and `memory`; `stores` and `running`; `adoptions`, `preparing`, `connections` and `listening`. `failures`, `lines`,
+//! `text_failures` and `serving_failures` have what is told on standard error.
 #![tactic(auto)]
 
 mod adoptions;
@@ -25,11 +26,13 @@ mod dispatch;
 mod explaining;
 mod failures;
 mod importing;
+mod lines;
 mod listening;
 mod memory;
 mod migrations;
 mod piping;
 mod policies;
+mod preparing;
 mod running;
 mod serving_failures;
 mod short_texts;
@@ -51,6 +54,7 @@ pub use memory::perform_in_memory;
 pub use migrations::run_migration;
 pub use piping::pipe;
 pub use policies::policy_of;
+pub use preparing::{Prepared, prepare};
 pub use running::run;
 pub use serving_failures::{AdoptionFailure, StreamFailure};
 pub use short_texts::read_short_text;

@@ -3,6 +3,7 @@
 ghost use Rattle.std.specs.Prelude.{◌≡◌, ◌≢◌};
 ghost use Rattle.std.specs.Io.KnownBytes.{Keeps};
 ghost use Rattle.sqlite.specs.Held.{state};
+ghost use Rattle.book_tables_opening.specs.Reading.{FaultSays};
 ghost use Rattle.book_desk_app.specs.Runs.{Runs, RunsIn, RunsOver, standing_in};
 ghost use Rattle.book_tables.specs.declared.tables.Tables.{Tables};
 ghost use Rattle.book_desk_app.specs.Tasks.{EndsPipe, Performs, PipesAfter};
@@ -94,7 +95,7 @@ fn perform_in<S: Alter + Drop, R: Read, W: Write, E: Write>(
     writer: &mut W,
     errors: &mut E,
 ) -> (u8, Option<Connection<S>>)
-    ensures runs { RunsOver {K = Tables S} (state S.Store) (λ t. t.connection) (λ t. t.failures) task.now store
+    ensures runs { RunsOver {K = Tables S} (state S.Store) (λ t. t.connection) (λ t. t.failures) (FaultSays S.Store 2) task.now store
         (R.remaining reader.old) (R.remaining reader.new) (W.contents writer.old) (W.contents writer.new) result.0 result.1 }
     ensures silent { result.0 ≡ 0 → Keeps (E.contents errors.old) (E.contents errors.new) }
 {
@@ -103,7 +104,10 @@ fn perform_in<S: Alter + Drop, R: Read, W: Write, E: Write>(
             let (status, tables) = perform_over(alloc, task, tables, reader, writer, errors);
             (status, Some(tables.release()))
         }
-        Err(failure) => (tell(errors, &Failure::Store(failure)), None),
+        Err((failure, left)) => {
+            drop(left);
+            (tell(errors, &Failure::Store(failure)), None)
+        }
     }
 }
 
@@ -116,7 +120,7 @@ fn perform_given<S: Alter + Drop, R: Read, W: Write, E: Write>(
     writer: &mut W,
     errors: &mut E,
 ) -> (u8, Option<Connection<S>>)
-    ensures runs { RunsIn {K = Tables S} (state S.Store) (λ t. t.connection) (λ t. t.failures) task.now store
+    ensures runs { RunsIn {K = Tables S} (state S.Store) (λ t. t.connection) (λ t. t.failures) (FaultSays S.Store 2) task.now store
         (R.remaining reader.old) (R.remaining reader.new) (W.contents writer.old) (W.contents writer.new) result.0 result.1 }
     ensures silent { result.0 ≡ 0 → Keeps (E.contents errors.old) (E.contents errors.new) }
 {
@@ -144,7 +148,7 @@ pub fn run<S: Alter + Drop, R: Read, W: Write, E: Write>(
     writer: &mut W,
     errors: &mut E,
 ) -> (u8, Option<Connection<S>>)
-    ensures runs { Runs {K = Tables S} (state S.Store) (λ t. t.connection) (λ t. t.failures) (λ given. given.items) work store policy
+    ensures runs { Runs {K = Tables S} (state S.Store) (λ t. t.connection) (λ t. t.failures) (FaultSays S.Store 2) (λ given. given.items) work store policy
         (R.remaining reader.old) (R.remaining reader.new) (W.contents writer.old) (W.contents writer.new) result.0 result.1 }
     ensures silent { result.0 ≡ 0 → Keeps (E.contents errors.old) (E.contents errors.new) }
 {

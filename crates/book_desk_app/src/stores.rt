@@ -1,8 +1,9 @@
 //! The tables of a store.
 
-ghost use Rattle.std.specs.Prelude.{◌≡◌, IfOk};
+ghost use Rattle.std.specs.Prelude.{◌≡◌, IfErr, IfOk};
 ghost use Rattle.sqlite.specs.Held.{state};
-ghost use Rattle.book_desk_app.specs.Runs.{AreTablesOf, store_failure};
+ghost use Rattle.book_tables_opening.specs.Reading.{FaultSays};
+ghost use Rattle.book_desk_app.specs.Runs.{AreTablesOf, FailsToOpen, store_failure};
 
 use crate::failures::StoreFailure;
 use book_tables::{OpenFault, Tables};
@@ -28,22 +29,25 @@ pub(crate) fn store_failure(fault: OpenFault) -> StoreFailure
 ///
 /// # Errors
 ///
-/// As `Tables::create` and `book_tables_opening::open`. The connection is let go.
+/// As `Tables::create` and `book_tables_opening::open`. The connection comes back but where the store could not be opened
+/// again. It shows what it showed, where the store has no table, and a stop leaves that or the empty Office; of any other
+/// store it shows what was committed, and a stop leaves that alone.
 pub fn open_store<S: Alter + Drop>(
     alloc: Global,
     connection: Connection<S>,
-) -> Result<Tables<S>, StoreFailure>
-    ensures { IfOk result (AreTablesOf (state S.Store) (λ t. t.connection) (λ t. t.failures) connection) }
+) -> Result<Tables<S>, (StoreFailure, Option<Connection<S>>)>
+    ensures opened { IfOk result (AreTablesOf (state S.Store) (λ t. t.connection) (λ t. t.failures) connection) }
+    ensures refused { IfErr result (λ e. FailsToOpen (state S.Store) (FaultSays S.Store 2) connection e.0 e.1) }
 {
     if is_empty(&connection) {
         match Tables::create(connection) {
             Ok(tables) => Ok(tables),
-            Err((fault, _)) => Err(store_failure(fault)),
+            Err((fault, connection)) => Err((store_failure(fault), Some(connection))),
         }
     } else {
         match open(alloc, connection) {
             Ok(tables) => Ok(tables),
-            Err((fault, _)) => Err(store_failure(fault)),
+            Err((fault, connection)) => Err((store_failure(fault), connection)),
         }
     }
 }

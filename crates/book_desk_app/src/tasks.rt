@@ -20,7 +20,7 @@ use std::io::{Read, Write};
 pub enum Task {
     /// Adopt the policy, and tell whether anything changed.
     Import(Policy),
-    /// Tell who is in which group, and the access lists.
+    /// Tell the direct members of groups, and each resource with its owner and its lists.
     Audit,
     /// Adopt the policy, if one is given, and serve the requests on standard input.
     Pipe(Option<Policy>),

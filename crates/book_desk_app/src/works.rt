@@ -15,7 +15,7 @@ use std::alloc::Global;
 pub enum Work {
     /// Adopt the policy, and tell whether anything changed.
     Import,
-    /// Tell who is in which group, and the access lists.
+    /// Tell the direct members of groups, and each resource with its owner and its lists.
     Audit,
     /// Adopt the policy, if there is one, and serve the requests on standard input.
     Pipe,

@@ -1,5 +1,5 @@
 -- From what the getters of clap say to the rows of the matches.
-use Rattle.std.proofs.Common.{◌≡◌, ◌⊎◌, inl, inr, subst, ◌∙◌, ℕ, List, Option, Some, None, Result, Ok, option_map, refl, sym, ap₂}
+use Rattle.std.proofs.Common.{◌≡◌, ◌≢◌, ◌⊎◌, inl, inr, subst, ◌∙◌, ℕ, List, Option, Some, None, Result, Ok, option_map, refl, sym, ap₂}
 use Rattle.std.specs.Prelude.{IfSome}
 use Rattle.std.specs.Str.Parse.{ParsesUnsigned}
 use Rattle.clap.specs.Matches.{ReadsOne}
@@ -16,7 +16,9 @@ use Rattle.clap.specs.Kinds.{Kinds, HasKind, IsAmong}
 use Rattle.clap.specs.Values.{kind_of}
 use Rattle.clap.specs.declared.error.Error.{Error}
 use Rattle.clap.specs.declared.error.kind.ErrorKind.TheVariants as kind
-use Rattle.book_desk_words.specs.CommandLine.{AskForHelp, HasNumber}
+use Rattle.book_desk_words.specs.CommandLine.{AskForHelp, HasNumber, IsRefused}
+use Rattle.book_desk_words.specs.declared.commands.WordsFault.{WordsFault}
+use Rattle.book_desk_words.specs.declared.commands.WordsFault.TheVariants as faults
 
 -- the name and the rows of the one subcommand that was met
 pub pair_of : {A : Type 0} (f : A → Text) (g : A → List Row) (x : Option A) (o : Option (Text × List Row))
@@ -53,3 +55,12 @@ asks_for_help kinds e (inl memory) (inl help) = absurd (cc (memory, help))
 asks_for_help kinds e (inl memory) (inr version) = absurd (cc (memory, version))
 asks_for_help kinds e (inr among) (inl help) = inl (subst (λ k. IsAmong k kinds) help among)
 asks_for_help kinds e (inr among) (inr version) = inr (subst (λ k. IsAmong k kinds) version among)
+
+-- an error that does not is of another of these kinds
+pub refuses : (found : Option (Text × List Row)) (kinds : Kinds) (e : Error) → HasKind kinds e → (fault : WordsFault)
+    → (fault ≡ faults.Memory) ⊎ (kind_of e ≢ kind.OutOfMemory) × (kind_of e ≢ kind.DisplayHelp) × (kind_of e ≢ kind.DisplayVersion)
+    → IsRefused found kinds fault
+refuses found kinds e has (faults.Usage text) (inl memory) = absurd (cc (memory))
+refuses found kinds e (inl full) (faults.Usage text) (inr (no_memory, help, version)) = absurd (no_memory full)
+refuses found kinds e (inr among) (faults.Usage text) (inr (no_memory, help, version)) = inl (kind_of e, among, help, version)
+refuses found kinds e has faults.Memory other = tt

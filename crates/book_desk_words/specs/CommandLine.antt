@@ -1,5 +1,5 @@
 -- The command line (own profile): the words that it has, and the command that clap's matches of them give.
-use Rattle.std.specs.Prelude.{◌≡◌, ◌⊎◌, ℕ, ◌≤◌, pos, Bool, true, false, List, codes, Option, Some, None, is_some, String, option_map, string_bytes, bytes_eq}
+use Rattle.std.specs.Prelude.{◌≡◌, ◌≢◌, ◌⊎◌, ℕ, ◌≤◌, pos, Bool, true, false, List, [], codes, Option, Some, None, is_some, String, option_map, string_bytes, bytes_eq}
 use Rattle.std.specs.declared.alloc.Global.{Global}
 use Rattle.std.specs.Str.Parse.{IsNumeral, digits_value, without_leading_plus}
 use Rattle.clap.specs.Words.{App, Row, Rule, Text, first_of, new_app, new_rule, one_of, with_rule, with_subcommand}
@@ -7,9 +7,13 @@ use Rattle.clap.specs.Kinds.{Kinds, IsAmong}
 use Rattle.clap.specs.Simple.{on_top}
 use Rattle.clap.specs.declared.builder.action.ArgAction.TheVariants.{SetTrue}
 use Rattle.clap.specs.declared.builder.value_parser.ValueParser.TheVariants as parsers
+use Rattle.clap.specs.declared.error.kind.ErrorKind.{ErrorKind}
 use Rattle.clap.specs.declared.error.kind.ErrorKind.TheVariants as kind
 use Rattle.book_desk_words.specs.declared.commands.Command.{Command}
 use Rattle.book_desk_words.specs.declared.commands.Command.TheVariants.{Explain, Card, Import, Audit, Migrate, Pipe, Serve, Help}
+use Rattle.book_desk_words.specs.declared.commands.WordsFault.{WordsFault}
+use Rattle.book_desk_words.specs.declared.commands.WordsFault.TheVariants.{Usage, Memory}
+use Rattle.book_desk_words.specs.WordsFaults.{IsUsage, no_store}
 
 -- ---- the words that it has
 
@@ -117,10 +121,25 @@ abbrev pub IsMatched : Option (Text × List Row) → Command → Type 0
 IsMatched (Some found) command = ReadsAs found.0 found.1 command
 IsMatched None command = ⊥
 
+-- no command is read of these matches
+abbrev pub ReadsNone : Text → List Row → Type 0
+ReadsNone name rows = (command : Command) → ReadsAs name rows command → ⊥
+
+abbrev pub MatchesNone : Option (Text × List Row) → Type 0
+MatchesNone found = (command : Command) → IsMatched found command → ⊥
+
 -- the words ask for help or the version: of the kinds of error that they may have, one is that
 abbrev pub AskForHelp : Kinds → Type 0
 AskForHelp kinds = IsAmong kind.DisplayHelp kinds ⊎ IsAmong kind.DisplayVersion kinds
 
--- the command is the one that the matches give, or help, where the words ask for it
+-- the words have no fault and the command is the one that their matches give, or help, where they ask for it
 abbrev pub Reads : Option (Text × List Row) → Kinds → Command → Type 0
-Reads found kinds command = IsMatched found command ⊎ (IsHelp command × AskForHelp kinds)
+Reads found kinds command = ((kinds ≡ []) × IsMatched found command) ⊎ (IsHelp command × AskForHelp kinds)
+
+-- the words are no command: clap refuses them, and not since they ask for help or the version; or it lets them pass, no command
+-- can be read of their matches, and that is told
+abbrev pub IsRefused : Option (Text × List Row) → Kinds → WordsFault → Type 0
+IsRefused found kinds (Usage text) =
+    ((k : ErrorKind) × IsAmong k kinds × (k ≢ kind.DisplayHelp) × (k ≢ kind.DisplayVersion))
+    ⊎ ((kinds ≡ []) × MatchesNone found × IsUsage no_store (Usage text))
+IsRefused found kinds Memory = Unit {0}

@@ -1,5 +1,5 @@
 -- What is told where the words are no command, and the status that ends the program (own profile).
-use Rattle.std.specs.Prelude.{ℕ, List, codes, string_bytes}
+use Rattle.std.specs.Prelude.{◌≡◌, ℕ, List, ◌++◌, codes, string_bytes}
 use Rattle.book_desk_words.specs.declared.commands.WordsFault.{WordsFault}
 use Rattle.book_desk_words.specs.declared.commands.WordsFault.TheVariants.{Usage, Memory}
 
@@ -11,3 +11,18 @@ words_text Memory = codes "words: memory\n"
 abbrev pub words_status : WordsFault → ℕ
 words_status (Usage text) = 2
 words_status Memory = 3
+
+-- what is wrong, in the form of clap's errors
+abbrev pub usage_text : List ℕ → List ℕ
+usage_text wrong = codes "error: " ++ wrong ++ codes "\n\nUsage: book_desk <COMMAND>\n\nFor more information, try '--help'.\n"
+
+abbrev pub not_text : List ℕ
+not_text = codes "invalid UTF-8 was detected in one or more arguments"
+
+abbrev pub no_store : List ℕ
+no_store = codes "the option '--existing' wants '--store <FILE>'"
+
+-- the words are refused with this, but for want of memory
+abbrev pub IsUsage : List ℕ → WordsFault → Type 0
+IsUsage wrong (Usage text) = string_bytes text ≡ usage_text wrong
+IsUsage wrong Memory = Unit {0}

@@ -1,12 +1,13 @@
 //! The command that the words name.
 
-ghost use Rattle.std.specs.Prelude.{◌≡◌, ◌⊎◌, IfOk, IfSome, codes, map, string_bytes, option_map};
+ghost use Rattle.std.specs.Prelude.{◌≡◌, ◌≢◌, ◌≤◌, ◌⊎◌, ℕ, IfErr, IfNone, IfOk, IfSome, codes, map, string_bytes, option_map};
 ghost use Rattle.clap.specs.Faults.{fault_of};
 ghost use Rattle.clap.specs.Values.{kind_of};
 ghost use Rattle.clap.specs.Words.{found_of, rows_of, subcommand_of, subcommand_rows_of};
-ghost use Rattle.book_desk_words.specs.CommandLine.{program_app, has_flag, HasNumber, IsHelp, IsMatched, NamesFile, Reads, ReadsAs};
-ghost use Rattle.book_desk_words.specs.WordsFaults.{words_status};
+ghost use Rattle.book_desk_words.specs.CommandLine.{program_app, has_flag, HasNumber, IsHelp, IsMatched, IsRefused, MatchesNone, NamesFile, Reads, ReadsAs, ReadsNone};
+ghost use Rattle.book_desk_words.specs.WordsFaults.{IsUsage, not_text, usage_text, words_status};
 
+use crate::helps::{NO_STORE, NOT_TEXT, USAGE_LINES};
 use crate::programs::program;
 use clap::ArgMatches;
 use clap::error::ErrorKind;
@@ -35,7 +36,7 @@ pub enum Command {
         /// The file of the policy.
         policy: String,
     },
-    /// Print who is in which group, and the access lists of a store.
+    /// Print the direct members of groups, and each resource of a store with its owner and its lists.
     Audit {
         /// The file of the store.
         store: String,
@@ -129,7 +130,8 @@ fn file_in(alloc: Global, found: &ArgMatches<'_>, id: &str) -> Result<Option<Str
 
 /// The number that the words give to an option.
 fn number_in(found: &ArgMatches<'_>, id: &str) -> Option<u16>
-    ensures { IfSome result (λ n. HasNumber (rows_of (found_of found.now)) id.now n) }
+    ensures read { IfSome result (λ n. HasNumber (rows_of (found_of found.now)) id.now n) }
+    ensures none { IfNone result ((n : ℕ) → n ≤ 65535 → HasNumber (rows_of (found_of found.now)) id.now n → ⊥) }
 {
     found.get_one::<u16>(id)
 }
@@ -147,7 +149,8 @@ fn flag_in(found: &ArgMatches<'_>, id: &str) -> bool
 /// The command `serve` with what the words give it; none where a number is missing or out of range, or where a store
 /// that has to be there is not named.
 fn serve_of(alloc: Global, found: &ArgMatches<'_>) -> Result<Option<Command>, AllocError>
-    ensures { IfOk result (λ command. IfSome command (ReadsAs (codes "serve") (rows_of (found_of found.now)))) }
+    ensures read { IfOk result (λ command. IfSome command (ReadsAs (codes "serve") (rows_of (found_of found.now)))) }
+    ensures none { IfOk result (λ command. IfNone command (ReadsNone (codes "serve") (rows_of (found_of found.now)))) }
 {
     let Some(port) = number_in(found, "port") else {
         return Ok(None);
@@ -175,7 +178,8 @@ fn serve_of(alloc: Global, found: &ArgMatches<'_>) -> Result<Option<Command>, Al
 
 /// The command `pipe` with what the words give it.
 fn pipe_of(alloc: Global, found: &ArgMatches<'_>) -> Result<Option<Command>, AllocError>
-    ensures { IfOk result (λ command. IfSome command (ReadsAs (codes "pipe") (rows_of (found_of found.now)))) }
+    ensures read { IfOk result (λ command. IfSome command (ReadsAs (codes "pipe") (rows_of (found_of found.now)))) }
+    ensures none { IfOk result (λ command. IfNone command ⊥) }
 {
     let store = file_in(alloc, found, "store")?;
     let policy = file_in(alloc, found, "policy")?;
@@ -184,7 +188,8 @@ fn pipe_of(alloc: Global, found: &ArgMatches<'_>) -> Result<Option<Command>, All
 
 /// The command `import` with what the words give it; none where a file is missing.
 fn import_of(alloc: Global, found: &ArgMatches<'_>) -> Result<Option<Command>, AllocError>
-    ensures { IfOk result (λ command. IfSome command (ReadsAs (codes "import") (rows_of (found_of found.now)))) }
+    ensures read { IfOk result (λ command. IfSome command (ReadsAs (codes "import") (rows_of (found_of found.now)))) }
+    ensures none { IfOk result (λ command. IfNone command (ReadsNone (codes "import") (rows_of (found_of found.now)))) }
 {
     let Some(store) = file_in(alloc, found, "store")? else {
         return Ok(None);
@@ -197,7 +202,8 @@ fn import_of(alloc: Global, found: &ArgMatches<'_>) -> Result<Option<Command>, A
 
 /// The command `audit` with what the words give it; none where the file is missing.
 fn audit_of(alloc: Global, found: &ArgMatches<'_>) -> Result<Option<Command>, AllocError>
-    ensures { IfOk result (λ command. IfSome command (ReadsAs (codes "audit") (rows_of (found_of found.now)))) }
+    ensures read { IfOk result (λ command. IfSome command (ReadsAs (codes "audit") (rows_of (found_of found.now)))) }
+    ensures none { IfOk result (λ command. IfNone command (ReadsNone (codes "audit") (rows_of (found_of found.now)))) }
 {
     let Some(store) = file_in(alloc, found, "store")? else {
         return Ok(None);
@@ -208,7 +214,8 @@ fn audit_of(alloc: Global, found: &ArgMatches<'_>) -> Result<Option<Command>, Al
 
 /// The command `migrate` with what the words give it; none where the file is missing.
 fn migrate_of(alloc: Global, found: &ArgMatches<'_>) -> Result<Option<Command>, AllocError>
-    ensures { IfOk result (λ command. IfSome command (ReadsAs (codes "migrate") (rows_of (found_of found.now)))) }
+    ensures read { IfOk result (λ command. IfSome command (ReadsAs (codes "migrate") (rows_of (found_of found.now)))) }
+    ensures none { IfOk result (λ command. IfNone command (ReadsNone (codes "migrate") (rows_of (found_of found.now)))) }
 {
     let Some(store) = file_in(alloc, found, "store")? else {
         return Ok(None);
@@ -229,7 +236,8 @@ fn command_named(
     name: &str,
     found: &ArgMatches<'_>,
 ) -> Result<Option<Command>, AllocError>
-    ensures { IfOk result (λ command. IfSome command (ReadsAs name.now (rows_of (found_of found.now)))) }
+    ensures read { IfOk result (λ command. IfSome command (ReadsAs name.now (rows_of (found_of found.now)))) }
+    ensures none { IfOk result (λ command. IfNone command (ReadsNone name.now (rows_of (found_of found.now)))) }
 {
     match name {
         "explain" => Ok(Some(Command::Explain)),
@@ -246,7 +254,8 @@ fn command_named(
 /// The command that the matches give; none where they give none, which clap lets come where a store that has to be there is
 /// not named, and nowhere else.
 fn read_command(alloc: Global, matches: &ArgMatches<'_>) -> Result<Option<Command>, AllocError>
-    ensures { IfOk result (λ command. IfSome command (IsMatched (subcommand_rows_of matches.now))) }
+    ensures read { IfOk result (λ command. IfSome command (IsMatched (subcommand_rows_of matches.now))) }
+    ensures none { IfOk result (λ command. IfNone command (MatchesNone (subcommand_rows_of matches.now))) }
 {
     match met(matches) {
         Some((name, found)) => command_named(alloc, name, found),
@@ -256,7 +265,9 @@ fn read_command(alloc: Global, matches: &ArgMatches<'_>) -> Result<Option<Comman
 
 /// What clap says in place of a command: help or the version, which were asked for, or what is wrong.
 fn answer_of(alloc: Global, error: &clap::Error) -> Result<Command, WordsFault>
-    ensures { IfOk result (λ command. IsHelp command × ((kind_of error.now ≡ ErrorKind.DisplayHelp) ⊎ (kind_of error.now ≡ ErrorKind.DisplayVersion))) }
+    ensures asked { IfOk result (λ command. IsHelp command × ((kind_of error.now ≡ ErrorKind.DisplayHelp) ⊎ (kind_of error.now ≡ ErrorKind.DisplayVersion))) }
+    ensures wrong { IfErr result (λ fault. (fault ≡ WordsFault.Memory) ⊎ (kind_of error.now ≢ ErrorKind.OutOfMemory)
+        × (kind_of error.now ≢ ErrorKind.DisplayHelp) × (kind_of error.now ≢ ErrorKind.DisplayVersion)) }
 {
     match error.kind() {
         ErrorKind::OutOfMemory => Err(WordsFault::Memory),
@@ -267,23 +278,30 @@ fn answer_of(alloc: Global, error: &clap::Error) -> Result<Command, WordsFault>
     }
 }
 
-/// What is wrong with the words, and the usage.
-fn usage_text(alloc: Global, wrong: &str) -> Result<String, AllocError> {
-    let mut program = program(alloc)?;
-    let error = program.error(ErrorKind::Format, wrong)?;
-    format!(in alloc; "{error}")
+/// What is wrong with the words, and the usage, as clap tells it.
+fn usage_text(alloc: Global, wrong: &str) -> Result<String, AllocError>
+    ensures { IfOk result (λ text. string_bytes text ≡ usage_text wrong.now) }
+{
+    let mut text = String::from_str(alloc, "error: ")?;
+    text.push_str(wrong)?;
+    text.push_str(USAGE_LINES)?;
+    Ok(text)
 }
 
-fn usage(alloc: Global, wrong: &str) -> WordsFault {
+fn usage(alloc: Global, wrong: &str) -> WordsFault
+    ensures { IsUsage wrong.now result }
+{
     match usage_text(alloc, wrong) {
         Ok(text) => WordsFault::Usage(text),
         Err(_) => WordsFault::Memory,
     }
 }
 
-/// Words that are not UTF-8 are no command.
-pub fn words_not_text(alloc: Global) -> WordsFault {
-    usage(alloc, "invalid UTF-8 was detected in one or more arguments")
+/// Words that are not UTF-8 are no command: `Usage` with the text that tells it, or `Memory` where memory was refused.
+pub fn words_not_text(alloc: Global) -> WordsFault
+    ensures { IsUsage not_text result }
+{
+    usage(alloc, NOT_TEXT)
 }
 
 /// Reads the words after the program's name. Help or the version that they ask for is a command of its own.
@@ -294,9 +312,11 @@ pub fn words_not_text(alloc: Global) -> WordsFault {
 ///
 /// # Errors
 ///
-/// `Usage` where the words name no command, and `Memory` where memory was refused.
+/// `Usage` where the words name no command: clap refuses them for another reason than a wish for help or the version, or
+/// lets them pass and no command can be read of its matches, which the text tells then. `Memory` where memory was refused.
 pub fn command_of(alloc: Global, words: &[String]) -> Result<Command, WordsFault>
-    ensures { let texts = map string_bytes words.now in IfOk result (Reads (subcommand_of program_app texts) (fault_of program_app texts)) }
+    ensures read { let texts = map string_bytes words.now in IfOk result (Reads (subcommand_of program_app texts) (fault_of program_app texts)) }
+    ensures wrong { let texts = map string_bytes words.now in IfErr result (IsRefused (subcommand_of program_app texts) (fault_of program_app texts)) }
 {
     let matches = match program(alloc)?.try_get_matches_from(words) {
         Ok(matches) => matches,
@@ -305,6 +325,6 @@ pub fn command_of(alloc: Global, words: &[String]) -> Result<Command, WordsFault
     match read_command(alloc, &matches)? {
         Some(command) => Ok(command),
         // Clap requires a subcommand and what each one needs, but for the store of `serve --existing`.
-        None => Err(usage(alloc, "the option '--existing' wants '--store <FILE>'")),
+        None => Err(usage(alloc, NO_STORE)),
     }
 }

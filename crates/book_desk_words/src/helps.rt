@@ -5,6 +5,16 @@ pub(crate) const ABOUT: &str =
 
 pub(crate) const VERSION: &str = "0.1.0";
 
+/// What follows a text of what is wrong with the words.
+pub(crate) const USAGE_LINES: &str =
+    "\n\nUsage: book_desk <COMMAND>\n\nFor more information, try '--help'.\n";
+
+/// What is wrong with words that are not UTF-8.
+pub(crate) const NOT_TEXT: &str = "invalid UTF-8 was detected in one or more arguments";
+
+/// What is wrong with words that want a store to be there, and name none.
+pub(crate) const NO_STORE: &str = "the option '--existing' wants '--store <FILE>'";
+
 pub(crate) const EXPLAIN: &str = "Reads a question from standard input and prints its decision";
 
 pub(crate) const QUESTION: &str = "\
@@ -80,14 +90,14 @@ Status: 0 valid, 1 refused input, 2 usage, 3 memory, or a failed read or write.
 pub(crate) const IMPORT: &str = "Adopts a policy in a store";
 
 pub(crate) const IMPORT_TEXT: &str = "\
-The policy says who belongs where and who may do what. As in:
+The policy names persons, groups with their members, books, and entries of access lists. As in:
   book_desk import --store office.db examples/policies/office.toml
 What a policy leaves out stays in the store: to leave something out revokes nothing.
 
 Output:
   changed, epoch N | unchanged, epoch N
-N is the epoch of the store. It rises with each policy that changes anything, each change of an own list or of a group's
-members, and each book that is removed; then every sync token that was given before is refused.
+N is the epoch of the store. It rises with each policy that changes anything, each ACL, each PROPPATCH of the members of a
+group, and each book that is removed; then every sync token that was given before is refused.
 
 Told on standard error, each on a line, where nothing was changed
   input: read           the policy could not be read
@@ -150,9 +160,9 @@ pub(crate) const PIPE: &str = "Serves the requests on standard input";
 pub(crate) const PIPE_TEXT: &str = "\
 Input: requests of HTTP/1.1 (RFC 9112), one after the other. A file is given by <, as in:
   book_desk pipe --store office.db --policy examples/policies/office.toml < requests.txt
-The field x-office-caller has the bare name of the person who asks; without it, nobody asks. The policy, which says who
-belongs where and who may do what, is adopted before the first request; in a store that has had none nobody may do
-anything. Without --store the store is in memory: it is empty when the program starts, and is gone when it ends.
+The field x-office-caller has the bare name of the person who asks; without it, nobody asks. The policy is adopted before
+the first request; in a store that has had none nobody may do anything. Without --store the store is in memory: it is
+empty when the program starts, and is gone when it ends.
 
 Output: the replies, in order. A request that can't be read as one closes the stream after its reply.
 

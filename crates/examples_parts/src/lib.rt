@@ -1,6 +1,6 @@
 //! Worked examples of leaves, masks, needs, lists of entries, scans, edits of lists, `explain`, cards, collections, paths,
-//! policies in TOML, sync tokens and reports, and nothing else: a crate with tests is proved twice, so they stand here, and
-//! the crates below have none.
+//! policies in TOML, sync tokens and reports, command lines, and nothing else: a crate with tests is proved twice, so they
+//! stand here, and the crates below have none.
 //!
 //! The wanted answers are those of the rules (RFC 3744, RFC 6350, RFC 6578 and own profile), worked out by hand.
 #![tactic(auto)]
@@ -11,6 +11,8 @@ mod cards;
 mod checks;
 #[cfg(test)]
 mod collections;
+#[cfg(test)]
+mod command_lines;
 #[cfg(test)]
 mod entry_lines;
 #[cfg(test)]

@@ -16,6 +16,6 @@ returns-after-write_entries-clause-runs g c =
       subst (λ back. HasCleanDisk (state g.S.Store back) → StandsWidened (state g.S.Store c.args.store).committed.trees (state g.S.Store back) c.in-Ok.entries) (sym c.release.ensures) c.in-Ok.ensures.stands,
       elim c.match-write_entries.branch [
         | in-Ok-write_entries w ↦ inl (w.status-is, w.in-Ok-write_entries.ensures.written)
-        | in-Err-write_entries w ↦ inr (w.status-is ∙ w.tell-status.ensures ∙ ap failure_status w.in-Err-write_entries.ensures.failed)
+        | in-Err-write_entries w ↦ inr (w.status-is ∙ w.tell-status.ensures.status ∙ ap failure_status w.in-Err-write_entries.ensures.failed)
       ],
     )

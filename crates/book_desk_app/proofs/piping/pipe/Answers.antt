@@ -20,7 +20,7 @@ pub returns-in-Ok-clause-silent : goal.returns-in-Ok-clause-silent
 returns-in-Ok-clause-silent g c = λ _. Keeps-refl (g.E.Write.contents c.args.errors.now)
 
 pub returns-in-Err-clause-ended : goal.returns-in-Err-clause-ended
-returns-in-Err-clause-ended g c = λ other. absurd (other c.tell.ensures)
+returns-in-Err-clause-ended g c = λ other. absurd (other c.tell.ensures.status)
 
 pub returns-in-Err-clause-stopped : goal.returns-in-Err-clause-stopped
 returns-in-Err-clause-stopped g c = λ _.
@@ -29,4 +29,4 @@ returns-in-Err-clause-stopped g c = λ _.
     (c.in-Err.fault, s.0, s.1, s.2, s.3, s.4)
 
 pub returns-in-Err-clause-silent : goal.returns-in-Err-clause-silent
-returns-in-Err-clause-silent g c = λ other. absurd (other c.tell.ensures)
+returns-in-Err-clause-silent g c = λ other. absurd (other c.tell.ensures.status)

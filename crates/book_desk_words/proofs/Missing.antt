@@ -1,0 +1,63 @@
+-- Where no number, and so no command `serve`, is read of the matches of a subcommand.
+use Rattle.std.proofs.Common.{◌≡◌, ◌≤◌, ◌∙◌, ℕ, Bool, Option, Some, None, List, [], Result, Err, IfNone, String, ap, arith, codes, inr, slice_index}
+use Rattle.std.specs.declared.alloc.Global.{Global}
+use Rattle.std.specs.Str.Parse.{ParsesUnsigned}
+use Rattle.clap.specs.Matches.{ReadsOne}
+use Rattle.clap.specs.Words.{Kinds, Row, Text, one_text, rows_of}
+use Rattle.clap.specs.declared.parser.matches.Found.{Found}
+use Rattle.clap.proofs.WalkLemmas.{one_text-rows}
+use Rattle.book_desk_words.specs.CommandLine.{HasNumber, IsRefused, MatchesNone, ReadsAs, ReadsNone}
+use Rattle.book_desk_words.specs.declared.commands.Command.TheVariants.{Explain, Card, Import, Audit, Migrate, Pipe, Serve, Help}
+use Rattle.book_desk_words.specs.declared.commands.WordsFault.{WordsFault}
+use Rattle.book_desk_words.specs.declared.commands.WordsFault.TheVariants.{Usage, Memory}
+use Rattle.book_desk_words.specs.WordsFaults.{IsUsage, no_store}
+
+-- no number of two bytes is read of this option
+abbrev pub HasNoNumber : List Row → Text → Type 0
+HasNoNumber rows id = (n : ℕ) → n ≤ 65535 → HasNumber rows id n → ⊥
+
+pub no_number : (E : Type 0) (G : Text → Result ℕ E → Type 0) (f : Found) (id : Text) (r : Option ℕ)
+    → ((t : Text) → one_text f id ≡ Some t → ReadsOne G t r)
+    → ((t : Text) (x : Result ℕ E) → G t x → ParsesUnsigned {E = E} 16 10 t x) → IfNone r (HasNoNumber (rows_of f) id)
+no_number E G f id (Some n) only value = tt
+no_number E G f id None only value = λ n small has.
+    let g = only has.0 (one_text-rows f id ∙ has.1) in
+    let value_is = has.3 in
+    value has.0 (Err g.0) g.1 (has.2, omega arith)
+
+is_not_import : codes "serve" ≡ codes "import" → ⊥
+is_not_import e = cc (e)
+
+is_not_audit : codes "serve" ≡ codes "audit" → ⊥
+is_not_audit e = let first : slice_index (codes "serve") 0 ≡ slice_index (codes "audit") 0 = ap (λ (t : Text). slice_index t 0) e in omega arith
+
+is_not_migrate : codes "serve" ≡ codes "migrate" → ⊥
+is_not_migrate e = cc (e)
+
+is_not_pipe : codes "serve" ≡ codes "pipe" → ⊥
+is_not_pipe e = cc (e)
+
+module _ (rows : List Row) where
+  -- no command `serve` is read of the matches
+  serve_lacks : ((port connections : ℕ) (store policy : Option (String Global)) (existing : Bool) → ReadsAs (codes "serve") rows (Serve port connections store policy existing) → ⊥)
+      → ReadsNone (codes "serve") rows
+  serve_lacks none Explain e = cc (e)
+  serve_lacks none Card e = cc (e)
+  serve_lacks none (Import store policy) r = is_not_import r.0
+  serve_lacks none (Audit store existing) r = is_not_audit r.0
+  serve_lacks none (Migrate store) r = is_not_migrate r.0
+  serve_lacks none (Pipe store policy) r = is_not_pipe r.0
+  serve_lacks none (Serve port connections store policy existing) r = none port connections store policy existing r
+  serve_lacks none (Help text) r = r
+
+  pub without_port : HasNoNumber rows (codes "port") → ReadsNone (codes "serve") rows
+  without_port none = serve_lacks (λ port connections store policy existing r. none port r.2 r.1)
+
+  pub without_connections : HasNoNumber rows (codes "connections") → ReadsNone (codes "serve") rows
+  without_connections none = serve_lacks (λ port connections store policy existing r. let most : connections ≤ 10000 = r.5 in none connections (omega arith) r.3)
+
+-- clap lets the words pass, no command is read of their matches, and that is told
+pub none_told : (found : Option (Text × List Row)) (kinds : Kinds) (fault : WordsFault)
+    → kinds ≡ [] → MatchesNone found → IsUsage no_store fault → IsRefused found kinds fault
+none_told found kinds (Usage text) passes none told = inr (passes, none, told)
+none_told found kinds Memory passes none told = tt

@@ -1,0 +1,140 @@
+//! The command that the words name, or what is wrong with them.
+
+use crate::checks::{check_fact, check_text};
+use book_desk_words::{Command, WordsFault, command_of, words_not_text};
+use std::alloc::{AllocError, Global};
+
+/// What the words after the program's name are read as (own profile).
+const COMMANDS: &[(&str, &str)] = &[
+    ("explain", "Explain"),
+    ("card", "Card"),
+    (
+        "import --store office.db office.toml",
+        "Import { store: \"office.db\", policy: \"office.toml\" }",
+    ),
+    (
+        "import office.toml --store=office.db",
+        "Import { store: \"office.db\", policy: \"office.toml\" }",
+    ),
+    (
+        "audit --store office.db",
+        "Audit { store: \"office.db\", existing: false }",
+    ),
+    (
+        "audit --existing --store office.db",
+        "Audit { store: \"office.db\", existing: true }",
+    ),
+    (
+        "migrate --store office.db",
+        "Migrate { store: \"office.db\" }",
+    ),
+    ("pipe", "Pipe { store: None, policy: None }"),
+    (
+        "pipe --policy office.toml --store office.db",
+        "Pipe { store: Some(\"office.db\"), policy: Some(\"office.toml\") }",
+    ),
+    (
+        "serve --port 0 --connections 1",
+        "Serve { port: 0, connections: 1, store: None, policy: None, existing: false }",
+    ),
+    (
+        "serve --port 65535 --connections 10000 --store office.db --policy office.toml --existing",
+        "Serve { port: 65535, connections: 10000, store: Some(\"office.db\"), policy: Some(\"office.toml\"), existing: true }",
+    ),
+    ("--help", "Help"),
+    ("--version", "Help"),
+    ("serve --help", "Help"),
+];
+
+/// The status where the words name no command, and the first line of what is told.
+const REFUSED: &[(&str, &str)] = &[
+    (
+        "",
+        "2 error: 'book_desk' requires a subcommand but one was not provided",
+    ),
+    ("exlain", "2 error: unrecognized subcommand 'exlain'"),
+    (
+        "pipe office.toml",
+        "2 error: unexpected argument 'office.toml' found",
+    ),
+    (
+        "import office.toml",
+        "2 error: the following required arguments were not provided:",
+    ),
+    (
+        "import --store office.db",
+        "2 error: the following required arguments were not provided:",
+    ),
+    (
+        "audit",
+        "2 error: the following required arguments were not provided:",
+    ),
+    (
+        "migrate",
+        "2 error: the following required arguments were not provided:",
+    ),
+    (
+        "serve --port 0",
+        "2 error: the following required arguments were not provided:",
+    ),
+    (
+        "serve --connections 1",
+        "2 error: the following required arguments were not provided:",
+    ),
+    (
+        "serve --port 65536 --connections 1",
+        "2 error: invalid value '65536' for '--port <N>': 65536 is not in 0..=65535",
+    ),
+    (
+        "serve --port 0 --connections 0",
+        "2 error: invalid value '0' for '--connections <N>': 0 is not in 1..=10000",
+    ),
+    (
+        "serve --port 0 --connections 10001",
+        "2 error: invalid value '10001' for '--connections <N>': 10001 is not in 1..=10000",
+    ),
+    (
+        "serve --port 0 --connections 1 --existing",
+        "2 error: the option '--existing' wants '--store <FILE>'",
+    ),
+];
+
+/// The status, and the first line of what is told.
+fn first_line(alloc: Global, fault: &WordsFault) -> Result<String, AllocError> {
+    let text = format!(in alloc; "{fault}")?;
+    let line = text.as_str().lines().next().unwrap_or("");
+    format!(in alloc; "{} {line}", fault.status())
+}
+
+/// What the words are read as.
+fn told(alloc: Global, words: &str) -> Result<String, AllocError> {
+    let mut list = Vec::new(alloc);
+    for word in words.split_whitespace() {
+        list.push(String::from_str(alloc, word)?)?;
+    }
+    match command_of(alloc, list.as_slice()) {
+        Ok(Command::Help(_)) => String::from_str(alloc, "Help"),
+        Ok(command) => format!(in alloc; "{command:?}"),
+        Err(fault) => first_line(alloc, &fault),
+    }
+}
+
+#[test]
+fn words_name_commands(rt: HostRuntime) {
+    for (words, wanted) in COMMANDS {
+        let answer = told(rt.alloc(), words).expect(&rt, "memory");
+        check_text(&rt, answer.as_str(), wanted, words);
+    }
+}
+
+#[test]
+fn other_words_are_refused(rt: HostRuntime) {
+    for (words, wanted) in REFUSED {
+        let answer = told(rt.alloc(), words).expect(&rt, "memory");
+        check_text(&rt, answer.as_str(), wanted, words);
+    }
+    let answer = first_line(rt.alloc(), &words_not_text(rt.alloc())).expect(&rt, "memory");
+    let wanted = "2 error: invalid UTF-8 was detected in one or more arguments";
+    check_text(&rt, answer.as_str(), wanted, "no text");
+    check_fact(&rt, WordsFault::Memory.status() == 3, "memory");
+}
