@@ -14,6 +14,7 @@
 #   make bench   builds the program, and prints the processor time that it takes for many workloads, and the instructions
 #                of requests at two sizes of what they should not rest on
 #   make figures builds the program, and prints what its requests over a store in a file take
+#   make many    builds the program, and serves 10,000 connections, 100 at once; ends it by TERM at 100 moments; asks it through nginx
 #   make clients tests the gateway with clients as they are: vdirsyncer, khard, curl, nginx, Chromium (gateway/packages.txt)
 #   make gateway-demo runs the server and the gateway with two persons, for at most an hour
 #   make clean   removes what the others made
@@ -21,7 +22,7 @@
 # They need rt, the command of the Rattle toolchain: on PATH, or in the kit whose folder RATTLE_KIT names; and python3, which
 # rt needs too.
 
-.PHONY: try build install demo tour streams test quick wrong turned faults bench figures clients gateway-demo clean
+.PHONY: try build install demo tour streams test quick wrong turned faults bench figures many clients gateway-demo clean
 
 try:
 	@tools/try
@@ -63,6 +64,11 @@ bench: build
 
 figures: build
 	@tools/figures build/book_desk
+
+many: build
+	@tools/together build/book_desk
+	@tools/terminated build/book_desk
+	@tools/proxied build/book_desk
 
 clients:
 	@gateway/clients

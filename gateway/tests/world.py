@@ -63,7 +63,6 @@ class World:
     def __init__(
         self,
         more: str = "",
-        connections: int = 10_000,
         policy: Path = GATEWAY / "tests" / "policy.toml",
         origins: str = "",
         passwords: dict[str, str] | None = None,
@@ -76,7 +75,6 @@ class World:
         self.folder = tempfile.TemporaryDirectory(prefix="office-gateway-")
         self.path = Path(self.folder.name)
         self.port, self.server_port = port or free_port(), free_port()
-        self.connections = connections
         self.passwords = passwords or PASSWORDS
         hashed = [f"{login}:{bcrypt.hashpw(word.encode(), bcrypt.gensalt(6)).decode()}" for login, word in self.passwords.items()]
         (self.path / "passwords").write_text("\n".join(hashed) + "\n")
@@ -112,7 +110,7 @@ class World:
 
     def start_server(self) -> None:
         """Starts the server over the store."""
-        words = [str(self.program), "serve", "--port", str(self.server_port), "--connections", str(self.connections)]
+        words = [str(self.program), "serve", "--port", str(self.server_port), "--forever", "--at-once", "64", "--idle", "75"]
         self.server = subprocess.Popen([*words, "--store", str(self.path / "office.db")], stdout=subprocess.PIPE, stderr=subprocess.DEVNULL)
         assert self.server.stdout is not None
         self.server.stdout.readline()

@@ -12,8 +12,9 @@ mod files;
 
 use book_desk_app::{
     Failure, InputFault, Prepared, StoreFailure, TextCommand, Work, prepare, run, run_migration,
-    run_text, serve, tell,
+    run_text, serve, serve_many, tell,
 };
+use book_desk_loop::{Limits, Polled};
 use book_desk_words::{Command, WordsFault, command_of, words_not_text};
 use book_machine::Machine;
 use book_office::Keeper;
@@ -21,9 +22,10 @@ use files::{Opened, close, open_inputs};
 use sqlite::{Alter, Connection};
 use std::env;
 use std::io::{self, BufReader, Write};
-use std::net::{Net, TcpListener};
+use std::net::{Net, OpenListener, TcpListener};
 use std::process::ExitCode;
-use std::rt::Env;
+use std::rt::{Clock, Env};
+use std::time::Duration;
 
 /// The words after the program's name.
 fn words_of(rt: &(impl Env + AllocGlobal)) -> Result<Vec<String>, WordsFault> {
@@ -115,47 +117,129 @@ fn migrate<W: Write, E: Write>(
     status
 }
 
-/// Where `serve` listens, and how many connections it serves.
+/// Where `serve` listens, how many connections it serves, and how.
 #[derive(Clone, Copy)]
 struct Service {
+    /// The port.
     port: u16,
-    connections: u16,
+    /// How many connections; none where there is no end.
+    connections: Option<u16>,
+    /// How many at once; none where they are served one after the other.
+    at_once: Option<u16>,
+    /// After how many seconds in which it moves no byte a connection is closed.
+    idle: Option<u16>,
 }
 
-/// Listens on the port, and serves the connections.
-fn serve_on<K: Keeper, N: Net + AllocGlobal, W: Write, E: Write>(
+/// How many connections are served one after the other.
+fn count_of(service: Service) -> u64 {
+    match service.connections {
+        Some(connections) => u64::from(connections),
+        None => u64::MAX,
+    }
+}
+
+/// How connections are served at once, so many of them.
+fn limits_of(service: Service, at_once: u16) -> Limits {
+    let idle = match service.idle {
+        Some(seconds) => Some(Duration::from_secs(u64::from(seconds))),
+        None => None,
+    };
+    Limits {
+        at_once: usize::from(at_once),
+        total: service.connections,
+        idle,
+    }
+}
+
+/// Serves the connections of a listener at once, so many of them.
+fn serve_at_once_on<K: Keeper, N: Net + Clock + AllocGlobal, W: Write, E: Write>(
     rt: &N,
-    machine: &mut Machine<K>,
-    service: Service,
+    machine: Machine<K>,
+    listener: &N::Listener,
+    limits: Limits,
     writer: &mut W,
     errors: &mut E,
-) -> u8 {
-    match TcpListener::bind(rt, ("127.0.0.1", service.port)) {
-        Ok(listener) => serve(
-            rt.alloc(),
+) -> (Machine<K>, u8) {
+    let alloc = rt.alloc();
+    if listener.set_nonblocking(true).is_err() {
+        return (machine, tell(errors, &Failure::Listen));
+    }
+    match Polled::new(rt, alloc, listener) {
+        Ok(mut readiness) => serve_many(
+            alloc,
             machine,
-            &listener,
-            service.connections,
+            listener,
+            &mut readiness,
+            limits,
             writer,
             errors,
         ),
-        Err(_) => tell(errors, &Failure::Listen),
+        Err(_) => (machine, tell(errors, &Failure::Listen)),
+    }
+}
+
+/// Serves the connections of a listener.
+fn serve_all<K: Keeper, N: Net + Clock + AllocGlobal, W: Write, E: Write>(
+    rt: &N,
+    mut machine: Machine<K>,
+    listener: &N::Listener,
+    service: Service,
+    writer: &mut W,
+    errors: &mut E,
+) -> (Machine<K>, u8) {
+    match service.at_once {
+        Some(at_once) => {
+            let limits = limits_of(service, at_once);
+            serve_at_once_on(rt, machine, listener, limits, writer, errors)
+        }
+        None => {
+            let count = count_of(service);
+            let status = serve(
+                rt,
+                rt.alloc(),
+                &mut machine,
+                listener,
+                count,
+                writer,
+                errors,
+            );
+            (machine, status)
+        }
+    }
+}
+
+/// Listens on the port, and serves the connections.
+fn serve_on<K: Keeper, N: Net + Clock + AllocGlobal, W: Write, E: Write>(
+    rt: &N,
+    machine: Machine<K>,
+    service: Service,
+    writer: &mut W,
+    errors: &mut E,
+) -> (Machine<K>, u8) {
+    match TcpListener::bind(rt, ("127.0.0.1", service.port)) {
+        Ok(listener) => serve_all(rt, machine, &listener, service, writer, errors),
+        Err(_) => (machine, tell(errors, &Failure::Listen)),
     }
 }
 
 /// Serves the Office of a machine that is ready, and gives its store back, if there is one.
-fn serve_prepared<S: Alter + Drop, N: Net + AllocGlobal, W: Write, E: Write>(
+fn serve_prepared<S: Alter + Drop, N: Net + Clock + AllocGlobal, W: Write, E: Write>(
     rt: &N,
-    mut prepared: Prepared<S>,
+    prepared: Prepared<S>,
     service: Service,
     writer: &mut W,
     errors: &mut E,
 ) -> (u8, Option<Connection<S>>) {
-    let status = match &mut prepared {
-        Prepared::Memory(machine) => serve_on(rt, machine, service, writer, errors),
-        Prepared::Store(machine) => serve_on(rt, machine, service, writer, errors),
-    };
-    (status, prepared.release())
+    match prepared {
+        Prepared::Memory(machine) => {
+            let (machine, status) = serve_on(rt, machine, service, writer, errors);
+            (status, Prepared::Memory(machine).release())
+        }
+        Prepared::Store(machine) => {
+            let (machine, status) = serve_on(rt, machine, service, writer, errors);
+            (status, Prepared::Store(machine).release())
+        }
+    }
 }
 
 /// The command `serve`: the policy's file is read, the store's file is opened, and connections are served.
@@ -226,6 +310,8 @@ fn perform<W: Write, E: Write>(
         Command::Serve {
             port,
             connections,
+            at_once,
+            idle,
             store,
             policy,
             existing,
@@ -235,7 +321,12 @@ fn perform<W: Write, E: Write>(
                 policy,
                 existing,
             };
-            let service = Service { port, connections };
+            let service = Service {
+                port,
+                connections,
+                at_once,
+                idle,
+            };
             serve_with(rt, &named, service, writer, errors)
         }
     }

@@ -43,14 +43,8 @@ module _ (old new : Standing) (was is : Remembered) (nothing : (o : Office) → 
         stream.1,
         record {
           exchanges = it.exchanges;
-          taken = it.taken;
-          rest = it.rest;
-          replies = it.replies;
-          refusal = it.refusal;
-          input_is = it.input_is;
-          written_is = it.written_is;
-          answers = answers_behind it.exchanges it.taken it.replies it.answers;
-          ends = it.ends;
+          told = it.told;
+          runs = runs_behind (map answered_of it.exchanges) it.runs;
           count = it.count;
         },
       )

@@ -29,7 +29,7 @@ stopped old new before after out sent Write memory read write = write refl
 
 one_runs : (old new : Standing) (before after held holds : Option (List ℕ)) (outcome : Outcome)
     → ComesTo old before after held holds outcome new → (answered : List Answered) × Runs old new answered
-one_runs old new before after held holds (Ok served) c = (map answered_of c.4.2.exchanges, c.4.2.answers.runs)
+one_runs old new before after held holds (Ok served) c = (map answered_of c.4.2.exchanges, c.4.2.runs)
 one_runs old new before after held holds (Err Memory) c = ([], runs_none old new c.4.2)
 one_runs old new before after held holds (Err Read) c = (map answered_of c.4.so_far.exchanges, c.4.so_far.answers.runs)
 one_runs old new before after held holds (Err Write) c = elim c.4.stops [

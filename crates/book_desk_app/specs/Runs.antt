@@ -11,7 +11,7 @@ use Rattle.book_tables.specs.Keeps.{standing_of}
 use Rattle.book_tables.specs.Opened.{IsUnfounded, StandsAlone}
 use Rattle.book_tables.specs.declared.opening.OpenFault.{OpenFault}
 use Rattle.book_tables.specs.declared.opening.OpenFault.TheVariants as faults
-use Rattle.book_tables_opening.specs.Reading.{IsLeft, IsRefused, StandsForItsOffice, StandsForNone}
+use Rattle.book_tables_opening.specs.Reading.{IsRefused, IsUnopened, SameRows, StandsForItsOffice, StandsForNone}
 use Rattle.book_desk_app.specs.Failures.{failure_status}
 use Rattle.book_desk_app.specs.Tasks.{Performs}
 use Rattle.book_desk_app.specs.Works.{GivesNoTask, SpellsTask}
@@ -31,16 +31,17 @@ store_failure faults.Store = stores.Store
 -- ---- the tables of a store
 
 -- a store without tables stands for the empty Office then; another for the Office of its rows, as its last commit left them
+-- but for `reach`
 pub record IsOpenedFrom (before after : State) : Type 0 where
   pub made : before.now.schema ≡ no_schema → StandsAlone after empty_office
   pub opened : before.now.schema ≢ no_schema → StandsForItsOffice after
-  pub same : before.now.schema ≢ no_schema → IsTrue after.is_open → after.now.trees ≡ before.committed.trees
+  pub same : before.now.schema ≢ no_schema → IsTrue after.is_open → SameRows before.committed.trees after.now.trees
 
 -- a store that could not be opened: without tables it shows what it showed, and a stop leaves that or the empty Office; else it
--- shows what was committed, and a stop leaves that alone. Where it is refused, its rows were read, and stand for no Office
+-- has the rows that were committed but for `reach`, and so has what a stop leaves. Where it is refused, its rows were read, and stand for no Office
 pub record IsGivenBack (says : Database → OpenFault → Type 0) (before after : State) (fault : OpenFault) : Type 0 where
   pub bare : before.now.schema ≡ no_schema → IsUnfounded before after empty_office
-  pub left : before.now.schema ≢ no_schema → IsLeft before after
+  pub left : before.now.schema ≢ no_schema → IsUnopened before.committed.trees after
   pub none : IsRefused fault → StandsForNone after
   pub other : IsRefused fault → IsTrue after.is_open → says after.now fault
 

@@ -1,40 +1,63 @@
 //! Connections, one after the other (RFC 9112, section 9).
 
-ghost use Rattle.std.specs.Prelude.{◌≡◌, IfOk, List, Result, length, true};
+ghost use Rattle.std.specs.Prelude.{◌≡◌, IfOk, List, length, true};
 ghost use Rattle.std.specs.Io.KnownBytes.{Keeps};
 ghost use Rattle.book_wire.specs.Serving.{Answered, Runs};
-ghost use Rattle.book_wire.specs.declared.stream.Served.{Served};
-ghost use Rattle.book_wire.specs.declared.stream.StreamFault.{StreamFault};
 ghost use Rattle.book_desk_app.specs.Connections.{AreConnections, ComesTo, ServedConnection, had_no_fault, none_had_a_fault, outcomes_of};
 
 use crate::serving_failures::StreamFailure;
+use book_desk_loop::close_in_stages;
 use book_machine::Machine;
 use book_office::Keeper;
-use book_wire::serve_stream;
+use book_wire::{Ended, Served, StreamFault, serve_stream};
 use std::alloc::Global;
 use std::io;
 use std::io::{Read, Write};
 use std::net::{OpenListener, OpenStream};
+use std::rt::Clock;
 
-/// Serves the requests of one connection. A fault is told on `errors`, as a line. True if it had none.
+/// Serves the requests of one connection, and says how it ended. A fault is told on `errors`, as a line.
 fn serve_one<K: Keeper, R: Read, W: Write, E: Write>(
     alloc: Global,
     machine: &mut Machine<K>,
     reader: &mut R,
     writer: &mut W,
     errors: &mut E,
-) -> bool
-    ensures served { (outcome : Result Served StreamFault) × (result ≡ had_no_fault outcome)
-        × ComesTo (K.standing machine.old.keeper) (R.remaining reader.old) (R.remaining reader.new)
-        (W.contents writer.old) (W.contents writer.new) outcome (K.standing machine.new.keeper) }
-    ensures silent { result ≡ true → Keeps (E.contents errors.old) (E.contents errors.new) }
+) -> Result<Served, StreamFault>
+    ensures served { ComesTo (K.standing machine.old.keeper) (R.remaining reader.old) (R.remaining reader.new)
+        (W.contents writer.old) (W.contents writer.new) result (K.standing machine.new.keeper) }
+    ensures silent { had_no_fault result ≡ true → Keeps (E.contents errors.old) (E.contents errors.new) }
 {
     match serve_stream(alloc, machine, reader, writer) {
-        Ok(_) => true,
+        Ok(served) => Ok(served),
         Err(fault) => {
             // Where this can't be written, the status of the program alone tells it.
             let _ = writeln!(errors, "{}", StreamFailure { fault });
-            false
+            Err(fault)
+        }
+    }
+}
+
+/// Whether a connection that ended so had no fault.
+fn is_sound(outcome: &Result<Served, StreamFault>) -> bool
+    ensures { result ≡ had_no_fault outcome.now }
+{
+    match outcome {
+        Ok(_) => true,
+        Err(_) => false,
+    }
+}
+
+/// Closes a connection in stages that ended after a reply that closes, so that the reply reaches a client that still
+/// sends. The caller lets it go.
+fn close<C: Clock, S: Read + OpenStream>(
+    clock: &C,
+    stream: &mut S,
+    outcome: &Result<Served, StreamFault>,
+) {
+    if let Ok(served) = outcome {
+        if served.ended == Ended::Closed {
+            close_in_stages(clock, stream);
         }
     }
 }
@@ -44,20 +67,23 @@ fn serve_one<K: Keeper, R: Read, W: Write, E: Write>(
 ///
 /// The Office afterwards is that of the connections in turn, each a stream by itself, and so that of a run of requests.
 /// What each was sent, by what it brought, is what the contract of `serve_stream` says of the two halves of its stream.
+/// One that ends after a reply that closes is closed in stages.
 ///
 /// # Errors
 ///
 /// Where a connection can't be accepted; those before it were served.
 pub fn serve_connections<
+    C: Clock,
     K: Keeper,
     S: Read + Write + OpenStream + Drop,
     L: OpenListener<Stream = S>,
     E: Write,
 >(
+    clock: &C,
     alloc: Global,
     machine: &mut Machine<K>,
     listener: &L,
-    count: u16,
+    count: u64,
     errors: &mut E,
 ) -> io::Result<bool>
     ensures served { (connections : List (ServedConnection S)) × AreConnections S.remaining S.contents K.standing machine.old.keeper connections machine.new.keeper
@@ -71,7 +97,9 @@ pub fn serve_connections<
         let mut reader = writer.try_clone()?;
         // Without it a reply in two writes waits for the client's acknowledgement of the first.
         let _ = writer.set_nodelay(true);
-        if !serve_one(alloc, machine, &mut reader, &mut writer, errors) {
+        let outcome = serve_one(alloc, machine, &mut reader, &mut writer, errors);
+        close(clock, &mut reader, &outcome);
+        if !is_sound(&outcome) {
             sound = false;
         }
     }

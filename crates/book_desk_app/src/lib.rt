@@ -14,8 +14,9 @@
 //!
 //! Read `text_commands` and `dispatch` first, then `explaining`, `card_summaries`, and `streams` and `short_texts`,
 //! which read. Then `works`, which makes a task, `tasks`, which joins `policies`, `importing`, `auditing` and `piping`,
-//! and `memory`; `stores` and `running`; `adoptions`, `preparing`, `connections` and `listening`. `failures`, `lines`,
-//! `text_failures` and `serving_failures` have what is told on standard error.
+//! and `memory`; `stores` and `running`; `adoptions`, `preparing`, `connections`, `listening`, and `looping`, which
+//! serves many connections at once. `failures`, `lines`, `text_failures` and `serving_failures` have what is told on
+//! standard error.
 #![tactic(auto)]
 
 mod adoptions;
@@ -28,6 +29,7 @@ mod failures;
 mod importing;
 mod lines;
 mod listening;
+mod looping;
 mod memory;
 mod migrations;
 mod piping;
@@ -50,6 +52,7 @@ pub use dispatch::run_text;
 pub use failures::{Failure, StoreFailure, tell};
 pub use importing::{adopt_given, import};
 pub use listening::serve;
+pub use looping::serve_many;
 pub use memory::perform_in_memory;
 pub use migrations::run_migration;
 pub use piping::pipe;

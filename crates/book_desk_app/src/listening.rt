@@ -1,9 +1,11 @@
 //! The connections of a listener.
 
-ghost use Rattle.std.specs.Prelude.{◌≡◌, ◌⊎◌, List};
-ghost use Rattle.std.specs.Io.KnownBytes.{Keeps};
+ghost use Rattle.std.specs.Prelude.{◌≡◌, ◌⊎◌, IfErr, List, OnOk};
+ghost use Rattle.std.specs.Io.KnownBytes.{Appends, Keeps};
+ghost use Rattle.std.specs.declared.net.socket_addr.SocketAddr.{SocketAddr};
 ghost use Rattle.book_wire.specs.Serving.{Answered, Runs};
-ghost use Rattle.book_desk_app.specs.Streams.{ServesSoundly};
+ghost use Rattle.book_desk_app.specs.Failures.{failure_status};
+ghost use Rattle.book_desk_app.specs.Streams.{ServesSoundly, listening_line};
 
 use crate::connections::serve_connections;
 use crate::failures::{Failure, tell};
@@ -13,20 +15,44 @@ use book_office::Keeper;
 use std::alloc::Global;
 use std::io::{Read, Write};
 use std::net::{OpenListener, OpenStream};
+use std::rt::Clock;
+
+/// Says where a listener listens.
+///
+/// # Errors
+///
+/// What is told where that is not known, or can't be written.
+pub(crate) fn say_where<L: OpenListener, W: Write>(
+    listener: &L,
+    writer: &mut W,
+) -> Result<(), Failure>
+    ensures said { OnOk result ((address : SocketAddr) × Appends (W.contents writer.old) (W.contents writer.new) (listening_line address)) }
+    ensures broken { IfErr result (λ failure. failure_status failure ≡ 3) }
+{
+    let Ok(address) = listener.local_addr() else {
+        return Err(Failure::Listen);
+    };
+    if writeln!(writer, "listening on {address}").is_err() || writer.flush().is_err() {
+        return Err(Failure::Output);
+    }
+    Ok(())
+}
 
 /// Says where it listens, and serves so many connections. The status is 0 where none had a fault, else 3; it is 3 at
 /// once where that can't be said, or a connection can't be accepted.
 pub fn serve<
+    C: Clock,
     K: Keeper,
     S: Read + Write + OpenStream + Drop,
     L: OpenListener<Stream = S>,
     W: Write,
     E: Write,
 >(
+    clock: &C,
     alloc: Global,
     machine: &mut Machine<K>,
     listener: &L,
-    connections: u16,
+    connections: u64,
     writer: &mut W,
     errors: &mut E,
 ) -> u8
@@ -36,13 +62,10 @@ pub fn serve<
     ensures runs { (answered : List Answered) × Runs (K.standing machine.old.keeper) (K.standing machine.new.keeper) answered }
     ensures silent { result ≡ 0 → Keeps (E.contents errors.old) (E.contents errors.new) }
 {
-    let Ok(address) = listener.local_addr() else {
-        return tell(errors, &Failure::Listen);
-    };
-    if writeln!(writer, "listening on {address}").is_err() || writer.flush().is_err() {
-        return tell(errors, &Failure::Output);
+    if let Err(failure) = say_where(listener, writer) {
+        return tell(errors, &failure);
     }
-    match serve_connections(alloc, machine, listener, connections, errors) {
+    match serve_connections(clock, alloc, machine, listener, connections, errors) {
         Ok(true) => DONE,
         Ok(false) => BROKEN,
         Err(_) => tell(errors, &Failure::Listen),

@@ -31,7 +31,7 @@ pub(crate) fn store_failure(fault: OpenFault) -> StoreFailure
 ///
 /// As `Tables::create` and `book_tables_opening::open`. The connection comes back but where the store could not be opened
 /// again. It shows what it showed, where the store has no table, and a stop leaves that or the empty Office; of any other
-/// store it shows what was committed, and a stop leaves that alone.
+/// store it shows what was committed, and a stop leaves that, or the same Office with `reach` made.
 pub fn open_store<S: Alter + Drop>(
     alloc: Global,
     connection: Connection<S>,

@@ -1,16 +1,16 @@
 -- Where no number, and so no command `serve`, is read of the matches of a subcommand.
-use Rattle.std.proofs.Common.{◌≡◌, ◌≤◌, ◌∙◌, ℕ, Bool, Option, Some, None, List, [], Result, Err, IfNone, String, ap, arith, codes, inr, slice_index}
+use Rattle.std.proofs.Common.{◌≡◌, ◌≤◌, ◌∙◌, ℕ, Bool, true, Option, Some, None, List, [], Result, Err, IfNone, String, ap, arith, codes, inr, is_some, slice_index}
 use Rattle.std.specs.declared.alloc.Global.{Global}
 use Rattle.std.specs.Str.Parse.{ParsesUnsigned}
 use Rattle.clap.specs.Matches.{ReadsOne}
-use Rattle.clap.specs.Words.{Kinds, Row, Text, one_text, rows_of}
+use Rattle.clap.specs.Words.{Kinds, Row, Text, first_of, one_text, rows_of}
 use Rattle.clap.specs.declared.parser.matches.Found.{Found}
 use Rattle.clap.proofs.WalkLemmas.{one_text-rows}
-use Rattle.book_desk_words.specs.CommandLine.{HasNumber, IsRefused, MatchesNone, ReadsAs, ReadsNone}
+use Rattle.book_desk_words.specs.CommandLine.{HasCounts, HasNumber, IsRefused, MatchesNone, MayHaveNumber, ReadsAs, ReadsNone}
 use Rattle.book_desk_words.specs.declared.commands.Command.TheVariants.{Explain, Card, Import, Audit, Migrate, Pipe, Serve, Help}
 use Rattle.book_desk_words.specs.declared.commands.WordsFault.{WordsFault}
 use Rattle.book_desk_words.specs.declared.commands.WordsFault.TheVariants.{Usage, Memory}
-use Rattle.book_desk_words.specs.WordsFaults.{IsUsage, no_store}
+use Rattle.book_desk_words.specs.WordsFaults.{IsUsage, serve_wants}
 
 -- no number of two bytes is read of this option
 abbrev pub HasNoNumber : List Row → Text → Type 0
@@ -24,6 +24,21 @@ no_number E G f id None only value = λ n small has.
     let g = only has.0 (one_text-rows f id ∙ has.1) in
     let value_is = has.3 in
     value has.0 (Err g.0) g.1 (has.2, omega arith)
+
+-- what holds holds where there is none
+pub for_none : {T : Type 0} (o : Option T) (P : Type 0) → P → IfNone o P
+for_none None P p = p
+for_none (Some x) P p = tt
+
+not_given : (o : Option Text) → is_some o ≡ true → o ≡ None → ⊥
+not_given None is none = cc (is)
+not_given (Some t) is none = cc (none)
+
+-- what is given is no number
+pub no_count : (rows : List Row) (id : Text) (most : ℕ) → is_some (first_of id rows) ≡ true → most ≤ 65535 → HasNoNumber rows id
+    → (count : Option ℕ) → MayHaveNumber rows id most count → ⊥
+no_count rows id most is small none None without = not_given (first_of id rows) is without
+no_count rows id most is small none (Some n) has = let within : n ≤ most = has.2 in none n (omega arith) has.0
 
 is_not_import : codes "serve" ≡ codes "import" → ⊥
 is_not_import e = cc (e)
@@ -39,25 +54,25 @@ is_not_pipe e = cc (e)
 
 module _ (rows : List Row) where
   -- no command `serve` is read of the matches
-  serve_lacks : ((port connections : ℕ) (store policy : Option (String Global)) (existing : Bool) → ReadsAs (codes "serve") rows (Serve port connections store policy existing) → ⊥)
-      → ReadsNone (codes "serve") rows
+  serve_lacks : ((port : ℕ) (connections at_once idle : Option ℕ) (store policy : Option (String Global)) (existing : Bool)
+      → ReadsAs (codes "serve") rows (Serve port connections at_once idle store policy existing) → ⊥) → ReadsNone (codes "serve") rows
   serve_lacks none Explain e = cc (e)
   serve_lacks none Card e = cc (e)
   serve_lacks none (Import store policy) r = is_not_import r.0
   serve_lacks none (Audit store existing) r = is_not_audit r.0
   serve_lacks none (Migrate store) r = is_not_migrate r.0
   serve_lacks none (Pipe store policy) r = is_not_pipe r.0
-  serve_lacks none (Serve port connections store policy existing) r = none port connections store policy existing r
+  serve_lacks none (Serve port connections at_once idle store policy existing) r = none port connections at_once idle store policy existing r
   serve_lacks none (Help text) r = r
 
   pub without_port : HasNoNumber rows (codes "port") → ReadsNone (codes "serve") rows
-  without_port none = serve_lacks (λ port connections store policy existing r. none port r.2 r.1)
+  without_port none = serve_lacks (λ port connections at_once idle store policy existing r. none port r.2 r.1)
 
-  pub without_connections : HasNoNumber rows (codes "connections") → ReadsNone (codes "serve") rows
-  without_connections none = serve_lacks (λ port connections store policy existing r. let most : connections ≤ 10000 = r.5 in none connections (omega arith) r.3)
+  pub without_counts : ((connections at_once idle : Option ℕ) → HasCounts rows connections at_once idle → ⊥) → ReadsNone (codes "serve") rows
+  without_counts none = serve_lacks (λ port connections at_once idle store policy existing r. none connections at_once idle r.3)
 
 -- clap lets the words pass, no command is read of their matches, and that is told
 pub none_told : (found : Option (Text × List Row)) (kinds : Kinds) (fault : WordsFault)
-    → kinds ≡ [] → MatchesNone found → IsUsage no_store fault → IsRefused found kinds fault
+    → kinds ≡ [] → MatchesNone found → IsUsage serve_wants fault → IsRefused found kinds fault
 none_told found kinds (Usage text) passes none told = inr (passes, none, told)
 none_told found kinds Memory passes none told = tt

@@ -1,5 +1,5 @@
 -- The command line (own profile): the words that it has, and the command that clap's matches of them give.
-use Rattle.std.specs.Prelude.{◌≡◌, ◌≢◌, ◌⊎◌, ℕ, ◌≤◌, pos, Bool, true, false, List, [], codes, Option, Some, None, is_some, String, option_map, string_bytes, bytes_eq}
+use Rattle.std.specs.Prelude.{◌≡◌, ◌≢◌, ◌⊎◌, ℕ, ◌≤◌, pos, Bool, true, false, List, [], codes, Option, Some, None, is_none, is_some, String, option_map, string_bytes, bytes_eq}
 use Rattle.std.specs.declared.alloc.Global.{Global}
 use Rattle.std.specs.Str.Parse.{IsNumeral, digits_value, without_leading_plus}
 use Rattle.clap.specs.Words.{App, Row, Rule, Text, first_of, new_app, new_rule, one_of, with_rule, with_subcommand}
@@ -13,7 +13,7 @@ use Rattle.book_desk_words.specs.declared.commands.Command.{Command}
 use Rattle.book_desk_words.specs.declared.commands.Command.TheVariants.{Explain, Card, Import, Audit, Migrate, Pipe, Serve, Help}
 use Rattle.book_desk_words.specs.declared.commands.WordsFault.{WordsFault}
 use Rattle.book_desk_words.specs.declared.commands.WordsFault.TheVariants.{Usage, Memory}
-use Rattle.book_desk_words.specs.WordsFaults.{IsUsage, no_store}
+use Rattle.book_desk_words.specs.WordsFaults.{IsUsage, serve_wants}
 
 -- ---- the words that it has
 
@@ -24,6 +24,10 @@ option_rule name = record (new_rule name) { long = Some name; value_names = 1 }
 -- one that is required, with a number from least to most
 abbrev pub number_rule : Text → ℕ → ℕ → Rule
 number_rule name least most = record (option_rule name) { required = true; parser = Some (parsers.Signed (pos least) (pos most)) }
+
+-- one with a number from least to most
+abbrev pub counted_rule : Text → ℕ → ℕ → Rule
+counted_rule name least most = record (option_rule name) { parser = Some (parsers.Signed (pos least) (pos most)) }
 
 -- one that is required, with one value
 abbrev pub required_rule : Text → Rule
@@ -53,10 +57,17 @@ with_files app = with_rule (with_rule app (option_rule (codes "store"))) (option
 abbrev pub pipe_app : App
 pipe_app = with_files (new_app (codes "pipe"))
 
+-- the options that say how many connections are served
+abbrev pub with_ends : App → App
+with_ends app = with_rule (with_rule app (counted_rule (codes "connections") 1 10000)) (flag_rule (codes "forever"))
+
+-- the options that say how many are served at once, and for how long
+abbrev pub with_pace : App → App
+with_pace app = with_rule (with_rule app (counted_rule (codes "at-once") 1 1000)) (counted_rule (codes "idle") 1 3600)
+
 abbrev pub serve_app : App
 serve_app =
-    with_files (with_rule (with_rule (with_rule (new_app (codes "serve"))
-    (number_rule (codes "port") 0 65535)) (number_rule (codes "connections") 1 10000)) (flag_rule (codes "existing")))
+    with_files (with_rule (with_pace (with_ends (with_rule (new_app (codes "serve")) (number_rule (codes "port") 0 65535)))) (flag_rule (codes "existing")))
 
 -- the program, whose words have no name of a program before them
 abbrev pub top_app : App
@@ -75,6 +86,11 @@ abbrev pub HasNumber : List Row → Text → ℕ → Type 0
 HasNumber rows id n =
     (text : Text) × (one_of id rows ≡ Some text) × IsNumeral 10 (without_leading_plus text) × (digits_value 10 (without_leading_plus text) ≡ n)
 
+-- an option has a number from 1 to most, or is not given
+abbrev pub MayHaveNumber : List Row → Text → ℕ → Option ℕ → Type 0
+MayHaveNumber rows id most (Some n) = HasNumber rows id n × (1 ≤ n) × (n ≤ most)
+MayHaveNumber rows id most None = first_of id rows ≡ None
+
 -- the file that an option or a word names, if it does
 abbrev pub NamesFile : List Row → Text → Option (String Global) → Type 0
 NamesFile rows id file = option_map string_bytes file ≡ first_of id rows
@@ -87,6 +103,13 @@ is_given None = false
 abbrev pub has_flag : List Row → Text → Bool
 has_flag rows id = is_given (first_of id rows)
 
+-- one of a number of connections and no end is given; how many at once; and a time-out only where many are served at once
+abbrev pub HasCounts : List Row → Option ℕ → Option ℕ → Option ℕ → Type 0
+HasCounts rows connections at_once idle =
+    MayHaveNumber rows (codes "connections") 10000 connections × (is_none connections ≡ has_flag rows (codes "forever"))
+    × MayHaveNumber rows (codes "at-once") 1000 at_once
+    × MayHaveNumber rows (codes "idle") 3600 idle × (is_some idle ≡ true → is_some at_once ≡ true)
+
 -- help or the version was asked for
 abbrev pub IsHelp : Command → Type 0
 IsHelp (Help text) = Unit {0}
@@ -96,7 +119,7 @@ IsHelp (Import store policy) = ⊥
 IsHelp (Audit store existing) = ⊥
 IsHelp (Migrate store) = ⊥
 IsHelp (Pipe store policy) = ⊥
-IsHelp (Serve port connections store policy existing) = ⊥
+IsHelp (Serve port connections at_once idle store policy existing) = ⊥
 
 -- the command that a subcommand with these matches is
 abbrev pub ReadsAs : Text → List Row → Command → Type 0
@@ -109,9 +132,9 @@ ReadsAs name rows (Audit store existing) =
 ReadsAs name rows (Migrate store) = (name ≡ codes "migrate") × NamesFile rows (codes "store") (Some store)
 ReadsAs name rows (Pipe store policy) =
     (name ≡ codes "pipe") × NamesFile rows (codes "store") store × NamesFile rows (codes "policy") policy
-ReadsAs name rows (Serve port connections store policy existing) =
+ReadsAs name rows (Serve port connections at_once idle store policy existing) =
     (name ≡ codes "serve") × HasNumber rows (codes "port") port × (port ≤ 65535)
-    × HasNumber rows (codes "connections") connections × (1 ≤ connections) × (connections ≤ 10000)
+    × HasCounts rows connections at_once idle
     × NamesFile rows (codes "store") store × NamesFile rows (codes "policy") policy
     × (existing ≡ has_flag rows (codes "existing")) × (existing ≡ true → is_some store ≡ true)
 ReadsAs name rows (Help text) = ⊥
@@ -141,5 +164,5 @@ Reads found kinds command = ((kinds ≡ []) × IsMatched found command) ⊎ (IsH
 abbrev pub IsRefused : Option (Text × List Row) → Kinds → WordsFault → Type 0
 IsRefused found kinds (Usage text) =
     ((k : ErrorKind) × IsAmong k kinds × (k ≢ kind.DisplayHelp) × (k ≢ kind.DisplayVersion))
-    ⊎ ((kinds ≡ []) × MatchesNone found × IsUsage no_store (Usage text))
+    ⊎ ((kinds ≡ []) × MatchesNone found × IsUsage serve_wants (Usage text))
 IsRefused found kinds Memory = Unit {0}

@@ -1,13 +1,13 @@
 //! The command that the words name.
 
-ghost use Rattle.std.specs.Prelude.{◌≡◌, ◌≢◌, ◌≤◌, ◌⊎◌, ℕ, IfErr, IfNone, IfOk, IfSome, codes, map, string_bytes, option_map};
+ghost use Rattle.std.specs.Prelude.{◌≡◌, ◌≢◌, ◌≤◌, ◌⊎◌, ℕ, IfErr, IfNone, IfOk, IfSome, Option, codes, is_some, map, string_bytes, option_map};
 ghost use Rattle.clap.specs.Faults.{fault_of};
 ghost use Rattle.clap.specs.Values.{kind_of};
-ghost use Rattle.clap.specs.Words.{found_of, rows_of, subcommand_of, subcommand_rows_of};
-ghost use Rattle.book_desk_words.specs.CommandLine.{program_app, has_flag, HasNumber, IsHelp, IsMatched, IsRefused, MatchesNone, NamesFile, Reads, ReadsAs, ReadsNone};
+ghost use Rattle.clap.specs.Words.{first_of, found_of, rows_of, subcommand_of, subcommand_rows_of};
+ghost use Rattle.book_desk_words.specs.CommandLine.{program_app, has_flag, HasCounts, HasNumber, IsHelp, IsMatched, IsRefused, MatchesNone, MayHaveNumber, NamesFile, Reads, ReadsAs, ReadsNone};
 ghost use Rattle.book_desk_words.specs.WordsFaults.{IsUsage, not_text, usage_text, words_status};
 
-use crate::helps::{NO_STORE, NOT_TEXT, USAGE_LINES};
+use crate::helps::{NOT_TEXT, SERVE_WANTS, USAGE_LINES};
 use crate::programs::program;
 use clap::ArgMatches;
 use clap::error::ErrorKind;
@@ -21,6 +21,12 @@ const BROKEN: u8 = 3;
 
 /// The most connections that one run serves.
 const MAX_CONNECTIONS: u16 = 10_000;
+
+/// The most connections at once.
+const MAX_AT_ONCE: u16 = 1_000;
+
+/// The most seconds in which a connection may move no byte.
+const MAX_IDLE: u16 = 3_600;
 
 /// What the program is to do.
 #[derive(Debug, Drop, PartialEq, Eq)]
@@ -59,8 +65,12 @@ pub enum Command {
     Serve {
         /// The port of 127.0.0.1; 0 for a free one.
         port: u16,
-        /// How many connections are served, 1 to 10,000.
-        connections: u16,
+        /// How many connections are served, 1 to 10,000; without a number there is no end.
+        connections: Option<u16>,
+        /// How many are served at once, 1 to 1,000; without a number they are served one after the other.
+        at_once: Option<u16>,
+        /// After how many seconds in which it moves no byte a connection is closed, 1 to 3,600. Never without `at_once`.
+        idle: Option<u16>,
         /// The file of the store; without one it is in memory.
         store: Option<String>,
         /// The file of a policy that is adopted first.
@@ -136,6 +146,32 @@ fn number_in(found: &ArgMatches<'_>, id: &str) -> Option<u16>
     found.get_one::<u16>(id)
 }
 
+/// Whether the words have an option with a value.
+fn is_given(found: &ArgMatches<'_>, id: &str) -> bool
+    ensures { result ≡ is_some (first_of id.now (rows_of (found_of found.now))) }
+{
+    match found.get_str(id) {
+        Some(_) => true,
+        None => false,
+    }
+}
+
+/// The number from 1 to `most` that the words give to an option, or that they have no such option; none where what they give
+/// is no such number.
+fn count_in(found: &ArgMatches<'_>, id: &str, most: u16) -> Option<Option<u16>>
+    ensures read { IfSome result (MayHaveNumber (rows_of (found_of found.now)) id.now most) }
+    ensures none { IfNone result ((count : Option ℕ) → MayHaveNumber (rows_of (found_of found.now)) id.now most count → ⊥) }
+{
+    if !is_given(found, id) {
+        return Some(None);
+    }
+    let number = number_in(found, id)?;
+    if number == 0 || number > most {
+        return None;
+    }
+    Some(Some(number))
+}
+
 /// Whether the words have an option without a value.
 fn flag_in(found: &ArgMatches<'_>, id: &str) -> bool
     ensures { result ≡ has_flag (rows_of (found_of found.now)) id.now }
@@ -146,8 +182,43 @@ fn flag_in(found: &ArgMatches<'_>, id: &str) -> bool
     }
 }
 
-/// The command `serve` with what the words give it; none where a number is missing or out of range, or where a store
-/// that has to be there is not named.
+/// How many connections are served, and how.
+#[derive(Drop)]
+struct Counts {
+    /// How many in all; without a number there is no end.
+    connections: Option<u16>,
+    /// How many at once; without a number one after the other.
+    at_once: Option<u16>,
+    /// After how many seconds an idle one is closed, if ever.
+    idle: Option<u16>,
+}
+
+/// How many connections the words say, and how they are served; none where a number is out of range, where they have not
+/// one of `--connections` and `--forever`, or have `--idle` without `--at-once`.
+fn counts_of(found: &ArgMatches<'_>) -> Option<Counts>
+    ensures read { IfSome result (λ counts. HasCounts (rows_of (found_of found.now)) counts.connections counts.at_once counts.idle) }
+    ensures none { IfNone result ((connections at_once idle : Option ℕ) → HasCounts (rows_of (found_of found.now)) connections at_once idle → ⊥) }
+{
+    let connections = count_in(found, "connections", MAX_CONNECTIONS)?;
+    let forever = flag_in(found, "forever");
+    if connections.is_none() != forever {
+        return None;
+    }
+    let at_once = count_in(found, "at-once", MAX_AT_ONCE)?;
+    let idle = count_in(found, "idle", MAX_IDLE)?;
+    if idle.is_some() && at_once.is_none() {
+        return None;
+    }
+    Some(Counts {
+        connections,
+        at_once,
+        idle,
+    })
+}
+
+/// The command `serve` with what the words give it; none where a number is missing or out of range, where the words have
+/// not one of `--connections` and `--forever`, or have `--idle` without `--at-once`, or where a store that has to be there
+/// is not named.
 fn serve_of(alloc: Global, found: &ArgMatches<'_>) -> Result<Option<Command>, AllocError>
     ensures read { IfOk result (λ command. IfSome command (ReadsAs (codes "serve") (rows_of (found_of found.now)))) }
     ensures none { IfOk result (λ command. IfNone command (ReadsNone (codes "serve") (rows_of (found_of found.now)))) }
@@ -155,12 +226,9 @@ fn serve_of(alloc: Global, found: &ArgMatches<'_>) -> Result<Option<Command>, Al
     let Some(port) = number_in(found, "port") else {
         return Ok(None);
     };
-    let Some(connections) = number_in(found, "connections") else {
+    let Some(counts) = counts_of(found) else {
         return Ok(None);
     };
-    if connections == 0 || connections > MAX_CONNECTIONS {
-        return Ok(None);
-    }
     let store = file_in(alloc, found, "store")?;
     let policy = file_in(alloc, found, "policy")?;
     let existing = flag_in(found, "existing");
@@ -169,7 +237,9 @@ fn serve_of(alloc: Global, found: &ArgMatches<'_>) -> Result<Option<Command>, Al
     }
     Ok(Some(Command::Serve {
         port,
-        connections,
+        connections: counts.connections,
+        at_once: counts.at_once,
+        idle: counts.idle,
         store,
         policy,
         existing,
@@ -251,8 +321,8 @@ fn command_named(
     }
 }
 
-/// The command that the matches give; none where they give none, which clap lets come where a store that has to be there is
-/// not named, and nowhere else.
+/// The command that the matches give; none where they give none, which clap lets come where the options of `serve` lack
+/// what they want of each other, and nowhere else.
 fn read_command(alloc: Global, matches: &ArgMatches<'_>) -> Result<Option<Command>, AllocError>
     ensures read { IfOk result (λ command. IfSome command (IsMatched (subcommand_rows_of matches.now))) }
     ensures none { IfOk result (λ command. IfNone command (MatchesNone (subcommand_rows_of matches.now))) }
@@ -307,8 +377,10 @@ pub fn words_not_text(alloc: Global) -> WordsFault
 /// Reads the words after the program's name. Help or the version that they ask for is a command of its own.
 ///
 /// A command that it answers is the one that clap's matches of the words give: the subcommand that was met, its port
-/// from 0 to 65,535, its number of connections from 1 to 10,000, the files of its store and its policy, if they name them,
-/// and whether the store has to be there already. Help is answered only where clap takes the words to ask for it.
+/// from 0 to 65,535, its number of connections from 1 to 10,000 or that there is no end, how many at once from 1 to 1,000
+/// and the seconds from 1 to 3,600 after which an idle one is closed, if they are given, the files of its store and its
+/// policy, if they name them, and whether the store has to be there already. Help is answered only where clap takes the
+/// words to ask for it.
 ///
 /// # Errors
 ///
@@ -324,7 +396,7 @@ pub fn command_of(alloc: Global, words: &[String]) -> Result<Command, WordsFault
     };
     match read_command(alloc, &matches)? {
         Some(command) => Ok(command),
-        // Clap requires a subcommand and what each one needs, but for the store of `serve --existing`.
-        None => Err(usage(alloc, NO_STORE)),
+        // Clap requires a subcommand and what each one needs, but for what the options of `serve` want of each other.
+        None => Err(usage(alloc, SERVE_WANTS)),
     }
 }

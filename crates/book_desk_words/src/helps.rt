@@ -12,8 +12,9 @@ pub(crate) const USAGE_LINES: &str =
 /// What is wrong with words that are not UTF-8.
 pub(crate) const NOT_TEXT: &str = "invalid UTF-8 was detected in one or more arguments";
 
-/// What is wrong with words that want a store to be there, and name none.
-pub(crate) const NO_STORE: &str = "the option '--existing' wants '--store <FILE>'";
+/// What the options of `serve` want of each other.
+pub(crate) const SERVE_WANTS: &str =
+    "serve wants one of '--connections <N>' and '--forever', with '--idle <N>' also '--at-once <N>', and with '--existing' also '--store <FILE>'";
 
 pub(crate) const EXPLAIN: &str = "Reads a question from standard input and prints its decision";
 
@@ -182,10 +183,13 @@ policy is refused; 2 usage; 3 the store, memory, or a failed read or write.
 pub(crate) const SERVE: &str = "Serves connections to 127.0.0.1";
 
 pub(crate) const SERVE_TEXT: &str = "\
-It listens on 127.0.0.1, prints 'listening on 127.0.0.1:PORT', and serves so many connections, one after the other, each
-as pipe serves its input. As in:
+It listens on 127.0.0.1, prints 'listening on 127.0.0.1:PORT', and serves so many connections, or with --forever without
+end; one of the two is needed. They are served one after the other, or with --at-once so many together, each as pipe
+serves its input. With --idle, which wants --at-once, one that moves no byte for so many seconds is closed, and one
+whose request is not whole 30 seconds after its first byte. As in:
   book_desk serve --port 8080 --connections 100 --store office.db --policy examples/policies/office.toml
-  curl -H 'x-office-caller: ann' -X OPTIONS -i http://127.0.0.1:8080/books/sales
+  book_desk serve --port 8080 --forever --at-once 64 --idle 75 --store office.db
+  curl -H 'x-office-caller: ann' -H 'Expect:' -X OPTIONS -i http://127.0.0.1:8080/books/sales
 Who can reach the port can name any caller: it is for a gateway on the same machine, which sets the field
 x-office-caller to the person that it knows, and takes it out of what strangers send. Nothing else may reach the port.
 A store is copied while no server has it: stop the server, run audit, which folds the log in, and then copy FILE.
@@ -212,3 +216,10 @@ pub(crate) const KEPT_STORE: &str =
 pub(crate) const PORT: &str = "The port, 0 to 65535; 0 takes a free one";
 
 pub(crate) const CONNECTIONS: &str = "How many connections are served, 1 to 10000";
+
+pub(crate) const FOREVER: &str = "Connections are served without end";
+
+pub(crate) const AT_ONCE: &str = "How many connections are served at once, 1 to 1000";
+
+pub(crate) const IDLE: &str =
+    "After how many seconds an idle connection is closed, 1 to 3600; wants --at-once";

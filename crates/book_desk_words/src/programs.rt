@@ -3,12 +3,12 @@
 ghost use Rattle.std.specs.Prelude.{◌≡◌, IfOk, false, codes};
 ghost use Rattle.clap.specs.Words.{app_of, new_app, rule_of};
 ghost use Rattle.clap.specs.declared.builder.command.Command.TheViews.{out-Command};
-ghost use Rattle.book_desk_words.specs.CommandLine.{program_app, top_app, audit_app, import_app, migrate_app, pipe_app, serve_app, flag_rule, option_rule, number_rule, required_rule, with_files, word_rule};
+ghost use Rattle.book_desk_words.specs.CommandLine.{program_app, top_app, audit_app, import_app, migrate_app, pipe_app, serve_app, flag_rule, option_rule, counted_rule, number_rule, required_rule, with_ends, with_files, with_pace, word_rule};
 
 use crate::helps::{
-    ABOUT, AUDIT, AUDIT_TEXT, CARD, CARD_TEXT, CONNECTIONS, EXISTING, EXPLAIN, FIRST_STORE,
-    FOUNDED_STORE, IMPORT, IMPORT_TEXT, KEPT_STORE, MIGRATE, MIGRATE_TEXT, PIPE, PIPE_TEXT, POLICY,
-    POLICY_WORD, PORT, QUESTION, SERVE, SERVE_TEXT, VERSION,
+    ABOUT, AT_ONCE, AUDIT, AUDIT_TEXT, CARD, CARD_TEXT, CONNECTIONS, EXISTING, EXPLAIN,
+    FIRST_STORE, FOREVER, FOUNDED_STORE, IDLE, IMPORT, IMPORT_TEXT, KEPT_STORE, MIGRATE,
+    MIGRATE_TEXT, PIPE, PIPE_TEXT, POLICY, POLICY_WORD, PORT, QUESTION, SERVE, SERVE_TEXT, VERSION,
 };
 use clap::{Arg, ArgAction, value_parser};
 use std::alloc::{AllocError, Global};
@@ -57,6 +57,18 @@ fn number_needed<'a>(alloc: Global, name: &'a str, help: &'a str, least: u16, mo
         .value_name("N")
         .help(help)
         .required(true)
+        .value_parser(value_parser!(u16).range(least as i64..=most as i64))
+}
+
+/// An option that gives a number.
+fn number_option<'a>(alloc: Global, name: &'a str, help: &'a str, least: u16, most: u16) -> Arg<'a>
+    ensures rule { rule_of result ≡ counted_rule name.entry.now least most }
+    ensures local { result.global ≡ false }
+{
+    Arg::new(alloc, name)
+        .long(name)
+        .value_name("N")
+        .help(help)
         .value_parser(value_parser!(u16).range(least as i64..=most as i64))
 }
 
@@ -140,15 +152,35 @@ fn pipe<'a>(alloc: Global) -> Result<clap::Command<'a>, AllocError>
     with_files(alloc, command)
 }
 
+/// The command with the options that say how many connections are served.
+fn with_ends<'a>(alloc: Global, command: clap::Command<'a>) -> Result<clap::Command<'a>, AllocError>
+    ensures app { IfOk result (λ c. app_of c ≡ with_ends (app_of command.entry)) }
+    ensures local { (out-Command command.entry).has_globals ≡ false → IfOk result (λ c. (out-Command c).has_globals ≡ false) }
+{
+    command
+        .arg(number_option(alloc, "connections", CONNECTIONS, 1, 10_000))?
+        .arg(flag_option(alloc, "forever", FOREVER))
+}
+
+/// The command with the options that say how many connections are served at once, and for how long.
+fn with_pace<'a>(alloc: Global, command: clap::Command<'a>) -> Result<clap::Command<'a>, AllocError>
+    ensures app { IfOk result (λ c. app_of c ≡ with_pace (app_of command.entry)) }
+    ensures local { (out-Command command.entry).has_globals ≡ false → IfOk result (λ c. (out-Command c).has_globals ≡ false) }
+{
+    command
+        .arg(number_option(alloc, "at-once", AT_ONCE, 1, 1_000))?
+        .arg(number_option(alloc, "idle", IDLE, 1, 3_600))
+}
+
 fn serve<'a>(alloc: Global) -> Result<clap::Command<'a>, AllocError>
     ensures { IfOk result (λ c. (app_of c ≡ serve_app) × ((out-Command c).has_globals ≡ false)) }
 {
     let command = clap::Command::new(alloc, "serve")
         .about(SERVE)
         .after_help(SERVE_TEXT)
-        .arg(number_needed(alloc, "port", PORT, 0, 65_535))?
-        .arg(number_needed(alloc, "connections", CONNECTIONS, 1, 10_000))?
-        .arg(flag_option(alloc, "existing", EXISTING))?;
+        .arg(number_needed(alloc, "port", PORT, 0, 65_535))?;
+    let command = with_ends(alloc, command)?;
+    let command = with_pace(alloc, command)?.arg(flag_option(alloc, "existing", EXISTING))?;
     with_files(alloc, command)
 }
 

@@ -12,11 +12,11 @@ use Rattle.book_lists.specs.GroupEntries.{GroupEntries, memberships_in}
 use Rattle.book_lists.proofs.Pairing.{memberships_total, memberships_exact, same_membership, same_path}
 
 -- a path that ties with another is that path
-tied : (a b : List ℕ) → is_at (path_cmp a) b ≡ true → a ≡ b
+pub tied : (a b : List ℕ) → is_at (path_cmp a) b ≡ true → a ≡ b
 tied a b h = same_path a b (sym (is_eq-slice_cmp a b) ∙ h)
 
 -- whether the pair is one of the member's
-of_member : (group member : List ℕ) (k : List ℕ) (groups : List (List ℕ))
+pub of_member : (group member : List ℕ) (k : List ℕ) (groups : List (List ℕ))
     → list_any (eq_by_cmp membership_cmp (record { group = group; member = member })) (map (λ g. record { group = g; member = k }) groups)
     ≡ (is_at (path_cmp member) k && list_any (eq_by_cmp path_cmp group) groups)
 of_member group member k [] = sym (and_false (is_at (path_cmp member) k))

@@ -12,3 +12,6 @@ pub mod PathEnds
 pub mod OneOutcome
 pub mod Fronts
 pub mod Widened
+pub mod Reaching
+pub mod ReachedCircles
+pub mod Climbing

@@ -1,10 +1,11 @@
 -- Sets of paths.
-use Rattle.book_lists.proofs.Common.{◌≡◌, ℕ, Bool, true, false, cond, List, [], ◌∷◌, ◌||◌, ◌∙◌, refl, sym, ap, ◌+◌, length, arith, same_set, list_any, Less, is_at, path_cmp, nat_cmp, is_eq, eq_by_cmp, slice_cmp, nat_list_cmp_total, nat_list_eq_equiv, is_eq-slice_cmp, has_path}
+use Rattle.book_lists.proofs.Common.{◌≡◌, ℕ, Bool, true, false, cond, not, IsTrue, List, [], ◌∷◌, ◌||◌, ◌∙◌, refl, sym, ap, ◌+◌, length, arith, same_set, list_any, Less, is_at, path_cmp, nat_cmp, is_eq, eq_by_cmp, slice_cmp, nat_list_cmp_total, nat_list_eq_equiv, is_eq-slice_cmp, has_path, false≢true}
 use Rattle.std.specs.FinSet.{contains, insert, from_list, contains-empty, contains-insert, contains-from_list, len, len-empty, len-insert, IsAntisymmetric, slice_cmp-IsAntisymmetric, nat_cmp-IsAntisymmetric}
 use Rattle.std.specs.List.{AllByRecursion}
 use Rattle.std.specs.List.Sorted.{IsStrictlySortedBy}
 use Rattle.std.proofs.lemmas.Map.Keys.{sorted_head, sorted_tail}
 use Rattle.std.specs.Cmp.{eq_by_cmp_equiv}
+use Rattle.std.proofs.lemmas.Slice.Eq.{bytes_eq-Decides}
 
 -- a path is in the set of the list's paths exactly where one of the list equals it
 pub contains-from_paths : (ps : List (List ℕ)) (q : List ℕ) → contains {R = slice_cmp nat_cmp} (from_list ps) q ≡ has_path ps q
@@ -39,3 +40,16 @@ len-from_keys (k ∷ ks) h =
     let step : len (from_list {R = path_cmp} (k ∷ ks)) ≡ len (from_list {R = path_cmp} ks) + 1 =
     len-insert nat_list_cmp_total (from_list ks) k ∙ ap (λ b. cond b (len (from_list {R = path_cmp} ks)) (len (from_list {R = path_cmp} ks) + 1)) new in
     omega (arith, ih, step)
+
+neither : (b : Bool) → IsTrue (not b) → IsTrue b → ⊥
+neither true h k = false≢true h
+neither false h k = false≢true k
+
+-- where a test for no path fails, there is one
+pub not_empty : (ks : List (List ℕ)) (b : Bool) → (length ks ≡ 0 → IsTrue b) → IsTrue (not b) → (q : List ℕ) × (contains {R = path_cmp} (from_list ks) q ≡ true)
+not_empty [] b tests is = absurd (neither b is (tests refl))
+not_empty (k ∷ ks) b tests is = (k, contains-from_paths (k ∷ ks) k ∙ (λ i. (bytes_eq-Decides k k).1 refl i || has_path ks k))
+
+pub none_in : (ks : List (List ℕ)) → length ks ≡ 0 → (q : List ℕ) → contains {R = path_cmp} (from_list ks) q ≡ false
+none_in [] e q = contains-empty path_cmp q
+none_in (k ∷ ks) e q = absurd (omega (arith, e))

@@ -1,19 +1,41 @@
 -- The search for what chains of pairs lead to from some starts: groups from their members.
-use Rattle.book_lists.proofs.Common.{◌≡◌, ℕ, ◌+◌, ◌≤◌, Bool, true, false, cond, ◌||◌, List, [], ◌∷◌, ◌++◌, ◌⊎◌, inl, inr, ◌↔◌, refl, sym, ap, ◌∙◌, arith, unwrap_or, Some, is_at, lookup, bytes_eq, false≢true, nat_list_cmp_total, nat_list_eq_equiv, is_eq-slice_cmp, has_path, groups_at, path_cmp}
+use Rattle.book_lists.proofs.Common.{◌≡◌, ℕ, ◌+◌, ◌≤◌, Bool, true, false, cond, ◌||◌, List, [], ◌∷◌, ◌++◌, ◌⊎◌, inl, inr, ◌↔◌, refl, sym, ap, subst, ◌∙◌, arith, unwrap_or, Some, is_at, lookup, bytes_eq, false≢true, nat_list_cmp_total, nat_list_eq_equiv, is_eq-slice_cmp, has_path, groups_at, path_cmp}
 use Rattle.std.specs.FinSet as set
 use Rattle.std.proofs.lemmas.Bool.{or_cases, or_left, or_right}
 use Rattle.std.proofs.lemmas.List.Folds.{list_any-append}
 use Rattle.book_lists.specs.GroupEntries.{GroupEntries}
-use Rattle.book_lists.specs.Memberships.{Memberships, IsDirect, Descends, Belongs}
+use Rattle.book_lists.specs.Memberships.{Memberships, IsDirect, Descends, Chain, Belongs}
+use Rattle.book_lists.specs.PrincipalSets.{FromStarts, IsAbove, IsClosure, IsFound, with_paths}
+use Rattle.book_lists.proofs.PathSets.{contains-from_paths}
 use Rattle.book_lists.proofs.Pairing.{same_path, path_itself}
 
 -- ---- what is found, with one text more
-found_more : (found : set.FinSet path_cmp) (p q : List ℕ) → set.contains (set.insert found p) q ≡ (bytes_eq p q || set.contains found q)
+pub found_more : (found : set.FinSet path_cmp) (p q : List ℕ) → set.contains (set.insert found p) q ≡ (bytes_eq p q || set.contains found q)
 found_more found p q = set.contains-insert nat_list_cmp_total found p q ∙ ap (λ b. b || set.contains found q) (is_eq-slice_cmp q p ∙ nat_list_eq_equiv.symm q p)
 
--- one of the starts belongs to it
-abbrev pub FromStarts : Memberships → List (List ℕ) → List ℕ → Type 0
-FromStarts pairs starts q = (s : List ℕ) × (has_path starts s ≡ true) × Belongs pairs s q
+-- ---- some paths more
+
+pub either_first : (a b c : Bool) → (a || (b || c)) ≡ ((b || a) || c)
+either_first true true c = refl
+either_first true false c = refl
+either_first false true c = refl
+either_first false false c = refl
+
+pub contains-with_paths : (paths : List (List ℕ)) (found : set.FinSet path_cmp) (q : List ℕ) → set.contains (with_paths paths found) q ≡ (has_path paths q || set.contains found q)
+contains-with_paths [] found q = refl
+contains-with_paths (p ∷ ps) found q =
+    contains-with_paths ps (set.insert found p) q ∙ ap (λ b. has_path ps q || b) (found_more found p q) ∙ either_first (has_path ps q) (bytes_eq p q) (set.contains found q)
+
+-- ---- chains joined
+
+descends_joined : (pairs : Memberships) (q : List ℕ) (xs : List (List ℕ)) (mid : List ℕ) (ys : List (List ℕ)) (p : List ℕ) → Descends pairs q xs mid → Descends pairs mid ys p → Descends pairs q (xs ++ ys) p
+descends_joined pairs q [] mid ys p same d = subst (λ g. Descends pairs g ys p) (sym same) d
+descends_joined pairs q (x ∷ xs) mid ys p first d = (first.0, descends_joined pairs x xs mid ys p first.1 d)
+
+chain_joined : (pairs : Memberships) (start member q : List ℕ) → Chain pairs member q → Belongs pairs start member → Belongs pairs start q
+chain_joined pairs start member q chain (inl same) = inr (subst (λ m. Chain pairs m q) (sym same) chain)
+chain_joined pairs start member q chain (inr first) =
+    inr (chain.0, chain.1 ++ first.0 ∷ first.1, (chain.2.0, descends_joined pairs chain.0 chain.1 member (first.0 ∷ first.1) start chain.2.1 first.2))
 
 module _ (pairs : Memberships) (starts : List (List ℕ)) where
   -- found, or still to be looked at
@@ -115,6 +137,56 @@ module _ (pairs : Memberships) (starts : List (List ℕ)) where
           | inr new ↦ joined q ((direct q).0 new) belongs
         ]
 
+    -- it is new, and all groups above it are known: it is found, and they are
+    module _ (paths : List (List ℕ)) (above : IsAbove pairs member (set.from_list paths)) where
+      abbrev whole : set.FinSet path_cmp
+      whole = with_paths paths (set.insert found member)
+
+      has_whole : (q : List ℕ) → set.contains whole q ≡ (has_path paths q || (bytes_eq member q || set.contains found q))
+      has_whole q = contains-with_paths paths (set.insert found member) q ∙ ap (λ b. has_path paths q || b) (found_more found member q)
+
+      in_paths : (q : List ℕ) → Chain pairs member q → set.contains whole q ≡ true
+      in_paths q chain = has_whole q ∙ or_left (has_path paths q) _ (sym (contains-from_paths paths q) ∙ (above q).1 chain)
+
+      still_found : (q : List ℕ) → set.contains found q ≡ true → set.contains whole q ≡ true
+      still_found q has = has_whole q ∙ or_right (has_path paths q) _ (or_right (bytes_eq member q) _ has)
+
+      now_found : (q : List ℕ) → bytes_eq member q ≡ true → set.contains whole q ≡ true
+      now_found q same = has_whole q ∙ or_right (has_path paths q) _ (or_left (bytes_eq member q) _ same)
+
+      left_over : (q : List ℕ) → IsReached found (work ++ member ∷ []) q → IsReached whole work q
+      left_over q (inl has) = inl (still_found q has)
+      left_over q (inr has) = elim (split q has) [ inl old ↦ inr old | inr same ↦ inl (now_found q same) ]
+
+      reached_member : Searches found (work ++ member ∷ []) → FromStarts pairs starts member
+      reached_member s = s.sound member (inr in_work)
+
+      whole_sound : Searches found (work ++ member ∷ []) → (q : List ℕ) → IsReached whole work q → FromStarts pairs starts q
+      whole_sound s q (inr has) = s.sound q (inr (still_in_work q has))
+      whole_sound s q (inl has) = elim (or_cases (has_path paths q) (bytes_eq member q || set.contains found q) (sym (has_whole q) ∙ has)) [
+        | inl in_list ↦ let from = reached_member s in (from.0, from.1, chain_joined pairs from.0 member q ((above q).0 (contains-from_paths paths q ∙ in_list)) from.2)
+        | inr rest ↦ elim (or_cases (bytes_eq member q) (set.contains found q) rest) [
+          | inl same ↦ subst (FromStarts pairs starts) (same_path member q same) (reached_member s)
+          | inr old ↦ s.sound q (inl old)
+        ]
+      ]
+
+      whole_closed : Searches found (work ++ member ∷ []) → (group p : List ℕ) → IsDirect pairs group p → set.contains whole p ≡ true → IsReached whole work group
+      whole_closed s group p pair has = elim (or_cases (has_path paths p) (bytes_eq member p || set.contains found p) (sym (has_whole p) ∙ has)) [
+        | inl in_list ↦ let chain = (above p).0 (contains-from_paths paths p ∙ in_list) in inl (in_paths group (p, chain.0 ∷ chain.1, (pair, chain.2)))
+        | inr rest ↦ elim (or_cases (bytes_eq member p) (set.contains found p) rest) [
+          | inl same ↦ inl (in_paths group (p, [], (pair, sym (same_path member p same))))
+          | inr old ↦ left_over group (s.closed group p pair old)
+        ]
+      ]
+
+      pub seen_whole : Searches found (work ++ member ∷ []) → Searches whole work
+      seen_whole s = record {
+        begun = λ q has. left_over q (s.begun q has);
+        sound = whole_sound s;
+        closed = whole_closed s;
+      }
+
   -- with no work left exactly what chains lead to from the starts is found
   pub search_ends : (found : set.FinSet path_cmp) → Searches found [] → (q : List ℕ) → (set.contains found q ≡ true) ↔ FromStarts pairs starts q
   search_ends found s q = (λ has. s.sound q (inl has), λ b. all b.0 q b.1 b.2)
@@ -132,10 +204,10 @@ module _ (pairs : Memberships) (starts : List (List ℕ)) where
       all start q is (inr chain) = climbs start is q (chain.0 ∷ chain.1) chain.2
 
 -- from one start: exactly the principals to which it belongs
-pub search_ends_alone : (pairs : Memberships) (start : List ℕ) (found : set.FinSet path_cmp) → Searches pairs (start ∷ []) found [] → (q : List ℕ) → (set.contains found q ≡ true) ↔ Belongs pairs start q
-search_ends_alone pairs start found s q = (
-  λ has. from_it ((search_ends pairs (start ∷ []) found s q).0 has),
-  λ belongs. (search_ends pairs (start ∷ []) found s q).1 (start, or_left (bytes_eq start start) false (path_itself start), belongs),
+pub found_alone : (pairs : Memberships) (start : List ℕ) (found : set.FinSet path_cmp) → IsFound pairs (start ∷ []) found → IsClosure pairs start found
+found_alone pairs start found is q = (
+  λ has. from_it ((is q).0 has),
+  λ belongs. (is q).1 (start, or_left (bytes_eq start start) false (path_itself start), belongs),
 )
   where
     from_it : FromStarts pairs (start ∷ []) q → Belongs pairs start q
@@ -146,7 +218,7 @@ search_ends_alone pairs start found s q = (
 
 -- who is a direct member of no group belongs to itself alone
 pub alone : (pairs : Memberships) (p : List ℕ) → ((group : List ℕ) → IsDirect pairs group p → ⊥) → (q : List ℕ) → (set.contains (set.insert (set.empty {R = path_cmp}) p) q ≡ true) ↔ Belongs pairs p q
-alone pairs p none = search_ends_alone pairs p (set.insert set.empty p) (seen_first pairs (p ∷ []) set.empty [] p [] (λ q. (λ never. absurd (false≢true never), λ direct. absurd (none q direct))) (search_begins pairs (p ∷ [])))
+alone pairs p none = found_alone pairs p (set.insert set.empty p) (search_ends pairs (p ∷ []) (set.insert set.empty p) (seen_first pairs (p ∷ []) set.empty [] p [] (λ q. (λ never. absurd (false≢true never), λ direct. absurd (none q direct))) (search_begins pairs (p ∷ []))))
 
 pub contains_alone : (p q : List ℕ) → set.contains (set.insert (set.empty {R = path_cmp}) p) q ≡ bytes_eq p q
 contains_alone p q = found_more set.empty p q ∙ ap (λ b. bytes_eq p q || b) (set.contains-empty path_cmp q) ∙ or_false (bytes_eq p q)
@@ -179,6 +251,10 @@ module _ (found : set.FinSet path_cmp) (member : List ℕ) where
       let here = entry_falls e.0 (set.len e.1) in
       omega (arith, ih, here)
 
+  -- nor with more paths
+  pub ahead_kept : (es : GroupEntries) → ahead es (set.insert found member) ≤ ahead es found
+  ahead_kept es = ahead_falls es
+
   -- the groups of a principal that is new are spent
   pub ahead_spent : (es : GroupEntries) → set.contains found member ≡ false → ahead es (set.insert found member) + set.len (groups_at es member) ≤ ahead es found
   ahead_spent [] new = let none : set.len (set.empty {R = path_cmp}) ≡ 0 = set.len-empty path_cmp in omega (arith, none)
@@ -197,3 +273,10 @@ module _ (found : set.FinSet path_cmp) (member : List ℕ) where
       go ih false tie =
           let here = entry_falls e.0 (set.len e.1) in
           omega (arith, ih, here)
+
+pub ahead_whole : (es : GroupEntries) (paths : List (List ℕ)) (found : set.FinSet path_cmp) → ahead es (with_paths paths found) ≤ ahead es found
+ahead_whole es [] found = omega arith
+ahead_whole es (p ∷ ps) found =
+    let rest = ahead_whole es ps (set.insert found p) in
+    let one = ahead_kept found p es in
+    omega (arith, rest, one)

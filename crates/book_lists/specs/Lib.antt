@@ -10,4 +10,5 @@ pub mod ListEdits
 pub mod Memberships
 pub mod GroupEntries
 pub mod Callers
+pub mod Climbing
 pub mod Widening

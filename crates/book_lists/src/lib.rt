@@ -1,7 +1,8 @@
 //! Names, principals, their membership of groups, access entries, and the decision over one list of entries (RFC 3744).
 //!
-//! It stands on `book_limits` and `book_rights`. The crate above uses that `expand` gives exactly the principals to which a caller belongs,
-//! that `decide` answers by the first applicable entry for each needed leaf and names it in a denial, and that `granted`
+//! It stands on `book_limits` and `book_rights`. The crate above uses that `expand` gives exactly the principals to
+//! which a caller belongs, and `closure` exactly the pairs of a group and whoever a chain leads to from it, that
+//! `decide` answers by the first applicable entry for each needed leaf and names it in a denial, and that `granted`
 //! gives exactly the leaves that a grant decides; that a `Scan` and a `GrantScan` tell the same of several lists, each
 //! gone over by its own call, without joining them; and that `check_edit` accepts exactly the lists without a fault.
 //!
@@ -22,12 +23,12 @@ mod principals;
 mod scans;
 mod submitted;
 
-pub use circles::{Caller, Circle, expand};
+pub use circles::{Caller, Circle, closures_make_circles, expand, reached_in};
 pub use decisions::{Outcome, decide, granted};
 pub use entries::{Entry, Here, Who, applies};
 pub use laws::widened_lists_decide_alike;
 pub use list_edits::{EditFault, check_edit};
-pub use memberships::{Membership, Pairs};
+pub use memberships::{Membership, Pairs, closure};
 pub use names::Name;
 pub use principals::Principal;
 pub use scans::{GrantScan, Scan};

@@ -1,12 +1,14 @@
 //! Direct memberships of groups, and the principals to which a principal belongs by chains of them.
 
-ghost use Rattle.std.specs.Prelude.{◌≡◌, ◌==◌, ◌++◌, ◌^◌, ◌-◌, min, ℕ, List, IfOk, IsTrue, OnOk, OnErr, map};
+ghost use Rattle.std.specs.Prelude.{◌≡◌, ◌==◌, ◌++◌, ◌^◌, ◌-◌, min, ℕ, List, IfOk, IsTrue, not, OnOk, OnErr, map};
 ghost use Rattle.std.specs.FinSet as set;
 ghost use Rattle.std.specs.BTreeMap.{IsOrdered};
+ghost use Rattle.book_lists.specs.Circles.{has_path};
 ghost use Rattle.book_lists.specs.GroupEntries.{pairs_in, groups_at};
 ghost use Rattle.std.specs.List.Sorted.{IsStrictlySortedBy};
-ghost use Rattle.book_lists.specs.Memberships.{membership_cmp, set_of, IsDirect};
-ghost use Rattle.book_lists.specs.PrincipalSets.{ListsAll, IsClosure};
+ghost use Rattle.book_lists.specs.Memberships.{membership_cmp, set_of, GetsGroups, IsDirect, IsReachOf};
+ghost use Rattle.book_lists.specs.PrincipalSets.{AreKnown, Grows, GrowsAt, ListsAll, IsAbove, IsClosure, IsFound, IsGroupsOf};
+ghost use Rattle.book_lists.specs.Climbing.{Climbs};
 ghost use Rattle.book_lists.specs.Principals.{path_cmp};
 
 use crate::principal_sets::PrincipalSet;
@@ -126,6 +128,36 @@ impl Pairs {
         Ok(())
     }
 
+    /// Whether the member is in a group.
+    fn knows(&self, member: &Principal) -> bool
+        ensures some { IsTrue result → (group : List ℕ) × IsDirect self.now group member.now }
+        ensures none { IsTrue (not result) → (group : List ℕ) → IsDirect self.now group member.now → ⊥ }
+    {
+        match self.groups.get(member) {
+            Some(groups) => !groups.is_empty(),
+            None => false,
+        }
+    }
+
+    /// How many groups the member is in, for whoever asks which has the most; no rule rests on it.
+    fn count_of(&self, member: &Principal) -> usize {
+        match self.groups.get(member) {
+            Some(groups) => groups.len(),
+            None => 0,
+        }
+    }
+
+    /// Adds the pairs of a member that has none with these groups.
+    fn add_member(&mut self, member: &Principal, groups: PrincipalSet) -> Result<(), AllocError>
+        requires { (group : List ℕ) → IsDirect self.old group member.now → ⊥ }
+        ensures { OnOk result (GetsGroups self.old member.now (set.contains groups) self.new) }
+    {
+        let added = groups.len();
+        self.groups.insert(member.clone()?, groups)?;
+        self.len = self.len.saturating_add(added);
+        Ok(())
+    }
+
     /// The pairs, each once, ordered by the group and then by the member. An error is want of memory.
     pub fn list(&self) -> Result<Vec<Membership>, AllocError>
         ensures pairs { IfOk result (λ list. set_of list.items ≡ self.now) }
@@ -152,8 +184,38 @@ impl Pairs {
     pub(crate) fn closure_of(&self, principal: &Principal) -> Result<PrincipalSet, AllocError>
         ensures { IfOk result (IsClosure self.now principal.now) }
     {
-        search(self.alloc, &self.groups, principal)
+        let mut work = Vec::new(self.alloc);
+        work.push(principal)?;
+        let none_known = Pairs::new(self.alloc);
+        search(self.alloc, &self.groups, &none_known, work)
     }
+
+    /// The groups that the principal is a direct member of.
+    pub(crate) fn groups_of(&self, member: &Principal) -> Result<PrincipalSet, AllocError>
+        ensures { IfOk result (IsGroupsOf self.now member.now) }
+    {
+        match self.groups.get(member) {
+            Some(groups) => Ok(groups.clone()?),
+            None => Ok(PrincipalSet::new(self.alloc)),
+        }
+    }
+}
+
+/// The groups and whoever chains lead to from them (RFC 3744, section 2): exactly the pairs of a group and a principal
+/// to which a finite chain of these memberships leads from it. Cycles are allowed: a group in one leads to itself. An
+/// error is want of memory.
+///
+/// What is above a member is found before the member, and then taken over whole. So it copies the path of each group
+/// above each member, once for each of its direct groups at most.
+pub fn closure(pairs: &Pairs) -> Result<Pairs, AllocError>
+    ensures { IfOk result (IsReachOf pairs.now) }
+{
+    let mut reach = Pairs::new(pairs.alloc);
+    for (member, _groups) in pairs.groups.iter() {
+        climb_first(pairs.alloc, &pairs.groups, member, &mut reach)?;
+        complete(pairs.alloc, &pairs.groups, member, &mut reach)?;
+    }
+    Ok(reach)
 }
 
 /// The pairs of a list, each once and in order.
@@ -203,24 +265,135 @@ fn push_groups<'a>(
     }
 }
 
-/// Searches upwards from a principal. The work is what was reached and not yet looked at; each pair adds to it once.
-fn search(
+/// Adds the pairs of a member with all groups above it, where it has none yet.
+fn complete(
     alloc: Global,
     groups: &BTreeMap<Principal, PrincipalSet>,
-    principal: &Principal,
+    member: &Principal,
+    reach: &mut Pairs,
+) -> Result<(), AllocError>
+    requires ordered { IsOrdered path_cmp groups.now }
+    requires known { AreKnown (pairs_in groups.now.entries) reach.old }
+    ensures { OnOk result (GrowsAt (pairs_in groups.now.entries) member.now reach.old reach.new) }
+{
+    if reach.knows(member) {
+        return Ok(());
+    }
+    let above = groups_above(alloc, groups, reach, member)?;
+    reach.add_member(member, above)
+}
+
+/// Completes what is above a member before it, so that each search ends at what is known. Nothing rests on how far it
+/// comes.
+fn climb_first(
+    alloc: Global,
+    groups: &BTreeMap<Principal, PrincipalSet>,
+    member: &Principal,
+    reach: &mut Pairs,
+) -> Result<(), AllocError>
+    requires ordered { IsOrdered path_cmp groups.now }
+    requires known { AreKnown (pairs_in groups.now.entries) reach.old }
+    ensures { OnOk result (Grows (pairs_in groups.now.entries) reach.old reach.new) }
+{
+    let mut met = PrincipalSet::new(alloc);
+    let mut waiting = Vec::new(alloc);
+    waiting.push(member)?;
+    'steps: for _step in 0..u64::MAX {
+        let Some(next) = waiting.pop() else {
+            break;
+        };
+        if reach.knows(next) {
+            continue;
+        }
+        if met.has(next) {
+            complete(alloc, groups, next, reach)?;
+            continue;
+        }
+        met.insert(next.clone()?)?;
+        waiting.push(next)?;
+        push_groups(groups, next, &mut waiting)?;
+    }
+    Ok(())
+}
+
+/// The groups from which a chain leads to a member.
+fn groups_above(
+    alloc: Global,
+    groups: &BTreeMap<Principal, PrincipalSet>,
+    known: &Pairs,
+    member: &Principal,
 ) -> Result<PrincipalSet, AllocError>
-    requires { IsOrdered path_cmp groups.now }
-    ensures { IfOk result (IsClosure (pairs_in groups.now.entries) principal.now) }
+    requires ordered { IsOrdered path_cmp groups.now }
+    requires known { AreKnown (pairs_in groups.now.entries) known.now }
+    ensures { IfOk result (IsAbove (pairs_in groups.now.entries) member.now) }
+{
+    let mut work = Vec::new(alloc);
+    push_groups(groups, member, &mut work)?;
+    put_largest_on_top(known, &mut work)?;
+    search(alloc, groups, known, work)
+}
+
+/// Puts the group above which most is known on top of the work once more, so that it is looked at first.
+fn put_largest_on_top<'a>(known: &Pairs, work: &mut Vec<&'a Principal>) -> Result<(), AllocError>
+    ensures { OnOk result ((q : List ℕ) → has_path (map (λ w. w.now) work.new.items) q
+        ≡ has_path (map (λ w. w.now) work.old.items) q) }
+{
+    let mut top = 0usize;
+    let mut most = 0usize;
+    'groups: for (place, group) in work.iter().enumerate() {
+        let count = known.count_of(group);
+        if count > most {
+            most = count;
+            top = place;
+        }
+    }
+    let Some(group) = work.get(top) else {
+        return Ok(());
+    };
+    let group = *group;
+    work.push(group)?;
+    Ok(())
+}
+
+/// Adds the groups above a member to what was found, where they are known, or else its direct groups to the work.
+fn climb<'a>(
+    groups: &'a BTreeMap<Principal, PrincipalSet>,
+    known: &Pairs,
+    member: &Principal,
+    found: &mut PrincipalSet,
+    work: &mut Vec<&'a Principal>,
+) -> Result<(), AllocError>
+    requires ordered { IsOrdered path_cmp groups.now }
+    requires known { AreKnown (pairs_in groups.now.entries) known.now }
+    ensures { OnOk result (Climbs groups.entry.now.entries member.now found.old found.new
+        (map (λ w. w.now) work.old.items) (map (λ w. w.now) work.new.items)) }
+{
+    match known.groups.get(member) {
+        Some(above) if !above.is_empty() => found.add_all(above),
+        _ => push_groups(groups, member, work),
+    }
+}
+
+/// Searches upwards from some principals, and no further where what is above is known. The work is what was reached and
+/// not yet looked at; each pair adds to it once.
+fn search<'a>(
+    alloc: Global,
+    groups: &'a BTreeMap<Principal, PrincipalSet>,
+    known: &Pairs,
+    starts: Vec<&'a Principal>,
+) -> Result<PrincipalSet, AllocError>
+    requires ordered { IsOrdered path_cmp groups.now }
+    requires known { AreKnown (pairs_in groups.now.entries) known.now }
+    ensures { IfOk result (IsFound (pairs_in groups.now.entries) (map (λ w. w.now) starts.entry.items)) }
 {
     let mut found = PrincipalSet::new(alloc);
-    let mut work = Vec::new(alloc);
-    work.push(principal)?;
+    let mut work = starts;
     while let Some(member) = work.pop() {
         if found.has(member) {
             continue;
         }
         found.insert(member.clone()?)?;
-        push_groups(groups, member, &mut work)?;
+        climb(groups, known, member, &mut found, &mut work)?;
     }
     Ok(found)
 }

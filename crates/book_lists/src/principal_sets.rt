@@ -1,9 +1,9 @@
 //! Sets of principals.
 
-ghost use Rattle.std.specs.Prelude.{◌≡◌, ◌++◌, ℕ, List, IfOk, OnOk, OnErr, not, map};
+ghost use Rattle.std.specs.Prelude.{◌≡◌, ◌++◌, ℕ, List, IfOk, IsTrue, OnOk, OnErr, not, map, true, false};
 ghost use Rattle.std.specs.FinSet as set;
 ghost use Rattle.book_lists.specs.GroupEntries.{memberships_in};
-ghost use Rattle.book_lists.specs.PrincipalSets.{ListsAll};
+ghost use Rattle.book_lists.specs.PrincipalSets.{IsCount, ListsAll, with_paths};
 
 use crate::memberships::Membership;
 use crate::principals::Principal;
@@ -12,7 +12,7 @@ use std::collections::BTreeSet;
 use std::marker::Model;
 
 /// Principals, each once; look-ups take a number of comparisons that grows with the logarithm of the size.
-#[derive(Clone, Debug, Drop)]
+#[derive(Debug, Drop)]
 pub(crate) struct PrincipalSet {
     tree: BTreeSet<Principal>,
 }
@@ -32,6 +32,17 @@ impl Model for PrincipalSet {
     ghost invariant = { λ s. IsOrdered path_cmp s.tree };
 }
 
+/// A copy equals its source. An error is want of memory.
+impl Clone for PrincipalSet {
+    ghost is_clone = { λ source copy. copy ≡ source };
+
+    fn clone(&self) -> Result<PrincipalSet, AllocError> {
+        Ok(PrincipalSet {
+            tree: self.tree.clone()?,
+        })
+    }
+}
+
 impl PrincipalSet {
     pub(crate) fn new(alloc: Global) -> PrincipalSet
         ensures { result ≡ set.empty }
@@ -39,6 +50,15 @@ impl PrincipalSet {
         PrincipalSet {
             tree: BTreeSet::new(alloc),
         }
+    }
+
+    /// The principals of a list.
+    pub(crate) fn of(alloc: Global, list: Vec<Principal>) -> Result<PrincipalSet, AllocError>
+        ensures { IfOk result (λ principals. principals ≡ set.from_list list.items) }
+    {
+        Ok(PrincipalSet {
+            tree: list.into_iter().collect(alloc)?,
+        })
     }
 
     pub(crate) fn has(&self, principal: &Principal) -> bool
@@ -71,6 +91,31 @@ impl PrincipalSet {
             list.push(Membership { group, member })?;
         }
         Ok(())
+    }
+
+    pub(crate) fn is_empty(&self) -> bool
+        ensures some { IsTrue (not result) → (q : List ℕ) × (set.contains self.now q ≡ true) }
+        ensures none { IsTrue result → (q : List ℕ) → set.contains self.now q ≡ false }
+    {
+        self.tree.is_empty()
+    }
+
+    /// Adds the principals of another set.
+    pub(crate) fn add_all(&mut self, other: &PrincipalSet) -> Result<(), AllocError>
+        ensures { OnOk result ((paths : List (List ℕ)) × (other.now ≡ set.from_list paths)
+            × (self.new ≡ with_paths paths self.old)) }
+    {
+        for principal in other.tree.iter() {
+            self.insert(principal.clone()?)?;
+        }
+        Ok(())
+    }
+
+    /// How many there are.
+    pub(crate) fn len(&self) -> usize
+        ensures { IsCount self.now result }
+    {
+        self.tree.len()
     }
 
     /// Adds the principals to a list, in byte order.

@@ -14,5 +14,6 @@ pub mod SoundAdoptions
 pub mod SoundBooks
 pub mod ReadLists
 pub mod StandingResources
+pub mod StayingPairs
 pub mod TouchedNames
 pub mod MovedCards

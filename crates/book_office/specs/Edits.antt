@@ -170,6 +170,19 @@ raises_epoch o (SetList p list) = true
 raises_epoch o (SetMembers group members) = true
 raises_epoch o (Adopt t) = not (same_office o (taken_over t o))
 
+-- which edits may change direct members
+abbrev pub changes_members : Edit → Bool
+changes_members (PutCard b c owner text) = false
+changes_members (RemoveCard b c) = false
+changes_members (CopyCard from_book from_card to_book to_card owner) = false
+changes_members (MoveCard from_book from_card to_book to_card) = false
+changes_members (AddBook b owner) = false
+changes_members (RemoveBook b) = false
+changes_members (SetLabel p label) = false
+changes_members (SetList p list) = false
+changes_members (SetMembers group members) = true
+changes_members (Adopt t) = true
+
 -- the label of a card is a change of the card, any other of none
 abbrev pub touches_label : Path → List (List ℕ × List ℕ)
 touches_label path.Root = []

@@ -1,9 +1,9 @@
 //! The edits of an Office in memory. Each is made whole, or on an error not at all.
 
-ghost use Rattle.std.specs.Prelude.{◌≡◌, ◌+◌, ◌^◌, ◌<◌, None, OnOk, OnErr};
+ghost use Rattle.std.specs.Prelude.{◌≡◌, ◌+◌, ◌^◌, ◌<◌, None, OnOk, OnErr, false};
 ghost use Rattle.book_office.specs.Sound.{IsPossible, IsSound};
 ghost use Rattle.std.specs.FinMap.{get};
-ghost use Rattle.book_office.specs.Edits.{add_book, apply, changed_at, place_card, put_card, remove_book, remove_card, with_text};
+ghost use Rattle.book_office.specs.Edits.{add_book, apply, changed_at, changes_members, place_card, put_card, remove_book, remove_card, with_text};
 
 use crate::edits::Edit;
 use crate::moving::{copy_card, move_card};
@@ -107,10 +107,11 @@ fn remove_book(office: &mut Office, name: &Name)
     office.epoch += 1;
 }
 
-/// Makes an edit of a sound Office. An error is want of memory; the Office is then as it was. Where a number is beyond its
-/// limit, which no sound Office has, nothing is done.
+/// Makes an edit of a sound Office. An error is want of memory; the Office is then as it was. Where a number is beyond
+/// its limit, which no sound Office has, nothing is done.
 pub(crate) fn act(alloc: Global, office: &mut Office, edit: &Edit) -> Result<(), AllocError>
     ensures ok { OnOk result (IsSound office.old → IsPossible office.old edit.now → office.new ≡ apply office.old edit.now) }
+    ensures pairs { changes_members edit.now ≡ false → office.new.pairs ≡ office.old.pairs }
     ensures err { OnErr result (office.new ≡ office.old) }
 {
     if office.epoch > LAST_NUMBER {

@@ -1,11 +1,12 @@
 //! What keeps an Office: what it has at each path, what each edit leaves, and the trait of its keepers.
 //!
-//! It stands on `book_office_values`, `book_policy_values` and `book_office_adopting`, whose types it names again, and on the crates below them.
-//! The crate above uses that a `Keeper` stands for a sound Office: each read tells what that Office has (`Reads`), and `act`
-//! leaves the edited Office or, on an error, the Office as it was (`Edits`); and that edits within the limits fit.
+//! It stands on `book_office_values`, `book_policy_values` and `book_office_adopting`, whose types it names again, and
+//! on the crates below them. The crate above uses that a `Keeper` stands for a sound Office: each read tells what that
+//! Office has (`Reads`), and `act` leaves the edited Office or, on an error, the Office as it was (`Edits`); and that
+//! edits within the limits fit.
 //!
-//! Read `nodes`, `edits` and `keepers` first; then `reads`, `granting`, `changing`, `moving`, `setting` and `memory_keepers`, which keep an Office in memory;
-//! then `views` and `laws`.
+//! Read `nodes`, `edits` and `keepers` first; then `reads`, `granting`, `changing`, `moving`, `setting` and
+//! `memory_keepers`, which keep an Office in memory; then `views` and `laws`.
 #![tactic(auto)]
 
 mod changing;
@@ -36,4 +37,5 @@ pub use laws::{
 };
 pub use memory_keepers::MemoryKeeper;
 pub use nodes::{Changed, EffectiveEntry, Level, Listed, Lists, Node};
+pub use setting::with_members;
 pub use views::effective;

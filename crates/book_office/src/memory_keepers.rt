@@ -11,7 +11,7 @@ use crate::granting::grant_at;
 use crate::keepers::{Keeper, StoreFault};
 use crate::nodes::{Changed, Level, Listed, Lists, Node};
 use crate::reads::{changed, children, count, find, find_unnumbered, has, level, lists};
-use book_lists::{Caller, Circle, Here, Name, Pairs, expand};
+use book_lists::{Caller, Circle, Here, Name, Pairs, closure, reached_in};
 use book_office_adopting::{Adoption, adoption_of};
 use book_office_values::{Items, NameMap, Office, Path, Properties};
 use book_policy_values::Policy;
@@ -22,13 +22,18 @@ use std::marker::Model;
 /// A keeper of an Office in memory. A contract sees the Office.
 ///
 /// Look-ups take a number of comparisons that grows with the logarithm of the map; a change of one card does not depend
-/// on the size of its book. An error leaves the Office as it was, also where memory was refused half way.
+/// on the size of its book. The first question for a circle after direct members may have changed makes their closure,
+/// and the others look it up. An error leaves the Office as it was, also where memory was refused half way.
 #[derive(Drop)]
 pub struct MemoryKeeper {
     office: Office,
+    /// The closure of the Office's pairs, from the first question after they may have changed on.
+    reach: Option<Pairs>,
 }
 
 impl Model for MemoryKeeper {
+    ghost use Rattle.std.specs.Prelude.{IfSome};
+    ghost use Rattle.book_lists.specs.Memberships.{IsReachOf};
     ghost use Rattle.book_office_values.specs.declared.offices.Office.{Office};
     ghost use Rattle.book_office_values.specs.contracts.offices.Office as office_type;
 
@@ -37,6 +42,8 @@ impl Model for MemoryKeeper {
     ghost coded = { office_type.the_row.coded };
 
     ghost view = { λ k. k.office };
+
+    ghost invariant = { λ k. IfSome k.reach (IsReachOf k.office.pairs) };
 }
 
 impl MemoryKeeper {
@@ -58,6 +65,7 @@ impl MemoryKeeper {
                 pairs: Pairs::new(alloc),
                 epoch: 0,
             },
+            reach: None,
         }
     }
 
@@ -65,7 +73,10 @@ impl MemoryKeeper {
     pub fn from_office(office: Office) -> MemoryKeeper
         ensures { result ≡ office }
     {
-        MemoryKeeper { office }
+        MemoryKeeper {
+            office,
+            reach: None,
+        }
     }
 }
 
@@ -129,7 +140,13 @@ impl Keeper for MemoryKeeper {
     }
 
     fn circle(&mut self, _alloc: Global, caller: &Caller) -> Result<Circle, StoreFault> {
-        Ok(expand(&self.office.pairs, caller)?)
+        if let Some(reach) = &self.reach {
+            return Ok(reached_in(reach, caller)?);
+        }
+        let reach = closure(&self.office.pairs)?;
+        let circle = reached_in(&reach, caller)?;
+        self.reach = Some(reach);
+        Ok(circle)
     }
 
     fn epoch(&mut self) -> Result<u64, StoreFault> {
@@ -146,6 +163,9 @@ impl Keeper for MemoryKeeper {
 
     fn act(&mut self, alloc: Global, edit: &Edit) -> Result<(), StoreFault> {
         act(alloc, &mut self.office, edit)?;
+        if edit.changes_members() {
+            self.reach = None;
+        }
         Ok(())
     }
 }

@@ -82,6 +82,7 @@ pub(crate) fn copy_card(
     owner: &Option<Principal>,
 ) -> Result<(), AllocError>
     ensures ok { OnOk result (AreNumbered office.old.books → office.new ≡ copy_card from_book.now from_card.now to_book.now to_card.now owner.now office.old) }
+    ensures pairs { office.new.pairs ≡ office.old.pairs }
     ensures err { OnErr result (office.new ≡ office.old) }
 {
     let Some((label, text)) = contents_of(office, from_book, from_card)? else {
@@ -222,6 +223,7 @@ pub(crate) fn move_card(
     ensures ok { OnOk result (AreNumbered office.old.books → card_at office.old from_book.now from_card.now ≢ None → get office.old.books to_book.now ≢ None
         → (from_book.now ≡ to_book.now → from_card.now ≢ to_card.now)
         → office.new ≡ move_card from_book.now from_card.now to_book.now to_card.now office.old) }
+    ensures pairs { office.new.pairs ≡ office.old.pairs }
     ensures err { OnErr result (office.new ≡ office.old) }
 {
     if from_book == to_book {

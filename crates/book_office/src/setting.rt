@@ -1,4 +1,5 @@
-//! Labels, own lists and the members of groups, set in an Office in memory. Each is set whole, or on an error not at all.
+//! Labels, own lists and the members of groups, set in an Office in memory. Each is set whole, or on an error not at
+//! all.
 
 ghost use Rattle.std.specs.Prelude.{◌≡◌, ℕ, ◌+◌, ◌^◌, ◌<◌, List, map, not, IfOk, OnOk, OnErr};
 ghost use Rattle.std.specs.FinMap.{get};
@@ -91,6 +92,7 @@ fn label_card_in(
 /// Sets the label of a resource.
 pub(crate) fn set_label(office: &mut Office, path: &Path, label: &Text) -> Result<(), AllocError>
     ensures ok { OnOk result (AreNumbered office.old.books → office.new ≡ set_label path.now label.now office.old) }
+    ensures pairs { office.new.pairs ≡ office.old.pairs }
     ensures err { OnErr result (office.new ≡ office.old) }
 {
     let label = label.clone()?;
@@ -211,6 +213,21 @@ fn add_members(
     Ok(())
 }
 
+/// Direct memberships where a group has these members, and every other group has those that it had. An error is want of
+/// memory.
+pub fn with_members(
+    alloc: Global,
+    pairs: &Pairs,
+    group: &Principal,
+    members: &[Principal],
+) -> Result<Pairs, AllocError>
+    ensures { IfOk result (λ all. all ≡ members_set pairs.now group.now members.now) }
+{
+    let mut all = pairs_of_others(alloc, pairs.list()?, group)?;
+    add_members(&mut all, group, members)?;
+    Ok(all)
+}
+
 /// Sets the direct members of a group; access has changed. The new pairs are made aside.
 pub(crate) fn set_members(
     alloc: Global,
@@ -222,9 +239,7 @@ pub(crate) fn set_members(
     ensures ok { OnOk result (office.new ≡ set_members group.now members.now office.old) }
     ensures err { OnErr result (office.new ≡ office.old) }
 {
-    let mut pairs = pairs_of_others(alloc, office.pairs.list()?, group)?;
-    add_members(&mut pairs, group, members.as_slice())?;
-    office.pairs = pairs;
+    office.pairs = with_members(alloc, &office.pairs, group, members.as_slice())?;
     office.epoch += 1;
     Ok(())
 }

@@ -212,7 +212,7 @@ still_remembers : (f : Book → Book) → KeepsProperties f → (r : Remembered)
     → Remembers r o → AreNodes nodes (with_book f o b) → StayBare r (with_book f o b) → AreCounts counts (with_book f o b)
     → Remembers (record r { book_nodes = nodes; counts = counts }) (with_book f o b)
 still_remembers f keeps r o b nodes counts remembers are bare counted = record {
-  pairs = remembers.pairs;
+  circles = remembers.circles;
   persons = remembers.persons;
   root = remembers.root;
   home = remembers.home;

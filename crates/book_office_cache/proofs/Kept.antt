@@ -3,7 +3,12 @@ use Rattle.book_office_cache.proofs.Common.{◌≡◌, Some, ap, ◌∙◌, AreB
 use Rattle.std.proofs.Common.{arith, ◌≤◌, ℕ, List, None, IfSome, is_some, true, sym, subst}
 use Rattle.std.proofs.lemmas.Bool.{false≢true}
 use Rattle.std.specs.FinMap.{empty, get, insert, remove, get-empty}
+use Rattle.book_lists.specs.Callers.{IsCircle}
+use Rattle.book_lists.specs.Circles.{CircleOf}
+use Rattle.book_lists.specs.Memberships.{Memberships}
 use Rattle.book_lists.specs.Names.{name_cmp}
+use Rattle.book_lists.specs.Principals.{person_path}
+use Rattle.book_lists.specs.declared.circles.Caller.TheVariants.{Known}
 use Rattle.book_office_values.specs.declared.paths.Path.TheVariants as path
 use Rattle.book_office_values.specs.Names.{NamesTo}
 use Rattle.book_office_values.proofs.OneName.{by_put, by_removed}
@@ -14,11 +19,11 @@ at_most is = omega (arith, is)
 pub none_in : {V : Type 0} (P : V → Type 0) (m : NamesTo V) → m ≡ empty → (n : List ℕ) → IfSome (get m n) P
 none_in P m is n = subst (λ r. IfSome r P) (sym (ap (λ m. get m n) is ∙ get-empty name_cmp n)) tt
 
-pub nothing_remembered : (persons : NamesTo Node) (books : NamesTo Level) (nodes : NamesTo Node) (bare : NamesTo (NamesTo (Unit {0}))) (counts : NamesTo ℕ)
-    → persons ≡ empty → books ≡ empty → nodes ≡ empty → bare ≡ empty → counts ≡ empty → (o : Office)
-    → Remembers (record { pairs = None; persons = persons; root = None; home = None; books = books; book_nodes = nodes; bare = bare; bare_count = 0; counts = counts }) o
-nothing_remembered persons books nodes bare counts no_persons no_books no_nodes none_bare no_counts o = record {
-  pairs = tt;
+pub nothing_remembered : (circles : NamesTo CircleOf) (persons : NamesTo Node) (books : NamesTo Level) (nodes : NamesTo Node) (bare : NamesTo (NamesTo (Unit {0}))) (counts : NamesTo ℕ)
+    → circles ≡ empty → persons ≡ empty → books ≡ empty → nodes ≡ empty → bare ≡ empty → counts ≡ empty → (o : Office)
+    → Remembers (record { circles = circles; persons = persons; root = None; home = None; books = books; book_nodes = nodes; bare = bare; bare_count = 0; counts = counts }) o
+nothing_remembered circles persons books nodes bare counts no_circles no_persons no_books no_nodes none_bare no_counts o = record {
+  circles = λ n. none_in (IsCircle o.pairs (Known (person_path n))) circles no_circles n;
   persons = λ n. none_in (λ node. node_at o (path.Person n) ≡ Some node) persons no_persons n;
   root = tt;
   home = tt;
@@ -44,7 +49,7 @@ card_bare o b c cards unit are is q =
 module _ (r : Remembered) (o : Office) (remembers : Remembers r o) where
   pub no_books_remembered : (books : NamesTo Level) → books ≡ empty → Remembers (record r { books = books }) o
   no_books_remembered books is = record {
-    pairs = remembers.pairs;
+    circles = remembers.circles;
     persons = remembers.persons;
     root = remembers.root;
     home = remembers.home;
@@ -54,9 +59,49 @@ module _ (r : Remembered) (o : Office) (remembers : Remembers r o) where
     counts = remembers.counts;
   }
 
+  pub no_circles_remembered : (circles : NamesTo CircleOf) → circles ≡ empty → Remembers (record r { circles = circles }) o
+  no_circles_remembered circles is = record {
+    circles = λ n. none_in (IsCircle o.pairs (Known (person_path n))) circles is n;
+    persons = remembers.persons;
+    root = remembers.root;
+    home = remembers.home;
+    books = remembers.books;
+    book_nodes = remembers.book_nodes;
+    bare = remembers.bare;
+    counts = remembers.counts;
+  }
+
+  pub circle_remembered : (name : List ℕ) (circle : CircleOf) → IsCircle o.pairs (Known (person_path name)) circle → Remembers (record r { circles = insert r.circles name circle }) o
+  circle_remembered name circle is = record {
+    circles = λ n. by_put r.circles name circle n (λ found. IfSome found (IsCircle o.pairs (Known (person_path n))))
+        (λ same. subst (λ n. IsCircle o.pairs (Known (person_path n)) circle) (sym same) is) (λ _. remembers.circles n);
+    persons = remembers.persons;
+    root = remembers.root;
+    home = remembers.home;
+    books = remembers.books;
+    book_nodes = remembers.book_nodes;
+    bare = remembers.bare;
+    counts = remembers.counts;
+  }
+
+  -- with other places, where the pairs stay
+  pub circles_remembered : (persons : NamesTo Node) (books : NamesTo Level) (nodes : NamesTo Node) (bare : NamesTo (NamesTo (Unit {0}))) (counts : NamesTo ℕ)
+      → persons ≡ empty → books ≡ empty → nodes ≡ empty → bare ≡ empty → counts ≡ empty → (after : Office) → after.pairs ≡ o.pairs
+      → Remembers (record { circles = r.circles; persons = persons; root = None; home = None; books = books; book_nodes = nodes; bare = bare; bare_count = 0; counts = counts }) after
+  circles_remembered persons books nodes bare counts no_persons no_books no_nodes none_bare no_counts after same = record {
+    circles = λ n. subst (λ (pairs : Memberships). IfSome (get r.circles n) (IsCircle pairs (Known (person_path n)))) (sym same) (remembers.circles n);
+    persons = λ n. none_in (λ node. node_at after (path.Person n) ≡ Some node) persons no_persons n;
+    root = tt;
+    home = tt;
+    books = λ n. none_in (λ level. level ≡ level_at after (path.Book n)) books no_books n;
+    book_nodes = λ n. none_in (λ node. node_at after (path.Book n) ≡ Some node) nodes no_nodes n;
+    bare = λ n. none_in (AreBare after n) bare none_bare n;
+    counts = λ n. none_in (λ count. count_at after (path.Book n) ≤ count) counts no_counts n;
+  }
+
   pub no_bare_remembered : (bare : NamesTo (NamesTo (Unit {0}))) (count : ℕ) → bare ≡ empty → Remembers (record r { bare = bare; bare_count = count }) o
   no_bare_remembered bare count is = record {
-    pairs = remembers.pairs;
+    circles = remembers.circles;
     persons = remembers.persons;
     root = remembers.root;
     home = remembers.home;
@@ -68,7 +113,7 @@ module _ (r : Remembered) (o : Office) (remembers : Remembers r o) where
 
   pub no_nodes_remembered : (nodes : NamesTo Node) → nodes ≡ empty → Remembers (record r { book_nodes = nodes }) o
   no_nodes_remembered nodes is = record {
-    pairs = remembers.pairs;
+    circles = remembers.circles;
     persons = remembers.persons;
     root = remembers.root;
     home = remembers.home;
@@ -80,7 +125,7 @@ module _ (r : Remembered) (o : Office) (remembers : Remembers r o) where
 
   pub book_node_remembered : (name : List ℕ) (node : Node) → Some node ≡ node_at o (path.Book name) → Remembers (record r { book_nodes = insert r.book_nodes name node }) o
   book_node_remembered name node is = record {
-    pairs = remembers.pairs;
+    circles = remembers.circles;
     persons = remembers.persons;
     root = remembers.root;
     home = remembers.home;
@@ -93,7 +138,7 @@ module _ (r : Remembered) (o : Office) (remembers : Remembers r o) where
 
   pub bare_removed : (b : List ℕ) → Remembers (record r { bare = remove r.bare b }) o
   bare_removed b = record {
-    pairs = remembers.pairs;
+    circles = remembers.circles;
     persons = remembers.persons;
     root = remembers.root;
     home = remembers.home;
@@ -105,7 +150,7 @@ module _ (r : Remembered) (o : Office) (remembers : Remembers r o) where
 
   pub bare_remembered : (b : List ℕ) (cards : NamesTo (Unit {0})) (count : ℕ) → AreBare o b cards → Remembers (record r { bare = insert r.bare b cards; bare_count = count }) o
   bare_remembered b cards count are = record {
-    pairs = remembers.pairs;
+    circles = remembers.circles;
     persons = remembers.persons;
     root = remembers.root;
     home = remembers.home;
@@ -117,7 +162,7 @@ module _ (r : Remembered) (o : Office) (remembers : Remembers r o) where
 
   pub person_remembered : (name : List ℕ) (node : Node) → Some node ≡ node_at o (path.Person name) → Remembers (record r { persons = insert r.persons name node }) o
   person_remembered name node is = record {
-    pairs = remembers.pairs;
+    circles = remembers.circles;
     persons = λ n. by_put r.persons name node n (λ found. IfSome found (λ node. node_at o (path.Person n) ≡ Some node))
         (λ same. ap (λ n. node_at o (path.Person n)) same ∙ sym is) (λ _. remembers.persons n);
     root = remembers.root;
@@ -130,7 +175,7 @@ module _ (r : Remembered) (o : Office) (remembers : Remembers r o) where
 
   pub book_remembered : (name : List ℕ) (level : Level) → level ≡ level_at o (path.Book name) → Remembers (record r { books = insert r.books name level }) o
   book_remembered name level is = record {
-    pairs = remembers.pairs;
+    circles = remembers.circles;
     persons = remembers.persons;
     root = remembers.root;
     home = remembers.home;
@@ -143,7 +188,7 @@ module _ (r : Remembered) (o : Office) (remembers : Remembers r o) where
 
   pub counted : (name : List ℕ) (count : ℕ) → count ≡ count_at o (path.Book name) → Remembers (record r { counts = insert r.counts name count }) o
   counted name count is = record {
-    pairs = remembers.pairs;
+    circles = remembers.circles;
     persons = remembers.persons;
     root = remembers.root;
     home = remembers.home;

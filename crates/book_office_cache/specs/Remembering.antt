@@ -3,6 +3,9 @@ use Rattle.std.specs.Prelude.{◌≡◌, ℕ, ◌+◌, ◌≤◌, Bool, true, Li
 use Rattle.std.specs.FinMap.{get}
 use Rattle.book_office_cache.specs.declared.cached.Cached.{Cached}
 use Rattle.book_office_cache.specs.declared.remembered.Remembered.{Remembered}
+use Rattle.book_lists.specs.Callers.{IsCircle}
+use Rattle.book_lists.specs.Principals.{person_path}
+use Rattle.book_lists.specs.declared.circles.Caller.TheVariants.{Known}
 use Rattle.book_office.specs.Keeping.{Edits, Reads, Standing}
 use Rattle.book_office.specs.Levels.{level_at}
 use Rattle.book_office.specs.Resources.{count_at, node_at}
@@ -36,7 +39,7 @@ one_card_more count = count + 1
 
 -- what is remembered is what the Office has
 pub record Remembers (r : Remembered) (o : Office) : Type 0 where
-  pub pairs : IfSome r.pairs (λ pairs. pairs ≡ o.pairs)
+  pub circles : (name : List ℕ) → IfSome (get r.circles name) (IsCircle o.pairs (Known (person_path name)))
   pub persons : (name : List ℕ) → IfSome (get r.persons name) (λ node. node_at o (path.Person name) ≡ Some node)
   pub root : IfSome r.root (λ level. level ≡ level_at o path.Root)
   pub home : IfSome r.home (λ level. level ≡ level_at o path.Books)

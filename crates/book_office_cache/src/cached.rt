@@ -1,27 +1,29 @@
 //! A keeper that remembers.
 
-ghost use Rattle.std.specs.Prelude.{◌≡◌, ◌∷◌, [], IfOk, nat_lt};
+ghost use Rattle.std.specs.Prelude.{◌≡◌, ◌∷◌, ◌++◌, [], IfOk, IfSome, codes, nat_lt};
 ghost use Rattle.book_office_adopting.specs.Adopting.{adoption_of};
 ghost use Rattle.book_office_cache.specs.Remembering.{EditsBehind, ReadsBehind, Remembers, remembering};
 ghost use Rattle.book_lists.specs.Callers.{IsCircle};
+ghost use Rattle.book_lists.specs.Principals.{person_path};
+ghost use Rattle.book_lists.specs.declared.circles.Caller.TheVariants.{Known};
 ghost use Rattle.book_office.specs.Levels.{level_at, lists_at};
 ghost use Rattle.book_office.specs.Resources.{changed_after, first_of, children_at, count_at, node_at};
 ghost use Rattle.book_office_values.specs.declared.offices.Office.{Office as OfficeOf};
 ghost use Rattle.book_office_values.specs.declared.paths.Path.TheVariants as paths;
 
 use crate::remembered::{Remembered, bare_level};
-use book_lists::{Caller, Circle, Name, Pairs, expand};
+use book_lists::{Caller, Circle, Name, Pairs, Principal};
 use book_office::{
     Adoption, Changed, Edit, Items, Keeper, Level, Listed, Lists, Node, Path, Policy, StoreFault,
 };
 use std::alloc::{AllocError, Global};
 
-/// A keeper in front of another, which remembers what it was told: the members of the groups, persons and books, the lists
+/// A keeper in front of another, which remembers what it was told: the circles of persons, persons and books, the lists
 /// of books and of what stands above them, which cards have no entries, and at most how many cards a book has.
 ///
-/// It stands for what the keeper stands for. With an edit of cards what is remembered stays true, but a card that is moved
-/// or copied makes it forget books, and a card that is moved which cards have no entries. Any other edit forgets all, and
-/// one that fails too.
+/// It stands for what the keeper stands for. With an edit of cards what is remembered stays true, but a card that is
+/// moved or copied makes it forget books, and a card that is moved which cards have no entries. An edit that may change
+/// direct members forgets all, and one that fails too; any other forgets all but the circles of persons.
 #[derive(Drop)]
 pub struct Cached<K> {
     pub(crate) keeper: K,
@@ -30,6 +32,23 @@ pub struct Cached<K> {
 
 /// The lists of the books' home and of the root.
 type Top = (Level, Level);
+
+/// What follows the home of the persons, if the text begins with it.
+fn after_people(text: &str) -> Option<&str>
+    ensures { IfSome result (λ rest. text.now ≡ codes "/people/" ++ rest.now) }
+{
+    text.strip_prefix("/people/")
+}
+
+/// The name of a person, if the principal is one.
+fn person_name(alloc: Global, person: &Principal) -> Result<Option<Name>, AllocError>
+    ensures { IfOk result (λ name. IfSome name (λ n. person.now ≡ person_path n)) }
+{
+    let Some(rest) = after_people(person.text()) else {
+        return Ok(None);
+    };
+    Name::parse(alloc, rest)
+}
 
 /// The lists of a book and of what stands above it.
 fn book_levels(alloc: Global, book: Level, top: Top) -> Result<Items<Level>, AllocError>
@@ -75,6 +94,40 @@ impl<K> Cached<K> {
 }
 
 impl<K: Keeper> Cached<K> {
+    /// The circle of the person of a name.
+    fn person_circle(
+        &mut self,
+        alloc: Global,
+        caller: &Caller,
+        name: &Name,
+    ) -> Result<Circle, StoreFault>
+        requires { caller.now ≡ Known (person_path name.now) }
+        ensures { ReadsBehind K.standing self.old self.new result (λ o circle. IsCircle o.pairs caller.now circle) }
+    {
+        if let Some(circle) = self.remembered.circle(name)? {
+            return Ok(circle);
+        }
+        let circle = self.keeper.circle(alloc, caller)?;
+        self.remembered.keep_circle(alloc, name, &circle);
+        Ok(circle)
+    }
+
+    /// The circle of a known caller: that of a person is remembered.
+    fn circle_of(
+        &mut self,
+        alloc: Global,
+        caller: &Caller,
+        person: &Principal,
+    ) -> Result<Circle, StoreFault>
+        requires { caller.now ≡ Known person.now }
+        ensures { ReadsBehind K.standing self.old self.new result (λ o circle. IsCircle o.pairs caller.now circle) }
+    {
+        match person_name(alloc, person)? {
+            Some(name) => self.person_circle(alloc, caller, &name),
+            None => self.keeper.circle(alloc, caller),
+        }
+    }
+
     /// The person of a name, if there is one.
     fn person(&mut self, alloc: Global, name: &Name) -> Result<Option<Node>, StoreFault>
         ensures { ReadsBehind K.standing self.old self.new result (λ o node. node ≡ node_at o (paths.Person name.now)) }
@@ -295,13 +348,10 @@ impl<K: Keeper> Keeper for Cached<K> {
     fn circle(&mut self, alloc: Global, caller: &Caller) -> Result<Circle, StoreFault>
         ensures { ReadsBehind K.standing self.old self.new result (λ o circle. IsCircle o.pairs caller.now circle) }
     {
-        if let Some(pairs) = &self.remembered.pairs {
-            return Ok(expand(pairs, caller)?);
+        match caller {
+            Caller::Nobody => self.keeper.circle(alloc, caller),
+            Caller::Known(person) => self.circle_of(alloc, caller, person),
         }
-        let pairs = self.keeper.pairs(alloc)?;
-        let circle = expand(&pairs, caller)?;
-        self.remembered.pairs = Some(pairs);
-        Ok(circle)
     }
 
     fn epoch(&mut self) -> Result<u64, StoreFault>

@@ -3,6 +3,9 @@
 ghost use Rattle.std.specs.Prelude.{◌≡◌, ◌⊎◌, ◌+◌, ◌<◌, ◌^◌, IfOk, IfSome, IsFalse, IsTrue, true, nat_lt};
 ghost use Rattle.std.specs.FinMap.{empty, get, remove};
 ghost use Rattle.book_office_cache.specs.Remembering.{AreBare, Remembers, bare_level, is_bare, with_next_number, one_card_more};
+ghost use Rattle.book_lists.specs.Callers.{IsCircle};
+ghost use Rattle.book_lists.specs.Principals.{person_path};
+ghost use Rattle.book_lists.specs.declared.circles.Caller.TheVariants.{Known};
 ghost use Rattle.book_office.specs.Edits.{apply};
 ghost use Rattle.book_office.specs.Levels.{level_at};
 ghost use Rattle.book_office.specs.Resources.{count_at, node_at};
@@ -11,15 +14,16 @@ ghost use Rattle.book_office_values.specs.declared.offices.Office.{Office as Off
 ghost use Rattle.book_office_values.specs.declared.paths.Path.TheVariants as paths;
 
 use book_limits::{MAX_BOOKS, MAX_CARDS};
-use book_lists::{Name, Pairs};
+use book_lists::{Circle, Name};
 use book_office::{Edit, Items, Level, NameMap, Node, Path};
 use std::alloc::{AllocError, Global};
 
-/// What is remembered of an Office. It is no more than the Office has without its cards, and 10,000 names of cards.
+/// What is remembered of an Office. It is no more than the Office has without its cards, 10,000 names of cards, and the
+/// circles of 1,000 persons.
 #[derive(Drop)]
 pub(crate) struct Remembered {
-    /// The direct members of all groups.
-    pub(crate) pairs: Option<Pairs>,
+    /// The circles of persons.
+    pub(crate) circles: NameMap<Circle>,
     /// Persons.
     pub(crate) persons: NameMap<Node>,
     /// The lists of the root.
@@ -37,6 +41,9 @@ pub(crate) struct Remembered {
     /// By the name of a book, at most how many cards it has.
     pub(crate) counts: NameMap<usize>,
 }
+
+/// At most so many circles of persons are remembered.
+const MAX_CIRCLES: usize = 1_000;
 
 /// A copy of a resource.
 fn copy_of_node(node: &Node) -> Result<Node, AllocError>
@@ -158,7 +165,7 @@ impl Remembered {
         ensures { (o : OfficeOf) → Remembers result o }
     {
         Remembered {
-            pairs: None,
+            circles: NameMap::new(alloc),
             persons: NameMap::new(alloc),
             root: None,
             home: None,
@@ -168,6 +175,45 @@ impl Remembered {
             bare_count: 0,
             counts: NameMap::new(alloc),
         }
+    }
+
+    /// The circle of the person of a name, if it is remembered. An error is want of memory.
+    pub(crate) fn circle(&self, name: &Name) -> Result<Option<Circle>, AllocError>
+        ensures { IfOk result (λ circle. circle ≡ get self.now.circles name.now) }
+    {
+        match self.circles.get(name) {
+            Some(circle) => Ok(Some(circle.clone()?)),
+            None => Ok(None),
+        }
+    }
+
+    /// Forgets the circles of persons where there are as many as there may be.
+    fn make_circle_room(&mut self, alloc: Global)
+        ensures { (o : OfficeOf) → Remembers self.old o → Remembers self.new o }
+    {
+        if self.circles.len() >= MAX_CIRCLES {
+            self.circles = NameMap::new(alloc);
+        }
+    }
+
+    /// Remembers the circle of a person. An error is want of memory.
+    fn try_circle(&mut self, name: &Name, circle: &Circle) -> Result<(), AllocError>
+        ensures { (o : OfficeOf) → Remembers self.old o → IsCircle o.pairs (Known (person_path name.now)) circle.now
+            → Remembers self.new o }
+    {
+        let name = name.clone()?;
+        let circle = circle.clone()?;
+        self.circles.insert(name, circle)?;
+        Ok(())
+    }
+
+    /// Remembers the circle of a person, if memory is not refused.
+    pub(crate) fn keep_circle(&mut self, alloc: Global, name: &Name, circle: &Circle)
+        ensures { (o : OfficeOf) → Remembers self.old o → IsCircle o.pairs (Known (person_path name.now)) circle.now
+            → Remembers self.new o }
+    {
+        self.make_circle_room(alloc);
+        let _ = self.try_circle(name, circle);
     }
 
     /// The person of a name, if it is remembered. An error is want of memory.
@@ -394,6 +440,20 @@ impl Remembered {
         self.book_nodes = NameMap::new(alloc);
     }
 
+    /// Forgets all but the circles of persons. Takes no memory.
+    fn forget_places(&mut self, alloc: Global)
+        ensures { (o after : OfficeOf) → Remembers self.old o → after.pairs ≡ o.pairs → Remembers self.new after }
+    {
+        self.persons = NameMap::new(alloc);
+        self.root = None;
+        self.home = None;
+        self.books = NameMap::new(alloc);
+        self.book_nodes = NameMap::new(alloc);
+        self.bare = NameMap::new(alloc);
+        self.bare_count = 0;
+        self.counts = NameMap::new(alloc);
+    }
+
     /// Forgets all. Takes no memory.
     pub(crate) fn forget(&mut self, alloc: Global)
         ensures { (o : OfficeOf) → Remembers self.new o }
@@ -401,9 +461,22 @@ impl Remembered {
         *self = Remembered::new(alloc);
     }
 
-    /// Remembers what is true after an edit: after one of cards all that was remembered, with the next number of a book that
-    /// has changed and a card more where one may have been added, but books and which cards have no entries where a card is
-    /// moved; after any other nothing. Takes no memory.
+    /// Forgets all but the circles of persons after an edit, and these too where it may change direct members. Takes no
+    /// memory.
+    fn forget_after(&mut self, alloc: Global, edit: &Edit)
+        ensures { (o : OfficeOf) → Remembers self.old o → Remembers self.new (apply o edit.now) }
+    {
+        if edit.changes_members() {
+            self.forget(alloc);
+        } else {
+            self.forget_places(alloc);
+        }
+    }
+
+    /// Remembers what is true after an edit: after one of cards all that was remembered, with the next number of a book
+    /// that has changed and a card more where one may have been added, but books and which cards have no entries where
+    /// a card is moved; after one that may change direct members nothing, and after any other the circles of persons.
+    /// Takes no memory.
     pub(crate) fn follow(&mut self, alloc: Global, edit: &Edit)
         ensures { (o : OfficeOf) → Remembers self.old o → Remembers self.new (apply o edit.now) }
     {
@@ -426,7 +499,7 @@ impl Remembered {
             | Edit::SetLabel { .. }
             | Edit::SetList { .. }
             | Edit::SetMembers { .. }
-            | Edit::Adopt { .. } => self.forget(alloc),
+            | Edit::Adopt { .. } => self.forget_after(alloc, edit),
         }
     }
 }

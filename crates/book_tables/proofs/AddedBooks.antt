@@ -8,6 +8,7 @@ use Rattle.book_office.specs.Edits.{add_book}
 use Rattle.book_tables_rows.specs.Nodes.{adding_book}
 use Rattle.book_tables_rows.specs.Writes as writes
 use Rattle.book_tables.proofs.Acting.{Given, GivesEdited}
+use Rattle.book_tables.proofs.KeptReach.{book_keeps, still_holds}
 use Rattle.book_tables.proofs.Looking.{found_has, has_int}
 use Rattle.book_tables.proofs.LeftRows.{book_name}
 use Rattle.book_tables.proofs.RowFacts.{apart, row_added, KeepsNumbers, KeepsRows, kept_node, kept_entry, kept_removed, has_appended, all_from_has}
@@ -148,4 +149,5 @@ pub adds_book : (b : List ℕ) (owner : Option (List ℕ)) → GivesEdited (AddB
 adds_book b owner = record {
   fits = λ rows o given. tt;
   gives = λ rows after o given made. subst (λ r. Gives r (apply o (AddBook b owner))) (sym made.rows_are) (gives_added b owner rows o given made.home made.there);
+  reach = λ rows after o given made holds. still_holds rows after o.pairs o.pairs (book_keeps rows after (path_text path.Books) (book_path b) owner made) refl holds;
 }

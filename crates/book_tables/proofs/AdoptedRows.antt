@@ -7,9 +7,11 @@ use Rattle.book_office_values.specs.declared.paths.Path.TheVariants as path
 use Rattle.book_office_adopting.specs.Adopting.{adopt}
 use Rattle.book_office_adopting.proofs.Adoptions.{adopting_something}
 use Rattle.book_office.specs.Sound.{IsMappedGroup}
-use Rattle.book_tables_rows.specs.Adopting.{Listed, AdoptsPolicy, adopted_rows, write_place, write_lists, write_group}
+use Rattle.book_tables_rows.specs.Adopting.{Listed, AdoptsPolicy, adopted_rows, written_rows, write_place, write_lists, write_group}
 use Rattle.book_tables_rows.specs.Writes as writes
+use Rattle.book_tables_rows.specs.Writes.{Pair}
 use Rattle.book_tables.specs.Adopting.{compared, group_said}
+use Rattle.book_tables.specs.Reach.{HoldsReach, Renews}
 use Rattle.book_tables.specs.Rows.{has_member}
 use Rattle.book_tables.proofs.Acting.{Given}
 use Rattle.book_tables.proofs.ChangedNodes.{same_resources}
@@ -17,6 +19,8 @@ use Rattle.book_tables.proofs.Comparisons.{Chosen, choose, IsCompared, is_compar
 use Rattle.book_tables.proofs.OneOffice.{epoch_is}
 use Rattle.book_tables.proofs.PlacedRows.{HasRoom, place_of, each_place_at, places_written}
 use Rattle.book_tables.proofs.RejoinedGroups.{join_at, all_joined, groups_alone, pair_found}
+use Rattle.book_tables.proofs.KeptReach.{policy_keeps}
+use Rattle.book_tables.proofs.RenewedReach.{gives_with_reach, reach_alone, renewed_holds}
 use Rattle.book_tables.proofs.RelistedRows.{lists_of, each_list_at, all_lists_written}
 use Rattle.book_tables.proofs.RowFacts.{kept_node, kept_entry, kept_removed}
 use Rattle.book_tables.proofs.SameLists.{has_map}
@@ -179,11 +183,16 @@ module _ (t : PolicyTables) (rows : Rows) (o : Office) (given : Given rows o (Ad
     abbrev pub adopted : Rows
     adopted = record with_lists { members = members; meta = update_where (λ _. true) (with_epoch (o.epoch + 1)) rows.meta }
 
-    after_is : adopted_rows places lists groups (o.epoch + 1) rows ≡ adopted
-    after_is =
-        (λ i. adopted_rows (chosen_places.is i) (chosen_lists.is i) (chosen_groups.is i) (o.epoch + 1) rows)
+    written_is : writes.set_epoch (o.epoch + 1) (written_rows places lists groups rows) ≡ adopted
+    written_is =
+        (λ i. writes.set_epoch (o.epoch + 1) (written_rows (chosen_places.is i) (chosen_lists.is i) (chosen_groups.is i) rows))
         ∙ ap (writes.set_epoch (o.epoch + 1)) (groups_alone (map (group_items differ.after) chosen_groups.chosen) with_lists)
         ∙ ap (λ m. record with_lists { members = members; meta = update_where (λ _. true) (with_epoch (o.epoch + 1)) m }) written.meta
+
+    pub after_is : (gone come : List Pair) → adopted_rows places lists groups gone come (o.epoch + 1) rows ≡ record adopted { reach = (writes.renew_reach gone come (written_rows places lists groups rows)).reach }
+    after_is gone come =
+        ap (writes.set_epoch (o.epoch + 1)) (reach_alone gone come (written_rows places lists groups rows))
+        ∙ ap (λ (r : Rows). record r { reach = (writes.renew_reach gone come (written_rows places lists groups rows)).reach }) written_is
 
     members_are : (m : Membership) → has_member adopted m ≡ set.contains N.pairs m
     members_are m =
@@ -205,11 +214,22 @@ module _ (t : PolicyTables) (rows : Rows) (o : Office) (given : Given rows o (Ad
 
 -- the Office differs from before: what differs is written
 pub adoption_gives : (t : PolicyTables) (rows after : Rows) (o : Office) → Given rows o (Adopt t) → (taken_over t o ≡ o → ⊥)
-    → (places : List Place) (lists : List Listed) (groups : List Joined) → AreDifferences (bare o) (bare (taken_over t o)) places lists groups
-    → AdoptsPolicy rows after places lists groups → Gives after (apply o (Adopt t))
-adoption_gives t rows after o given other places lists groups differ made =
+    → (places : List Place) (lists : List Listed) (groups : List Joined) → AreDifferences (bare o) (bare (taken_over t o)) places lists groups → (gone come : List Pair)
+    → AdoptsPolicy rows after places lists groups gone come → Gives after (apply o (Adopt t))
+adoption_gives t rows after o given other places lists groups differ gone come made =
     let is : adopt t o ≡ o' t rows o given = adopting_something t o other in
     let sound : IsSound (o' t rows o given) = subst IsSound is given.fits.sound in
     let epoch = epoch_is rows.meta made.epoch o.epoch made.meta given.gives.meta in
-    let rows_are = made.rows_are ∙ ap (λ n. adopted_rows places lists groups (n + 1) rows) epoch ∙ after_is t rows o given sound places lists groups differ in
-    subst (λ r. Gives r (adopt t o)) (sym rows_are) (subst (Gives (adopted t rows o given sound places lists groups differ)) (sym is) (gives_taken_over t rows o given sound places lists groups differ))
+    let rows_are = made.rows_are ∙ ap (λ n. adopted_rows places lists groups gone come (n + 1) rows) epoch ∙ after_is t rows o given sound places lists groups differ gone come in
+    subst (λ r. Gives r (adopt t o)) (sym rows_are)
+    (gives_with_reach _ _ (adopt t o) (subst (Gives (adopted t rows o given sound places lists groups differ)) (sym is) (gives_taken_over t rows o given sound places lists groups differ)))
+
+-- and `reach` holds what chains of its direct members lead to
+pub adoption_reaches : (t : PolicyTables) (rows after : Rows) (o : Office) → (taken_over t o ≡ o → ⊥) → (places : List Place) (lists : List Listed) (groups : List Joined) (gone come : List Pair)
+    → Renews o.pairs (taken_over t o).pairs gone come → AdoptsPolicy rows after places lists groups gone come → HoldsReach rows.reach o.pairs → HoldsReach after.reach (apply o (Adopt t)).pairs
+adoption_reaches t rows after o other places lists groups gone come renews made holds =
+    let is : adopt t o ≡ record (taken_over t o) { epoch = o.epoch + 1 } = adopting_something t o other in
+    let written = written_rows places lists groups rows in
+    let before : HoldsReach written.reach o.pairs = subst (λ rs. HoldsReach rs o.pairs) (sym (policy_keeps places lists groups rows)) holds in
+    let now : HoldsReach (writes.renew_reach gone come written).reach (taken_over t o).pairs = renewed_holds o.pairs (taken_over t o).pairs gone come written renews before in
+    subst (λ (p : Office). HoldsReach after.reach p.pairs) (sym is) (subst (λ rs. HoldsReach rs (taken_over t o).pairs) (sym (ap (λ (r : Rows). r.reach) made.rows_are)) now)

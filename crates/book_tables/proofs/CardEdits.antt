@@ -10,6 +10,7 @@ use Rattle.book_tables_rows.specs.Nodes.{PutsCard, PutsCopy, LabelsCard, putting
 use Rattle.book_tables_rows.specs.Writes as writes
 use Rattle.book_tables.proofs.LeftRows.{none_deleted}
 use Rattle.book_tables.proofs.Acting.{Given, GivesEdited}
+use Rattle.book_tables.proofs.KeptReach.{card_label_keeps, copy_keeps, put_keeps, still_holds}
 use Rattle.book_tables.proofs.TouchedOffices.{edited_book, touched_office, named_card}
 use Rattle.book_tables.proofs.WrittenCards as written
 
@@ -89,7 +90,11 @@ module _ (b c : List ℕ) (owner : Option (List ℕ)) (text : List ℕ) where
       subst (λ r. Gives r (apply o (PutCard b c owner text))) (sym rows_are) (subst (Gives _) (placed_put o book there (Some card) its) gives))))
 
   pub puts_card : GivesEdited (PutCard b c owner text) (putting_card (book_path b) (card_path b c) c owner text)
-  puts_card = record { fits = λ rows o given. tt; gives = put_gives }
+  puts_card = record {
+    fits = λ rows o given. tt;
+    gives = put_gives;
+    reach = λ rows after o given made holds. still_holds rows after o.pairs o.pairs (put_keeps rows after (book_path b) (card_path b c) c owner text made) refl holds;
+  }
 
 -- ---- COPY
 
@@ -157,7 +162,11 @@ module _ (from_book from_card b c : List ℕ) (owner : Option (List ℕ)) where
       subst (λ r. Gives r o') (sym rows_are) (subst (Gives _) (placed_copy o book there source source_is (Some card) its) gives)))))
 
   pub copies_card : GivesEdited (CopyCard from_book from_card b c owner) (copying_card source_path (book_path b) (card_path b c) c owner)
-  copies_card = record { fits = λ rows o given. tt; gives = copy_gives }
+  copies_card = record {
+    fits = λ rows o given. tt;
+    gives = copy_gives;
+    reach = λ rows after o given made holds. still_holds rows after o.pairs o.pairs (copy_keeps rows after source_path (book_path b) (card_path b c) c owner made) refl holds;
+  }
 
 -- ---- the label of a card
 
@@ -197,4 +206,8 @@ module _ (b c label : List ℕ) where
       subst (λ r. Gives r o') (sym rows_are) (subst (Gives _) placed gives))))
 
   pub labels_card : GivesEdited (SetLabel (path.Card b c) label) (labelling_card (book_path b) (card_path b c) label)
-  labels_card = record { fits = λ rows o given. tt; gives = label_gives }
+  labels_card = record {
+    fits = λ rows o given. tt;
+    gives = label_gives;
+    reach = λ rows after o given made holds. still_holds rows after o.pairs o.pairs (card_label_keeps rows after (book_path b) (card_path b c) label made) refl holds;
+  }

@@ -1,5 +1,6 @@
 -- Changes that an open connection shows, in order of their numbers, are those of the Office for which it stands.
-use Rattle.book_tables.proofs.Common.{◌≡◌, inl, inr, ℕ, ◌<◌, ◌≤◌, List, [], ◌∷◌, ◌++◌, map, filter, take, length, false, codes, Option, Some, None, Int, pos, option_map, unwrap_or, refl, sym, ap, subst, ◌∙◌, arith, id_in, IsPermutation, get, Has, Row, State, column, rowid, LAST_NUMBER, IsName, Book, Office, changes_after, book_path, some_apart, Changed, book_resource, changed_in, card_shown, removed_shown, Rows, rows_of, ShowsChanges, number_in, row_at, resource_of, Stands, StandsFor, value_cmp-Int}
+use Rattle.book_tables.proofs.Common.{◌≡◌, inl, inr, ℕ, ◌<◌, ◌≤◌, List, [], ◌∷◌, ◌++◌, map, filter, take, length, false, codes, Option, Some, None, Int, pos, option_map, unwrap_or, refl, sym, ap, subst, ◌∙◌, arith, id_in, IsPermutation, get, Has, Row, State, column, rowid, LAST_NUMBER, IsName, Book, Office, changes_after, book_path, some_apart, Changed, book_resource, changed_in, card_shown, removed_shown, Rows, rows_of, ShowsChanges, number_in, row_at, resource_of, StandsFor, value_cmp-Int}
+use Rattle.book_tables.specs.Stands.{IsKept}
 use Rattle.std.proofs.Common.{◌⊎◌, min, is_gt}
 use Rattle.std.proofs.lemmas.List.Sorted.{IsPermutation-sym, IsPermutation-trans, IsPermutation-map, IsPermutation-append}
 use Rattle.book_office_values.specs.declared.paths.Path.TheVariants as path
@@ -25,7 +26,7 @@ ranked_by place s t is it h =
     let b = number_in (column t place) in
     not_greater b a (ap is_gt (sym (value_cmp-Int (pos a) (pos b))) ∙ (λ i. is_gt (value_cmp (sym is i) (sym it i))) ∙ h)
 
-module _ (s : State) (b : List ℕ) (named : IsName b) (n : ℕ) (changes : List Changed) (rise : DoRise changes) (o : Office) (st : Stands s.now o) where
+module _ (s : State) (b : List ℕ) (named : IsName b) (n : ℕ) (changes : List Changed) (rise : DoRise changes) (o : Office) (st : IsKept s.now o) where
   abbrev rows : Rows
   rows = rows_of s.now.trees
 
@@ -146,5 +147,5 @@ module _ (s : State) (b : List ℕ) (named : IsName b) (n : ℕ) (changes : List
 pub changes_told_are : (s : State) (b : List ℕ) → IsName b → (n : ℕ) (at_most : Option ℕ) (changes : List Changed) → ShowsChanges s (book_path b) (min n LAST_NUMBER) at_most changes → DoRise changes → (o : Office) → StandsFor s o
     → first_of at_most changes ≡ first_of at_most (changed_after o b n)
 changes_told_are s b named n at_most changes shows rise o stands =
-    let st : Stands s.now o = stands.0 shows.0 in
+    let st : IsKept s.now o = stands.0 shows.0 in
     at_book s b named n changes rise o st at_most (get o.books b) refl (row_at (rows_of s.now.trees) (book_path b)) refl (shows.1 st.book)

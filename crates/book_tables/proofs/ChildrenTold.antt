@@ -1,5 +1,6 @@
 -- Children that an open connection shows are those of the Office for which it stands.
-use Rattle.book_tables.proofs.Common.{◌≡◌, inl, inr, true, false, List, [], ◌∷◌, map, filter, Option, Some, None, option_map, unwrap_or, refl, sym, ap, ◌∙◌, id_in, Row, State, rowid, Has, has_filtered, sort_by, map-map, Office, Path, IsPath, path_text, Listed, children_at, node_label, node_number, node_path, by_path, Rows, rows_of, is_at, is_under, ShowsListing, child_shown, text_above, row_at, Stands, StandsFor}
+use Rattle.book_tables.proofs.Common.{◌≡◌, inl, inr, true, false, List, [], ◌∷◌, map, filter, Option, Some, None, option_map, unwrap_or, refl, sym, ap, ◌∙◌, id_in, Row, State, rowid, Has, has_filtered, sort_by, map-map, Office, Path, IsPath, path_text, Listed, children_at, node_label, node_number, node_path, by_path, Rows, rows_of, is_at, is_under, ShowsListing, child_shown, text_above, row_at, StandsFor}
+use Rattle.book_tables.specs.Stands.{IsKept}
 use Rattle.book_tables_rows.specs.Columns.{node_kind, node_owner}
 use Rattle.book_tables_rows.specs.Lists as lists
 use Rattle.book_tables.proofs.RowFacts.{row_number}
@@ -20,7 +21,7 @@ columns row = rowid row ∷ node_path row ∷ node_kind row ∷ node_owner row �
 pub children_told : (s : State) (p : Path) → IsPath p → (children : List Listed) → ShowsListing s (path_text p) (text_above p) children → (o : Office) → StandsFor s o → children ≡ children_at o p
 children_told s p is_path children shows o stands = shows.1 st.book ∙ go (row_at rows (path_text p)) refl
   where
-    st : Stands s.now o
+    st : IsKept s.now o
     st = stands.0 shows.0
 
     rows : Rows

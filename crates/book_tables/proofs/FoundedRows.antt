@@ -1,5 +1,6 @@
 -- The rows of a new store give the empty Office.
-use Rattle.book_tables.proofs.Common.{◌≡◌, ◌⊎◌, inl, inr, ℕ, ℤ, pos, cond, List, [], codes, Some, None, Result, Ok, Err, option_map, option_and_then, refl, sym, ap, subst, ◌∙◌, IsTrue, get, empty, get-empty, Null, Int, Database, Row, State, HasCleanDisk, Survives, Trees, membership_cmp, name_cmp, group_path, same, Book, Path, IsPath, path_text, book_path, card_path, resource_at, removed_at, properties_resource, book_resource, card_in, unless_mapped, rows_of, IsBook, in_store, Stays, row_at, resource_of, resource_in, removed_from, removed_in, Gives, Stands}
+use Rattle.book_tables.proofs.Common.{◌≡◌, ◌⊎◌, inl, inr, ℕ, ℤ, pos, cond, List, [], codes, Some, None, Result, Ok, Err, option_map, option_and_then, refl, sym, ap, subst, ◌∙◌, IsTrue, get, empty, get-empty, Null, Int, Database, Row, State, HasCleanDisk, Survives, Trees, membership_cmp, name_cmp, group_path, same, Book, Path, IsPath, path_text, book_path, card_path, resource_at, removed_at, properties_resource, book_resource, card_in, unless_mapped, rows_of, IsBook, in_store, Stays, Rows, row_at, resource_of, resource_in, removed_from, removed_in, Gives}
+use Rattle.std.proofs.lemmas.Bool.{false≢true}
 use Rattle.std.specs.FinSet as set
 use Rattle.sqlite.specs.declared.error.Error.{Error}
 use Rattle.book_lists.specs.Principals.{person_path}
@@ -11,7 +12,9 @@ use Rattle.book_tables_schema.specs.Founding.{IsFounded, MayFound, first_rows, b
 use Rattle.book_tables.specs.declared.opening.OpenFault.TheVariants.{Store}
 use Rattle.book_tables.specs.Opened.{StandsAlone, IsUnfounded, open_fault}
 use Rattle.book_tables.proofs.Looking.{has_text}
-use Rattle.book_tables.proofs.OneOffice.{only_left}
+use Rattle.book_tables.specs.Reach.{HoldsReach}
+use Rattle.book_tables.specs.Stands.{IsKept, LeftBy}
+use Rattle.book_tables.proofs.OneOffice.{kept_stands, only_left}
 
 none_of : {V : Type 0} (q : List ℕ) → get (empty {X = V} {R = name_cmp}) q ≡ None
 none_of q = get-empty name_cmp q
@@ -70,8 +73,17 @@ founded_gives = record {
   meta = (_, refl);
 }
 
-pub founded_stands : (db : Database) → IsBook db → rows_of db.trees ≡ first_rows → Stands db empty_office
-founded_stands db book rows = record { book = book; gives = subst (λ r. Gives r empty_office) (sym rows) founded_gives; sound = empty_sound }
+-- nobody is in a group
+none_reached : HoldsReach [] set.empty
+none_reached m = (λ h. absurd (false≢true h), λ chain. absurd (false≢true (sym (set.contains-empty membership_cmp _) ∙ chain.2.0)))
+
+pub founded_stands : (db : Database) → IsBook db → rows_of db.trees ≡ first_rows → IsKept db empty_office
+founded_stands db book rows = record {
+  book = book;
+  gives = subst (λ r. Gives r empty_office) (sym rows) founded_gives;
+  sound = empty_sound;
+  reach = subst (λ (r : Rows). HoldsReach r.reach set.empty) (sym rows) none_reached;
+}
 
 -- a store that was founded stands for the empty Office
 pub stands_founded : (old new : State) → ((trees : Trees) → IsTrue new.is_open → new.may_leave trees → trees ≡ new.committed.trees) → IsFounded old new → StandsAlone new empty_office
@@ -81,8 +93,7 @@ stands_founded old new settled founded =
       stands = (λ _. st, empty_sound);
       left = λ x left.
           let same : left.0 ≡ new.now.trees = settled left.0 founded.is_open left.1 ∙ ap (λ (d : Database). d.trees) founded.committed in
-          let is : in_store left.0 ≡ new.now = ap in_store same ∙ (λ i. record { schema = sym st.book.schema i; trees = new.now.trees }) in
-          only_left left.0 empty_office x (subst (λ db. Stands db empty_office) (sym is) st) left.2;
+          only_left new.now empty_office x (kept_stands new.now empty_office st) (subst (λ t. LeftBy t x) same left.2);
     }
 
 pub still_unfounded : (old new : State) → HasCleanDisk new → Survives old new (MayFound old) → Stays old new → IsUnfounded old new empty_office
@@ -90,7 +101,7 @@ still_unfounded old new clean survives stays = record {
   stays = stays;
   left = λ x left. elim (survives.crash clean left.0 left.1) [
     | inl kept ↦ inl (left.0, kept, left.2)
-    | inr made ↦ inr (only_left left.0 empty_office x (founded_stands (in_store left.0) made.book made.rows) left.2)
+    | inr made ↦ inr (only_left (in_store left.0) empty_office x (kept_stands (in_store left.0) empty_office (founded_stands (in_store left.0) made.book made.rows)) left.2)
   ];
 }
 

@@ -11,11 +11,16 @@ use Rattle.book_office.proofs.GroupMembers.{members_added, members_joined}
 use Rattle.book_tables_rows.specs.Columns.{member_group_place, member_member_place}
 use Rattle.book_tables_rows.specs.Nodes.{setting_members}
 use Rattle.book_tables_rows.specs.Writes as writes
-use Rattle.book_tables.proofs.Acting.{Given, GivesEdited}
+use Rattle.book_tables_rows.specs.Writes.{Pair}
+use Rattle.book_tables.specs.Reach.{HoldsReach, Renews}
+use Rattle.book_tables.proofs.Acting.{Given}
 use Rattle.book_tables.proofs.ChangedNodes.{same_resources}
 use Rattle.book_tables.proofs.Looking.{find-delete_where, find-deleted, all_of_all, has_text}
 use Rattle.book_tables.proofs.OneOffice.{epoch_is}
 use Rattle.book_tables.proofs.OneValue as value
+use Rattle.book_tables.proofs.KeptReach.{members_keep}
+use Rattle.book_tables.proofs.ReadActing.{GivesKnown}
+use Rattle.book_tables.proofs.RenewedReach.{gives_with_reach, reach_alone, renewed_holds}
 use Rattle.book_tables.proofs.RowFacts.{kept_node, kept_entry, kept_removed}
 
 -- the members of these rows are those pairs
@@ -91,11 +96,14 @@ members_rewritten group members rows pairs are =
 -- ---- the rows
 
 module _ (group : List ℕ) (members : List (List ℕ)) (rows : Rows) (o : Office) (given : Given rows o (SetMembers group members)) where
+  -- before `reach` is renewed
   abbrev pub after : Rows
   after = record rows { members = (writes.write_members group members rows).members; meta = update_where (λ _. true) (with_epoch (o.epoch + 1)) rows.meta }
 
-  pub after_is : writes.set_members_rows group members (o.epoch + 1) rows ≡ after
-  after_is = ap (writes.set_epoch (o.epoch + 1)) (members_alone group members (writes.delete_members group rows))
+  pub after_is : (gone come : List Pair) → writes.set_members_rows group members gone come (o.epoch + 1) rows ≡ record after { reach = (writes.renew_reach gone come (writes.write_members group members rows)).reach }
+  after_is gone come =
+      ap (writes.set_epoch (o.epoch + 1)) (reach_alone gone come (writes.write_members group members rows))
+      ∙ ap (λ (r : Rows). record (writes.set_epoch (o.epoch + 1) r) { reach = (writes.renew_reach gone come (writes.write_members group members rows)).reach }) (members_alone group members (writes.delete_members group rows))
 
   joined : AreMembers after.members (members_set o.pairs group members)
   joined = members_rewritten group members rows o.pairs given.gives.members
@@ -111,11 +119,16 @@ module _ (group : List ℕ) (members : List (List ℕ)) (rows : Rows) (o : Offic
     meta = (given.gives.meta.0, ap (update_where (λ _. true) (with_epoch (o.epoch + 1))) given.gives.meta.1);
   }
 
-pub joins_members : (group : List ℕ) (members : List (List ℕ)) → GivesEdited (SetMembers group members) (setting_members group members)
-joins_members group members = record {
+pub joins_members : (group : List ℕ) (members : List (List ℕ)) (gone come : List Pair)
+    → GivesKnown (SetMembers group members) (setting_members group members gone come) (λ o. Renews o.pairs (members_set o.pairs group members) gone come)
+joins_members group members gone come = record {
   fits = λ rows o given. record { meta = (o.epoch, given.gives.meta) };
-  gives = λ rows after o given made.
+  gives = λ rows after o given known made.
       let epoch = epoch_is rows.meta made.epoch o.epoch made.meta given.gives.meta in
-      let is = made.rows_are ∙ ap (λ n. writes.set_members_rows group members (n + 1) rows) epoch ∙ after_is group members rows o given in
-      subst (λ r. Gives r (apply o (SetMembers group members))) (sym is) (gives_joined group members rows o given);
+      let is = made.rows_are ∙ ap (λ n. writes.set_members_rows group members gone come (n + 1) rows) epoch ∙ after_is group members rows o given gone come in
+      subst (λ r. Gives r (apply o (SetMembers group members))) (sym is) (gives_with_reach _ _ (apply o (SetMembers group members)) (gives_joined group members rows o given));
+  reach = λ rows after o given known made holds.
+      let before : HoldsReach (writes.write_members group members rows).reach o.pairs = subst (λ rs. HoldsReach rs o.pairs) (sym (members_keep group members rows)) holds in
+      subst (λ rs. HoldsReach rs (members_set o.pairs group members)) (sym (ap (λ (r : Rows). r.reach) made.rows_are))
+      (renewed_holds o.pairs (members_set o.pairs group members) gone come (writes.write_members group members rows) known before);
 }

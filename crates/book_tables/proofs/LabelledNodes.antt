@@ -1,10 +1,12 @@
 -- The label of a resource that is no card: the rows give the Office with the label.
 use Rattle.book_tables.proofs.Common.{◌≡◌, ◌≢◌, ℕ, true, false, cond, List, Option, Some, None, option_map, refl, sym, ap, subst, ◌∙◌, same_Some, Row, rowid, all_weaker, Office, Path, IsPath, path_text, book_path, one_text, same_itself, by_names, where_some, SetLabel, apply, resource_at, resources_stand_in_place, node_number, Rows, number_in, is_at, row_at, resource_in, resource_of, removed_from, IsNode, IsEntry, IsRemoved, Gives}
 use Rattle.book_office.specs.Edits.{set_label}
+use Rattle.book_office.proofs.StayingPairs.{label_pairs}
 use Rattle.book_tables_rows.specs.Nodes.{labelling_node}
 use Rattle.book_tables_rows.specs.Writes as writes
 use Rattle.book_tables_rows.specs.Writes.{with_label}
 use Rattle.book_tables.proofs.Acting.{Given, GivesEdited}
+use Rattle.book_tables.proofs.KeptReach.{label_keeps, still_holds}
 use Rattle.book_tables.proofs.ChangedNodes.{IsOther, ChangesOne, relabel, label_changes}
 use Rattle.book_tables.proofs.RowFacts.{apart, KeepsNumbers, KeepsRows, kept_node, kept_entry, kept_removed, has_updated, all_updated, is_at_found}
 use Rattle.book_tables.proofs.WrittenCards.{KeepsColumns, node_changed, row_changed}
@@ -90,4 +92,5 @@ pub labels_node : (p : Path) → IsOther p → (label : List ℕ) → GivesEdite
 labels_node p other label = record {
   fits = λ rows o given. tt;
   gives = λ rows after o given made. subst (λ r. Gives r (apply o (SetLabel p label))) (sym made.rows_are) (gives_labelled p other label rows o given made.node made.there);
+  reach = λ rows after o given made holds. still_holds rows after o.pairs (apply o (SetLabel p label)).pairs (label_keeps rows after (path_text p) label made) (label_pairs p label o) holds;
 }

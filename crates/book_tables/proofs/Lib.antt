@@ -3,6 +3,8 @@ pub mod Looking
 pub mod RowFacts
 pub mod LeftRows
 pub mod OneOffice
+pub mod KeptReach
+pub mod RenewedReach
 pub mod Acting
 pub mod TouchedOffices
 pub mod TouchedRows
@@ -27,6 +29,9 @@ pub mod ListedRows
 pub mod JoinedMembers
 pub mod PushedItems
 pub mod PairsTold
+pub mod OtherPairs
+pub mod ReachedGroups
+pub mod SettledReach
 pub mod LevelsTold
 pub mod SameLists
 pub mod OfficeChildren

@@ -3,11 +3,13 @@ use Rattle.book_tables.proofs.Common.{◌≡◌, ◌≢◌, ℕ, ◌+◌, ℤ, p
 use Rattle.std.specs.FinSet as set
 use Rattle.book_office.specs.declared.edits.Edit.TheVariants.{SetList}
 use Rattle.book_office.specs.Edits.{own_list_set, set_list}
+use Rattle.book_office.proofs.StayingPairs.{list_pairs}
 use Rattle.book_tables_rows.specs.Nodes.{SetsList, setting_list}
 use Rattle.book_tables_rows.specs.Writes as writes
 use Rattle.book_tables_rows.specs.Writes.{Said, entry_row}
 use Rattle.book_tables_rows.proofs.WrittenLists.{written_are_read, others_stay}
 use Rattle.book_tables.proofs.Acting.{Given, GivesEdited}
+use Rattle.book_tables.proofs.KeptReach.{list_keeps, still_holds}
 use Rattle.book_tables.proofs.ChangedNodes.{ChangesOne, relist, list_changes, same_resources}
 use Rattle.book_tables.proofs.Looking.{found_has}
 use Rattle.book_tables.proofs.OneOffice.{epoch_is}
@@ -144,4 +146,5 @@ pub lists_node : (p : Path) (list : List Entry) → GivesEdited (SetList p list)
 lists_node p list = record {
   fits = λ rows o given. record { meta = (o.epoch, given.gives.meta) };
   gives = λ rows after o given made. listing_gives p list rows after o given made;
+  reach = λ rows after o given made holds. still_holds rows after o.pairs (apply o (SetList p list)).pairs (list_keeps rows after (path_text p) (map entry_said list) made) (list_pairs p list o) holds;
 }

@@ -7,6 +7,7 @@ use Rattle.book_tables_rows.specs.Nodes.{MovesCard, FitCardRemoval, moving_card}
 use Rattle.book_tables_rows.specs.Writes as writes
 use Rattle.book_tables_rows.specs.Writes.{clear_at}
 use Rattle.book_tables.proofs.Acting.{Given, GivesEdited}
+use Rattle.book_tables.proofs.KeptReach.{move_keeps, still_holds}
 use Rattle.book_tables.proofs.CardEdits.{at_book, card_told}
 use Rattle.book_tables.proofs.MovedRows.{are_cleared, between, gives_moved, target_resource}
 use Rattle.book_tables.proofs.RemovedCards.{fit_removal, name_of_card}
@@ -83,4 +84,8 @@ module _ (sb sc tb tc : List ℕ) (rows : Rows) (o : Office) (given : Given rows
       subst (λ r. Gives r (apply o (MoveCard sb sc tb tc))) (sym rows_are) (subst (Gives _) (sym (moved_office k tbook there)) gives))))
 
 pub moves_card : (sb sc tb tc : List ℕ) → GivesEdited (MoveCard sb sc tb tc) (moving_card (book_path sb) (card_path sb sc) sc (book_path tb) (card_path tb tc) tc)
-moves_card sb sc tb tc = record { fits = λ rows o given. move_fits sb sc tb tc rows o given; gives = λ rows after o given made. move_gives sb sc tb tc rows o given after made }
+moves_card sb sc tb tc = record {
+  fits = λ rows o given. move_fits sb sc tb tc rows o given;
+  gives = λ rows after o given made. move_gives sb sc tb tc rows o given after made;
+  reach = λ rows after o given made holds. still_holds rows after o.pairs o.pairs (move_keeps rows after (book_path sb) (card_path sb sc) sc (book_path tb) (card_path tb tc) tc made) refl holds;
+}

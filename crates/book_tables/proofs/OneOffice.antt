@@ -1,10 +1,15 @@
 -- Rows give one sound Office at most.
-use Rattle.book_tables.proofs.Common.{◌≡◌, ℕ, List, Option, None, option_and_then, sym, ap, ◌∙◌, get, Row, Trees, Book, Office, Path, IsPath, by_option, Leftover, whole, resource_at, removed_at, unless_mapped, IsSound, resources_stand_in_place, Rows, rows_of, in_store, Gives, Stands}
+use Rattle.book_tables.proofs.Common.{◌≡◌, inl, inr, ℕ, List, Option, None, option_and_then, sym, ap, ◌∙◌, get, Database, Row, Has, Book, Office, Path, IsPath, by_option, Leftover, whole, resource_at, removed_at, unless_mapped, IsSound, resources_stand_in_place, book_schema, Rows, rows_of, IsBook, Gives, Stands}
 use Rattle.book_office_adopting.proofs.KeptPairs.{both_within}
 use Rattle.book_office.specs.Keeping.{broken}
 use Rattle.book_office.proofs.SameOffices.{same_office}
 use Rattle.book_tables_rows.specs.Writes.{IsMeta}
-use Rattle.book_tables.specs.Stands.{LeftBy}
+use Rattle.book_tables_schema.specs.Layout.{tables_of}
+use Rattle.book_tables_schema.specs.OtherReach.{HasBase}
+use Rattle.book_tables_schema.proofs.DroppedReach.{book_beside}
+use Rattle.std.proofs.Common.{true}
+use Rattle.sqlite.specs.Table.{Table}
+use Rattle.book_tables.specs.Stands.{IsKept, LeftBy}
 
 pub epoch_is : (meta : List Row) (a b : ℕ) → IsMeta meta a → IsMeta meta b → a ≡ b
 epoch_is meta a b (i, e) (j, f) = let same = sym e ∙ f in cc
@@ -33,6 +38,23 @@ module _ (rows : Rows) (o p : Office) (gives : Gives rows o) (gives' : Gives row
   pub one_office : o ≡ p
   one_office = same_office o p sound sound' resources (both_within o.pairs p.pairs (λ m h. sym (sym (gives.members m) ∙ gives'.members m) ∙ h) (λ m h. sym (gives.members m) ∙ gives'.members m ∙ h)) removed (epoch_is rows.meta o.epoch p.epoch gives.meta gives'.meta)
 
-pub only_left : (trees : Trees) (o : Office) (left : Leftover) → Stands (in_store trees) o → LeftBy trees left → left ≡ whole o
-only_left trees o (whole other) st by = ap whole (one_office (rows_of trees) other o by.gives st.gives by.sound st.sound)
-only_left trees o broken st by = absurd (by o st)
+-- what stands for an Office leaves that one alone
+pub only_left : (db : Database) (o : Office) (left : Leftover) → Stands db o → LeftBy db.trees left → left ≡ whole o
+only_left db o (whole other) st by = ap whole (one_office (rows_of db.trees) other o by.1.gives st.gives by.1.sound st.sound)
+only_left db o broken st by = absurd (by db.schema o st)
+
+pub base_of : (db : Database) → IsBook db → HasBase db
+base_of db book = record { schema = book_beside db.schema book.schema; rules = book.rules; rising = λ t there. book.rising t (within t there); former = book.former }
+  where
+    within : (t : Table) → Has (tables_of true) t → Has book_schema.tables t
+    within t (inl is) = inl is
+    within t (inr (inl is)) = inr (inl is)
+    within t (inr (inr (inl is))) = inr (inr (inl is))
+    within t (inr (inr (inr (inl is)))) = inr (inr (inr (inl is)))
+    within t (inr (inr (inr (inr (inl is))))) = inr (inr (inr (inr (inl is))))
+    within t (inr (inr (inr (inr (inr (inl is)))))) = inr (inr (inr (inr (inr (inl is)))))
+    within t (inr (inr (inr (inr (inr (inr none)))))) = absurd none
+
+-- tables that are kept stand for their Office
+pub kept_stands : (db : Database) (o : Office) → IsKept db o → Stands db o
+kept_stands db o kept = record { base = base_of db kept.book; gives = kept.gives; sound = kept.sound }

@@ -7,12 +7,15 @@ use Rattle.book_office.specs.Sound.{Fits}
 use Rattle.book_tables_rows.specs.Steps.{Change}
 use Rattle.book_tables.specs.Adopting.{Rests}
 use Rattle.book_tables.proofs.Acting.{Given, GivesEdited, acts_kept, edit_made, edit_failed}
-use Rattle.book_tables.proofs.OneOffice.{one_office, only_left}
+use Rattle.book_tables.specs.Reach.{HoldsReach}
+use Rattle.book_tables.specs.Stands.{LeftBy}
+use Rattle.book_tables.proofs.OneOffice.{kept_stands, one_office, only_left}
 
 -- rows that give an Office which the edit fits, and of which something is known, are rows that the change fits, and give the edited Office afterwards
 pub record GivesKnown (edit : Edit) (change : Change) (Known : Office → Type 0) : Type 0 where
   pub fits : (rows : Rows) (o : Office) → Given rows o edit → change.Fits rows
   pub gives : (rows after : Rows) (o : Office) → Given rows o edit → Known o → change.Makes rows after → Gives after (apply o edit)
+  pub reach : (rows after : Rows) (o : Office) → Given rows o edit → Known o → change.Makes rows after → HoldsReach rows.reach o.pairs → HoldsReach after.reach (apply o edit).pairs
 
 module _ (mid new : State) (edit : Edit) (change : Change) (Known : Office → Type 0) (edited : GivesKnown edit change Known) where
   -- the change, of rows that give one Office
@@ -23,6 +26,7 @@ module _ (mid new : State) (edit : Edit) (change : Change) (Known : Office → T
   edited_then o known = record {
     fits = edited.fits;
     gives = λ rows after p given made. edited.gives rows after p given (subst Known (sym (one_office rows p o given.gives made.1 given.sound made.2)) known) made.0;
+    reach = λ rows after p given made holds. edited.reach rows after p given (subst Known (sym (one_office rows p o given.gives made.1 given.sound made.2)) known) made.0 holds;
   }
 
   commits_then : (o : Office) → StandsFor mid o → Commits mid new change → Commits mid new (change_of o)
@@ -105,8 +109,7 @@ module _ (mid new : State) (edit : Edit) (survives : Survives mid new (λ _. ⊥
   left_alone rests o stands y (trees, may, by) =
       let st = stands.0 rests.is_open in
       let same : trees ≡ mid.now.trees = settled trees rests.is_open may ∙ ap (λ (d : Database). d.trees) (sym rests.committed) in
-      let is : in_store trees ≡ mid.now = ap in_store same ∙ (λ i. record { schema = sym st.book.schema i; trees = mid.now.trees }) in
-      only_left trees o y (subst (λ db. Stands db o) (sym is) st) by
+      only_left mid.now o y (kept_stands mid.now o st) (subst (λ t. LeftBy t y) same by)
 
   pub read_then_rested : ((o : Office) → Tells o x → apply o edit ≡ o) → (m : ℕ) (r : Result (Unit {0}) StoreFault) → m ≡ failures_after r n → (HasCleanDisk new → OnOk r (Rests mid))
       → (HasCleanDisk new → Stays mid new) → Edits a (standing_of new m) r edit

@@ -1,9 +1,10 @@
 -- DELETE of a book: the rows give the Office without it.
-use Rattle.book_tables.proofs.Common.{◌≡◌, ℕ, ◌+◌, List, Some, sym, subst, ◌∙◌, get, Int, id_in, Row, rowid, all_has, IsName, Office, book_path, where_some, apply, Rows, is_at, key_is, row_at, Gives}
+use Rattle.book_tables.proofs.Common.{◌≡◌, ℕ, ◌+◌, List, Some, sym, subst, ◌∙◌, get, Int, id_in, Row, rowid, all_has, IsName, Office, book_path, where_some, apply, Rows, is_at, key_is, row_at, Gives, refl}
 use Rattle.book_office.specs.declared.edits.Edit.TheVariants.{RemoveBook}
 use Rattle.book_tables_rows.specs.Nodes.{RemovesBook, FitRemoval, removing_book}
 use Rattle.book_tables_rows.specs.Writes as writes
 use Rattle.book_tables.proofs.Acting.{Given, GivesEdited}
+use Rattle.book_tables.proofs.KeptReach.{no_book_keeps, still_holds}
 use Rattle.book_tables.proofs.Looking.{found_has}
 use Rattle.book_tables.proofs.OneOffice.{epoch_is}
 use Rattle.book_tables.proofs.RemoveRows.{gives_removed, free_children, free_book}
@@ -29,4 +30,8 @@ module _ (b : List ℕ) (rows : Rows) (o : Office) (given : Given rows o (Remove
       subst (λ r. Gives r (apply o (RemoveBook b))) (sym (made.rows_are ∙ (λ i. writes.remove_book_rows (Int (id_in (rowid made.book))) (epoch i + 1) rows))) gives
 
 pub removes_book : (b : List ℕ) → GivesEdited (RemoveBook b) (removing_book (book_path b))
-removes_book b = record { fits = λ rows o given. removal_fits b rows o given; gives = λ rows after o given made. removal_gives b rows o given after made }
+removes_book b = record {
+  fits = λ rows o given. removal_fits b rows o given;
+  gives = λ rows after o given made. removal_gives b rows o given after made;
+  reach = λ rows after o given made holds. still_holds rows after o.pairs o.pairs (no_book_keeps rows after (book_path b) made) refl holds;
+}

@@ -9,6 +9,7 @@ use Rattle.book_tables_rows.specs.Nodes.{RemovesCard, FitCardRemoval, removing_c
 use Rattle.book_tables_rows.specs.Writes as writes
 use Rattle.book_tables_rows.specs.Writes.{delete_entries, AreFree}
 use Rattle.book_tables.proofs.Acting.{Given, GivesEdited}
+use Rattle.book_tables.proofs.KeptReach.{removal_keeps, still_holds}
 use Rattle.book_tables.proofs.Looking.{found_has, find-delete_where, find-deleted, has_int, same_ints}
 use Rattle.book_tables.proofs.LeftRows.{stays_in, filter-delete_where, one_found, has_null, book_or_card}
 use Rattle.book_tables.proofs.RowFacts.{apart, same_rowid, has_updated, all_updated, all_from_has, is_at_found, number_of_row, numbers_apart}
@@ -265,4 +266,8 @@ module _ (b c : List ℕ) (rows : Rows) (o : Office) (given : Given rows o (Remo
   removal_fits = let k = both in fit_removal rows o given.gives given.nodes.shaped given.nodes.once b c k.named k.named_card
 
 pub removes_card : (b c : List ℕ) → GivesEdited (RemoveCard b c) (removing_card (book_path b) (card_path b c) c)
-removes_card b c = record { fits = λ rows o given. removal_fits b c rows o given; gives = λ rows after o given made. removal_gives b c rows o given after made }
+removes_card b c = record {
+  fits = λ rows o given. removal_fits b c rows o given;
+  gives = λ rows after o given made. removal_gives b c rows o given after made;
+  reach = λ rows after o given made holds. still_holds rows after o.pairs o.pairs (removal_keeps rows after (book_path b) (card_path b c) c made) refl holds;
+}

@@ -1,5 +1,6 @@
 pub mod Rows
 pub mod Stands
+pub mod Reach
 pub mod Keeps
 pub mod Reading
 pub mod Opened

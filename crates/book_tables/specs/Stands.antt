@@ -7,6 +7,7 @@ use Rattle.sqlite.specs.declared.types.Value.TheVariants.{Null, Int, Text}
 use Rattle.sqlite.specs.Order.{Row}
 use Rattle.sqlite.specs.Tree.{Trees, rowid}
 use Rattle.sqlite.specs.Effect.{Database}
+use Rattle.sqlite.specs.Schema.{Schema}
 use Rattle.sqlite.specs.State.{State}
 use Rattle.sqlite_rules.specs.Lists.{Has}
 use Rattle.book_lists.specs.Names.{IsName}
@@ -20,8 +21,10 @@ use Rattle.book_office.specs.Resources.{resource_at, removed_at}
 use Rattle.book_office.specs.Sound.{IsSound}
 use Rattle.book_tables_rows.specs.Columns.{ace_node, ace_place, ace_protected, gone_book, gone_name, gone_number, node_kind, node_number, node_parent, node_path}
 use Rattle.book_tables_rows.specs.Nodes.{number_in}
-use Rattle.book_tables_rows.specs.Rows.{Rows, rows_of, IsBook, in_store}
+use Rattle.book_tables_rows.specs.Rows.{Rows, rows_of, IsBook}
 use Rattle.book_tables_rows.specs.Writes.{IsMeta, flag}
+use Rattle.book_tables_schema.specs.OtherReach.{HasBase}
+use Rattle.book_tables.specs.Reach.{HoldsReach}
 use Rattle.book_tables.specs.Rows.{row_at, kind_code, resource_in, has_member, removed_in, entry_of, entry_values}
 
 -- ---- the form of a row
@@ -42,7 +45,7 @@ pub record IsNodeAt (rows : Rows) (row : Row) (p : Path) : Type 0 where
 abbrev pub IsNode : Rows → Row → Type 0
 IsNode rows row = (p : Path) × IsNodeAt rows row p
 
--- a row of `ace` is an entry of a node, in one of its two lists, and is spelled in the one way
+-- a row of `ace2` is an entry of a node, in one of its two lists, and is spelled in the one way
 pub record IsEntry (rows : Rows) (row : Row) : Type 0 where
   pub node : Row
   pub there : Has rows.nodes node
@@ -74,25 +77,33 @@ pub record Gives (rows : Rows) (o : Office) : Type 0 where
   pub members : (m : Membership) → has_member rows m ≡ set.contains o.pairs m
   -- the removed names of a book and their numbers are those of `gone`
   pub gone : (b name : List ℕ) → IsName b → removed_in rows b name ≡ removed_at o b name
-  -- `meta` has one row, with version 1 and the epoch
+  -- `meta` has one row, with version 2 and the epoch
   pub meta : IsMeta rows.meta o.epoch
 
--- the tables are there with their columns and rules, their rows give the Office, and it is sound
+-- the tables are there with their columns and rules, their rows give the Office, and it is sound: nothing is said of `reach`, which
+-- may have any columns and rows, or not be there
 pub record Stands (db : Database) (o : Office) : Type 0 where
-  pub book : IsBook db
+  pub base : HasBase db
   pub gives : Gives (rows_of db.trees) o
   pub sound : IsSound o
 
 -- ---- a connection
 
+-- the same of tables that are kept: they have `reach`, which holds what chains of the Office's direct members lead to
+pub record IsKept (db : Database) (o : Office) : Type 0 where
+  pub book : IsBook db
+  pub gives : Gives (rows_of db.trees) o
+  pub sound : IsSound o
+  pub reach : HoldsReach (rows_of db.trees).reach o.pairs
+
 -- what an open connection shows stands for the Office; one that a fault has shut shows nothing
 abbrev pub StandsFor : State → Office → Type 0
-StandsFor s o = (IsTrue s.is_open → Stands s.now o) × IsSound o
+StandsFor s o = (IsTrue s.is_open → IsKept s.now o) × IsSound o
 
 -- a store with these trees stands for the Office, or for none
 abbrev pub LeftBy : Trees → Leftover → Type 0
-LeftBy trees (whole o) = Stands (in_store trees) o
-LeftBy trees broken = (o : Office) → ¬ Stands (in_store trees) o
+LeftBy trees (whole o) = (s : Schema) × Stands (record { schema = s; trees = trees }) o
+LeftBy trees broken = (s : Schema) (o : Office) → ¬ Stands (record { schema = s; trees = trees }) o
 
 -- what a stop now may leave: what the trees stand for that the store may then have
 abbrev pub LeftOf : State → Leftover → Type 0

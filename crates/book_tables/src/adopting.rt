@@ -8,9 +8,11 @@ ghost use Rattle.sqlite.specs.State.{HasCleanDisk, Survives};
 ghost use Rattle.book_office.specs.Keeping.{Edits, failures_after};
 ghost use Rattle.book_office.specs.declared.edits.Edit.TheVariants.{Adopt};
 ghost use Rattle.book_tables_rows.specs.Adopting.{adopting, joined, listed_row, placed_row};
+ghost use Rattle.book_tables_rows.specs.Reach.{pair_said};
 ghost use Rattle.book_tables_rows.specs.Steps.{Commits, MayLeave, Stays};
 ghost use Rattle.book_tables.specs.Adopting.{AreDifferences, Rests};
 ghost use Rattle.book_tables.specs.Keeps.{standing_of};
+ghost use Rattle.book_tables.specs.Reach.{Renews};
 
 use crate::differences::{Differences, compare_offices};
 use crate::faults::fault_of;
@@ -49,7 +51,9 @@ fn differences_under(
     ensures { IfOk result (λ d. MatchOption d ((adoption_told policy.now office.now).changed ≡ false)
         (λ d. ((adoption_told policy.now office.now).changed ≡ true)
         × AreDifferences office.now (bare (taken_over policy.now office.now)) (map placed_row d.places.items)
-        (map listed_row d.lists.items) (map joined d.groups.items))) }
+        (map listed_row d.lists.items) (map joined d.groups.items)
+        × Renews office.now.pairs (bare (taken_over policy.now office.now)).pairs (map pair_said d.renewal.gone.items)
+        (map pair_said d.renewal.come.items))) }
 {
     if !adoption_of(alloc, office, policy)?.changed {
         return Ok(None);
@@ -79,13 +83,15 @@ impl<S: Alter> Tables<S> {
         ensures made { HasCleanDisk (state S.Store self.new.connection)
             → OnOk result (Commits (state S.Store self.old.connection) (state S.Store self.new.connection)
             (adopting (map placed_row written.now.places.items) (map listed_row written.now.lists.items)
-            (map joined written.now.groups.items))) }
+            (map joined written.now.groups.items) (map pair_said written.now.renewal.gone.items)
+            (map pair_said written.now.renewal.come.items))) }
         ensures kept { HasCleanDisk (state S.Store self.new.connection)
             → OnErr result (Stays (state S.Store self.old.connection) (state S.Store self.new.connection)) }
         ensures left { Survives (state S.Store self.old.connection) (state S.Store self.new.connection)
             (MayLeave (state S.Store self.old.connection)
             (adopting (map placed_row written.now.places.items) (map listed_row written.now.lists.items)
-            (map joined written.now.groups.items))) }
+            (map joined written.now.groups.items) (map pair_said written.now.renewal.gone.items)
+            (map pair_said written.now.renewal.come.items))) }
         ensures counted { self.new.failures ≡ failures_after result self.old.failures }
     {
         match adopt_rows(
@@ -93,6 +99,8 @@ impl<S: Alter> Tables<S> {
             written.places.as_slice(),
             written.lists.as_slice(),
             written.groups.as_slice(),
+            written.renewal.gone.as_slice(),
+            written.renewal.come.as_slice(),
         ) {
             Ok(()) => Ok(()),
             Err(error) => Err(fault_of(error, &mut self.failures)),
@@ -100,8 +108,8 @@ impl<S: Alter> Tables<S> {
     }
 
     /// Adopting a policy (own profile): what it names is added, and labels, owners of books, members and lists become
-    /// the policy's. What differs is told by the rows without those of cards, and nothing else is written; where
-    /// nothing differs the epoch stays. `Memory` is want of memory, `Store` any other failure.
+    /// the policy's, and `reach` is renewed. What differs is told by the rows without those of cards, and nothing else
+    /// is written; where nothing differs the epoch stays. `Memory` is want of memory, `Store` any other failure.
     pub fn adopt(&mut self, alloc: Global, policy: &Policy) -> Result<(), StoreFault>
         ensures { Edits (standing_of (state S.Store self.old.connection) self.old.failures)
             (standing_of (state S.Store self.new.connection) self.new.failures) result

@@ -5,11 +5,14 @@ ghost use Rattle.std.specs.FinMap.{entries};
 ghost use Rattle.std.specs.Option.{option_copied};
 ghost use Rattle.book_lists.specs.Principals.{group_path};
 ghost use Rattle.book_tables_rows.specs.Adopting.{joined, listed_row, placed_row};
+ghost use Rattle.book_tables_rows.specs.Reach.{pair_said};
 ghost use Rattle.book_office_values.specs.Paths.{parent_of};
 ghost use Rattle.book_office_values.specs.declared.paths.Path.TheVariants as path;
 ghost use Rattle.book_tables.specs.Adopting.{Adds, AddsGroups, AddsLists, AddsPlaces, AreDifferences, HasLists, HasPlace, compared_books, compared_homes, compared_in, group_said, lists_said, members_in, place_said, properties_of, text_or_empty};
+ghost use Rattle.book_tables.specs.Reach.{Renews};
 ghost use Rattle.book_tables.specs.Rows.{kind_code};
 
+use crate::renewals::{Renewal, renewal_of};
 use crate::settings::rows_of;
 use book_lists::{Membership, Name, Principal};
 use book_office_adopting::{same_lists, same_place};
@@ -26,6 +29,8 @@ pub(crate) struct Differences {
     pub(crate) lists: Vec<ListsRow>,
     /// The groups with other direct members.
     pub(crate) groups: Vec<GroupRow>,
+    /// How `reach` is renewed.
+    pub(crate) renewal: Renewal,
 }
 
 /// The code of a kind.
@@ -375,8 +380,10 @@ pub(crate) fn compare_offices(
     old: &Office,
     new: &Office,
 ) -> Result<Differences, AllocError>
-    ensures { IfOk result (λ d. AreDifferences old.now new.now (map placed_row d.places.items) (map listed_row d.lists.items)
-        (map joined d.groups.items)) }
+    ensures differ { IfOk result (λ d. AreDifferences old.now new.now (map placed_row d.places.items)
+        (map listed_row d.lists.items) (map joined d.groups.items)) }
+    ensures renews { IfOk result (λ d. Renews old.now.pairs new.now.pairs (map pair_said d.renewal.gone.items)
+        (map pair_said d.renewal.come.items)) }
 {
     let mut places = Vec::new(alloc);
     let mut lists = Vec::new(alloc);
@@ -390,5 +397,6 @@ pub(crate) fn compare_offices(
         places,
         lists,
         groups: compare_members(alloc, &new.groups, before.as_slice(), after.as_slice())?,
+        renewal: renewal_of(alloc, &old.pairs, &new.pairs)?,
     })
 }

@@ -1,18 +1,23 @@
 //! The tables of an Office: the keeper of an Office over the tables of a SQL store.
 //!
-//! It stands on `book_tables_rows`, which knows the tables as lists of rows and nothing of an Office, and on `book_office`,
-//! which says what an Office is and what an edit leaves. Read first `specs/Rows`, what rows tell, and `specs/Stands`,
-//! for which Office they stand. The rows of an open connection stand for one sound Office at most, so what a stop
-//! leaves is one Office or none. Each edit is one transaction, and meets the clause that `Keeper::act` has for it: at
-//! `Ok` the rows stand for the edited Office, and a stop leaves that one alone; at an error they stand for the Office
-//! that was there, and a stop leaves what it could leave before or the edited one. A read meets the trait's clause too.
+//! It stands on `book_tables_rows`, which knows the tables as lists of rows and nothing of an Office, and on
+//! `book_office`, which says what an Office is and what an edit leaves. Read first `specs/Rows`, what rows tell, and
+//! `specs/Stands`, for which Office they stand. The rows of an open connection stand for one sound Office at most, so
+//! what a stop leaves is one Office or none. Each edit is one transaction, and meets the clause that `Keeper::act` has
+//! for it: at `Ok` the rows stand for the edited Office, and a stop leaves that one alone; at an error they stand for
+//! the Office that was there, and a stop leaves what it could leave before or the edited one. A read meets the trait's
+//! clause too.
 //!
-//! `Tables::create` makes the tables of a new store, which stand for the empty Office, and `release` gives the connection
-//! back.
+//! `Tables::create` makes the tables of a new store, which stand for the empty Office, and `release` gives the
+//! connection back.
 //!
-//! `Tables` is a `Keeper`, over any store: `keeping` hands each call of the trait to the call of its name. To adopt a policy
-//! is to read the Office but for its cards, to compare it with what it becomes (`differences`), and to write the rows that
-//! differ. `Tables::over` takes a connection to tables that are there; no call here tests what it finds in a store.
+//! The table `reach` holds what chains of direct members lead to: each edit of members renews it in its transaction by
+//! the difference (`renewals`), and `reached` asks it for the groups of a caller, in one look-up (`specs/Reach`).
+//!
+//! `Tables` is a `Keeper`, over any store: `keeping` hands each call of the trait to the call of its name. To adopt a
+//! policy is to read the Office but for its cards, to compare it with what it becomes (`differences`), and to write the
+//! rows that differ. `Tables::over` takes a connection to tables that are there; no call here tests what it finds in a
+//! store.
 #![tactic(auto)]
 
 mod adopting;
@@ -28,11 +33,16 @@ mod listing_rows;
 mod members;
 mod opening;
 mod places;
+mod reaching;
 mod reading;
+mod renewals;
 mod settings;
+mod settling;
 mod shares;
 mod tables;
 
 pub use laws::tables_stand_for_one_office;
 pub use opening::OpenFault;
+pub use reaching::reached;
+pub use settling::settle_reach;
 pub use tables::Tables;

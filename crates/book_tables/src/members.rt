@@ -15,10 +15,11 @@ ghost use Rattle.book_tables_rows.specs.Steps.{Stays};
 ghost use Rattle.book_tables.specs.Keeps.{standing_of};
 ghost use Rattle.book_tables.specs.Listing.{ShowsPairs, tells_member};
 
-use crate::faults::fault_of;
+use crate::faults::{counted, fault_of};
+use crate::reaching::reached;
 use crate::reading::principal_of;
 use crate::tables::Tables;
-use book_lists::{Caller, Circle, Membership, Pairs, expand};
+use book_lists::{Caller, Circle, Membership, Pairs};
 use book_office::StoreFault;
 use book_tables_rows::member_rows;
 use sqlite::{Alter, Connection, Error, ErrorCode, Row};
@@ -38,7 +39,7 @@ fn membership_of(alloc: Global, row: &Row) -> Result<Membership, Error>
 }
 
 /// The pairs that rows tell; an error where one tells none.
-fn pairs_of(alloc: Global, rows: &[Row]) -> Result<Pairs, Error>
+pub(crate) fn pairs_of(alloc: Global, rows: &[Row]) -> Result<Pairs, Error>
     ensures { IfOk result (λ pairs. (m : Membership) → set.contains pairs m ≡ list_any (tells_member m) rows.now) }
 {
     let mut pairs = Pairs::new(alloc);
@@ -90,14 +91,16 @@ impl<S: Alter> Tables<S> {
         }
     }
 
-    /// The principals to which the caller belongs: `pairs`, and a search of them. `Memory` is want of memory, `Store`
-    /// any other failure of the store.
+    /// The principals to which the caller belongs, by `reached`: one look-up. `Memory` is want of memory, `Store` any
+    /// other failure of the store.
     pub fn circle(&mut self, alloc: Global, caller: &Caller) -> Result<Circle, StoreFault>
         ensures { Reads (standing_of (state S.Store self.old.connection) self.old.failures)
             (standing_of (state S.Store self.new.connection) self.new.failures) result
             (λ o circle. IsCircle o.pairs caller.now circle) }
     {
-        let pairs = self.pairs(alloc)?;
-        Ok(expand(&pairs, caller)?)
+        match reached(alloc, &mut self.connection, caller) {
+            Ok(circle) => Ok(circle),
+            Err(fault) => Err(counted(fault, &mut self.failures)),
+        }
     }
 }

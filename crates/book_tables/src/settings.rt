@@ -1,18 +1,24 @@
 //! ACL and a group's members: own lists and pairs as their rows say them, and the edits that write them anew.
 
-ghost use Rattle.std.specs.Prelude.{◌≡◌, map, option_map, string_bytes, IfOk};
+ghost use Rattle.std.specs.Prelude.{◌≡◌, map, option_map, string_bytes, IfOk, OnErr, OnOk};
 ghost use Rattle.sqlite.specs.Held.{state};
-ghost use Rattle.book_office.specs.Keeping.{Edits};
+ghost use Rattle.sqlite.specs.State.{HasCleanDisk, Survives};
+ghost use Rattle.book_office.specs.Edits.{members_set};
+ghost use Rattle.book_office.specs.Keeping.{Edits, failures_after};
 ghost use Rattle.book_office.specs.declared.edits.Edit.TheVariants.{SetList, SetMembers};
-ghost use Rattle.book_tables_rows.specs.Nodes.{said};
+ghost use Rattle.book_tables_rows.specs.Nodes.{said, setting_members};
+ghost use Rattle.book_tables_rows.specs.Reach.{pair_said};
+ghost use Rattle.book_tables_rows.specs.Steps.{Commits, MayLeave, Stays};
 ghost use Rattle.book_tables.specs.Keeps.{standing_of};
+ghost use Rattle.book_tables.specs.Reach.{Renews};
 ghost use Rattle.book_tables.specs.Rows.{form_code};
 ghost use Rattle.book_tables.specs.Settings.{entry_said, principal_said};
 
 use crate::faults::fault_of;
+use crate::renewals::{Renewal, renewal_of};
 use crate::tables::{Tables, text_of};
-use book_lists::{Entry, Principal, Who};
-use book_office::StoreFault;
+use book_lists::{Entry, Pairs, Principal, Who};
+use book_office::{StoreFault, with_members};
 use book_office_values::{Items, Path};
 use book_tables_rows::{EntryRow, set_list, set_members};
 use sqlite::Alter;
@@ -80,6 +86,20 @@ fn paths_of(alloc: Global, principals: &[Principal]) -> Result<Vec<String>, Allo
     Ok(paths)
 }
 
+/// How `reach` is renewed where a group gets direct members.
+fn renewal_for(
+    alloc: Global,
+    pairs: &Pairs,
+    group: &Principal,
+    members: &[Principal],
+) -> Result<Renewal, AllocError>
+    ensures { IfOk result (λ r. Renews pairs.now (members_set pairs.now group.now members.now)
+        (map pair_said r.gone.items) (map pair_said r.come.items)) }
+{
+    let new = with_members(alloc, pairs, group, members)?;
+    renewal_of(alloc, pairs, &new)
+}
+
 impl<S: Alter> Tables<S> {
     /// ACL (RFC 3744, section 8.1): the resource gets this own list, in this order, and keeps its protected one; the
     /// epoch rises. `Memory` is want of memory, `Store` any other failure.
@@ -101,8 +121,40 @@ impl<S: Alter> Tables<S> {
         }
     }
 
-    /// PROPPATCH of a group-member-set (RFC 3744, section 4.3): the group gets these direct members; the epoch rises.
-    /// `Memory` is want of memory, `Store` any other failure, among them a member that is named twice.
+    /// Writes the direct members of a group, and renews `reach`.
+    fn write_members(
+        &mut self,
+        group: &Principal,
+        paths: &[String],
+        renewal: &Renewal,
+    ) -> Result<(), StoreFault>
+        ensures made { HasCleanDisk (state S.Store self.new.connection)
+            → OnOk result (Commits (state S.Store self.old.connection) (state S.Store self.new.connection)
+            (setting_members group.now (map string_bytes paths.now) (map pair_said renewal.now.gone.items)
+            (map pair_said renewal.now.come.items))) }
+        ensures kept { HasCleanDisk (state S.Store self.new.connection)
+            → OnErr result (Stays (state S.Store self.old.connection) (state S.Store self.new.connection)) }
+        ensures left { Survives (state S.Store self.old.connection) (state S.Store self.new.connection)
+            (MayLeave (state S.Store self.old.connection)
+            (setting_members group.now (map string_bytes paths.now) (map pair_said renewal.now.gone.items)
+            (map pair_said renewal.now.come.items))) }
+        ensures counted { self.new.failures ≡ failures_after result self.old.failures }
+    {
+        match set_members(
+            &mut self.connection,
+            group.text(),
+            paths,
+            renewal.gone.as_slice(),
+            renewal.come.as_slice(),
+        ) {
+            Ok(()) => Ok(()),
+            Err(error) => Err(fault_of(error, &mut self.failures)),
+        }
+    }
+
+    /// PROPPATCH of a group-member-set (RFC 3744, section 4.3): the group gets these direct members, and `reach` is
+    /// renewed in the same transaction; the epoch rises. All pairs are read before. `Memory` is want of memory, `Store`
+    /// any other failure, among them a member that is named twice.
     pub fn set_members(
         &mut self,
         alloc: Global,
@@ -113,10 +165,9 @@ impl<S: Alter> Tables<S> {
             (standing_of (state S.Store self.new.connection) self.new.failures) result
             (SetMembers group.now members.now) }
     {
+        let pairs = self.pairs(alloc)?;
         let paths = paths_of(alloc, members.as_slice())?;
-        match set_members(&mut self.connection, group.text(), paths.as_slice()) {
-            Ok(()) => Ok(()),
-            Err(error) => Err(fault_of(error, &mut self.failures)),
-        }
+        let renewal = renewal_for(alloc, &pairs, group, members.as_slice())?;
+        self.write_members(group, paths.as_slice(), &renewal)
     }
 }

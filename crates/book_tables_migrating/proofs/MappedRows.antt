@@ -6,6 +6,7 @@ use Rattle.sqlite.specs.declared.types.Value.{Value}
 use Rattle.sqlite.specs.declared.types.Value.TheVariants.{Null, Int, Real, Text, Blob}
 use Rattle.sqlite.specs.Effect.{Database}
 use Rattle.sqlite.specs.Order.{Row, column}
+use Rattle.sqlite.specs.Schema.{Schema}
 use Rattle.sqlite_catalog.specs.Listing.{IsSound as IsSoundStore}
 use Rattle.sqlite_keyed.specs.Lists.{insert_sorted, sort_by}
 use Rattle.sqlite_rules.specs.Lists.{Has}
@@ -32,9 +33,10 @@ use Rattle.book_tables_schema.proofs.WidenedRows.{lists_kept}
 use Rattle.book_tables_renewing.specs.Renewal.{first_rows_of, is_first_mask, HasFirstMask, AreFirstRows, renewed}
 use Rattle.book_tables.specs.Rows.{entry_of, list_in, resource_of, row_at}
 use Rattle.book_tables.specs.Stands.{IsNode, IsEntry, IsRemoved, Gives, Stands}
+use Rattle.book_tables.proofs.OneOffice.{base_of}
 use Rattle.book_tables.proofs.RowFacts.{KeepsNumbers, kept_node, kept_removed}
 use Rattle.book_tables_opening.proofs.RowForms.{table_width, nine}
-use Rattle.book_tables_migrating.specs.Migrating.{StandsFirst}
+use Rattle.book_tables_migrating.specs.Migrating.{HasFirst, StandsFirst}
 use Rattle.book_tables_migrating.specs.Widen.{office_with, widen}
 use Rattle.book_tables_migrating.proofs.MappedOffices.{resource_with, resource_mapped, removed_mapped, sound_still}
 
@@ -288,22 +290,25 @@ module _ (db : Database) (tables : HasTables first_schema db) (are : AreFirstRow
   unfolding narrow
   narrow_sound o sound = sound_still narrowed_entry (λ e. refl) o sound
 
+pub as_first : (db : Database) → HasTables first_schema db → HasFirst db
+as_first db tables = (inl tables.schema, record { schema = refl; rules = tables.rules; rising = λ t there. tables.rising t (subst (λ (s : Schema). Has s.tables t) tables.schema there) })
+
 -- tables that stood for an Office as those of version 1 stand for the widened one, renewed
-pub widened_stands : (db : Database) (o : Office) → StandsFirst db o → (new : Database) → IsBook new → rows_of new.trees ≡ renewed (first_rows_of db.trees) → Stands new (widen o)
-widened_stands db o st new book rows = record {
-  book = book;
-  gives = subst (λ r. Gives r (widen o)) (sym rows) (gives_widened db st.tables st.first o st.gives);
+pub widened_stands : (db : Database) → HasTables first_schema db → (o : Office) → StandsFirst db o → (new : Database) → IsBook new → rows_of new.trees ≡ renewed (first_rows_of db.trees) → Stands new (widen o)
+widened_stands db tables o st new book rows = record {
+  base = base_of new book;
+  gives = subst (λ r. Gives r (widen o)) (sym rows) (gives_widened db tables st.first o st.gives);
   sound = sound_still widened_entry (λ e. refl) o st.sound;
 }
 
 -- and where the renewed tables stand for an Office, they stood for one whose widened one that is
-pub stood_first : (db : Database) → HasTables first_schema db → AreFirstRows (first_rows_of db.trees) → (new : Database) → rows_of new.trees ≡ renewed (first_rows_of db.trees) → (p : Office) → Stands new p
+pub stood_first : (db : Database) → HasTables first_schema db → AreFirstRows (first_rows_of db.trees) → (new : Database) → IsBook new → rows_of new.trees ≡ renewed (first_rows_of db.trees) → (p : Office) → Stands new p
     → (o : Office) × StandsFirst db o × Stands new (widen o)
-stood_first db tables are new rows p st =
+stood_first db tables are new book rows p st =
     let was : StandsFirst db (narrow p) = record {
-      tables = tables;
+      tables = as_first db tables;
       first = are;
       gives = gives_narrowed db tables are p (subst (λ r. Gives r p) rows st.gives);
       sound = narrow_sound db tables are p st.sound;
     } in
-    (narrow p, was, widened_stands db (narrow p) was new st.book rows)
+    (narrow p, was, widened_stands db tables (narrow p) was new book rows)

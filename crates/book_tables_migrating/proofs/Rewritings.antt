@@ -1,47 +1,76 @@
 -- What the steps of a migration leave of a connection.
-use Rattle.std.proofs.Common.{◌≡◌, inl, inr, ℕ, Bool, true, false, Option, Some, None, Result, Ok, Err, IfErr, IfSome, refl, sym, ap, subst, ◌∙◌, true≢false, IsTrue, arith}
+use Rattle.std.proofs.Common.{◌≡◌, inl, inr, ℕ, true, false, [], length, Option, Some, None, Result, Ok, Err, IfErr, IfSome, refl, sym, ap, subst, ◌∙◌, IsTrue, arith}
 use Rattle.sqlite.specs.Effect.{Database}
 use Rattle.sqlite.specs.State.{State, HasCleanDisk, Opens, Shows, Survives}
+use Rattle.book_office_values.specs.declared.offices.Office.{Office}
 use Rattle.sqlite.specs.Tree.{Trees}
 use Rattle.sqlite.proofs.StateLemmas.{survives_then}
-use Rattle.book_tables_rows.specs.Rows.{in_store}
+use Rattle.book_tables_rows.specs.Rows.{Rows, IsBook, in_store, rows_of}
 use Rattle.book_tables_rows.specs.Schema.{first_schema}
-use Rattle.book_tables_rows.specs.Steps.{Looks, Stays}
-use Rattle.book_tables_schema.specs.Tabled.{HasTables}
+use Rattle.book_tables_rows.specs.Steps.{Stays}
+use Rattle.book_tables_schema.specs.OtherReach.{DropsReach, IsBeside}
+use Rattle.book_tables_schema.specs.Renewing.{renumbered}
+use Rattle.book_tables_schema.specs.Tabled.{HasTables, IsTabled}
 use Rattle.book_tables_renewing.specs.Renewal.{first_rows_of, AreFirstRows, Renewed}
-use Rattle.book_tables.specs.Stands.{Stands}
-use Rattle.book_tables.proofs.OneOffice.{only_left}
-use Rattle.book_tables_opening.specs.Reading.{AreReadable, TellsStanding}
-use Rattle.book_tables_migrating.specs.Migrating.{StandsFirst, in_first, StandsForNoFirst, Rewritten, IsMigrated, MayMigrate, StandsWidened, IsUnmigrated}
+use Rattle.book_tables.specs.Stands.{Gives, IsKept, LeftBy, Stands}
+use Rattle.book_tables.proofs.OneOffice.{kept_stands, one_office, only_left}
+use Rattle.book_tables_opening.specs.Reading.{AreReadable, RowsRise, Settled, StandsForOne}
+use Rattle.book_tables_migrating.specs.Migrating.{HasFirst, StandsFirst, StandsForNoFirst, Rewritten, IsMigrated, MayMigrate, StandsWidened, IsUnmigrated}
 use Rattle.book_tables_migrating.specs.Widen.{widen}
-use Rattle.book_tables_migrating.proofs.MappedRows.{widened_stands, stood_first}
+use Rattle.book_tables_migrating.proofs.MappedRows.{as_first, widened_stands, stood_first}
 
 -- ---- the steps in a transaction
 
-pub not_renewed : (db : Database) → (HasTables first_schema db → ¬ (AreFirstRows (first_rows_of db.trees))) → StandsForNoFirst db
-not_renewed db none o st = none st.tables st.first
+tabled_of : (db : Database) → IsBook db → IsTabled db
+tabled_of db book = record { schema = book.schema; rules = book.rules; rising = book.rising }
 
-pub not_office : (old mid : State) (count : ℕ) (is : Bool) → Renewed old mid count → TellsStanding mid is → is ≡ false → StandsForNoFirst old.now
-not_office old mid count is renewed told fails o st =
-    let made = renewed.made st.tables in
-    true≢false (sym ((told.1 made.0).1 (widen o, widened_stands old.now o st mid.now made.0 made.1)) ∙ fails)
+module _ (old between : State) (drops : DropsReach old between) where
+  tables_left : HasFirst old.now → HasTables first_schema between.now
+  tables_left tables = (drops.made false tables.0 tables.1).0
 
-pub rewritten : (old mid new : State) (count : ℕ) (is : Bool) → Renewed old mid count → Looks mid new → TellsStanding mid is → is ≡ true → Rewritten old new count
-rewritten old mid new count is renewed looks told passes = record {
-  inside = looks.mode ∙ renewed.inside;
-  was_open = renewed.was_open;
-  stands = λ tables.
-      let made = renewed.made tables in
-      let whole = (told.1 made.0).0 passes in
-      let one = stood_first old.now tables (renewed.first tables) mid.now made.1 whole.0.0 whole.0.1 in
-      (one.0, one.1, subst (λ db. Stands db (widen one.0)) (sym (looks.same made.0)) one.2);
-  readable = λ tables. let made = renewed.made tables in subst AreReadable (sym (looks.same made.0)) ((told.1 made.0).0 passes).1;
-  counted = renewed.counted;
-}
+  rows_left : HasFirst old.now → first_rows_of between.now.trees ≡ first_rows_of old.now.trees
+  rows_left tables =
+      let kept = (drops.made false tables.0 tables.1).1 in
+      λ i. record { nodes = kept.0 i; entries = kept.1.0 i; members = kept.1.1.0 i; gone = kept.1.1.1.0 i; meta = kept.1.1.1.1.0 i; reach = [] }
+
+  stands_still : (o : Office) → StandsFirst old.now o → StandsFirst between.now o
+  stands_still o st =
+      let rows = sym (rows_left st.tables) in
+      record { tables = as_first between.now (tables_left st.tables); first = subst AreFirstRows rows st.first; gives = subst (λ r. Gives (renumbered r) o) rows st.gives; sound = st.sound }
+
+  stood_before : HasFirst old.now → (o : Office) → StandsFirst between.now o → StandsFirst old.now o
+  stood_before tables o st =
+      let rows = rows_left tables in
+      record { tables = tables; first = subst AreFirstRows rows st.first; gives = subst (λ r. Gives (renumbered r) o) rows st.gives; sound = st.sound }
+
+  pub not_renewed : (HasTables first_schema between.now → ¬ (AreFirstRows (first_rows_of between.now.trees))) → StandsForNoFirst old.now
+  not_renewed none o st = none (tables_left st.tables) (stands_still o st).first
+
+  module _ (mid : State) (count : ℕ) (renewed : Renewed between mid count) where
+    pub not_office : (IsTabled mid.now → ¬ (StandsForOne mid.now)) → StandsForNoFirst old.now
+    not_office none o st =
+        let tables = tables_left st.tables in
+        let made = renewed.made tables in
+        none (tabled_of mid.now made.0) (widen o, widened_stands between.now tables o (stands_still o st) mid.now made.0 made.1)
+
+    pub rewritten : (new : State) → IsTrue new.in_transaction × (IsTabled mid.now → Settled mid.now new.now) → Rewritten old new count
+    rewritten new settles = record {
+      inside = settles.0;
+      was_open = drops.was_open;
+      stands = λ first.
+          let tables = tables_left first in
+          let made = renewed.made tables in
+          let it = settles.1 (tabled_of mid.now made.0) in
+          let one = stood_first between.now tables (renewed.first tables) mid.now made.0 made.1 it.office it.stood in
+          let same : it.office ≡ widen one.0 = one_office (rows_of mid.now.trees) it.office (widen one.0) it.stood.gives one.2.gives it.stood.sound one.2.sound in
+          (one.0, stood_before first one.0 one.1, subst (IsKept new.now) same it.kept);
+      readable = λ first. let made = renewed.made (tables_left first) in (settles.1 (tabled_of mid.now made.0)).readable;
+      counted = λ first. renewed.counted (tables_left first) ∙ ap (λ (r : Rows). length r.entries) (rows_left first);
+    }
 
 -- ---- a transaction
 
-pub migrated : (old begun inner new : State) (count : ℕ) → old.now.schema ≡ first_schema → begun ≡ record old { in_transaction = true } → Rewritten begun inner count → Shows inner new inner.now inner.now false → IsMigrated old new count
+pub migrated : (old begun inner new : State) (count : ℕ) → IsBeside false old.now.schema → begun ≡ record old { in_transaction = true } → Rewritten begun inner count → Shows inner new inner.now inner.now false → IsMigrated old new count
 migrated old begun inner new count schema is made shows =
     let it : Rewritten (record old { in_transaction = true }) inner count = subst (λ (s : State). Rewritten s inner count) is made in
     record {
@@ -49,12 +78,12 @@ migrated old begun inner new count schema is made shows =
       was_open = it.was_open;
       is_open = shows.is_open;
       committed = shows.committed_is ∙ sym shows.now_is;
-      stands = λ tables. let x = it.stands tables in (x.0, x.1, subst (λ db. Stands db (widen x.0)) (sym shows.now_is) x.2);
+      stands = λ tables. let x = it.stands tables in (x.0, x.1, subst (λ db. IsKept db (widen x.0)) (sym shows.now_is) x.2);
       readable = λ tables. subst AreReadable (sym shows.now_is) (it.readable tables);
       counted = it.counted;
     }
 
-pub leaves_migrated : (old begun inner new : State) (count : ℕ) → old.now.schema ≡ first_schema → begun ≡ record old { in_transaction = true } → Survives begun inner (λ _. ⊥)
+pub leaves_migrated : (old begun inner new : State) (count : ℕ) → IsBeside false old.now.schema → begun ≡ record old { in_transaction = true } → Survives begun inner (λ _. ⊥)
     → (HasCleanDisk inner → IsTrue begun.in_transaction → Rewritten begun inner count) → Survives inner new (λ db. db ≡ inner.now.trees) → Survives old new (MayMigrate old)
 leaves_migrated old begun inner new count schema is first made second =
     let h : Survives (record old { in_transaction = true }) inner (λ _. ⊥) = subst (λ (s : State). Survives s inner (λ _. ⊥)) is first in
@@ -70,42 +99,38 @@ leaves_migrated old begun inner new count schema is first made second =
       stands = λ tables.
           let x = it.stands tables in
           let stored : in_store inner.now.trees ≡ inner.now = λ i. record { schema = sym x.2.book.schema i; trees = inner.now.trees } in
-          (x.0, x.1, subst (λ t. Stands (in_store t) (widen x.0)) (sym here) (subst (λ db. Stands db (widen x.0)) (sym stored) x.2));
+          (x.0, x.1, subst (λ t. Stands (in_store t) (widen x.0)) (sym here) (subst (λ db. Stands db (widen x.0)) (sym stored) (kept_stands inner.now (widen x.0) x.2)));
     })
     from_old second
 
 -- ---- a store
 
-abbrev IsSettled : State → Type 0
-IsSettled s = (trees : Trees) → IsTrue s.is_open → s.may_leave trees → trees ≡ s.committed.trees
+abbrev IsAtRest : State → Type 0
+IsAtRest s = (trees : Trees) → IsTrue s.is_open → s.may_leave trees → trees ≡ s.committed.trees
 
-in_first_is : (db : Database) → db.schema ≡ first_schema → db ≡ in_first db.trees
-in_first_is db schema i = record { schema = schema i; trees = db.trees }
-
-pub widened_alone : (old new : State) (count : ℕ) → (old.now.schema ≡ first_schema → HasTables first_schema old.now) → IsSettled new → IsMigrated old new count → StandsWidened old.now.trees new count
-widened_alone old new count tables_of settled m =
-    let tables = tables_of m.schema in
+pub widened_alone : (old new : State) (count : ℕ) → RowsRise old.now → IsAtRest new → IsMigrated old new count → StandsWidened old.now.trees new count
+widened_alone old new count rise at_rest m =
+    let tables : HasFirst old.now = (m.schema, rise) in
     let x = m.stands tables in
     record {
       office = x.0;
-      first = subst (λ db. StandsFirst db x.0) (in_first_is old.now m.schema) x.1;
+      first = (old.now.schema, x.1);
       stands = record {
         stands = (λ _. x.2, x.2.sound);
         left = λ l left.
-            let same : left.0 ≡ new.now.trees = settled left.0 m.is_open left.1 ∙ ap (λ (d : Database). d.trees) m.committed in
-            let is : in_store left.0 ≡ new.now = ap in_store same ∙ (λ i. record { schema = sym x.2.book.schema i; trees = new.now.trees }) in
-            only_left left.0 (widen x.0) l (subst (λ db. Stands db (widen x.0)) (sym is) x.2) left.2;
+            let same : left.0 ≡ new.now.trees = at_rest left.0 m.is_open left.1 ∙ ap (λ (d : Database). d.trees) m.committed in
+            only_left new.now (widen x.0) l (kept_stands new.now (widen x.0) x.2) (subst (λ t. LeftBy t l) same left.2);
       };
       readable = λ _. m.readable tables;
       counted = m.counted tables;
     }
 
-pub unmigrated : (old new : State) → HasCleanDisk new → Opens old → IsSettled old → (old.now.schema ≡ first_schema → HasTables first_schema old.now) → Stays old new → Survives old new (MayMigrate old) → IsUnmigrated old.now.trees new
-unmigrated old new clean opens settled tables_of stays survives = record {
+pub unmigrated : (old new : State) → HasCleanDisk new → Opens old → IsAtRest old → RowsRise old.now → Stays old new → Survives old new (MayMigrate old) → IsUnmigrated old.now.trees new
+unmigrated old new clean opens at_rest rise stays survives = record {
   shows = λ open_now. ap (λ (d : Database). d.trees) (stays open_now).1;
   left = λ after may. elim (survives.crash clean after may) [
-    | inl kept ↦ inl (settled after opens.is_open kept ∙ sym (ap (λ (d : Database). d.trees) opens.clean))
-    | inr made ↦ inr (let x = made.stands (tables_of made.schema) in (x.0, subst (λ db. StandsFirst db x.0) (in_first_is old.now made.schema) x.1, x.2))
+    | inl kept ↦ inl (at_rest after opens.is_open kept ∙ sym (ap (λ (d : Database). d.trees) opens.clean))
+    | inr made ↦ inr (let x = made.stands (made.schema, rise) in (x.0, (old.now.schema, x.1), x.2))
   ];
 }
 

@@ -1,7 +1,8 @@
 -- For which Office the tables of version 1 stand, and what a migration makes of them.
-use Rattle.std.specs.Prelude.{◌≡◌, ◌⊎◌, ℕ, Bool, length, map, Option, Some, None, IsTrue}
+use Rattle.std.specs.Prelude.{◌≡◌, ◌⊎◌, ℕ, Bool, false, length, map, Option, Some, None, IsTrue}
 use Rattle.sqlite.specs.Effect.{Database}
-use Rattle.sqlite.specs.State.{State, HasCleanDisk, Opens}
+use Rattle.sqlite.specs.Schema.{Schema}
+use Rattle.sqlite.specs.State.{State}
 use Rattle.sqlite.specs.Tree.{Trees}
 use Rattle.book_rights.specs.declared.privileges.Leaf.{Leaf}
 use Rattle.book_lists.specs.Circles.{CircleOf}
@@ -12,28 +13,33 @@ use Rattle.book_office_values.specs.declared.paths.Path.{Path}
 use Rattle.book_office.specs.InForce.{in_force_at}
 use Rattle.book_office.specs.Sound.{IsSound}
 use Rattle.book_tables_rows.specs.Rows.{in_store}
-use Rattle.book_tables_rows.specs.Schema.{first_schema, ace_tree}
+use Rattle.book_tables_rows.specs.Schema.{ace_tree}
 use Rattle.book_tables_rows.specs.Steps.{Stays}
 use Rattle.book_tables_schema.specs.Renewing.{renumbered}
-use Rattle.book_tables_schema.specs.Tabled.{HasTables}
+use Rattle.book_tables_schema.specs.OtherReach.{IsBeside}
 use Rattle.book_tables_renewing.specs.Renewal.{first_rows_of, AreFirstRows}
 use Rattle.book_tables.specs.Opened.{StandsAlone}
-use Rattle.book_tables.specs.Stands.{Gives, Stands}
-use Rattle.book_tables_opening.specs.Reading.{AreReadable}
+use Rattle.book_tables.specs.Stands.{Gives, IsKept, Stands}
+use Rattle.book_tables_opening.specs.Reading.{AreReadable, RowsRise}
 use Rattle.book_tables_migrating.specs.Widen.{widen}
 
 -- ---- version 1
 
+-- the tables of version 1 are there with their columns and rules, and their rows rise by their numbers: with a table `reach`, of
+-- whatever columns and rows, or without one
+abbrev pub HasFirst : Database → Type 0
+HasFirst db = IsBeside false db.schema × RowsRise db
+
 -- tables of version 1 whose rows give a sound Office, but that their version is 1: the sets of its entries are of the eight leaves
 pub record StandsFirst (db : Database) (o : Office) : Type 0 where
-  pub tables : HasTables first_schema db
+  pub tables : HasFirst db
   pub first : AreFirstRows (first_rows_of db.trees)
   pub gives : Gives (renumbered (first_rows_of db.trees)) o
   pub sound : IsSound o
 
--- a store with these trees and the tables of version 1
-abbrev pub in_first : Trees → Database
-in_first trees = record { schema = first_schema; trees = trees }
+-- a store with these trees stands for it
+abbrev pub StandsFirstBy : Trees → Office → Type 0
+StandsFirstBy trees o = (s : Schema) × StandsFirst (record { schema = s; trees = trees }) o
 
 -- the tables of version 1 stand for no Office
 abbrev pub StandsForNoFirst : Database → Type 0
@@ -49,13 +55,13 @@ WidenedOfficesDecideAlike = (db : Database) (o : Office) → StandsFirst db o �
 
 -- ---- a connection
 
--- inside a transaction: the tables of version 1 became those of version 2, with so many entries, and stand for the widened Office
+-- inside a transaction: the tables of version 1 became those of version 2, with so many entries, and are kept for the widened Office
 pub record Rewritten (old new : State) (count : ℕ) : Type 0 where
   pub inside : IsTrue new.in_transaction
   pub was_open : IsTrue old.is_open
-  pub stands : HasTables first_schema old.now → (o : Office) × StandsFirst old.now o × Stands new.now (widen o)
-  pub readable : HasTables first_schema old.now → AreReadable new.now
-  pub counted : HasTables first_schema old.now → count ≡ length (old.now.trees ace_tree)
+  pub stands : HasFirst old.now → (o : Office) × StandsFirst old.now o × IsKept new.now (widen o)
+  pub readable : HasFirst old.now → AreReadable new.now
+  pub counted : HasFirst old.now → count ≡ length (old.now.trees ace_tree)
 
 -- whether they did: if not, they stood for no Office
 abbrev pub TellsRewritten : State → State → Option ℕ → Type 0
@@ -64,19 +70,19 @@ TellsRewritten old new None = StandsForNoFirst old.now
 
 -- the tables of a connection became those of version 2, and were committed
 pub record IsMigrated (old new : State) (count : ℕ) : Type 0 where
-  pub schema : old.now.schema ≡ first_schema
+  pub schema : IsBeside false old.now.schema
   pub was_open : IsTrue old.is_open
   pub is_open : IsTrue new.is_open
   pub committed : new.committed ≡ new.now
-  pub stands : HasTables first_schema old.now → (o : Office) × StandsFirst old.now o × Stands new.now (widen o)
-  pub readable : HasTables first_schema old.now → AreReadable new.now
-  pub counted : HasTables first_schema old.now → count ≡ length (old.now.trees ace_tree)
+  pub stands : HasFirst old.now → (o : Office) × StandsFirst old.now o × IsKept new.now (widen o)
+  pub readable : HasFirst old.now → AreReadable new.now
+  pub counted : HasFirst old.now → count ≡ length (old.now.trees ace_tree)
 
 -- what a stop may leave of it
 pub record MayMigrate (old : State) (trees : Trees) : Type 0 where
-  pub schema : old.now.schema ≡ first_schema
+  pub schema : IsBeside false old.now.schema
   pub was_open : IsTrue old.is_open
-  pub stands : HasTables first_schema old.now → (o : Office) × StandsFirst old.now o × Stands (in_store trees) (widen o)
+  pub stands : HasFirst old.now → (o : Office) × StandsFirst old.now o × Stands (in_store trees) (widen o)
 
 -- whether they did: if not, they stood for no Office, and an open connection shows what it showed
 abbrev pub TellsMigrated : State → State → Option ℕ → Type 0
@@ -88,14 +94,10 @@ TellsMigrated old new None = Stays old new × StandsForNoFirst old.now
 -- the trees that were committed stood for an Office as tables of version 1, and the connection stands for the widened one
 pub record StandsWidened (trees : Trees) (new : State) (count : ℕ) : Type 0 where
   pub office : Office
-  pub first : StandsFirst (in_first trees) office
+  pub first : StandsFirstBy trees office
   pub stands : StandsAlone new (widen office)
   pub readable : IsTrue new.is_open → AreReadable new.now
   pub counted : count ≡ length (trees ace_tree)
-
--- a connection that was opened again: it shows what is committed, and where it has the tables of version 1, their rows rise
-abbrev pub IsReopenedFirst : State → Type 0
-IsReopenedFirst s = HasCleanDisk s → Opens s × (s.now.schema ≡ first_schema → HasTables first_schema s.now)
 
 -- what an open connection shows stands for no Office as tables of version 1
 abbrev pub StandsForNoneFirst : State → Type 0
@@ -104,4 +106,4 @@ StandsForNoneFirst s = IsTrue s.is_open → StandsForNoFirst s.now
 -- it shows the trees that were committed, and a stop leaves these, or what stands for the widened Office
 pub record IsUnmigrated (trees : Trees) (new : State) : Type 0 where
   pub shows : IsTrue new.is_open → new.now.trees ≡ trees
-  pub left : (after : Trees) → new.may_leave after → (after ≡ trees) ⊎ ((o : Office) × StandsFirst (in_first trees) o × Stands (in_store after) (widen o))
+  pub left : (after : Trees) → new.may_leave after → (after ≡ trees) ⊎ ((o : Office) × StandsFirstBy trees o × Stands (in_store after) (widen o))

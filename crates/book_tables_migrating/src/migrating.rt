@@ -4,17 +4,18 @@ ghost use Rattle.std.specs.Prelude.{◌≡◌, IfOk, IfErr, IfSome, IsSomeAnd, O
 ghost use Rattle.sqlite.specs.Held.{state};
 ghost use Rattle.sqlite.specs.State.{HasCleanDisk, Survives};
 ghost use Rattle.book_tables_rows.specs.Steps.{Keeps, Stays};
-ghost use Rattle.book_tables_opening.specs.Reading.{FaultSays, IsRefused};
-ghost use Rattle.book_tables_migrating.specs.Migrating.{IsReopenedFirst, IsUnmigrated, MayMigrate, StandsForNoneFirst, StandsWidened, TellsMigrated, TellsRewritten};
+ghost use Rattle.book_tables_opening.specs.Reading.{FaultSays, IsRefused, IsReopened};
+ghost use Rattle.book_tables_migrating.specs.Migrating.{IsUnmigrated, MayMigrate, StandsForNoneFirst, StandsWidened, TellsMigrated, TellsRewritten};
 
 use book_tables::{OpenFault, Tables};
-use book_tables_opening::{is_office, open_fault_of, tells_other};
+use book_tables_opening::{open_fault_of, settle_office, tells_other};
 use book_tables_renewing::renew;
-use book_tables_schema::{is_first_schema, reopen};
+use book_tables_schema::{drop_reach, is_beside_reach, reopen};
 use sqlite::{Alter, Connection, Error, ErrorCode, Transaction};
 use std::alloc::Global;
 
-/// Renews the tables, and tells how many entries they have, where their rows are then those of a sound Office.
+/// Renews the tables, without any `reach` that there is, and tells how many entries they have, where their rows are then
+/// those of a sound Office; `reach`, made anew, then holds what chains of its direct members lead to.
 fn rewrite<S: Alter>(
     alloc: Global,
     transaction: &mut Transaction<'_, S>,
@@ -28,12 +29,13 @@ fn rewrite<S: Alter>(
         → IfOk result (λ count. TellsRewritten (state S.Store transaction.old.conn.now)
         (state S.Store transaction.new.conn.now) count) }
 {
+    drop_reach(transaction)?;
     let Some(count) = renew(transaction)? else {
         return Ok(None);
     };
-    if !is_office(alloc, transaction)? {
+    let Some(_written) = settle_office(alloc, transaction)? else {
         return Ok(None);
-    }
+    };
     Ok(Some(count))
 }
 
@@ -50,7 +52,7 @@ fn migrate_first<S: Alter>(
     ensures left { Survives (state S.Store connection.old) (state S.Store connection.new)
         (MayMigrate (state S.Store connection.old)) }
 {
-    if !is_first_schema(connection.schema()) {
+    if !is_beside_reach(connection.schema(), false) {
         return Ok(None);
     }
     if !connection.is_autocommit() {
@@ -84,7 +86,7 @@ fn migrate_again<S: Alter>(
     alloc: Global,
     mut connection: Connection<S>,
 ) -> Result<(Tables<S>, u64), (OpenFault, Option<Connection<S>>)>
-    ensures stands { IsReopenedFirst (state S.Store connection)
+    ensures stands { IsReopened (state S.Store connection)
         → IfOk result (λ t. HasCleanDisk (state S.Store t.0.connection) → HasCleanDisk (state S.Store connection)
         × StandsWidened (state S.Store connection).now.trees (state S.Store t.0.connection) t.1) }
     ensures counted { IfOk result (λ t. t.0.failures ≡ 0) }
@@ -92,7 +94,7 @@ fn migrate_again<S: Alter>(
         HasCleanDisk (state S.Store c) → StandsForNoneFirst (state S.Store c))) }
     ensures other { IfErr result (λ e. IsRefused e.0 → IsSomeAnd e.1 (λ c. HasCleanDisk (state S.Store c)
         → IsTrue (state S.Store c).is_open → FaultSays S.Store 1 (state S.Store c).now e.0)) }
-    ensures kept { IsReopenedFirst (state S.Store connection)
+    ensures kept { IsReopened (state S.Store connection)
         → IfErr result (λ e. IfSome e.1 (λ c. HasCleanDisk (state S.Store c) → HasCleanDisk (state S.Store connection)
         × IsUnmigrated (state S.Store connection).now.trees (state S.Store c))) }
 {
@@ -108,8 +110,8 @@ fn migrate_again<S: Alter>(
 
 /// Makes the tables of a store of version 1 those of version 2, in one transaction, as its last commit left them, and
 /// opens them; tells how many entries they have. Each entry that has `x-read-texts`, which was `read`, has
-/// `x-read-names` then; nothing else changes: the epoch and all change numbers stay, so tokens stay good. Every row is
-/// read and tested, as `open` does.
+/// `x-read-names` then; nothing else changes: the epoch and all change numbers stay, so tokens stay good. `reach` is
+/// made, behind all other tables, whatever table of that name there was. Every row is read and tested, as `open` does.
 ///
 /// # Errors
 ///

@@ -36,5 +36,6 @@ pub mod AsciiPaths
 pub mod PathRows
 pub mod ReadTables
 pub mod OpenedTables
+pub mod SettledStores
 pub mod OfficeParts
 pub mod SaidVersions

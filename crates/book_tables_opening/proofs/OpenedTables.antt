@@ -1,16 +1,24 @@
 -- Tables whose rows are those of a sound Office stand for it, and those of others for none.
-use Rattle.book_tables_opening.proofs.Common.{◌≡◌, inl, inr, Bool, List, [], IsTrue, sym, ap, subst, ◌∙◌, arith, AllByRecursion, Database, Row, State, HasCleanDisk, pairs_of, rows_of, IsBook, book_schema, entries_shown, gone_shown, meta_shown, AreOfficeRows, HasUtf8, whole_nodes}
-use Rattle.std.proofs.Common.{IfSome, None, Option, Some}
+use Rattle.book_tables_opening.proofs.Common.{◌≡◌, inl, inr, Bool, true, false, List, [], Option, Some, None, IsTrue, refl, sym, ap, subst, ◌∙◌, arith, AllByRecursion, Database, Row, State, HasCleanDisk, pairs_of, rows_of, IsBook, book_schema, entries_shown, gone_shown, meta_shown, AreOfficeRows, HasUtf8, whole_nodes}
+use Rattle.std.proofs.Common.{◌↔◌, ◌⊎◌, IfSome}
+use Rattle.std.proofs.lemmas.Bool.{true≢false}
 use Rattle.std.proofs.lemmas.List.Sorted.{IsPermutation-sym}
 use Rattle.sqlite.specs.State.{Opens, Survives}
 use Rattle.sqlite.specs.Tree.{Trees}
-use Rattle.book_tables_rows.specs.Rows.{in_store}
+use Rattle.sqlite.proofs.StateLemmas.{survives_then}
+use Rattle.book_office_values.specs.declared.offices.Office.{Office}
+use Rattle.book_office.specs.Keeping.{Leftover, whole}
+use Rattle.book_tables_rows.specs.Rows.{Rows, in_store}
 use Rattle.book_tables_rows.specs.Schema.{ace_tree}
-use Rattle.book_tables_rows.specs.Steps.{Stays}
+use Rattle.book_tables_rows.specs.Steps.{Looks, Stays}
+use Rattle.book_tables_schema.specs.OtherReach.{IsBeside}
 use Rattle.book_tables_schema.specs.Tabled.{IsTabled, book_of}
-use Rattle.book_tables.specs.Stands.{Stands}
-use Rattle.book_tables.proofs.OneOffice.{only_left}
-use Rattle.book_tables_opening.specs.Reading.{ShowsTables, AreReadable, IsWhole, StandsForOne, StandsForNone, TellsStanding, IsLeft, IsLeftAgain, IsOpened}
+use Rattle.book_tables.specs.Reach.{AreDirect, HoldsReach, IsSettled, Settles}
+use Rattle.book_tables.specs.Reach as reaching
+use Rattle.book_tables.specs.Stands.{Gives, IsKept, LeftBy, LeftOf, Stands}
+use Rattle.book_tables.proofs.OneOffice.{base_of, kept_stands, one_office, only_left}
+use Rattle.book_tables.proofs.RenewedReach.{gives_with_reach}
+use Rattle.book_tables_opening.specs.Reading.{Commits, IsOpened, IsReopened, IsUnopened, IsWhole, LeavesReach, MaySettle, RowsRise, SameRows, Settled, ShowsTables, AreReadable, StandsForItsOffice, StandsForOne, StandsForNone, TellsOffice, TellsSettled, TellsStanding, WritesReach}
 use Rattle.book_tables_opening.proofs.AnyOrder.{any_order}
 use Rattle.book_tables_opening.proofs.GivenRows.{given_rows}
 use Rattle.book_tables_opening.proofs.RowOffices.{office_of_rows}
@@ -24,7 +32,7 @@ module _ (s : State) (nodes entries members gone meta : List Row) (shows : Shows
       (any_order nodes entries (entries_shown rows) members (pairs_of rows) gone (gone_shown rows) meta (meta_shown rows)
       (IsPermutation-sym _ _ (shows.lists.entries_are.1 book)) (IsPermutation-sym _ _ (shows.lists.members_are.1 book)) (IsPermutation-sym _ _ (shows.rest.gone_are.1 book)) (IsPermutation-sym _ _ (shows.rest.meta_are.1 book)) are) in
       let o = office_of_rows s.now book exact in
-      (o.0, record { book = book; gives = o.1; sound = o.2 })
+      (o.0, record { base = base_of s.now book; gives = o.1; sound = o.2 })
 
   shown_office : (book : IsBook s.now) → StandsForOne s.now → AreOfficeRows nodes entries members gone meta
   shown_office book (o, st) =
@@ -38,62 +46,172 @@ module _ (s : State) (nodes entries members gone meta : List Row) (shows : Shows
       (shows.nodes_are.0, λ book. (λ yes. (office_shown book (passes yes), subst (AllByRecursion HasUtf8) (shows.nodes_are.1 book) (texts yes)), λ one. found (shown_office book one)))
 
 -- tables without the schema of a store stand for none
-pub foreign_none : (db : Database) → (db.schema ≡ book_schema → ⊥) → ¬ (StandsForOne db)
-foreign_none db apart (o, st) = apart st.book.schema
+pub foreign_none : (db : Database) → ¬ (IsBeside true db.schema) → ¬ (StandsForOne db)
+foreign_none db foreign (o, st) = foreign st.base.schema
 
 -- tables of which the one of version 1 has rows stand for none
 pub former_none : (db : Database) → (db.trees ace_tree ≡ [] → ⊥) → ¬ (StandsForOne db)
-former_none db some (o, st) = some st.book.former
+former_none db some (o, st) = some st.base.former
 
--- what is told of tables that stay is told of those before
-pub whole_told : (old new : State) → Stays old new → IsTabled old.now → old.now.trees ace_tree ≡ [] → (is : Bool) → TellsStanding new is → (IsTrue is → IsWhole old.now) × (StandsForOne old.now → IsTrue is)
-whole_told old new stays tabled former is told =
-    let same = (stays told.0).1 in
-    subst (λ db. (IsTrue is → IsWhole db) × (StandsForOne db → IsTrue is)) same (told.1 (subst IsBook (sym same) (book_of old.now tabled former)))
+-- ---- in a transaction
 
-module _ (old new : State) (stays : Stays old new) (survives : Survives old new (λ _. ⊥)) (clean : HasCleanDisk new) (opens : Opens old) where
+-- other tables than `reach` that stay, and a `reach` that holds what chains lead to, are kept for the Office
+settled : (db new : Database) (o : Office) → Stands db o → AreReadable db → IsBook new → (reach : List Row) → rows_of new.trees ≡ record (rows_of db.trees) { reach = reach } → HoldsReach reach o.pairs → Settled db new
+settled db new o st texts book reach rows_are holds = record {
+  office = o;
+  stood = st;
+  kept = record {
+    book = book;
+    gives = subst (λ rows. Gives rows o) (sym rows_are) (gives_with_reach (rows_of db.trees) reach o st.gives);
+    sound = st.sound;
+    reach = subst (λ (rows : Rows). HoldsReach rows.reach o.pairs) (sym rows_are) holds;
+  };
+  readable = subst (λ rows. AllByRecursion HasUtf8 (whole_nodes rows)) (sym rows_are) texts;
+  same = rows_are ∙ (λ i. record (rows_of db.trees) { reach = sym (ap (λ (rows : Rows). rows.reach) rows_are) i });
+}
+
+-- where the table of version 1 has a row
+pub former_told : (old first : State) (none : Bool) → (old.now.schema ≡ book_schema → IsTrue none ↔ (old.now.trees ace_tree ≡ [])) → none ≡ false → TellsOffice old first None
+former_told old first none told is tabled = former_none old.now (λ empty. true≢false (sym ((told tabled.schema).1 empty) ∙ is))
+
+module _ (old first second : State) (looks : Looks old first) (again : Looks first second) where
+  module _ (none : Bool) (told : old.now.schema ≡ book_schema → IsTrue none ↔ (old.now.trees ace_tree ≡ [])) (yes : IsTrue none) where
+    book_is : IsTabled old.now → IsBook old.now
+    book_is tabled = book_of old.now tabled ((told tabled.schema).0 yes)
+
+    -- where the rows are those of no Office
+    pub office_none : TellsStanding first false → TellsOffice old second None
+    office_none standing tabled one =
+        let book = book_is tabled in
+        let is = looks.same book in
+        true≢false (sym ((standing.1 (subst IsBook (sym is) book)).1 (subst StandsForOne (sym is) one)))
+
+    module _ (standing : TellsStanding first true) where
+      whole_is : IsTabled old.now → IsWhole old.now
+      whole_is tabled = let book = book_is tabled in let is = looks.same book in subst IsWhole is ((standing.1 (subst IsBook (sym is) book)).0 refl)
+
+      same_now : (tabled : IsTabled old.now) → second.now ≡ old.now
+      same_now tabled = let book = book_is tabled in let is = looks.same book in again.same (subst IsBook (sym is) book) ∙ is
+
+      members_at : second.now ≡ old.now → (o : Office) → Stands old.now o → AreDirect (rows_of second.now.trees) o.pairs
+      members_at is o st = subst (λ (db : Database). AreDirect (rows_of db.trees) o.pairs) (sym is) st.gives.members
+
+      pub reach_written : (third : State) → Settles second third → WritesReach old third
+      reach_written third settles = record {
+        inside = settles.inside;
+        is_open = settles.is_open;
+        made = λ tabled.
+            let whole_old = whole_is tabled in
+            let o = whole_old.0.0 in
+            let st = whole_old.0.1 in
+            let is = same_now tabled in
+            let done = settles.made (subst IsBook (sym is) (book_is tabled)) in
+            settled old.now third.now o st whole_old.1 done.0 done.1 (done.2 ∙ ap (λ (db : Database). record (rows_of db.trees) { reach = done.1 }) is)
+            (done.3 o.pairs (members_at is o st));
+      }
+
+      pub reach_left : (third : State) → IsTrue old.in_transaction → IsSettled second third → LeavesReach old third
+      reach_left third inside holds = record {
+        inside = subst IsTrue (sym (holds.looks.mode ∙ again.mode ∙ looks.mode)) inside;
+        made = λ tabled.
+            let whole_old = whole_is tabled in
+            let o = whole_old.0.0 in
+            let st = whole_old.0.1 in
+            let book = book_is tabled in
+            let is = same_now tabled in
+            let book_second = subst IsBook (sym is) book in (
+              holds.looks.same book_second ∙ is,
+              settled old.now old.now o st whole_old.1 book (rows_of old.now.trees).reach refl
+                  (subst (λ (db : Database). HoldsReach (rows_of db.trees).reach o.pairs) is (holds.holds book_second o.pairs (members_at is o st))),
+            );
+      }
+
+-- the whole of it
+pub office_settled : (old first second third : State) (looks : Looks old first) (again : Looks first second) (none : Bool) (told : old.now.schema ≡ book_schema → IsTrue none ↔ (old.now.trees ace_tree ≡ [])) (is_none : IsTrue none)
+    (standing : TellsStanding first true) → IsTrue old.in_transaction → (written : Bool) → reaching.TellsSettled second third written → TellsOffice old third (Some written)
+office_settled old first second third looks again none told is_none standing inside true settles = reach_written old first second looks again none told is_none standing third settles
+office_settled old first second third looks again none told is_none standing inside false holds = reach_left old first second looks again none told is_none standing third inside holds
+
+-- tables that stood for none, and that were then read alone
+pub still_none : (old mid new : State) → TellsSettled old mid false → Stays mid new → TellsSettled old new false
+still_none old mid new (stays, none) again = ((λ open_now. let then_open = again open_now in let was = stays then_open.0 in (was.0, then_open.1 ∙ was.1)), none)
+
+-- what a stop may leave is as before where the tables were then read alone
+pub left_then : (old mid new : State) → Survives old mid (MaySettle old) → Survives mid new (λ _. ⊥) → Survives old new (MaySettle old)
+left_then old mid new = survives_then old mid new (MaySettle old) (λ _. ⊥) (MaySettle old) (λ _ db may. may) (λ _ db none. absurd none)
+
+-- ---- a store that was opened again
+
+module _ (old new : State) (survives : Survives old new (MaySettle old)) (clean : HasCleanDisk new) (opens : Opens old) (rise : RowsRise old.now)
+    (was_settled : (trees : Trees) → IsTrue old.is_open → old.may_leave trees → trees ≡ old.committed.trees) where
   was_clean : HasCleanDisk old
   was_clean = omega (arith, clean, survives.clean)
 
-  -- a connection whose tables stood for an Office stands for it
-  pub opened : ((trees : Trees) → IsTrue old.is_open → old.may_leave trees → trees ≡ old.committed.trees) → IsWhole old.now → IsOpened old new
-  opened settled ((o, st), texts) = record {
+  -- what a stop may leave is what was committed, or is kept for the same Office
+  may_be : (trees : Trees) → new.may_leave trees → (trees ≡ old.now.trees) ⊎ Settled old.now (in_store trees)
+  may_be trees may = elim (survives.crash clean trees may) [
+    | inl kept ↦ inl (was_settled trees opens.is_open kept ∙ sym (ap (λ (d : Database). d.trees) opens.clean))
+    | inr made ↦ inr (made rise)
+  ]
+
+  -- what is kept for an Office leaves that one alone
+  one_left : (db : Database) (s : Settled old.now db) (o : Office) → Stands old.now o → (x : Leftover) → LeftBy db.trees x → x ≡ whole o
+  one_left db s o st x left =
+      only_left db s.office x (kept_stands db s.office s.kept) left
+      ∙ ap whole (one_office (rows_of old.now.trees) s.office o s.stood.gives st.gives s.stood.sound st.sound)
+
+  -- a connection that shows what it showed, where that is kept for its Office
+  pub stayed : Stays old new → Settled old.now old.now → IsOpened old.now.trees new
+  stayed stays s = record {
     stands = (
-      o,
+      s.office,
       record {
-        stands = (λ open_now. subst (λ db. Stands db o) (sym (stays open_now).1) st, st.sound);
-        left = λ x left.
-            let kept : old.may_leave left.0 = (elim (survives.crash clean left.0 left.1) [ inl may ↦ may | inr none ↦ absurd none ]) in
-            let same : left.0 ≡ old.now.trees = settled left.0 opens.is_open kept ∙ sym (ap (λ (d : Database). d.trees) opens.clean) in
-            let is : in_store left.0 ≡ old.now = ap in_store same ∙ (λ i. record { schema = sym st.book.schema i; trees = old.now.trees }) in
-            only_left left.0 o x (subst (λ db. Stands db o) (sym is) st) left.2;
+        stands = (λ open_now. subst (λ db. IsKept db s.office) (sym (stays open_now).1) s.kept, s.kept.sound);
+        left = λ x left. elim (may_be left.0 left.1) [
+          | inl same ↦ only_left old.now s.office x s.stood (subst (λ trees. LeftBy trees x) same left.2)
+          | inr made ↦ one_left (in_store left.0) made s.office s.stood x left.2
+        ];
       },
     );
-    readable = λ open_now. subst AreReadable (sym (stays open_now).1) texts;
-    clean = was_clean;
-    stays = stays;
+    readable = λ open_now. subst AreReadable (sym (stays open_now).1) s.readable;
+    same = λ open_now. subst (λ (db : Database). SameRows old.now.trees db.trees) (sym (stays open_now).1) s.same;
+  }
+
+  -- one that made `reach`
+  pub committed : Commits old new → ((trees : Trees) → IsTrue new.is_open → new.may_leave trees → trees ≡ new.committed.trees) → IsOpened old.now.trees new
+  committed c settles =
+      let s = c.made rise in
+      record {
+        stands = (
+          s.office,
+          record {
+            stands = (λ open_now. s.kept, s.kept.sound);
+            left = λ x left.
+                let same : left.0 ≡ new.now.trees = settles left.0 c.is_open left.1 ∙ ap (λ (d : Database). d.trees) c.committed in
+                only_left new.now s.office x (kept_stands new.now s.office s.kept) (subst (λ trees. LeftBy trees x) same left.2);
+          },
+        );
+        readable = λ open_now. s.readable;
+        same = λ open_now. s.same;
+      }
+
+  pub opened : TellsSettled old new true → ((trees : Trees) → IsTrue new.is_open → new.may_leave trees → trees ≡ new.committed.trees) → IsOpened old.now.trees new
+  opened (inl kept) settles = stayed kept.0 (kept.1 rise)
+  opened (inr made) settles = committed made settles
+
+  -- one that was not opened
+  pub unopened : Stays old new → IsUnopened old.now.trees new
+  unopened stays = record {
+    shows = λ open_now. ap (λ (d : Database). d.trees) (stays open_now).1;
+    left = λ after may. elim (may_be after may) [
+      | inl same ↦ inl same
+      | inr made ↦ inr (made.same, λ x left. subst (LeftBy old.now.trees) (sym (one_left (in_store after) made made.office made.stood x left)) (old.now.schema, made.stood))
+    ];
   }
 
   -- one whose tables stood for none stands for none
-  pub refused : ¬ (StandsForOne old.now) → StandsForNone new
-  refused none open_now one = none (subst StandsForOne (stays open_now).1 one)
-
-  -- one that comes back shows what was committed, and a stop leaves that
-  pub left_over : ((trees : Trees) → IsTrue old.is_open → old.may_leave trees → trees ≡ old.committed.trees) → IsLeftAgain old new
-  left_over settled = (
-    was_clean,
-    record {
-      same = λ open_now. ap (λ (d : Database). d.trees) ((stays open_now).1 ∙ opens.clean);
-      left = λ trees left. settled trees opens.is_open (elim (survives.crash clean trees left) [ inl may ↦ may | inr none ↦ absurd none ]);
-    },
-  )
-
--- what is left of a connection that was opened again is left of the one before, whose committed tables it shows
-pub left_before : (given reopened new : State) → (HasCleanDisk reopened → Opens reopened) → (HasCleanDisk reopened → reopened.now.trees ≡ given.committed.trees)
-    → IsLeftAgain reopened new → IsLeft given new
-left_before given reopened new opens same h =
-    let trees : reopened.committed.trees ≡ given.committed.trees = sym (ap (λ (d : Database). d.trees) (opens h.0).clean) ∙ same h.0 in
-    record { same = λ open_now. h.1.same open_now ∙ trees; left = λ ts left. h.1.left ts left ∙ trees }
+  pub refused : TellsSettled old new false → StandsForNone new
+  refused (stays, none) open_now one = none rise (subst StandsForOne (stays open_now).1 one)
 
 pub some_weaker : {A : Type 0} (P Q : A → Type 0) (found : Option A) → ((x : A) → P x → Q x) → IfSome found P → IfSome found Q
 some_weaker P Q None f h = tt

@@ -1,5 +1,5 @@
 -- What reads of all tables show, and for what their rows stand.
-use Rattle.std.specs.Prelude.{◌≡◌, ℕ, Bool, true, false, List, Option, Some, None, IsTrue}
+use Rattle.std.specs.Prelude.{◌≡◌, ◌⊎◌, ℕ, Bool, true, false, List, [], Option, Some, None, IsTrue}
 use Rattle.std.specs.List.{AllByRecursion}
 use Rattle.std.specs.Str.{IsUtf8}
 use Rattle.sqlite.specs.Effect.{Database}
@@ -7,18 +7,22 @@ use Rattle.sqlite.specs.Held.{Held, state}
 use Rattle.sqlite.specs.Order.{Row}
 use Rattle.sqlite.specs.State.{State, HasCleanDisk, Opens}
 use Rattle.sqlite.specs.Tree.{Trees}
+use Rattle.sqlite_catalog.specs.Change.{KeepsRows}
 use Rattle.sqlite_trees.specs.declared.store.Store.{Ghosts}
 use Rattle.book_office_values.specs.declared.offices.Office.{Office}
+use Rattle.book_office.specs.Keeping.{Leftover}
 use Rattle.book_tables_rows.specs.Lists.{ShowsRows, pairs_of}
 use Rattle.book_tables_rows.specs.Nodes.{text_in}
-use Rattle.book_tables_rows.specs.Rows.{IsBook, rows_of}
-use Rattle.book_tables_rows.specs.Schema.{book_schema}
+use Rattle.book_tables_rows.specs.Rows.{IsBook, in_store, rows_of}
+use Rattle.book_tables_rows.specs.Schema.{reach_tree}
 use Rattle.book_tables_rows.specs.Steps.{Stays}
-use Rattle.book_tables_schema.specs.Tabled.{IsTabled}
+use Rattle.book_tables_schema.specs.Layout.{tables_of}
+use Rattle.book_tables_schema.specs.OtherReach.{IsBeside}
+use Rattle.book_tables_schema.specs.Tabled.{HasTables, IsTabled}
 use Rattle.book_tables_schema.specs.Versions.{SaysOther}
 use Rattle.book_tables_schema.specs.Whole.{entries_shown, gone_shown, meta_shown}
 use Rattle.book_tables.specs.Opened.{StandsAlone}
-use Rattle.book_tables.specs.Stands.{Stands}
+use Rattle.book_tables.specs.Stands.{IsKept, LeftBy, Stands}
 use Rattle.book_tables.specs.declared.opening.OpenFault.{OpenFault}
 use Rattle.book_tables.specs.declared.opening.OpenFault.TheVariants.{OtherVersion, NoStore, Memory, Store}
 use Rattle.book_tables_opening.specs.Shown.{shown_label, shown_text}
@@ -65,10 +69,70 @@ IsWhole db = StandsForOne db × AreReadable db
 abbrev pub TellsStanding : State → Bool → Type 0
 TellsStanding s is = IsTrue s.is_open × (IsBook s.now → (IsTrue is → IsWhole s.now) × (StandsForOne s.now → IsTrue is))
 
-abbrev pub IsStanding : Database → Standing → Type 0
-IsStanding db Whole = IsWhole db
-IsStanding db Other = ¬ (StandsForOne db)
-IsStanding db Broken = ¬ (StandsForOne db)
+-- the rows of all tables but `reach` are the same
+abbrev pub SameRows : Trees → Trees → Type 0
+SameRows old new = rows_of new ≡ record (rows_of old) { reach = (rows_of new).reach }
+
+-- the rows of its tables rise by their numbers
+abbrev pub RowsRise : Database → Type 0
+RowsRise db = HasTables db.schema db
+
+-- tables stand for an Office, and are then kept as its tables: `reach` holds what chains of its direct members lead to
+pub record Settled (old new : Database) : Type 0 where
+  pub office : Office
+  pub stood : Stands old office
+  pub kept : IsKept new office
+  pub readable : AreReadable new
+  pub same : SameRows old.trees new.trees
+
+-- ---- in a transaction
+
+-- `reach` was made anew, and the other tables are what they were
+pub record MakesAnew (old new : State) : Type 0 where
+  pub inside : IsTrue new.in_transaction
+  pub was_open : IsTrue old.is_open
+  pub is_open : IsTrue new.is_open
+  pub made : IsBeside true old.now.schema → RowsRise old.now
+      → IsTabled new.now × KeepsRows (tables_of true) old.now.trees new.now.trees × (new.now.trees reach_tree ≡ [])
+
+-- `reach` was written
+pub record WritesReach (old new : State) : Type 0 where
+  pub inside : IsTrue new.in_transaction
+  pub is_open : IsTrue new.is_open
+  pub made : IsTabled old.now → Settled old.now new.now
+
+-- `reach` held what it is to hold
+pub record LeavesReach (old new : State) : Type 0 where
+  pub inside : IsTrue new.in_transaction
+  pub made : IsTabled old.now → (new.now ≡ old.now) × Settled old.now old.now
+
+-- whether tables that have `reach` stand for an Office, and whether it was written
+abbrev pub TellsOffice : State → State → Option Bool → Type 0
+TellsOffice old new None = IsTabled old.now → ¬ (StandsForOne old.now)
+TellsOffice old new (Some true) = WritesReach old new
+TellsOffice old new (Some false) = LeavesReach old new
+
+-- ---- a transaction
+
+-- it was committed: what the tables stood for they are kept for
+pub record Commits (old new : State) : Type 0 where
+  pub is_open : IsTrue new.is_open
+  pub committed : new.committed ≡ new.now
+  pub made : RowsRise old.now → Settled old.now new.now
+
+-- what a stop may leave of it
+abbrev pub MaySettle : State → Trees → Type 0
+MaySettle old trees = RowsRise old.now → Settled old.now (in_store trees)
+
+-- whether the tables stand for an Office: they were kept as its tables, or are now; if not, an open connection shows what it showed
+abbrev pub TellsSettled : State → State → Bool → Type 0
+TellsSettled old new true = (Stays old new × (RowsRise old.now → Settled old.now old.now)) ⊎ Commits old new
+TellsSettled old new false = Stays old new × (RowsRise old.now → ¬ (StandsForOne old.now))
+
+abbrev pub IsStanding : State → State → Standing → Type 0
+IsStanding old new Whole = TellsSettled old new true
+IsStanding old new Other = TellsSettled old new false
+IsStanding old new Broken = TellsSettled old new false
 
 -- the query for the version, on these tables, says whether it is another than this one
 pub record TellsOther {S : Type 0} (store : Ghosts S) (version : ℕ) (db : Database) (other : Bool) : Type 0 where
@@ -85,9 +149,9 @@ StandingSays store db Broken = TellsOther store 2 db false
 
 -- ---- a store is opened
 
--- a connection that was opened again: it shows what is committed, and where it has the tables of a store, their rows rise
+-- a connection that was opened again: it shows what is committed, and the rows of its tables rise
 abbrev pub IsReopened : State → Type 0
-IsReopened s = HasCleanDisk s → Opens s × (s.now.schema ≡ book_schema → IsTabled s.now)
+IsReopened s = HasCleanDisk s → Opens s × RowsRise s.now
 
 -- it stands for an Office, and a stop leaves that one alone
 abbrev pub StandsForItsOffice : State → Type 0
@@ -97,21 +161,16 @@ StandsForItsOffice s = (o : Office) × StandsAlone s o
 abbrev pub StandsForNone : State → Type 0
 StandsForNone s = IsTrue s.is_open → ¬ (StandsForOne s.now)
 
--- its tables are tested, and left as they are
-pub record IsOpened (old new : State) : Type 0 where
+-- its tables are tested, and left as they are but for `reach`
+pub record IsOpened (trees : Trees) (new : State) : Type 0 where
   pub stands : StandsForItsOffice new
   pub readable : IsTrue new.is_open → AreReadable new.now
-  pub clean : HasCleanDisk old
-  pub stays : Stays old new
+  pub same : IsTrue new.is_open → SameRows trees new.now.trees
 
--- a connection that comes back where an open failed shows what was committed before it, and a stop leaves that alone
-pub record IsLeft (old new : State) : Type 0 where
-  pub same : IsTrue new.is_open → new.now.trees ≡ old.committed.trees
-  pub left : (trees : Trees) → new.may_leave trees → trees ≡ old.committed.trees
-
--- the same of one that was opened again before, on a disk that returned what was written
-abbrev pub IsLeftAgain : State → State → Type 0
-IsLeftAgain old new = HasCleanDisk old × IsLeft old new
+-- it shows the trees that were committed, and a stop leaves these, or the same rows of all tables but `reach`, for the same Office
+pub record IsUnopened (trees : Trees) (new : State) : Type 0 where
+  pub shows : IsTrue new.is_open → new.now.trees ≡ trees
+  pub left : (after : Trees) → new.may_leave after → (after ≡ trees) ⊎ (SameRows trees after × ((x : Leftover) → LeftBy after x → LeftBy trees x))
 
 -- the tables were read, and stand for no Office
 abbrev pub IsRefused : OpenFault → Type 0

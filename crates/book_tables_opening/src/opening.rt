@@ -1,20 +1,23 @@
 //! Opening the tables of a store that is there.
 
-ghost use Rattle.std.specs.Prelude.{◌≡◌, ◌↔◌, ◌⊎◌, [], IfOk, IfErr, IfSome, IsSomeAnd, IsTrue};
+ghost use Rattle.std.specs.Prelude.{◌≡◌, ◌⊎◌, true, IfOk, IfErr, IfSome, IsSomeAnd, IsTrue, OnErr, OnOk};
 ghost use Rattle.sqlite.specs.Held.{state};
 ghost use Rattle.sqlite.specs.State.{HasCleanDisk, Survives};
-ghost use Rattle.book_tables_rows.specs.Schema.{book_schema, ace_tree};
+ghost use Rattle.book_tables_rows.specs.Schema.{book_schema};
 ghost use Rattle.book_tables_rows.specs.Steps.{Keeps, Spares, Stays};
-ghost use Rattle.book_tables_schema.specs.Tabled.{IsTabled};
+ghost use Rattle.book_tables_schema.specs.OtherReach.{IsBeside};
 ghost use Rattle.book_tables.specs.Opened.{open_fault};
-ghost use Rattle.book_tables_opening.specs.Reading.{AreReadable, IsWhole, StandsForOne, TellsOther, TellsStanding, IsStanding, StandingSays, FaultSays, IsReopened, IsLeft, IsLeftAgain, IsOpened, IsRefused, StandsForItsOffice, StandsForNone};
+ghost use Rattle.book_tables_opening.specs.Reading.{AreReadable, MakesAnew, MaySettle, SameRows, TellsOffice, TellsOther, TellsSettled, TellsStanding, IsStanding, StandingSays, FaultSays, IsReopened, IsOpened, IsRefused, IsUnopened, StandsForItsOffice, StandsForNone};
 
 use crate::directories::Directory;
 use crate::office_tests::are_office_rows;
 use crate::reading::read_tables;
 use crate::text_tests::readable;
-use book_tables::{OpenFault, Tables};
-use book_tables_schema::{has_no_former, is_book_schema, reopen, says_other_version};
+use book_tables::{OpenFault, Tables, settle_reach};
+use book_tables_schema::{
+    drop_reach, has_no_former, is_beside_reach, is_book_schema, make_reach, reopen,
+    says_other_version,
+};
 use sqlite::{Alter, Connection, Error, ErrorCode, Transaction};
 use std::alloc::Global;
 
@@ -57,21 +60,6 @@ pub fn is_office<S: Alter>(
     Ok(told)
 }
 
-/// The same, in a transaction of its own.
-fn stands_for_one<S: Alter>(alloc: Global, connection: &mut Connection<S>) -> Result<bool, Error>
-    ensures stays { HasCleanDisk (state S.Store connection.new)
-        → Stays (state S.Store connection.old) (state S.Store connection.new) }
-    ensures survives { Survives (state S.Store connection.old) (state S.Store connection.new) (λ _. ⊥) }
-    ensures told { HasCleanDisk (state S.Store connection.new)
-        → IfOk result (λ is. TellsStanding (state S.Store connection.old) is) }
-{
-    if !connection.is_autocommit() {
-        return Err(Error::SqliteFailure(ErrorCode::TransactionState));
-    }
-    let mut transaction = connection.transaction();
-    is_office(alloc, &mut transaction)
-}
-
 /// Whether `meta` has one row with another version than this one, read in a transaction of its own.
 pub fn tells_other<S: Alter>(connection: &mut Connection<S>, version: u32) -> Result<bool, Error>
     ensures stays { HasCleanDisk (state S.Store connection.new)
@@ -87,51 +75,119 @@ pub fn tells_other<S: Alter>(connection: &mut Connection<S>, version: u32) -> Re
     says_other_version(&mut transaction, version)
 }
 
-/// Whether the table of version 1 that stays is empty, read in a transaction of its own.
-fn lacks_former<S: Alter>(connection: &mut Connection<S>) -> Result<bool, Error>
-    ensures stays { HasCleanDisk (state S.Store connection.new)
-        → Stays (state S.Store connection.old) (state S.Store connection.new) }
-    ensures survives { Survives (state S.Store connection.old) (state S.Store connection.new) (λ _. ⊥) }
+/// Whether tables that have `reach` stand for an Office, in any transaction, and whether `reach` was written, since it
+/// did not hold what chains of the direct members lead to; none where they stand for none. Rows in the table of version
+/// 1 stand for none.
+pub fn settle_office<S: Alter>(
+    alloc: Global,
+    transaction: &mut Transaction<'_, S>,
+) -> Result<Option<bool>, Error>
+    ensures same_reference { transaction.new.conn.ghost_name ≡ transaction.old.conn.ghost_name }
+    ensures survives { Survives (state S.Store transaction.old.conn.now) (state S.Store transaction.new.conn.now)
+        (λ _. ⊥) }
+    ensures kept { Keeps (state S.Store transaction.old.conn.now) (state S.Store transaction.new.conn.now) }
+    ensures told { HasCleanDisk (state S.Store transaction.new.conn.now)
+        → IsTrue (state S.Store transaction.old.conn.now).in_transaction
+        → IfOk result (TellsOffice (state S.Store transaction.old.conn.now) (state S.Store transaction.new.conn.now)) }
+{
+    if !has_no_former(transaction)? {
+        return Ok(None);
+    }
+    if !is_office(alloc, transaction)? {
+        return Ok(None);
+    }
+    let written = settle_reach(alloc, transaction)?;
+    Ok(Some(written))
+}
+
+/// Makes `reach`, without rows, where there is none, or one of other columns, which is taken away.
+fn make_anew<S: Alter>(transaction: &mut Transaction<'_, S>) -> Result<(), Error>
+    ensures same_reference { transaction.new.conn.ghost_name ≡ transaction.old.conn.ghost_name }
+    ensures survives { Survives (state S.Store transaction.old.conn.now) (state S.Store transaction.new.conn.now)
+        (λ _. ⊥) }
+    ensures kept { Keeps (state S.Store transaction.old.conn.now) (state S.Store transaction.new.conn.now) }
+    ensures made { HasCleanDisk (state S.Store transaction.new.conn.now)
+        → IsTrue (state S.Store transaction.old.conn.now).in_transaction
+        → OnOk result (MakesAnew (state S.Store transaction.old.conn.now) (state S.Store transaction.new.conn.now)) }
+{
+    drop_reach(transaction)?;
+    make_reach(transaction)
+}
+
+/// Whether the tables stand for an Office, where they have `reach`, in a transaction of its own: it is committed where
+/// `reach` was written.
+fn settle_book<S: Alter>(alloc: Global, connection: &mut Connection<S>) -> Result<bool, Error>
+    requires { (state S.Store connection.old).now.schema ≡ book_schema }
     ensures told { HasCleanDisk (state S.Store connection.new)
-        → (state S.Store connection.old).now.schema ≡ book_schema
-        → IfOk result (λ none. IsTrue none ↔ ((state S.Store connection.old).now.trees ace_tree ≡ [])) }
+        → IfOk result (TellsSettled (state S.Store connection.old) (state S.Store connection.new)) }
+    ensures kept { HasCleanDisk (state S.Store connection.new)
+        → OnErr result (Stays (state S.Store connection.old) (state S.Store connection.new)) }
+    ensures left { Survives (state S.Store connection.old) (state S.Store connection.new)
+        (MaySettle (state S.Store connection.old)) }
 {
     if !connection.is_autocommit() {
         return Err(Error::SqliteFailure(ErrorCode::TransactionState));
     }
     let mut transaction = connection.transaction();
-    has_no_former(&mut transaction)
+    let Some(written) = settle_office(alloc, &mut transaction)? else {
+        return Ok(false);
+    };
+    if !written {
+        return Ok(true);
+    }
+    transaction.commit()?;
+    Ok(true)
 }
 
-/// Whether the tables stand for an Office, where they are the tables of a store: rows in the table of version 1 stand
-/// for none.
-fn is_whole<S: Alter>(alloc: Global, connection: &mut Connection<S>) -> Result<bool, Error>
-    ensures stays { HasCleanDisk (state S.Store connection.new)
-        → Stays (state S.Store connection.old) (state S.Store connection.new) }
-    ensures survives { Survives (state S.Store connection.old) (state S.Store connection.new) (λ _. ⊥) }
+/// The same where they have no `reach`, as in a store made before it, or one of other columns, which is taken away: it
+/// is made, in the same transaction.
+fn settle_base<S: Alter>(alloc: Global, connection: &mut Connection<S>) -> Result<bool, Error>
+    requires { IsBeside true (state S.Store connection.old).now.schema }
     ensures told { HasCleanDisk (state S.Store connection.new)
-        → ((state S.Store connection.old).now.schema ≡ book_schema → IsTabled (state S.Store connection.old).now)
-        → IfOk result (λ is. (IsTrue is → IsWhole (state S.Store connection.old).now)
-        × (StandsForOne (state S.Store connection.old).now → IsTrue is)) }
+        → IfOk result (TellsSettled (state S.Store connection.old) (state S.Store connection.new)) }
+    ensures kept { HasCleanDisk (state S.Store connection.new)
+        → OnErr result (Stays (state S.Store connection.old) (state S.Store connection.new)) }
+    ensures left { Survives (state S.Store connection.old) (state S.Store connection.new)
+        (MaySettle (state S.Store connection.old)) }
 {
-    if !is_book_schema(connection.schema()) {
-        return Ok(false);
+    if !connection.is_autocommit() {
+        return Err(Error::SqliteFailure(ErrorCode::TransactionState));
     }
-    if !lacks_former(connection)? {
+    let mut transaction = connection.transaction();
+    make_anew(&mut transaction)?;
+    let Some(_written) = settle_office(alloc, &mut transaction)? else {
         return Ok(false);
+    };
+    transaction.commit()?;
+    Ok(true)
+}
+
+/// Whether the tables stand for an Office, of which `reach` then holds what chains of its direct members lead to.
+fn is_whole<S: Alter>(alloc: Global, connection: &mut Connection<S>) -> Result<bool, Error>
+    ensures told { HasCleanDisk (state S.Store connection.new)
+        → IfOk result (TellsSettled (state S.Store connection.old) (state S.Store connection.new)) }
+    ensures kept { HasCleanDisk (state S.Store connection.new)
+        → OnErr result (Stays (state S.Store connection.old) (state S.Store connection.new)) }
+    ensures left { Survives (state S.Store connection.old) (state S.Store connection.new)
+        (MaySettle (state S.Store connection.old)) }
+{
+    if is_book_schema(connection.schema()) {
+        return settle_book(alloc, connection);
     }
-    let found = stands_for_one(alloc, connection)?;
-    Ok(found)
+    if is_beside_reach(connection.schema(), true) {
+        return settle_base(alloc, connection);
+    }
+    Ok(false)
 }
 
 /// What the tables of a connection are.
 fn standing_of<S: Alter>(alloc: Global, connection: &mut Connection<S>) -> Result<Standing, Error>
-    ensures stays { HasCleanDisk (state S.Store connection.new)
-        → Stays (state S.Store connection.old) (state S.Store connection.new) }
-    ensures survives { Survives (state S.Store connection.old) (state S.Store connection.new) (λ _. ⊥) }
     ensures told { HasCleanDisk (state S.Store connection.new)
-        → ((state S.Store connection.old).now.schema ≡ book_schema → IsTabled (state S.Store connection.old).now)
-        → IfOk result (λ standing. IsStanding (state S.Store connection.old).now standing) }
+        → IfOk result (IsStanding (state S.Store connection.old) (state S.Store connection.new)) }
+    ensures kept { HasCleanDisk (state S.Store connection.new)
+        → OnErr result (Stays (state S.Store connection.old) (state S.Store connection.new)) }
+    ensures left { Survives (state S.Store connection.old) (state S.Store connection.new)
+        (MaySettle (state S.Store connection.old)) }
     ensures other { HasCleanDisk (state S.Store connection.new) → IsTrue (state S.Store connection.new).is_open
         → IfOk result (λ standing. StandingSays S.Store (state S.Store connection.new).now standing) }
 {
@@ -161,14 +217,16 @@ fn open_again<S: Alter>(
     mut connection: Connection<S>,
 ) -> Result<Tables<S>, (OpenFault, Option<Connection<S>>)>
     ensures stands { IsReopened (state S.Store connection) → IfOk result (λ t. HasCleanDisk (state S.Store t.connection)
-        → IsOpened (state S.Store connection) (state S.Store t.connection)) }
+        → HasCleanDisk (state S.Store connection)
+        × IsOpened (state S.Store connection).now.trees (state S.Store t.connection)) }
     ensures counted { IfOk result (λ t. t.failures ≡ 0) }
     ensures refused { IsReopened (state S.Store connection) → IfErr result (λ e. IsRefused e.0 → IsSomeAnd e.1 (λ c.
         HasCleanDisk (state S.Store c) → StandsForNone (state S.Store c))) }
     ensures other { IfErr result (λ e. IsRefused e.0 → IsSomeAnd e.1 (λ c. HasCleanDisk (state S.Store c)
         → IsTrue (state S.Store c).is_open → FaultSays S.Store 2 (state S.Store c).now e.0)) }
-    ensures kept { IsReopened (state S.Store connection) → IfErr result (λ e. IfSome e.1 (λ c.
-        HasCleanDisk (state S.Store c) → IsLeftAgain (state S.Store connection) (state S.Store c))) }
+    ensures kept { IsReopened (state S.Store connection)
+        → IfErr result (λ e. IfSome e.1 (λ c. HasCleanDisk (state S.Store c) → HasCleanDisk (state S.Store connection)
+        × IsUnopened (state S.Store connection).now.trees (state S.Store c))) }
 {
     match standing_of(alloc, &mut connection) {
         Ok(Standing::Whole) => Ok(Tables::over(connection)),
@@ -179,15 +237,17 @@ fn open_again<S: Alter>(
 }
 
 /// Opens the tables of a store that is there, as its last commit left it. They are given where their rows stand for a
-/// sound Office, and a stop just after leaves that one alone; its labels and texts are UTF-8. Every row is read and
-/// tested, which takes a number of comparisons that grows as the number of rows times its logarithm.
+/// sound Office, and a stop just after leaves that one alone; its labels and texts are UTF-8. Where `reach` is missing,
+/// as in a store made before it, has other columns, or does not hold what chains of the direct members lead to, it is
+/// made so in one transaction, in which the rows are tested. Every row is read and tested, which takes a number of comparisons that
+/// grows as the number of rows times its logarithm.
 ///
 /// # Errors
 ///
 /// `OtherVersion` where the rows stand for no Office, and `meta` has one row, with another version than 2; `NoStore`
 /// where they stand for no Office else. `Memory` is want of memory, `Store` any other failure of the store, also a
 /// label or a text of a node that is not UTF-8. The connection comes back but where the store could not be opened
-/// again: it then shows what was committed before the call, and a stop leaves that alone.
+/// again, and shows what was committed; a stop leaves that, or the same Office with `reach` made.
 pub fn open<S: Alter + Drop>(
     alloc: Global,
     connection: Connection<S>,
@@ -198,14 +258,14 @@ pub fn open<S: Alter + Drop>(
         → IsTrue (state S.Store t.connection).is_open → AreReadable (state S.Store t.connection).now) }
     ensures same { IfOk result (λ t. HasCleanDisk (state S.Store t.connection)
         → IsTrue (state S.Store t.connection).is_open
-        → (state S.Store t.connection).now.trees ≡ (state S.Store connection).committed.trees) }
+        → SameRows (state S.Store connection).committed.trees (state S.Store t.connection).now.trees) }
     ensures counted { IfOk result (λ t. t.failures ≡ 0) }
     ensures refused { IfErr result (λ e. IsRefused e.0 → IsSomeAnd e.1 (λ c.
         HasCleanDisk (state S.Store c) → StandsForNone (state S.Store c))) }
     ensures other { IfErr result (λ e. IsRefused e.0 → IsSomeAnd e.1 (λ c. HasCleanDisk (state S.Store c)
         → IsTrue (state S.Store c).is_open → FaultSays S.Store 2 (state S.Store c).now e.0)) }
     ensures kept { IfErr result (λ e. IfSome e.1 (λ c. HasCleanDisk (state S.Store c)
-        → IsLeft (state S.Store connection) (state S.Store c))) }
+        → IsUnopened (state S.Store connection).committed.trees (state S.Store c))) }
 {
     match reopen(alloc, connection) {
         Ok(opened) => open_again(alloc, opened),

@@ -16,20 +16,20 @@ use Rattle.sqlite_trees.specs.declared.store.Shape.TheVariants.{Table as TableSh
 use Rattle.book_tables_rows.specs.Columns.{ace_mask}
 use Rattle.book_tables_rows.specs.Lists.{ShowsRows}
 use Rattle.book_tables_rows.specs.Rows.{Rows, rows_of, IsBook}
-use Rattle.book_tables_rows.specs.Schema.{first_schema, book_schema, ace_tree}
+use Rattle.book_tables_rows.specs.Schema.{first_schema, base_schema, ace_tree, ace2_tree}
 use Rattle.book_tables_rows.specs.Steps.{Looks, BecomesIf}
-use Rattle.book_tables_schema.specs.Founding.{Renews}
+use Rattle.book_tables_schema.specs.Founding.{GetsReach, Renews}
 use Rattle.book_tables_schema.specs.Renewing.{Empties, IsFirstMeta, renumbered, widened_row}
-use Rattle.book_tables_schema.specs.Tabled.{HasTables, IsTabled}
+use Rattle.book_tables_schema.specs.Tabled.{HasTables}
 use Rattle.book_tables_schema.specs.Whole.{meta_shown}
 use Rattle.book_tables_renewing.specs.Renewal.{first_rows_of, is_first_mask, HasFirstMask, AreFirstRows, ShowsMasks, Copies, Retables, Reversions, Renewed, are_first_meta}
 use Rattle.book_tables_renewing.proofs.FirstMeta.{version_first, first_version}
 
 -- ---- the tables
 
--- the tables of version 2 are there, and the one of entries is empty
+-- the tables of version 2 are there but for `reach`, and the one of entries is empty
 module _ (old new : State) (renews : Renews old new) (first : HasTables first_schema old.now) where
-  abbrev made : (new.now.schema ≡ book_schema) × IsDatabase new.now × KeepsRows first_schema.tables old.now.trees new.now.trees × (new.now.trees 13 ≡ [])
+  abbrev made : (new.now.schema ≡ base_schema) × IsDatabase new.now × KeepsRows first_schema.tables old.now.trees new.now.trees × (new.now.trees 13 ≡ [])
   made = renews.made first.schema
 
   kept_of : (t : Table) → Has first_schema.tables t → new.now.trees t.tree ≡ old.now.trees t.tree
@@ -38,7 +38,7 @@ module _ (old new : State) (renews : Renews old new) (first : HasTables first_sc
   shaped_of : (t : Table) → Has first_schema.tables t → IsShaped TableShape (new.now.trees t.tree)
   shaped_of t there = subst (IsShaped TableShape) (sym (kept_of t there)) (first.rising t there)
 
-  pub renewed_tables : IsTabled new.now
+  pub renewed_tables : HasTables base_schema new.now
   renewed_tables = record {
     schema = made.0;
     rules = made.1;
@@ -53,19 +53,23 @@ module _ (old new : State) (renews : Renews old new) (first : HasTables first_sc
     ];
   }
 
-pub retabled : (a b c d : State) → Renews a b → Copies b c → Empties c d → Retables a d
-retabled a b c d renews copies empties = record {
+pub retabled : (a b r c d : State) → Renews a b → GetsReach b r → Copies r c → Empties c d → Retables a d
+retabled a b r c d renews gets copies empties = record {
   inside = empties.inside;
   was_open = renews.was_open;
   is_open = empties.is_open;
   made = λ first masks.
       let made = renews.made first.schema in
+      let got = gets.made (renewed_tables a b renews first) in
       let rows = made.2 in
-      let former : b.now.trees ace_tree ≡ a.now.trees ace_tree = rows.1.0 in
-      let copied = copies.made (renewed_tables a b renews first) made.3 (subst (AllByRecursion HasFirstMask) (sym former) masks) in
+      let kept = got.1 in
+      let former : r.now.trees ace_tree ≡ a.now.trees ace_tree = kept.1.0 ∙ rows.1.0 in
+      let none : r.now.trees ace2_tree ≡ [] = kept.1.1.1.1.1.0 ∙ made.3 in
+      let copied = copies.made got.0 none (subst (AllByRecursion HasFirstMask) (sym former) masks) in
       let emptied = empties.made copied.0 in (
         emptied.0,
-        emptied.1 ∙ copied.1 ∙ (λ i. record { nodes = rows.0 i; entries = map widened_row (former i); members = rows.1.1.0 i; gone = rows.1.1.1.0 i; meta = rows.1.1.1.1.0 i }),
+        emptied.1 ∙ copied.1
+            ∙ (λ i. record { nodes = (kept.0 ∙ rows.0) i; entries = map widened_row (former i); members = (kept.1.1.0 ∙ rows.1.1.0) i; gone = (kept.1.1.1.0 ∙ rows.1.1.1.0) i; meta = (kept.1.1.1.1.0 ∙ rows.1.1.1.1.0) i; reach = got.2 i }),
       );
 }
 

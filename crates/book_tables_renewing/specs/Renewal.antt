@@ -14,9 +14,9 @@ use Rattle.book_tables_schema.specs.Tabled.{HasTables, IsTabled}
 
 -- ---- the tables of version 1
 
--- the rows of the tables: the entries are those of `ace`
+-- the rows of the tables: the entries are those of `ace`, and there is no `reach`
 abbrev pub first_rows_of : Trees → Rows
-first_rows_of trees = record { nodes = trees node_tree; entries = trees ace_tree; members = trees member_tree; gone = trees gone_tree; meta = trees meta_tree }
+first_rows_of trees = record { nodes = trees node_tree; entries = trees ace_tree; members = trees member_tree; gone = trees gone_tree; meta = trees meta_tree; reach = [] }
 
 -- a mask of the eight leaves
 abbrev pub is_first_mask : Value → Bool

@@ -9,10 +9,10 @@ ghost use Rattle.book_tables_renewing.specs.Renewal.{Retables, TellsRenewed};
 use crate::copying::copy_entries;
 use crate::masks::{are_first_masks, first_masks};
 use crate::metas::renew_version;
-use book_tables_schema::{empty_former, make_second_tables};
+use book_tables_schema::{empty_former, make_reach, make_second_tables};
 use sqlite::{Alter, Error, Transaction};
 
-/// Makes the tables of version 2, copies the entries, and empties the table that they were in.
+/// Makes the tables of version 2, copies the entries, and empties the table that they were in; `reach` has no row.
 fn renew_tables<S: Alter>(transaction: &mut Transaction<'_, S>) -> Result<(), Error>
     ensures same_reference { transaction.new.conn.ghost_name ≡ transaction.old.conn.ghost_name }
     ensures survives { Survives (state S.Store transaction.old.conn.now) (state S.Store transaction.new.conn.now)
@@ -23,13 +23,15 @@ fn renew_tables<S: Alter>(transaction: &mut Transaction<'_, S>) -> Result<(), Er
         → OnOk result (Retables (state S.Store transaction.old.conn.now) (state S.Store transaction.new.conn.now)) }
 {
     make_second_tables(transaction)?;
+    make_reach(transaction)?;
     copy_entries(transaction)?;
     empty_former(transaction)
 }
 
-/// Makes the tables of version 1 those of version 2, and tells how many entries they have: each has bit 8 in its mask, which
-/// is `x-read-names`, where it has bit 0, which was `read` and is `x-read-texts`. It tells none where a mask is of more
-/// than the eight leaves of version 1, or `meta` has not one row with version 1; the transaction is then to be undone.
+/// Makes the tables of version 1 those of version 2, and tells how many entries they have: each has bit 8 in its mask,
+/// which is `x-read-names`, where it has bit 0, which was `read` and is `x-read-texts`. It tells none where a mask is
+/// of more than the eight leaves of version 1, or `meta` has not one row with version 1; the transaction is then to be
+/// undone.
 pub fn renew<S: Alter>(transaction: &mut Transaction<'_, S>) -> Result<Option<usize>, Error>
     ensures same_reference { transaction.new.conn.ghost_name ≡ transaction.old.conn.ghost_name }
     ensures survives { Survives (state S.Store transaction.old.conn.now) (state S.Store transaction.new.conn.now)

@@ -46,7 +46,8 @@ module _ (old new : Trees) (edit : Edit) (a : Applies book_schema Enforced old e
       let members = a.tables.1.1.0 (λ same. omega (arith, same, at)) in
       let gone = a.tables.1.1.1.0 (λ same. omega (arith, same, at)) in
       let meta = a.tables.1.1.1.1.0 (λ same. omega (arith, same, at)) in
-      λ i. record { nodes = new 0; entries = entries i; members = members i; gone = gone i; meta = meta i }
+      let reach = a.tables.1.1.1.1.1.1.0 (λ same. omega (arith, same, at)) in
+      λ i. record { nodes = new 0; entries = entries i; members = members i; gone = gone i; meta = meta i; reach = reach i }
 
   pub entries_changed : edit.table.tree ≡ 13 → rows_of new ≡ record (rows_of old) { entries = new 13 }
   entries_changed at =
@@ -54,7 +55,8 @@ module _ (old new : Trees) (edit : Edit) (a : Applies book_schema Enforced old e
       let members = a.tables.1.1.0 (λ same. omega (arith, same, at)) in
       let gone = a.tables.1.1.1.0 (λ same. omega (arith, same, at)) in
       let meta = a.tables.1.1.1.1.0 (λ same. omega (arith, same, at)) in
-      λ i. record { nodes = nodes i; entries = new 13; members = members i; gone = gone i; meta = meta i }
+      let reach = a.tables.1.1.1.1.1.1.0 (λ same. omega (arith, same, at)) in
+      λ i. record { nodes = nodes i; entries = new 13; members = members i; gone = gone i; meta = meta i; reach = reach i }
 
   pub members_changed : edit.table.tree ≡ 4 → rows_of new ≡ record (rows_of old) { members = new 4 }
   members_changed at =
@@ -62,7 +64,8 @@ module _ (old new : Trees) (edit : Edit) (a : Applies book_schema Enforced old e
       let entries = a.tables.1.1.1.1.1.0 (λ same. omega (arith, same, at)) in
       let gone = a.tables.1.1.1.0 (λ same. omega (arith, same, at)) in
       let meta = a.tables.1.1.1.1.0 (λ same. omega (arith, same, at)) in
-      λ i. record { nodes = nodes i; entries = entries i; members = new 4; gone = gone i; meta = meta i }
+      let reach = a.tables.1.1.1.1.1.1.0 (λ same. omega (arith, same, at)) in
+      λ i. record { nodes = nodes i; entries = entries i; members = new 4; gone = gone i; meta = meta i; reach = reach i }
 
   pub meta_changed : edit.table.tree ≡ 8 → rows_of new ≡ record (rows_of old) { meta = new 8 }
   meta_changed at =
@@ -70,7 +73,8 @@ module _ (old new : Trees) (edit : Edit) (a : Applies book_schema Enforced old e
       let entries = a.tables.1.1.1.1.1.0 (λ same. omega (arith, same, at)) in
       let members = a.tables.1.1.0 (λ same. omega (arith, same, at)) in
       let gone = a.tables.1.1.1.0 (λ same. omega (arith, same, at)) in
-      λ i. record { nodes = nodes i; entries = entries i; members = members i; gone = gone i; meta = new 8 }
+      let reach = a.tables.1.1.1.1.1.1.0 (λ same. omega (arith, same, at)) in
+      λ i. record { nodes = nodes i; entries = entries i; members = members i; gone = gone i; meta = new 8; reach = reach i }
 
   pub gone_changed : edit.table.tree ≡ 6 → rows_of new ≡ record (rows_of old) { gone = new 6 }
   gone_changed at =
@@ -78,7 +82,17 @@ module _ (old new : Trees) (edit : Edit) (a : Applies book_schema Enforced old e
       let entries = a.tables.1.1.1.1.1.0 (λ same. omega (arith, same, at)) in
       let members = a.tables.1.1.0 (λ same. omega (arith, same, at)) in
       let meta = a.tables.1.1.1.1.0 (λ same. omega (arith, same, at)) in
-      λ i. record { nodes = nodes i; entries = entries i; members = members i; gone = new 6; meta = meta i }
+      let reach = a.tables.1.1.1.1.1.1.0 (λ same. omega (arith, same, at)) in
+      λ i. record { nodes = nodes i; entries = entries i; members = members i; gone = new 6; meta = meta i; reach = reach i }
+
+  pub reach_changed : edit.table.tree ≡ 17 → rows_of new ≡ record (rows_of old) { reach = new 17 }
+  reach_changed at =
+      let nodes = a.tables.0 (λ same. omega (arith, same, at)) in
+      let entries = a.tables.1.1.1.1.1.0 (λ same. omega (arith, same, at)) in
+      let members = a.tables.1.1.0 (λ same. omega (arith, same, at)) in
+      let gone = a.tables.1.1.1.0 (λ same. omega (arith, same, at)) in
+      let meta = a.tables.1.1.1.1.0 (λ same. omega (arith, same, at)) in
+      λ i. record { nodes = nodes i; entries = entries i; members = members i; gone = gone i; meta = meta i; reach = new 17 }
 
 -- ---- which foreign keys act
 

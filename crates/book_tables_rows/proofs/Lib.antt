@@ -28,6 +28,7 @@ pub mod Reading
 pub mod CardMoves
 pub mod Counts
 pub mod ListSettings
+pub mod Reaching
 pub mod ChildEntries
 pub mod WrittenLists
 pub mod EntriesAt

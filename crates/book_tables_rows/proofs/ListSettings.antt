@@ -14,6 +14,7 @@ use Rattle.book_tables_rows.specs.Schema.{ace2_table}
 use Rattle.book_tables_rows.specs.Texts as text
 use Rattle.book_tables_rows.specs.declared.setting.EntryRow.{EntryRow}
 use Rattle.book_tables_rows.specs.Writes as writes
+use Rattle.book_tables_rows.specs.Writes.{Pair}
 use Rattle.book_tables_rows.specs.Nodes.{setting_list, setting_members}
 use Rattle.book_tables_rows.specs.Steps.{Leads}
 use Rattle.book_tables_rows.proofs.Becoming.{entries_changed, members_changed, works_entries}
@@ -147,6 +148,17 @@ pub meta_of_members : (group : List ℕ) (members : List (List ℕ)) (rows : Row
 meta_of_members group [] rows = refl
 meta_of_members group (m ∷ more) rows = meta_of_members group more (writes.insert_member group m rows)
 
+meta_of_fewer : (pairs : List Pair) (rows : Rows) → (writes.delete_pairs pairs rows).meta ≡ rows.meta
+meta_of_fewer [] rows = refl
+meta_of_fewer (p ∷ more) rows = meta_of_fewer more (writes.delete_reach p.group p.member rows)
+
+meta_of_more : (pairs : List Pair) (rows : Rows) → (writes.insert_pairs pairs rows).meta ≡ rows.meta
+meta_of_more [] rows = refl
+meta_of_more (p ∷ more) rows = meta_of_more more (writes.insert_reach p.group p.member rows)
+
+pub meta_of_reach : (gone come : List Pair) (rows : Rows) → (writes.renew_reach gone come rows).meta ≡ rows.meta
+meta_of_reach gone come rows = meta_of_more come (writes.delete_pairs gone rows) ∙ meta_of_fewer gone rows
+
 -- ---- the list of a node, and the epoch
 
 module _ (old mid before between new : State) (path : List ℕ) (list : List Said) (f : FoundNode) (found : Option FoundNode) (epoch : ℕ) (first : Looks old mid) (second : Looks mid before) (is_there : found ≡ Some f)
@@ -183,9 +195,9 @@ module _ (old mid before between new : State) (path : List ℕ) (list : List Sai
 
 -- ---- the members of a group, and the epoch
 
-module _ (old before between new : State) (group : List ℕ) (members : List (List ℕ)) (epoch : ℕ) (first : Looks old before) (epoch_found : ShowsEpoch old epoch)
-    (written : Becomes before between (writes.write_members group members)) (raised : BecomesIf between new HasMeta (writes.set_epoch (epoch + 1))) where
-  pub sets_members : Makes old new (setting_members group members)
+module _ (old before between after new : State) (group : List ℕ) (members : List (List ℕ)) (gone come : List Pair) (epoch : ℕ) (first : Looks old before) (epoch_found : ShowsEpoch old epoch)
+    (written : Becomes before between (writes.write_members group members)) (renewed : Leads between after (λ _. ⊤) (writes.renew_reach gone come)) (raised : BecomesIf after new HasMeta (writes.set_epoch (epoch + 1))) where
+  pub sets_members : Makes old new (setting_members group members gone come)
   sets_members = record {
     inside = raised.inside;
     was_open = epoch_found.0;
@@ -196,13 +208,16 @@ module _ (old before between new : State) (group : List ℕ) (members : List (Li
         let epoch_is : epoch ≡ fits.meta.0 = epoch_found.1 book fits.meta.0 fits.meta.1 in
         let x = written.rows (subst IsBook (sym before_is) book) in
         let between_is : rows_of between.now.trees ≡ writes.write_members group members rows = x.1 ∙ ap (λ (d : Database). writes.write_members group members (rows_of d.trees)) before_is in
-        let meta_is : (rows_of between.now.trees).meta ≡ rows.meta = ap (λ (r : Rows). r.meta) between_is ∙ meta_of_members group members (writes.delete_members group rows) in
-        let y = raised.rows x.0 (fits.meta.0, subst (λ m. IsMeta m fits.meta.0) (sym meta_is) fits.meta.1) in (
+        let z = renewed.rows x.0 in
+        let after_is : rows_of after.now.trees ≡ writes.renew_reach gone come (writes.write_members group members rows) = z.1 ∙ ap (writes.renew_reach gone come) between_is in
+        let meta_is : (rows_of after.now.trees).meta ≡ rows.meta =
+        ap (λ (r : Rows). r.meta) after_is ∙ meta_of_reach gone come (writes.write_members group members rows) ∙ meta_of_members group members (writes.delete_members group rows) in
+        let y = raised.rows z.0 (fits.meta.0, subst (λ m. IsMeta m fits.meta.0) (sym meta_is) fits.meta.1) in (
           y.0,
           record {
             epoch = fits.meta.0;
             meta = fits.meta.1;
-            rows_are = y.1 ∙ ap (writes.set_epoch (epoch + 1)) between_is ∙ ap (λ n. writes.set_members_rows group members (n + 1) rows) epoch_is;
+            rows_are = y.1 ∙ ap (writes.set_epoch (epoch + 1)) after_is ∙ ap (λ n. writes.set_members_rows group members gone come (n + 1) rows) epoch_is;
           },
         );
   }

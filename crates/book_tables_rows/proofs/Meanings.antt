@@ -11,7 +11,7 @@ use Rattle.sqlite.specs.Compile.{table_defined_by, index_defined_by}
 use Rattle.sqlite_catalog.specs.Change.{created, indexed}
 use Rattle.sqlite_tied.specs.Compute.{everything}
 use Rattle.sqlite.specs.Listing.{understood, reads_listing}
-use Rattle.book_tables_rows.specs.Schema.{ace2_table, plain_index, first_schema}
+use Rattle.book_tables_rows.specs.Schema.{ace2_table, reach_table, plain_index, first_schema, base_schema}
 use Rattle.book_tables_rows.specs.Texts as text
 
 -- ---- the tables
@@ -39,6 +39,10 @@ gone_is = refl
 pub meta_is : table_defined_by text.create_meta ≡ Ok (record meta_table { tree = 0 })
 unfolding understood everything
 meta_is = refl
+
+pub reach_is : table_defined_by text.create_reach ≡ Ok (record reach_table { tree = 0 })
+unfolding understood everything
+reach_is = refl
 
 abbrev pub no_schema : Schema
 no_schema = record { tables = []; indexes = []; views = [] }
@@ -82,8 +86,18 @@ with_ace2 = created with_first ace2_table
 abbrev pub with_entries : Schema
 with_entries = indexed with_ace2 ace2_table (plain_index (codes "ace2_principal") 0 0 (5 ∷ []))
 
+abbrev pub with_base : Schema
+with_base = indexed with_entries gone_table (plain_index (codes "gone_book") 0 0 (1 ∷ 3 ∷ []))
+
+pub base_is : with_base ≡ base_schema
+unfolding everything
+base_is = refl
+
+abbrev pub with_reach : Schema
+with_reach = created with_base reach_table
+
 abbrev pub made_schema : Schema
-made_schema = indexed with_entries gone_table (plain_index (codes "gone_book") 0 0 (1 ∷ 3 ∷ []))
+made_schema = indexed with_reach reach_table (plain_index (codes "reach_grp") 0 0 (1 ∷ []))
 
 pub made_is : made_schema ≡ book_schema
 unfolding everything
@@ -286,6 +300,10 @@ pub indexes_are : (index_defined_by node_table text.index_parent ≡ Ok (plain_i
     × (index_defined_by (record ace_table { tree = 2 }) text.index_principal ≡ Ok (plain_index (codes "ace_principal") 0 2 (5 ∷ []))) × (index_defined_by (record member_table { tree = 4 }) text.index_member ≡ Ok (plain_index (codes "member_member") 0 4 (2 ∷ [])))
 unfolding understood everything
 indexes_are = (refl, refl, refl, refl)
+
+pub reach_runs : MakesTable with_base text.create_reach × MakesIndex with_reach 6 text.index_reach × (index_defined_by (record reach_table { tree = 17 }) text.index_reach ≡ Ok (plain_index (codes "reach_grp") 0 17 (1 ∷ [])))
+unfolding understood everything
+reach_runs = ((refl, refl, (refl, refl)), (refl, refl, (refl, refl)), refl)
 
 -- ---- a node with the number of its children: the count is a column of its own, after the node's
 
@@ -545,3 +563,55 @@ list_gone_plain = (refl, refl)
 pub list_gone_unlisted : reads_listing book_schema text.list_gone ≡ false
 unfolding understood everything
 list_gone_unlisted = refl
+
+-- ---- the texts of `reach`
+
+pub read_reach_is : command_of (understood book_schema text.read_reach)
+    ≡ Select (record { lets = []; body = record plain_query { from = inner 17 end; project = col 1 1 ∷ col 1 2 ∷ [] } }) (codes "grp" ∷ codes "member" ∷ [])
+unfolding understood everything
+read_reach_is = refl
+
+pub read_reach_plain : IsPlain (understood book_schema text.read_reach)
+unfolding understood everything
+read_reach_plain = (refl, refl)
+
+pub read_reach_unlisted : reads_listing book_schema text.read_reach ≡ false
+unfolding understood everything
+read_reach_unlisted = refl
+
+pub read_reached_is : command_of (understood book_schema text.read_reached)
+    ≡ Select (record { lets = []; body = record plain_query { from = inner 17 end; filter = equals 2 0 ∷ []; project = col 1 1 ∷ [] } }) (codes "grp" ∷ [])
+unfolding understood everything
+read_reached_is = refl
+
+pub read_reached_plain : IsPlain (understood book_schema text.read_reached)
+unfolding understood everything
+read_reached_plain = (refl, refl)
+
+pub read_reached_unlisted : reads_listing book_schema text.read_reached ≡ false
+unfolding understood everything
+read_reached_unlisted = refl
+
+pub insert_reach_is : command_of (understood book_schema text.insert_reach) ≡ Insert 6 (Values pair_terms 3)
+unfolding understood everything
+insert_reach_is = refl
+
+pub insert_reach_plain : IsPlain (understood book_schema text.insert_reach)
+unfolding understood everything
+insert_reach_plain = (refl, refl)
+
+pub delete_reach_is : command_of (understood book_schema text.delete_reach) ≡ Delete 6 (record { lets = []; body = rows_where 17 (equals 1 0 ∷ equals 2 1 ∷ []) })
+unfolding understood everything
+delete_reach_is = refl
+
+pub delete_reach_plain : IsPlain (understood book_schema text.delete_reach)
+unfolding understood everything
+delete_reach_plain = (refl, refl)
+
+pub clear_reach_is : command_of (understood book_schema text.clear_reach) ≡ Delete 6 (record { lets = []; body = rows_where 17 [] })
+unfolding understood everything
+clear_reach_is = refl
+
+pub clear_reach_plain : IsPlain (understood book_schema text.clear_reach)
+unfolding understood everything
+clear_reach_plain = (refl, refl)

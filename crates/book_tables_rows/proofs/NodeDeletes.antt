@@ -14,7 +14,7 @@ use Rattle.sqlite_tied.specs.Compute.{everything}
 use Rattle.sqlite_trees.specs.declared.store.Shape.TheVariants.{Table as TableShape}
 use Rattle.sqlite_keyed.proofs.KeyedLemmas.{same_int}
 use Rattle.book_tables_rows.specs.Columns.{node_parent_place}
-use Rattle.book_tables_rows.specs.Schema.{ace2_table, to_node, to_path}
+use Rattle.book_tables_rows.specs.Schema.{ace2_table, reach_table, to_node, to_path}
 use Rattle.book_tables_rows.proofs.Cascades.{IsIdle, one_step_idle}
 use Rattle.book_tables_rows.proofs.Shapes.{key, key_is, has_key_is, deletes_each}
 
@@ -92,7 +92,7 @@ works_idle mid olds nodes entries gone former =
         (on_former, ((λ w e. absurd (by_path olds 5 ace_table w e)), tt)),
         (
           ((λ w e. absurd (by_path olds 1 member_table w e)), ((λ w e. absurd (by_path olds 2 member_table w e)), tt)),
-          ((on_gone, tt), (tt, ((on_entries, ((λ w e. absurd (by_path olds 5 ace2_table w e)), tt)), tt))),
+          ((on_gone, tt), (tt, ((on_entries, ((λ w e. absurd (by_path olds 5 ace2_table w e)), tt)), (((λ w e. absurd (by_path olds 1 reach_table w e)), ((λ w e. absurd (by_path olds 2 reach_table w e)), tt)), tt)))),
         ),
       ),
     )

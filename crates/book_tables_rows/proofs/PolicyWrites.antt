@@ -5,10 +5,11 @@ use Rattle.sqlite.proofs.StateLemmas.{survives_then}
 use Rattle.book_tables_rows.specs.Adopting.{Place, Listed, Joined, CanAdopt, add_under, write_found, write_place, list_found, write_lists, write_group, in_turn, InTurn, written_rows, adopted_rows, adopting}
 use Rattle.book_tables_rows.specs.Rows.{in_store}
 use Rattle.book_tables_rows.specs.Writes as writes
+use Rattle.book_tables_rows.specs.Writes.{Pair}
 use Rattle.book_tables_rows.specs.Steps.{Change, Leads, MayLeave}
 use Rattle.book_tables_rows.proofs.Becoming.{as_book}
 use Rattle.book_tables_rows.proofs.CardPuts.{told_row}
-use Rattle.book_tables_rows.proofs.ListSettings.{Plan, Awaits, goes_on, ends, leads_then, meta_of_list, meta_of_members}
+use Rattle.book_tables_rows.proofs.ListSettings.{Plan, Awaits, goes_on, ends, leads_then, meta_of_list, meta_of_members, meta_of_reach}
 
 -- ---- a node that is written
 
@@ -87,9 +88,9 @@ meta_written places lists groups rows =
 
 -- ---- and the epoch
 
-module _ (old before between new : State) (places : List Place) (lists : List Listed) (groups : List Joined) (epoch : ℕ) (first : Looks old before) (epoch_found : ShowsEpoch old epoch)
-    (written : Leads before between (CanAdopt places lists) (written_rows places lists groups)) (raised : BecomesIf between new HasMeta (writes.set_epoch (epoch + 1))) where
-  pub adopts : Makes old new (adopting places lists groups)
+module _ (old before between after new : State) (places : List Place) (lists : List Listed) (groups : List Joined) (gone come : List Pair) (epoch : ℕ) (first : Looks old before) (epoch_found : ShowsEpoch old epoch)
+    (written : Leads before between (CanAdopt places lists) (written_rows places lists groups)) (renewed : Leads between after (λ _. ⊤) (writes.renew_reach gone come)) (raised : BecomesIf after new HasMeta (writes.set_epoch (epoch + 1))) where
+  pub adopts : Makes old new (adopting places lists groups gone come)
   adopts = record {
     inside = raised.inside;
     was_open = epoch_found.0;
@@ -101,14 +102,16 @@ module _ (old before between new : State) (places : List Place) (lists : List Li
         let book_before = subst IsBook (sym before_is) book in
         let x = written.rows book_before in
         let between_is : rows_of between.now.trees ≡ written_rows places lists groups rows = x.1 ∙ ap (λ (d : Database). written_rows places lists groups (rows_of d.trees)) before_is in
-        let meta_is : (rows_of between.now.trees).meta ≡ rows.meta = ap (λ (r : Rows). r.meta) between_is ∙ meta_written places lists groups rows in
-        let y = raised.rows x.0 (fits.meta.0, subst (λ m. IsMeta m fits.meta.0) (sym meta_is) fits.meta.1) in (
+        let z = renewed.rows x.0 in
+        let after_is : rows_of after.now.trees ≡ writes.renew_reach gone come (written_rows places lists groups rows) = z.1 ∙ ap (writes.renew_reach gone come) between_is in
+        let meta_is : (rows_of after.now.trees).meta ≡ rows.meta = ap (λ (r : Rows). r.meta) after_is ∙ meta_of_reach gone come (written_rows places lists groups rows) ∙ meta_written places lists groups rows in
+        let y = raised.rows z.0 (fits.meta.0, subst (λ m. IsMeta m fits.meta.0) (sym meta_is) fits.meta.1) in (
           y.0,
           record {
             there = subst (λ (d : Database). CanAdopt places lists (rows_of d.trees)) before_is (written.such book_before);
             epoch = fits.meta.0;
             meta = fits.meta.1;
-            rows_are = y.1 ∙ ap (writes.set_epoch (epoch + 1)) between_is ∙ ap (λ n. adopted_rows places lists groups (n + 1) rows) epoch_is;
+            rows_are = y.1 ∙ ap (writes.set_epoch (epoch + 1)) after_is ∙ ap (λ n. adopted_rows places lists groups gone come (n + 1) rows) epoch_is;
           },
         );
   }

@@ -19,7 +19,7 @@ use Rattle.book_tables_rows.proofs.Ordering.{answers_in_order, answers_first, co
 module _ (sql : List ℕ) (names : List (List ℕ)) (tree : ℕ) (terms project : List Term) (is : command_of (understood book_schema sql) ≡ Select (record { lets = []; body = simple tree terms project }) names)
     (plain : IsPlain (understood book_schema sql)) (unlisted : reads_listing book_schema sql ≡ false) (params : Row) (p : Row → Bool) (shown : Row → Row)
     (own : (db : Trees) → overlay db [] tree ≡ db tree) (tests : (r : Row) → passes params terms r ≡ p r) (shows : (r : Row) → shown_by params project r ≡ shown r) where
-  picks : (old new : State) (rows : List Row) → Shown sql params old new rows → IsBook old.now → IsPermutation (map shown (filter p (old.now.trees tree))) rows
+  pub picks : (old new : State) (rows : List Row) → Shown sql params old new rows → IsBook old.now → IsPermutation (map shown (filter p (old.now.trees tree))) rows
   picks old new rows h book =
       let db = old.now.trees in
       let read = (reads_as sql params old new book_schema book.schema _ is plain unlisted rows h).answer Null in

@@ -10,7 +10,7 @@ use Rattle.book_tables_rows.specs.declared.adopting.PlaceRow.{PlaceRow}
 use Rattle.book_tables_rows.specs.Nodes.{FitEpoch, said}
 use Rattle.book_tables_rows.specs.Rows.{Rows}
 use Rattle.book_tables_rows.specs.Steps.{Change, change_of}
-use Rattle.book_tables_rows.specs.Writes.{Said, IsMeta, is_at, insert_node, set_epoch, set_place, write_both, write_members}
+use Rattle.book_tables_rows.specs.Writes.{Pair, Said, IsMeta, is_at, insert_node, renew_reach, set_epoch, set_place, write_both, write_members}
 
 -- ---- what is written
 
@@ -107,16 +107,16 @@ written_rows places lists groups rows = in_turn write_group groups (in_turn writ
 abbrev pub CanAdopt : List Place → List Listed → Rows → Type 0
 CanAdopt places lists rows = InTurn CanPlace write_place places rows × InTurn CanList write_lists lists (in_turn write_place places rows)
 
--- and another epoch
-abbrev pub adopted_rows : List Place → List Listed → List Joined → ℕ → Rows → Rows
-adopted_rows places lists groups epoch rows = set_epoch epoch (written_rows places lists groups rows)
+-- and `reach` renewed, with another epoch
+abbrev pub adopted_rows : List Place → List Listed → List Joined → List Pair → List Pair → ℕ → Rows → Rows
+adopted_rows places lists groups old new epoch rows = set_epoch epoch (renew_reach old new (written_rows places lists groups rows))
 
 -- the rows after a policy was adopted, with the next epoch
-pub record AdoptsPolicy (rows after : Rows) (places : List Place) (lists : List Listed) (groups : List Joined) : Type 0 where
+pub record AdoptsPolicy (rows after : Rows) (places : List Place) (lists : List Listed) (groups : List Joined) (old new : List Pair) : Type 0 where
   pub there : CanAdopt places lists rows
   pub epoch : ℕ
   pub meta : IsMeta rows.meta epoch
-  pub rows_are : after ≡ adopted_rows places lists groups (epoch + 1) rows
+  pub rows_are : after ≡ adopted_rows places lists groups old new (epoch + 1) rows
 
-abbrev pub adopting : List Place → List Listed → List Joined → Change
-adopting places lists groups = record { Fits = FitEpoch; Makes = λ rows after. AdoptsPolicy rows after places lists groups }
+abbrev pub adopting : List Place → List Listed → List Joined → List Pair → List Pair → Change
+adopting places lists groups old new = record { Fits = FitEpoch; Makes = λ rows after. AdoptsPolicy rows after places lists groups old new }

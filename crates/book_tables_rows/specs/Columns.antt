@@ -1,4 +1,4 @@
--- The columns of the five tables by their names. A row begins with its number, and its columns stand from place 1 on.
+-- The columns of the tables by their names. A row begins with its number, and its columns stand from place 1 on.
 use Rattle.std.specs.Prelude.{ℕ}
 use Rattle.sqlite.specs.declared.types.Value.{Value}
 use Rattle.sqlite.specs.Order.{Row, column}
@@ -79,6 +79,14 @@ meta_version row = column row 1
 abbrev pub meta_epoch : Row → Value
 meta_epoch row = column row 2
 
+-- ---- reach
+
+abbrev pub reach_group : Row → Value
+reach_group row = column row 1
+
+abbrev pub reach_member : Row → Value
+reach_member row = column row 2
+
 -- ---- the places of the columns by which rows are looked for
 
 abbrev pub rowid_place : ℕ
@@ -113,3 +121,9 @@ member_group_place = 1
 
 abbrev pub member_member_place : ℕ
 member_member_place = 2
+
+abbrev pub reach_group_place : ℕ
+reach_group_place = 1
+
+abbrev pub reach_member_place : ℕ
+reach_member_place = 2

@@ -7,3 +7,4 @@ pub mod Steps
 pub mod Nodes
 pub mod Lists
 pub mod Adopting
+pub mod Reach

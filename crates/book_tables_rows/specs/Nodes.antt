@@ -11,7 +11,7 @@ use Rattle.book_tables_rows.specs.declared.nodes.FoundNode.{FoundNode}
 use Rattle.book_tables_rows.specs.declared.setting.EntryRow.{EntryRow}
 use Rattle.book_tables_rows.specs.Rows.{Rows, rows_of, has, IsBook}
 use Rattle.book_tables_rows.specs.Steps.{Change, change_of}
-use Rattle.book_tables_rows.specs.Writes.{is_at, is_mapped, is_under, put_card_rows, remove_book_rows, remove_cards, remove_card_rows, add_book_rows, set_label_rows, label_card_rows, put_copy_rows, clear_at, leave_book, arrive_in, delete_gone, delete_entries_below, delete_entries, Said, set_list_rows, set_members_rows, AreFree, IsMeta, HasMeta}
+use Rattle.book_tables_rows.specs.Writes.{Pair, is_at, is_mapped, is_under, put_card_rows, remove_book_rows, remove_cards, remove_card_rows, add_book_rows, set_label_rows, label_card_rows, put_copy_rows, clear_at, leave_book, arrive_in, delete_gone, delete_entries_below, delete_entries, Said, set_list_rows, set_members_rows, AreFree, IsMeta, HasMeta}
 
 abbrev pub number_in : Value → ℕ
 number_in (Int (pos n)) = n
@@ -206,11 +206,11 @@ pub record SetsList (rows after : Rows) (path : List ℕ) (list : List Said) : T
 abbrev pub setting_list : List ℕ → List Said → Change
 setting_list path list = record { Fits = FitEpoch; Makes = λ rows after. SetsList rows after path list }
 
--- the rows after the direct members of a group were written, with the next epoch
-pub record SetsMembers (rows after : Rows) (group : List ℕ) (members : List (List ℕ)) : Type 0 where
+-- the rows after the direct members of a group were written and `reach` was renewed, with the next epoch
+pub record SetsMembers (rows after : Rows) (group : List ℕ) (members : List (List ℕ)) (old new : List Pair) : Type 0 where
   pub epoch : ℕ
   pub meta : IsMeta rows.meta epoch
-  pub rows_are : after ≡ set_members_rows group members (epoch + 1) rows
+  pub rows_are : after ≡ set_members_rows group members old new (epoch + 1) rows
 
-abbrev pub setting_members : List ℕ → List (List ℕ) → Change
-setting_members group members = record { Fits = FitEpoch; Makes = λ rows after. SetsMembers rows after group members }
+abbrev pub setting_members : List ℕ → List (List ℕ) → List Pair → List Pair → Change
+setting_members group members old new = record { Fits = FitEpoch; Makes = λ rows after. SetsMembers rows after group members old new }

@@ -21,6 +21,9 @@ create_gone = codes "CREATE TABLE gone (book INTEGER NOT NULL REFERENCES node ON
 abbrev pub create_meta : List ℕ
 create_meta = codes "CREATE TABLE meta (version INTEGER NOT NULL, epoch INTEGER NOT NULL) STRICT"
 
+abbrev pub create_reach : List ℕ
+create_reach = codes "CREATE TABLE reach (grp TEXT NOT NULL REFERENCES node (path), member TEXT NOT NULL REFERENCES node (path), PRIMARY KEY (member, grp)) STRICT"
+
 abbrev pub index_parent : List ℕ
 index_parent = codes "CREATE INDEX node_parent ON node (parent, number)"
 
@@ -38,6 +41,9 @@ index_entries = codes "CREATE INDEX ace2_principal ON ace2 (principal)"
 
 abbrev pub index_gone : List ℕ
 index_gone = codes "CREATE INDEX gone_book ON gone (book, number)"
+
+abbrev pub index_reach : List ℕ
+index_reach = codes "CREATE INDEX reach_grp ON reach (grp)"
 
 -- ---- those that read
 
@@ -89,6 +95,13 @@ read_epoch = codes "SELECT version, epoch FROM meta"
 abbrev pub read_members : List ℕ
 read_members = codes "SELECT grp, member FROM member"
 
+abbrev pub read_reach : List ℕ
+read_reach = codes "SELECT grp, member FROM reach"
+
+-- the groups that are kept of a member
+abbrev pub read_reached : List ℕ
+read_reached = codes "SELECT grp FROM reach WHERE member = ?1"
+
 abbrev pub insert_gone : List ℕ
 insert_gone = codes "INSERT INTO gone (book, name, number) VALUES (?1, ?2, ?3)"
 
@@ -97,6 +110,15 @@ insert_entry = codes "INSERT INTO ace2 (node, protected, place, form, principal,
 
 abbrev pub insert_member : List ℕ
 insert_member = codes "INSERT INTO member (grp, member) VALUES (?1, ?2)"
+
+abbrev pub insert_reach : List ℕ
+insert_reach = codes "INSERT INTO reach (grp, member) VALUES (?1, ?2)"
+
+abbrev pub delete_reach : List ℕ
+delete_reach = codes "DELETE FROM reach WHERE grp = ?1 AND member = ?2"
+
+abbrev pub clear_reach : List ℕ
+clear_reach = codes "DELETE FROM reach"
 
 abbrev pub insert_meta : List ℕ
 insert_meta = codes "INSERT INTO meta (version, epoch) VALUES (?1, ?2)"

@@ -11,7 +11,7 @@ use Rattle.sqlite.specs.Edit.{next_rowid, id_in}
 use Rattle.sqlite.specs.Tree.{rowid}
 use Rattle.sqlite_keyed.specs.Lists.{update_where, delete_where, sort_by}
 use Rattle.std.specs.declared.cmp.Ordering.{Ordering}
-use Rattle.book_tables_rows.specs.Columns.{ace_node, ace_node_place, ace_place, ace_protected_place, gone_book_place, gone_name_place, member_group_place, meta_version, node_kind, node_label, node_number, node_owner, node_parent, node_parent_place, node_path, node_path_place, node_text, rowid_place}
+use Rattle.book_tables_rows.specs.Columns.{ace_node, ace_node_place, ace_place, ace_protected_place, gone_book_place, gone_name_place, member_group_place, meta_version, node_kind, node_label, node_number, node_owner, node_parent, node_parent_place, node_path, node_path_place, node_text, rowid_place, reach_group_place, reach_member_place}
 use Rattle.book_tables_rows.specs.Rows.{Rows, has}
 
 -- a value, or NULL
@@ -120,6 +120,22 @@ insert_entry node protected place form principal invert deny mask rows =
 
 abbrev pub insert_member : List ℕ → List ℕ → Rows → Rows
 insert_member group member rows = record rows { members = rows.members ++ (Int (next_rowid rows.members) ∷ Text group ∷ Text member ∷ []) ∷ [] }
+
+abbrev pub reach_row : ℤ → List ℕ → List ℕ → Row
+reach_row id group member = Int id ∷ Text group ∷ Text member ∷ []
+
+abbrev pub insert_reach : List ℕ → List ℕ → Rows → Rows
+insert_reach group member rows = record rows { reach = rows.reach ++ reach_row (next_rowid rows.reach) group member ∷ [] }
+
+-- a row of `reach` is of this group and this member
+abbrev pub is_pair : List ℕ → List ℕ → Row → Bool
+is_pair group member row = has reach_group_place (Text group) row && has reach_member_place (Text member) row
+
+abbrev pub delete_reach : List ℕ → List ℕ → Rows → Rows
+delete_reach group member rows = record rows { reach = delete_where (is_pair group member) rows.reach }
+
+abbrev pub clear_reach : Rows → Rows
+clear_reach rows = record rows { reach = delete_where (λ _. true) rows.reach }
 
 abbrev pub insert_meta : ℕ → ℕ → Rows → Rows
 insert_meta version epoch rows = record rows { meta = rows.meta ++ (Int (next_rowid rows.meta) ∷ Int (pos version) ∷ Int (pos epoch) ∷ []) ∷ [] }
@@ -262,9 +278,26 @@ insert_members group (member ∷ more) rows = insert_members group more (insert_
 abbrev pub write_members : List ℕ → List (List ℕ) → Rows → Rows
 write_members group members rows = insert_members group members (delete_members group rows)
 
--- PROPPATCH of a group's members (RFC 3744, 4.3): the group has these, and the epoch is another
-abbrev pub set_members_rows : List ℕ → List (List ℕ) → ℕ → Rows → Rows
-set_members_rows group members epoch rows = set_epoch epoch (write_members group members rows)
+-- a group, and whoever a chain of members leads to from it
+pub record Pair : Type 0 where
+  pub group : List ℕ
+  pub member : List ℕ
+
+abbrev pub delete_pairs : List Pair → Rows → Rows
+delete_pairs [] rows = rows
+delete_pairs (pair ∷ more) rows = delete_pairs more (delete_reach pair.group pair.member rows)
+
+abbrev pub insert_pairs : List Pair → Rows → Rows
+insert_pairs [] rows = rows
+insert_pairs (pair ∷ more) rows = insert_pairs more (insert_reach pair.group pair.member rows)
+
+-- the rows of some pairs are taken out of `reach`, and those of others are added
+abbrev pub renew_reach : List Pair → List Pair → Rows → Rows
+renew_reach old new rows = insert_pairs new (delete_pairs old rows)
+
+-- PROPPATCH of a group's members (RFC 3744, 4.3): the group has these, `reach` is renewed, and the epoch is another
+abbrev pub set_members_rows : List ℕ → List (List ℕ) → List Pair → List Pair → ℕ → Rows → Rows
+set_members_rows group members old new epoch rows = set_epoch epoch (renew_reach old new (write_members group members rows))
 
 -- ---- rows that a write fits
 

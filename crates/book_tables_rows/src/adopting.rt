@@ -8,11 +8,13 @@ ghost use Rattle.book_tables_rows.specs.Adopting as policy;
 ghost use Rattle.book_tables_rows.specs.Adopting.{CanAdopt, CanList, CanPlace, InTurn, adding, adopting, in_turn, joined, listed_row, placed_row, written_rows};
 ghost use Rattle.book_tables_rows.specs.Lists.{BothListsAreRead, ListsOfOthersStay};
 ghost use Rattle.book_tables_rows.specs.Nodes.{said};
+ghost use Rattle.book_tables_rows.specs.Reach.{pair_said};
 ghost use Rattle.book_tables_rows.specs.Steps.{Advances, AdvancesFrom, Commits, Keeps, MayLeave, Performs, Stays, Writes};
 ghost use Rattle.book_tables_rows.specs.Writes as writes;
 
 use crate::epochs::{read_epoch, set_epoch};
 use crate::nodes::{LAST_NUMBER, delete_entries, insert_node, look_up, set_place};
+use crate::reach::{ReachRow, renew_reach};
 use crate::setting::{EntryRow, insert_list, write_members};
 use sqlite::{Alter, Connection, Error, ErrorCode, Transaction};
 
@@ -211,55 +213,63 @@ fn write_policy<S: Alter>(
     write_groups(transaction, groups)
 }
 
-/// Writes what a policy changes; the epoch rises.
+/// Writes what a policy changes, and renews `reach`; the epoch rises.
 fn write_policy_and_epoch<S: Alter>(
     transaction: &mut Transaction<'_, S>,
     places: &[PlaceRow],
     lists: &[ListsRow],
     groups: &[GroupRow],
+    old: &[ReachRow],
+    new: &[ReachRow],
 ) -> Result<(), Error>
     ensures same_reference { transaction.new.conn.ghost_name ≡ transaction.old.conn.ghost_name }
     ensures survives { Survives (state S.Store transaction.old.conn.now) (state S.Store transaction.new.conn.now)
         (λ _. ⊥) }
     ensures kept { Keeps (state S.Store transaction.old.conn.now) (state S.Store transaction.new.conn.now) }
     ensures done { Performs (state S.Store transaction.old.conn.now) (state S.Store transaction.new.conn.now) result
-        (adopting (map placed_row places.now) (map listed_row lists.now) (map joined groups.now)) }
+        (adopting (map placed_row places.now) (map listed_row lists.now) (map joined groups.now)
+        (map pair_said old.now) (map pair_said new.now)) }
 {
     let epoch = read_epoch(transaction)?;
     if epoch >= LAST_NUMBER {
         return Err(Error::QueryReturnedNoRows);
     }
     write_policy(transaction, places, lists, groups)?;
+    renew_reach(transaction, old, new)?;
     set_epoch(transaction, epoch + 1)
 }
 
 /// Adopting a policy (own profile): each place gets its owner and its label, and a row of its own under its parent's
-/// where none has its path; then each node gets both its lists, in their order, and each group its direct members; the
-/// epoch rises. A node that is added has no text and the number 0; one that is there keeps both. So a parent or an owner
-/// that is added comes before what names it. Where no row has the path of a parent of a node that is added, or of a
-/// node whose lists are written, or the epoch is at its last value, nothing is changed and it answers
-/// `QueryReturnedNoRows`; each other error is that of the store, among them the path of an owner, principal, group or
-/// member that no row has and a member that is named twice, and leaves the tables as they were.
+/// where none has its path; then each node gets both its lists, in their order, and each group its direct members, and
+/// `reach` is renewed: the rows of some pairs are taken out of it, and those of others are added; the epoch rises. A
+/// node that is added has no text and the number 0; one that is there keeps both. So a parent or an owner that is added
+/// comes before what names it. Where no row has the path of a parent of a node that is added, or of a node whose lists
+/// are written, or the epoch is at its last value, nothing is changed and it answers `QueryReturnedNoRows`; each other
+/// error is that of the store, among them the path of an owner, principal, group or member that no row has and a member
+/// or a pair that is named twice, and leaves the tables as they were.
 pub fn adopt_rows<S: Alter>(
     connection: &mut Connection<S>,
     places: &[PlaceRow],
     lists: &[ListsRow],
     groups: &[GroupRow],
+    old: &[ReachRow],
+    new: &[ReachRow],
 ) -> Result<(), Error>
     ensures made { HasCleanDisk (state S.Store connection.new)
         → OnOk result (Commits (state S.Store connection.old) (state S.Store connection.new)
-        (adopting (map placed_row places.now) (map listed_row lists.now) (map joined groups.now))) }
+        (adopting (map placed_row places.now) (map listed_row lists.now) (map joined groups.now)
+        (map pair_said old.now) (map pair_said new.now))) }
     ensures kept { HasCleanDisk (state S.Store connection.new)
         → OnErr result (Stays (state S.Store connection.old) (state S.Store connection.new)) }
     ensures left { Survives (state S.Store connection.old) (state S.Store connection.new)
         (MayLeave (state S.Store connection.old) (adopting (map placed_row places.now) (map listed_row lists.now)
-        (map joined groups.now))) }
+        (map joined groups.now) (map pair_said old.now) (map pair_said new.now))) }
 {
     if !connection.is_autocommit() {
         return Err(Error::SqliteFailure(ErrorCode::TransactionState));
     }
     let mut transaction = connection.transaction();
-    write_policy_and_epoch(&mut transaction, places, lists, groups)?;
+    write_policy_and_epoch(&mut transaction, places, lists, groups, old, new)?;
     transaction.commit()
 }
 

@@ -1,15 +1,15 @@
 //! The tables of a store as lists of rows, and the fixed SQL texts that read and write them.
 //!
 //! It stands on `sqlite`, knows of tables alone, and nothing of an Office. The crate above uses two promises. A read
-//! inside a transaction leaves the five tables as they were and tells rows of them. An edit is one whole
-//! transaction: at `Ok` it is committed and has made of the five lists of rows what its change says; at an error an
+//! inside a transaction leaves the tables as they were and tells rows of them. An edit is one whole
+//! transaction: at `Ok` it is committed and has made of the lists of rows what its change says; at an error an
 //! open connection shows what it showed; and a stop may leave the tables as before or as after it, and no third.
 //!
 //! Read `specs/Schema` first, the tables with their columns and rules; `specs/Writes`, what each statement and each
-//! edit makes of the rows; `specs/Steps`, what a call does to a connection; and `specs/Nodes`, `specs/Adopting`
-//! and `specs/Lists`, the changes that edits make and what reads tell. Of the code, `nodes`, `cards` and
-//! `epochs` have one statement a function; `putting`, `changing`, `removing`, `copying`, `moving`, `labels`, `setting`
-//! and `adopting` the edits; `lists` and `counting` the reads of several rows.
+//! edit makes of the rows; `specs/Steps`, what a call does to a connection; and `specs/Nodes`, `specs/Adopting` and
+//! `specs/Lists`, the changes that edits make and what reads tell. Of the code, `nodes`, `cards` and `epochs` have one
+//! statement a function; `putting`, `changing`, `removing`, `copying`, `moving`, `labels`, `setting` and `adopting` the
+//! edits; `reach` has what is kept of chains of members; `lists` and `counting` the reads of several rows.
 #![tactic(auto)]
 
 mod adopting;
@@ -23,6 +23,7 @@ mod lists;
 mod moving;
 mod nodes;
 mod putting;
+mod reach;
 mod removing;
 mod setting;
 
@@ -38,5 +39,6 @@ pub use lists::{
 pub use moving::move_card;
 pub use nodes::{FoundNode, insert_node, look_up};
 pub use putting::put_card;
+pub use reach::{ReachRow, clear_reach, reach_rows, reached_rows, renew_reach};
 pub use removing::remove_book;
 pub use setting::{EntryRow, set_list, set_members, written_lists_are_read};

@@ -6,11 +6,13 @@ ghost use Rattle.sqlite.specs.Held.{state};
 ghost use Rattle.sqlite.specs.State.{HasCleanDisk, Survives};
 ghost use Rattle.book_tables_rows.specs.Lists.{OtherListsStay, WrittenListsAreRead};
 ghost use Rattle.book_tables_rows.specs.Nodes.{said, setting_list, setting_members};
+ghost use Rattle.book_tables_rows.specs.Reach.{pair_said};
 ghost use Rattle.book_tables_rows.specs.Writes as writes;
 ghost use Rattle.book_tables_rows.specs.Steps.{Advances, Commits, Keeps, MayLeave, Performs, Stays, Writes};
 
 use crate::epochs::{read_epoch, set_epoch};
 use crate::nodes::{LAST_NUMBER, look_up};
+use crate::reach::{ReachRow, renew_reach};
 use sqlite::{Alter, Connection, Error, ErrorCode, Transaction, params};
 
 /// An entry of a list as its row tells it, but for the node, the list and the place. The forms are 0 a path, 1 all,
@@ -238,47 +240,54 @@ pub(crate) fn write_members<S: Alter>(
     insert_members(transaction, group, members)
 }
 
-/// Writes the members; the epoch rises.
+/// Writes the members, and renews `reach`; the epoch rises.
 fn write_members_and_epoch<S: Alter>(
     transaction: &mut Transaction<'_, S>,
     group: &str,
     members: &[String],
+    old: &[ReachRow],
+    new: &[ReachRow],
 ) -> Result<(), Error>
     ensures same_reference { transaction.new.conn.ghost_name ≡ transaction.old.conn.ghost_name }
     ensures survives { Survives (state S.Store transaction.old.conn.now) (state S.Store transaction.new.conn.now)
         (λ _. ⊥) }
     ensures kept { Keeps (state S.Store transaction.old.conn.now) (state S.Store transaction.new.conn.now) }
     ensures done { Performs (state S.Store transaction.old.conn.now) (state S.Store transaction.new.conn.now) result
-        (setting_members group.now (map string_bytes members.now)) }
+        (setting_members group.now (map string_bytes members.now) (map pair_said old.now) (map pair_said new.now)) }
 {
     let epoch = read_epoch(transaction)?;
     if epoch >= LAST_NUMBER {
         return Err(Error::QueryReturnedNoRows);
     }
     write_members(transaction, group, members)?;
+    renew_reach(transaction, old, new)?;
     set_epoch(transaction, epoch + 1)
 }
 
-/// The group at a path gets these direct members, each named once (RFC 3744, 4.3); the epoch rises. Where the epoch
+/// The group at a path gets these direct members, each named once (RFC 3744, 4.3), and `reach` is renewed: the rows of
+/// some pairs are taken out of it, and those of others are added; the epoch rises. Where the epoch
 /// is at its last value, nothing is changed and it answers `QueryReturnedNoRows`; each other error is that of the
 /// store, among them a path that no row has and a member that is named twice, and leaves the tables as they were.
 pub fn set_members<S: Alter>(
     connection: &mut Connection<S>,
     group: &str,
     members: &[String],
+    old: &[ReachRow],
+    new: &[ReachRow],
 ) -> Result<(), Error>
     ensures made { HasCleanDisk (state S.Store connection.new)
         → OnOk result (Commits (state S.Store connection.old) (state S.Store connection.new)
-        (setting_members group.now (map string_bytes members.now))) }
+        (setting_members group.now (map string_bytes members.now) (map pair_said old.now) (map pair_said new.now))) }
     ensures kept { HasCleanDisk (state S.Store connection.new)
         → OnErr result (Stays (state S.Store connection.old) (state S.Store connection.new)) }
     ensures left { Survives (state S.Store connection.old) (state S.Store connection.new)
-        (MayLeave (state S.Store connection.old) (setting_members group.now (map string_bytes members.now))) }
+        (MayLeave (state S.Store connection.old) (setting_members group.now (map string_bytes members.now)
+        (map pair_said old.now) (map pair_said new.now))) }
 {
     if !connection.is_autocommit() {
         return Err(Error::SqliteFailure(ErrorCode::TransactionState));
     }
     let mut transaction = connection.transaction();
-    write_members_and_epoch(&mut transaction, group, members)?;
+    write_members_and_epoch(&mut transaction, group, members, old, new)?;
     transaction.commit()
 }

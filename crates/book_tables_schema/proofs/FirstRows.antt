@@ -32,7 +32,8 @@ module _ (db : Database) (bare : IsBare book_schema db) where
       let members : db.trees 4 ≡ [] = bare.empty.1.1.0 in
       let gone : db.trees 6 ≡ [] = bare.empty.1.1.1.0 in
       let meta : db.trees 8 ≡ [] = bare.empty.1.1.1.1.0 in
-      λ i. record { nodes = nodes i; entries = entries i; members = members i; gone = gone i; meta = meta i }
+      let reach : db.trees 17 ≡ [] = bare.empty.1.1.1.1.1.1.0 in
+      λ i. record { nodes = nodes i; entries = entries i; members = members i; gone = gone i; meta = meta i; reach = reach i }
 
 pub founds : (old between new : State) → Extends old between no_schema with_all → Becomes between new insert_first → Founds old new
 founds old between new made written = record {

@@ -65,7 +65,8 @@ emptied old new count h tabled =
     let members = applied.tables.1.1.0 (λ e. omega (arith, e)) in
     let gone = applied.tables.1.1.1.0 (λ e. omega (arith, e)) in
     let meta = applied.tables.1.1.1.1.0 (λ e. omega (arith, e)) in
-    let entries = applied.tables.1.1.1.1.1.0 (λ e. omega (arith, e)) in (
+    let entries = applied.tables.1.1.1.1.1.0 (λ e. omega (arith, e)) in
+    let reach = applied.tables.1.1.1.1.1.1.0 (λ e. omega (arith, e)) in (
       record {
         schema = it.2.schema;
         rules = it.2.sound;
@@ -75,5 +76,5 @@ emptied old new count h tabled =
         ];
         former = former;
       },
-      λ i. record { nodes = nodes i; entries = entries i; members = members i; gone = gone i; meta = meta i },
+      λ i. record { nodes = nodes i; entries = entries i; members = members i; gone = gone i; meta = meta i; reach = reach i },
     )

@@ -6,3 +6,4 @@ pub mod WholeTables
 pub mod FormerRows
 pub mod SecondVersion
 pub mod WidenedRows
+pub mod DroppedReach

@@ -17,15 +17,17 @@ rows_rise v schema sound listed ordered t there =
     let shape = table_shape listed (objects_rise v listed ordered).0 sound.lists.listed t there in
     subst (λ s. IsShaped s (v.trees t.tree)) shape.0 (ordered t.tree)
 
--- tables with a schema, read from a store that is not broken, rise by their numbers
-pub tabled_of : (wanted : Schema) (v : View) (db : Database) → db.trees ≡ v.trees → IsDatabase db → IsListed (v.trees catalog_tree) v.shape v.reals → IsOrdered v.shape v.trees → db.schema ≡ wanted → HasTables wanted db
-tabled_of wanted v db trees rules listed ordered has = record {
-  schema = has;
+-- tables that were read from a store that is not broken rise by their numbers
+pub tabled_of : (v : View) (db : Database) → db.trees ≡ v.trees → IsDatabase db → IsListed (v.trees catalog_tree) v.shape v.reals → IsOrdered v.shape v.trees → HasTables db.schema db
+tabled_of v db trees rules listed ordered = record {
+  schema = refl;
   rules = rules;
-  rising = λ t there.
-      subst (λ x. IsShaped Table (x t.tree)) (sym trees)
-      (rows_rise v db.schema (subst (IsSound db.schema) trees rules) listed ordered t (subst (λ s. Has s.tables t) (sym has) there));
+  rising = λ t there. subst (λ x. IsShaped Table (x t.tree)) (sym trees) (rows_rise v db.schema (subst (IsSound db.schema) trees rules) listed ordered t there);
 }
+
+-- their schema is this one
+pub tables_as : (wanted : Schema) (db : Database) → HasTables db.schema db → db.schema ≡ wanted → HasTables wanted db
+tables_as wanted db tables has = record { schema = has; rules = tables.rules; rising = λ t there. tables.rising t (subst (λ s. Has s.tables t) (sym has) there) }
 
 -- a store that is not broken is open
 pub open_of : (is_open broken : Bool) → (is_open ≡ false → IsTrue broken) → broken ≡ false → IsTrue is_open

@@ -1,6 +1,6 @@
 -- What the texts that make tables and indexes leave.
 use Rattle.book_tables_schema.proofs.Common.{◌≡◌, false, List, [], ◌∷◌, codes, refl, sym, subst, ◌∙◌, Database, Schema, State, Extends, no_schema, with_all}
-use Rattle.std.proofs.Common.{ℕ, slice_get, Some, None, Ok, ap}
+use Rattle.std.proofs.Common.{inl, inr, ℕ, ◌++◌, slice_get, Some, None, Ok, ap}
 use Rattle.std.specs.List.{AllByRecursion}
 use Rattle.sqlite.specs.Command.TheVariants.{CreateIndex}
 use Rattle.sqlite.specs.Compile.{table_defined_by, index_defined_by}
@@ -11,16 +11,20 @@ use Rattle.sqlite.specs.Table.{Table}
 use Rattle.sqlite.specs.Tree.{Trees}
 use Rattle.sqlite.proofs.Callers.{runs_as}
 use Rattle.sqlite_catalog.specs.Change.{created, indexed, next_tree, KeepsRows}
+use Rattle.sqlite_rules.specs.Lists.{Has}
 use Rattle.sqlite_schema.specs.declared.schema.Index.{Index}
+use Rattle.sqlite_trees.specs.View.{IsShaped}
+use Rattle.sqlite_trees.specs.declared.store.Shape.TheVariants.{Table as TableShape}
 use Rattle.sqlite_tied.specs.Compute.{everything}
 use Rattle.book_tables_rows.proofs.Creating.{creates, AddsIndex}
 use Rattle.book_tables_rows.proofs.Meanings as meaning
 use Rattle.book_tables_rows.proofs.Meanings.{MakesTable}
 use Rattle.book_tables_rows.proofs.Statements.{went, same_value}
-use Rattle.book_tables_rows.specs.Schema.{node_table, ace_table, member_table, gone_table, meta_table, ace2_table, plain_index}
+use Rattle.book_tables_rows.specs.Schema.{node_table, ace_table, member_table, gone_table, meta_table, ace2_table, reach_table, base_schema, book_schema, plain_index}
 use Rattle.book_tables_rows.specs.Texts as text
 use Rattle.book_tables_rows.proofs.NodeDeletes.{all_append}
-use Rattle.book_tables_schema.specs.Founding.{Renews, Ran, with_node, with_ace, with_member, with_gone, with_meta, with_parent, with_owner, with_principal, with_first, with_ace2, with_entries}
+use Rattle.book_tables_schema.specs.Founding.{GetsReach, Renews, Ran, with_node, with_ace, with_member, with_gone, with_meta, with_parent, with_owner, with_principal, with_first, with_ace2, with_entries, with_base, with_reach}
+use Rattle.book_tables_schema.specs.Tabled.{HasTables}
 
 still_empty : (old new : Trees) (tables : List Table) → AllByRecursion (λ t. old t.tree ≡ []) tables → KeepsRows tables old new → AllByRecursion (λ t. new t.tree ≡ []) tables
 still_empty old new [] empty kept = tt
@@ -146,7 +150,7 @@ gone_are : index_defined_by gone_table text.index_gone ≡ Ok (plain_index (code
 unfolding understood everything
 gone_are = refl
 
-pub adds_removed : (old new : State) → Ran text.index_gone old new → Extends old new with_entries with_all
+pub adds_removed : (old new : State) → Ran text.index_gone old new → Extends old new with_entries with_base
 unfolding everything
 adds_removed old new = adds_index old new with_entries 3 text.index_gone gone_table _ gone_run refl gone_are
 
@@ -164,9 +168,92 @@ renewed old between with_index new first second third = record {
       let a = table.others in
       let b = index.others in
       let c = last.others in (
-        last.schema_is ∙ meaning.made_is,
+        last.schema_is ∙ meaning.base_is,
         last.sound,
         (c.0 ∙ b.0 ∙ a.0, (c.1.0 ∙ b.1.0 ∙ a.1.0, (c.1.1.0 ∙ b.1.1.0 ∙ a.1.1.0, (c.1.1.1.0 ∙ b.1.1.1.0 ∙ a.1.1.1.0, (c.1.1.1.1.0 ∙ b.1.1.1.1.0 ∙ a.1.1.1.1.0, tt))))),
         c.1.1.1.1.1.0 ∙ b.1.1.1.1.1.0 ∙ table.empty,
+      );
+}
+
+-- ---- `reach`, behind all others
+
+pub adds_reach : (old new : State) → Ran text.create_reach old new → Extends old new with_base with_reach
+unfolding everything
+adds_reach old new = adds_table old new with_base text.create_reach (record reach_table { tree = 0 }) meaning.reach_runs.0 meaning.reach_is refl
+
+pub adds_reach_index : (old new : State) → Ran text.index_reach old new → Extends old new with_reach with_all
+unfolding everything
+adds_reach_index old new = adds_index old new with_reach 6 text.index_reach (record reach_table { tree = 17 }) _ meaning.reach_runs.1 refl meaning.reach_runs.2
+
+-- rows that stay rise still
+pub still_rising : (old new : Trees) (tables : List Table) → ((t : Table) → Has tables t → IsShaped TableShape (old t.tree)) → KeepsRows tables old new → (t : Table) → Has tables t → IsShaped TableShape (new t.tree)
+still_rising old new [] rising kept t there = absurd there
+still_rising old new (u ∷ tables) rising kept t (inl is) = subst (λ (x : Table). IsShaped TableShape (new x.tree)) (sym is) (subst (IsShaped TableShape) (sym kept.0) (rising u (inl refl)))
+still_rising old new (u ∷ tables) rising kept t (inr there) = still_rising old new tables (λ x h. rising x (inr h)) kept.1 t there
+
+pub kept_then : (a b c : Trees) (tables : List Table) → KeepsRows tables a b → KeepsRows tables b c → KeepsRows tables a c
+kept_then a b c [] first second = tt
+kept_then a b c (t ∷ tables) first second = (second.0 ∙ first.0, kept_then a b c tables first.1 second.1)
+
+-- of tables with one more behind them
+kept_front : (a b : Trees) (tables : List Table) (last : Table) → KeepsRows (tables ++ last ∷ []) a b → KeepsRows tables a b × (b last.tree ≡ a last.tree)
+kept_front a b [] last kept = (tt, kept.0)
+kept_front a b (t ∷ tables) last kept = let more = kept_front a b tables last kept.1 in ((kept.0, more.0), more.1)
+
+rising_more : (trees : Trees) (tables : List Table) (last : Table) → ((t : Table) → Has tables t → IsShaped TableShape (trees t.tree)) → trees last.tree ≡ [] → (t : Table) → Has (tables ++ last ∷ []) t → IsShaped TableShape (trees t.tree)
+rising_more trees [] last rising empty t (inl is) = subst (λ (x : Table). IsShaped TableShape (trees x.tree)) (sym is) (subst (IsShaped TableShape) (sym empty) (tt, tt))
+rising_more trees [] last rising empty t (inr there) = absurd there
+rising_more trees (u ∷ tables) last rising empty t (inl is) = rising t (inl is)
+rising_more trees (u ∷ tables) last rising empty t (inr there) = rising_more trees tables last (λ x h. rising x (inr h)) empty t there
+
+base_tables_are : with_base.tables ≡ base_schema.tables
+unfolding everything
+base_tables_are = refl
+
+reach_tables_are : with_reach.tables ≡ base_schema.tables ++ reach_table ∷ []
+unfolding everything
+reach_tables_are = refl
+
+next_is : next_tree with_base ≡ 17
+unfolding everything
+next_is = refl
+
+plain_reach : lacks_sequence (created with_base (record reach_table { tree = 0 })) ≡ false
+unfolding everything
+plain_reach = refl
+
+made_reach : created with_base (record reach_table { tree = 0 }) ≡ with_reach
+unfolding everything
+made_reach = refl
+
+there_reach : slice_get with_reach.tables 6 ≡ Some (record reach_table { tree = 17 })
+unfolding everything
+there_reach = refl
+
+indexed_reach : indexed with_reach (record reach_table { tree = 17 }) (plain_index (codes "reach_grp") 0 17 (1 ∷ [])) ≡ book_schema
+unfolding everything
+indexed_reach = refl
+
+pub gets_reach : (old mid new : State) → Ran text.create_reach old mid → Ran text.index_reach mid new → GetsReach old new
+gets_reach old mid new first second = record {
+  inside = second.1.1.mode;
+  was_open = first.1.1.was_open;
+  is_open = second.1.1.is_open;
+  made = λ base.
+      let added = creates old mid with_base text.create_reach (record reach_table { tree = 0 }) (base.schema ∙ sym meaning.base_is) meaning.reach_runs.0 meaning.reach_is plain_reach first.0 first.1.0 in
+      let index = indexes mid new with_reach 6 text.index_reach (record reach_table { tree = 17 }) (plain_index (codes "reach_grp") 0 17 (1 ∷ [])) (added.schema_is ∙ made_reach) meaning.reach_runs.1 there_reach meaning.reach_runs.2 second.0 second.1.0 in
+      let others : KeepsRows base_schema.tables old.now.trees mid.now.trees = subst (λ ts. KeepsRows ts old.now.trees mid.now.trees) base_tables_are added.others in
+      let empty : mid.now.trees 17 ≡ [] = subst (λ n. mid.now.trees n ≡ []) next_is added.empty in
+      let kept : KeepsRows (base_schema.tables ++ reach_table ∷ []) mid.now.trees new.now.trees = subst (λ ts. KeepsRows ts mid.now.trees new.now.trees) reach_tables_are index.others in
+      let parts = kept_front mid.now.trees new.now.trees base_schema.tables reach_table kept in
+      let both = kept_then old.now.trees mid.now.trees new.now.trees base_schema.tables others parts.0 in
+      let none : new.now.trees 17 ≡ [] = parts.1 ∙ empty in (
+        record {
+          schema = index.schema_is ∙ indexed_reach;
+          rules = index.sound;
+          rising = rising_more new.now.trees base_schema.tables reach_table (still_rising old.now.trees new.now.trees base_schema.tables base.rising both) none;
+        },
+        both,
+        none,
       );
 }

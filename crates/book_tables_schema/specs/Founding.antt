@@ -11,7 +11,8 @@ use Rattle.sqlite.specs.State.{State, HasCleanDisk, ExecutesInside}
 use Rattle.sqlite.specs.Tree.{Trees}
 use Rattle.sqlite_catalog.specs.Change.{created, indexed, KeepsRows}
 use Rattle.book_tables_rows.specs.Rows.{Rows, rows_of, IsBook, in_store}
-use Rattle.book_tables_rows.specs.Schema.{node_table, ace_table, member_table, gone_table, meta_table, ace2_table, ace2_tree, plain_index, first_schema, book_schema}
+use Rattle.book_tables_rows.specs.Schema.{node_table, ace_table, member_table, gone_table, meta_table, ace2_table, ace2_tree, plain_index, first_schema, base_schema, reach_table, reach_tree}
+use Rattle.book_tables_schema.specs.Tabled.{HasTables, IsTabled}
 use Rattle.book_tables_rows.specs.Writes.{node_row, insert_node, insert_meta}
 
 -- ---- the schemas that the texts make, in their order
@@ -52,8 +53,14 @@ with_ace2 = created with_first ace2_table
 abbrev pub with_entries : Schema
 with_entries = indexed with_ace2 ace2_table (plain_index (codes "ace2_principal") 0 0 (5 ∷ []))
 
+abbrev pub with_base : Schema
+with_base = indexed with_entries gone_table (plain_index (codes "gone_book") 0 0 (1 ∷ 3 ∷ []))
+
+abbrev pub with_reach : Schema
+with_reach = created with_base reach_table
+
 abbrev pub with_all : Schema
-with_all = indexed with_entries gone_table (plain_index (codes "gone_book") 0 0 (1 ∷ 3 ∷ []))
+with_all = indexed with_reach reach_table (plain_index (codes "reach_grp") 0 0 (1 ∷ []))
 
 -- a store has these tables, and no row in them
 pub record IsBare (schema : Schema) (db : Database) : Type 0 where
@@ -78,7 +85,7 @@ Extending old new result before after = HasCleanDisk new → IsTrue old.in_trans
 -- ---- the first rows
 
 abbrev pub no_rows : Rows
-no_rows = record { nodes = []; entries = []; members = []; gone = []; meta = [] }
+no_rows = record { nodes = []; entries = []; members = []; gone = []; meta = []; reach = [] }
 
 -- the root, which has no parent
 abbrev pub insert_root : Rows → Rows
@@ -99,7 +106,8 @@ insert_first rows = insert_homes (insert_root (insert_meta 2 0 rows))
 abbrev pub bare_node : ℤ → List ℕ → Value → ℕ → Row
 bare_node id path parent kind = node_row id path parent kind None [] None 0
 
--- the rows of a new store: the root and the three homes, no entry, no member and no removed name, version 2 and epoch 0
+-- the rows of a new store: the root and the three homes, no entry, no member, no removed name and nothing reached, version 2 and
+-- epoch 0
 abbrev pub first_rows : Rows
 first_rows = record {
   nodes = bare_node (pos 1) (codes "/") Null 0 ∷ bare_node (pos 2) (codes "/people") (Int (pos 1)) 1 ∷ bare_node (pos 3) (codes "/groups") (Int (pos 1)) 1 ∷ bare_node (pos 4) (codes "/books") (Int (pos 1)) 1 ∷ [];
@@ -107,6 +115,7 @@ first_rows = record {
   members = [];
   gone = [];
   meta = (Int (pos 1) ∷ Int (pos 2) ∷ Int (pos 0) ∷ []) ∷ [];
+  reach = [];
 }
 
 -- ---- a store is founded
@@ -143,4 +152,13 @@ pub record Renews (old new : State) : Type 0 where
   pub was_open : IsTrue old.is_open
   pub is_open : IsTrue new.is_open
   pub made : old.now.schema ≡ first_schema
-      → (new.now.schema ≡ book_schema) × IsDatabase new.now × KeepsRows first_schema.tables old.now.trees new.now.trees × (new.now.trees ace2_tree ≡ [])
+      → (new.now.schema ≡ base_schema) × IsDatabase new.now × KeepsRows first_schema.tables old.now.trees new.now.trees × (new.now.trees ace2_tree ≡ [])
+
+-- ---- `reach` is made
+
+-- inside a transaction: to the tables of a store without `reach` it came, without a row; all rows stayed
+pub record GetsReach (old new : State) : Type 0 where
+  pub inside : IsTrue new.in_transaction
+  pub was_open : IsTrue old.is_open
+  pub is_open : IsTrue new.is_open
+  pub made : HasTables base_schema old.now → IsTabled new.now × KeepsRows base_schema.tables old.now.trees new.now.trees × (new.now.trees reach_tree ≡ [])

@@ -1,5 +1,6 @@
 pub mod Founding
 pub mod Layout
+pub mod OtherReach
 pub mod Versions
 pub mod Whole
 pub mod Tabled

@@ -15,7 +15,7 @@ pub record HasTables (wanted : Schema) (db : Database) : Type 0 where
   pub rules : IsDatabase db
   pub rising : (t : Table) → Has wanted.tables t → IsShaped TableShape (db.trees t.tree)
 
--- those of version 2, whatever rows `ace` has
+-- those of version 2 with `reach`, whatever rows `ace` has
 abbrev pub IsTabled : Database → Type 0
 IsTabled db = HasTables book_schema db
 

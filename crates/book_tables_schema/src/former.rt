@@ -4,7 +4,7 @@ ghost use Rattle.std.specs.Prelude.{◌≡◌, ◌↔◌, ℕ, IfOk, OnOk, IsTru
 ghost use Rattle.sqlite.specs.Held.{state};
 ghost use Rattle.sqlite.specs.State.{HasCleanDisk, Survives, Shown};
 ghost use Rattle.book_tables_rows.specs.Schema.{book_schema, ace_tree};
-ghost use Rattle.book_tables_rows.specs.Steps.{Keeps, WritesIf};
+ghost use Rattle.book_tables_rows.specs.Steps.{Keeps, Spares, WritesIf};
 ghost use Rattle.book_tables_schema.specs.Renewing.{Empties, IsFirstMeta, renumbered};
 ghost use Rattle.book_tables_schema.specs.Whole.{list_former};
 
@@ -15,6 +15,7 @@ fn former_rows<S: Alter>(transaction: &mut Transaction<'_, S>) -> Result<Vec<Row
     ensures survives { Survives (state S.Store transaction.old.conn.now) (state S.Store transaction.new.conn.now)
         (λ _. ⊥) }
     ensures kept { Keeps (state S.Store transaction.old.conn.now) (state S.Store transaction.new.conn.now) }
+    ensures stays { Spares (state S.Store transaction.old.conn.now) (state S.Store transaction.new.conn.now) result }
     ensures shown { HasCleanDisk (state S.Store transaction.new.conn.now)
         → IfOk result (λ rows. Shown list_former [] (state S.Store transaction.old.conn.now)
         (state S.Store transaction.new.conn.now) rows.items) }
@@ -34,6 +35,7 @@ pub fn has_no_former<S: Alter>(transaction: &mut Transaction<'_, S>) -> Result<b
     ensures survives { Survives (state S.Store transaction.old.conn.now) (state S.Store transaction.new.conn.now)
         (λ _. ⊥) }
     ensures kept { Keeps (state S.Store transaction.old.conn.now) (state S.Store transaction.new.conn.now) }
+    ensures stays { Spares (state S.Store transaction.old.conn.now) (state S.Store transaction.new.conn.now) result }
     ensures told { HasCleanDisk (state S.Store transaction.new.conn.now)
         → (state S.Store transaction.old.conn.now).now.schema ≡ book_schema
         → IfOk result (λ none. IsTrue none ↔ ((state S.Store transaction.old.conn.now).now.trees ace_tree ≡ [])) }

@@ -32,7 +32,7 @@ fn found<S: Alter>(transaction: &mut Transaction<'_, S>) -> Result<(), Error>
     insert_first(transaction)
 }
 
-/// Founds a store (own profile): the six tables of schema version 2 with their indexes, the rows of the root and of
+/// Founds a store (own profile): the seven tables of schema version 2 with their indexes, the rows of the root and of
 /// the three homes, and epoch 0. Where the store has a table, an index or a view, or the connection is in a
 /// transaction, nothing is changed and it answers `NameTaken` or `TransactionState`; each other error is that of the
 /// store, and leaves it as it was.

@@ -3,7 +3,7 @@
 ghost use Rattle.std.specs.Prelude.{◌≡◌, ◌↔◌, ◌∷◌, [], IsTrue};
 ghost use Rattle.sqlite_value.specs.Keys.{plain};
 ghost use Rattle.book_tables_rows.specs.Schema as wanted;
-ghost use Rattle.book_tables_rows.specs.Schema.{plain_table, to_node, to_path, unique_index, plain_index, first_schema, book_schema};
+ghost use Rattle.book_tables_rows.specs.Schema.{plain_table, to_node, to_path, unique_index, plain_index, book_schema};
 ghost use Rattle.book_tables_schema.specs.Layout as layout;
 
 use crate::columns::{
@@ -228,7 +228,7 @@ fn are_last_tables(tables: &[Table], second: bool) -> bool
     }
 }
 
-fn are_tables(tables: &[Table], second: bool) -> bool
+pub(crate) fn are_tables(tables: &[Table], second: bool) -> bool
     ensures { IsTrue result ↔ (tables.now ≡ layout.tables_of second) }
 {
     match tables {
@@ -328,7 +328,7 @@ fn are_last_indexes(indexes: &[Index], second: bool) -> bool
     }
 }
 
-fn are_indexes(indexes: &[Index], second: bool) -> bool
+pub(crate) fn are_indexes(indexes: &[Index], second: bool) -> bool
     ensures { IsTrue result ↔ (indexes.now ≡ layout.indexes_of second) }
 {
     match indexes {
@@ -341,21 +341,53 @@ fn are_indexes(indexes: &[Index], second: bool) -> bool
     }
 }
 
-/// Whether a schema is that of a store of version 2: the tables with their columns, keys and references, the indexes, and
-/// no view.
+// ---- `reach`, which stands behind all others
+
+fn is_reach_table(table: &Table) -> bool
+    ensures { IsTrue result ↔ (table.now ≡ wanted.reach_table) }
+{
+    is_plain(table)
+        && is_name(&table.name, b"reach")
+        && table.tree == 17
+        && are_member_columns(table.columns.as_slice())
+        && table.key.is_none()
+        && are_places(&table.primary, &[2, 1])
+        && is_one_key(table.uniques.as_slice(), &[2, 1])
+        && is_plain_order(table.orders.as_slice())
+        && are_to_paths(table.references.as_slice(), 1, 2)
+}
+
+fn are_reach_indexes(key: &Index, group: &Index) -> bool
+    ensures { IsTrue result ↔ (key.now ∷ group.now ∷ [] ≡ wanted.reach_indexes) }
+{
+    is_unique_index(key, b"sqlite_autoindex_reach_1", 18, 17, &[2, 1])
+        && is_plain_index(group, b"reach_grp", 19, 17, &[1])
+}
+
+fn are_book_tables(tables: &[Table]) -> bool
+    ensures { IsTrue result ↔ (tables.now ≡ book_schema.tables) }
+{
+    match tables {
+        [base @ .., reach] => are_tables(base, true) && is_reach_table(reach),
+        _ => false,
+    }
+}
+
+fn are_book_indexes(indexes: &[Index]) -> bool
+    ensures { IsTrue result ↔ (indexes.now ≡ book_schema.indexes) }
+{
+    match indexes {
+        [base @ .., key, group] => are_indexes(base, true) && are_reach_indexes(key, group),
+        _ => false,
+    }
+}
+
+/// Whether a schema is that of a store of version 2: the tables with their columns, keys and references, the indexes,
+/// and no view.
 pub fn is_book_schema(schema: &Schema) -> bool
     ensures { IsTrue result ↔ (schema.now ≡ book_schema) }
 {
-    are_tables(schema.tables.as_slice(), true)
-        && are_indexes(schema.indexes.as_slice(), true)
-        && schema.views.as_slice().is_empty()
-}
-
-/// The same of a store of version 1, which has no table of entries with nine leaves and no index of removed names.
-pub fn is_first_schema(schema: &Schema) -> bool
-    ensures { IsTrue result ↔ (schema.now ≡ first_schema) }
-{
-    are_tables(schema.tables.as_slice(), false)
-        && are_indexes(schema.indexes.as_slice(), false)
+    are_book_tables(schema.tables.as_slice())
+        && are_book_indexes(schema.indexes.as_slice())
         && schema.views.as_slice().is_empty()
 }

@@ -4,7 +4,8 @@ ghost use Rattle.std.specs.Prelude.{◌≡◌, OnOk, IsTrue};
 ghost use Rattle.sqlite.specs.Held.{state};
 ghost use Rattle.sqlite.specs.State.{HasCleanDisk, Survives};
 ghost use Rattle.book_tables_rows.specs.Steps.{Keeps};
-ghost use Rattle.book_tables_schema.specs.Founding.{Extending, Ran, Renews, no_schema, with_member, with_meta, with_owner, with_first, with_all};
+ghost use Rattle.book_tables_schema.specs.OtherReach.{DropsReach};
+ghost use Rattle.book_tables_schema.specs.Founding.{Extending, GetsReach, Ran, Renews, no_schema, with_member, with_meta, with_owner, with_first, with_base, with_all};
 
 use sqlite::{Alter, Error, Transaction};
 
@@ -93,15 +94,15 @@ fn make_principal_indexes<S: Alter>(transaction: &mut Transaction<'_, S>) -> Res
     run(transaction, "CREATE INDEX member_member ON member (member)")
 }
 
-/// Makes what version 2 has beside the tables of version 1: the table of entries with its index, and the index of removed
-/// names. In a store that is founded, and in one of version 1 that has rows.
+/// Makes what version 2 has beside the tables of version 1: the table of entries with its index, and the index of
+/// removed names. In a store that is founded, and in one of version 1 that has rows.
 pub fn make_second_tables<S: Alter>(transaction: &mut Transaction<'_, S>) -> Result<(), Error>
     ensures same_reference { transaction.new.conn.ghost_name ≡ transaction.old.conn.ghost_name }
     ensures survives { Survives (state S.Store transaction.old.conn.now) (state S.Store transaction.new.conn.now)
         (λ _. ⊥) }
     ensures kept { Keeps (state S.Store transaction.old.conn.now) (state S.Store transaction.new.conn.now) }
     ensures done { Extending (state S.Store transaction.old.conn.now) (state S.Store transaction.new.conn.now) result
-        with_first with_all }
+        with_first with_base }
     ensures renewed { HasCleanDisk (state S.Store transaction.new.conn.now)
         → IsTrue (state S.Store transaction.old.conn.now).in_transaction
         → OnOk result (Renews (state S.Store transaction.old.conn.now) (state S.Store transaction.new.conn.now)) }
@@ -117,6 +118,39 @@ pub fn make_second_tables<S: Alter>(transaction: &mut Transaction<'_, S>) -> Res
     run(transaction, "CREATE INDEX gone_book ON gone (book, number)")
 }
 
+/// Makes the table of the groups that chains of members lead to, and its index, behind all others: in a store that is
+/// founded, and in one made before it.
+pub fn make_reach<S: Alter>(transaction: &mut Transaction<'_, S>) -> Result<(), Error>
+    ensures same_reference { transaction.new.conn.ghost_name ≡ transaction.old.conn.ghost_name }
+    ensures survives { Survives (state S.Store transaction.old.conn.now) (state S.Store transaction.new.conn.now)
+        (λ _. ⊥) }
+    ensures kept { Keeps (state S.Store transaction.old.conn.now) (state S.Store transaction.new.conn.now) }
+    ensures done { Extending (state S.Store transaction.old.conn.now) (state S.Store transaction.new.conn.now) result
+        with_base with_all }
+    ensures got { HasCleanDisk (state S.Store transaction.new.conn.now)
+        → IsTrue (state S.Store transaction.old.conn.now).in_transaction
+        → OnOk result (GetsReach (state S.Store transaction.old.conn.now) (state S.Store transaction.new.conn.now)) }
+{
+    run(
+        transaction,
+        "CREATE TABLE reach (grp TEXT NOT NULL REFERENCES node (path), member TEXT NOT NULL REFERENCES node (path), PRIMARY KEY (member, grp)) STRICT",
+    )?;
+    run(transaction, "CREATE INDEX reach_grp ON reach (grp)")
+}
+
+/// Takes a table `reach` of any columns away, with its indexes, where one stands behind all others.
+pub fn drop_reach<S: Alter>(transaction: &mut Transaction<'_, S>) -> Result<(), Error>
+    ensures same_reference { transaction.new.conn.ghost_name ≡ transaction.old.conn.ghost_name }
+    ensures survives { Survives (state S.Store transaction.old.conn.now) (state S.Store transaction.new.conn.now)
+        (λ _. ⊥) }
+    ensures kept { Keeps (state S.Store transaction.old.conn.now) (state S.Store transaction.new.conn.now) }
+    ensures dropped { HasCleanDisk (state S.Store transaction.new.conn.now)
+        → IsTrue (state S.Store transaction.old.conn.now).in_transaction
+        → OnOk result (DropsReach (state S.Store transaction.old.conn.now) (state S.Store transaction.new.conn.now)) }
+{
+    run(transaction, "DROP TABLE IF EXISTS reach")
+}
+
 /// Makes the tables with their indexes.
 pub(crate) fn make_tables<S: Alter>(transaction: &mut Transaction<'_, S>) -> Result<(), Error>
     ensures same_reference { transaction.new.conn.ghost_name ≡ transaction.old.conn.ghost_name }
@@ -130,5 +164,6 @@ pub(crate) fn make_tables<S: Alter>(transaction: &mut Transaction<'_, S>) -> Res
     make_last_tables(transaction)?;
     make_node_indexes(transaction)?;
     make_principal_indexes(transaction)?;
-    make_second_tables(transaction)
+    make_second_tables(transaction)?;
+    make_reach(transaction)
 }

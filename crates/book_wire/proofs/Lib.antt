@@ -1,5 +1,6 @@
 pub mod Common
 pub mod Known
+pub mod Buffers
 pub mod CommaLists
 pub mod Servings
 pub mod Unspelled

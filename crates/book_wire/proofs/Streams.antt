@@ -1,7 +1,7 @@
 -- Streams, an exchange at a time.
 use Rattle.book_wire.proofs.Common.{◌≡◌, ◌≢◌, ℕ, ◌+◌, ◌<◌, ◌≤◌, Bool, true, false, List, [], ◌∷◌, ◌++◌, map, length, Option, Some, None, refl, sym, ap, subst, ◌∙◌, inl, inr, append_assoc, append-nil, arith, Consumes, print_request, name_and_value, Standing, WireRefusal, Exchange, SoFar, Refuses, reply_text, Takes, Asked}
 use Rattle.std.proofs.Common.{◌⊎◌, length-append}
-use Rattle.std.proofs.lemmas.List.{map-append}
+use Rattle.std.proofs.lemmas.List.{map-append, nil_from_length}
 use Rattle.std.proofs.lemmas.List.Concat.{flat_map-append}
 use Rattle.std.specs.List.{flat_map, AllByRecursion}
 use Rattle.std.specs.Io.KnownBytes.{IsAtEnd}
@@ -16,11 +16,15 @@ use Rattle.book_wire.specs.Requests.{caller_name}
 use Rattle.book_wire.specs.Serving.{Answered, Runs, Stays}
 use Rattle.book_wire.specs.Spelling.{refusal_text}
 use Rattle.book_wire.specs.Stream.{IsOpen, IsLast, Answers, IsServed, Ends, EndsOpen, IsPartial, IsPartOfBodyOf, IsInput, Waits, WaitsFor, FrontRefuses, text_of, answered_of}
-use Rattle.book_wire.specs.Turn.{IsPending, IsProgress, StopsAt, StopsWriting}
+use Rattle.book_wire.specs.declared.turns.Turn.{Turn}
+use Rattle.book_wire.specs.declared.turns.Turn.TheVariants as turn
+use Rattle.book_wire.specs.Turn.{IsPending, IsTurn, StopsAt, StopsWriting}
+use Rattle.book_wire.specs.Connection.{View, MayWait, IsFed, wanted_after}
 use Rattle.book_wire.specs.Head.{Fields, ◌>>=◌, lone, values_of, length_of, implemented, within, asked_by_head}
+use Rattle.book_wire.proofs.NothingUnread.{nothing_is_part}
 use Rattle.book_wire.proofs.Servings.{stays, runs_none, runs_one, runs_then, runs_stay}
 
-all_append : {X : Type 0} (P : X → Type 0) (xs ys : List X) → AllByRecursion P xs → AllByRecursion P ys → AllByRecursion P (xs ++ ys)
+pub all_append : {X : Type 0} (P : X → Type 0) (xs ys : List X) → AllByRecursion P xs → AllByRecursion P ys → AllByRecursion P (xs ++ ys)
 all_append P [] ys all p = p
 all_append P (x ∷ xs) ys all p = (all.0, all_append P xs ys all.1 p)
 
@@ -120,39 +124,57 @@ SoFar-same b m a input written more unread left n x s same_rest same_text = reco
 
 -- ---- the end
 
+-- texts of exchanges, and then those of others and a rest
+pub joined : (f : Exchange → List ℕ) (es fs : List Exchange) (all front more rest : List ℕ)
+    → all ≡ front ++ more → front ≡ flat_map f es → more ≡ flat_map f fs ++ rest → all ≡ flat_map f (es ++ fs) ++ rest
+joined f es fs all front more rest x y z =
+    x ∙ ap (λ (t : List ℕ). t ++ more) y ∙ ap (λ (t : List ℕ). flat_map f es ++ t) z ∙ sym (append_assoc (flat_map f es) (flat_map f fs) rest)
+    ∙ ap (λ (t : List ℕ). t ++ rest) (sym (flat_map-append f es fs))
+
+runs_after : (b m a : Standing) (es fs : List Exchange) → Runs b m (map answered_of es) → Runs m a (map answered_of fs) → Runs b a (map answered_of (es ++ fs))
+runs_after b m a es fs x y =
+    let P : List Answered → Type 0 = λ calls. Runs b a calls in
+    subst P (sym (map-append answered_of es fs)) (runs_then b m a (map answered_of es) (map answered_of fs) x y)
+
 pub served_last : (b m a : Standing) (input written more unread left : List ℕ) (n : ℕ) (e : Exchange)
     → SoFar b input written n m unread → IsLast e → Takes m unread more e a left → IsServed b input (written ++ more) (n + 1) Closed a
-served_last b m a input written more unread left n e x is t = record {
-  exchanges = x.exchanges ++ e ∷ [];
-  taken = x.taken ++ e.text;
-  rest = left;
-  replies = written ++ more;
-  refusal = [];
-  input_is = split_then input x.taken unread e.text left x.input_is t.unread_is;
-  written_is = sym (append-nil (written ++ more));
-  answers = answers_then b m a x.exchanges (e ∷ []) x.taken e.text written more x.answers (answers_one m a unread more left e t);
-  ends = inr (x.exchanges, e, refl, x.opened, is, refl, refl);
-  count = (let was = x.count in omega (arith, was, length-append x.exchanges (e ∷ [])));
-}
+served_last b m a input written more unread left n e x is t =
+    let one = answers_one m a unread more left e t in
+    record {
+      exchanges = x.exchanges ++ e ∷ [];
+      told = record {
+        rest = left;
+        refusal = [];
+        input_is =
+            joined text_of x.exchanges (e ∷ []) input x.taken unread left x.input_is x.answers.input_is
+            (t.unread_is ∙ ap (λ (z : List ℕ). z ++ left) one.input_is);
+        written_is =
+            joined reply_text x.exchanges (e ∷ []) (written ++ more) written more [] refl x.answers.written_is
+            (one.written_is ∙ sym (append-nil (flat_map reply_text (e ∷ []))));
+        ends = inr (x.exchanges, e, refl, x.opened, is, refl, refl);
+      };
+      runs = runs_after b m a x.exchanges (e ∷ []) x.answers.runs one.runs;
+      count = (let was = x.count in omega (arith, was, length-append x.exchanges (e ∷ [])));
+    }
 
 -- the connection was left open
 pub served_open : (b a : Standing) (input written unread refusal : List ℕ) (n : ℕ) (ended : Ended)
     → SoFar b input written n a unread → EndsOpen unread refusal ended → IsServed b input (written ++ refusal) n ended a
 served_open b a input written unread refusal n ended x ends = record {
   exchanges = x.exchanges;
-  taken = x.taken;
-  rest = unread;
-  replies = written;
-  refusal = refusal;
-  input_is = x.input_is;
-  written_is = refl;
-  answers = x.answers;
-  ends = inl (x.opened, ends);
+  told = record {
+    rest = unread;
+    refusal = refusal;
+    input_is = x.input_is ∙ ap (λ (z : List ℕ). z ++ unread) x.answers.input_is;
+    written_is = ap (λ (z : List ℕ). z ++ refusal) x.answers.written_is;
+    ends = inl (x.opened, ends);
+  };
+  runs = x.answers.runs;
   count = x.count;
 }
 
 -- a stream that goes on from what is unread
-ends_then : (es fs : List Exchange) (rest refusal : List ℕ) (ended : Ended) → AllByRecursion IsOpen es → Ends fs rest refusal ended → Ends (es ++ fs) rest refusal ended
+pub ends_then : (es fs : List Exchange) (rest refusal : List ℕ) (ended : Ended) → AllByRecursion IsOpen es → Ends fs rest refusal ended → Ends (es ++ fs) rest refusal ended
 ends_then es fs rest refusal ended opened (inl x) = inl (all_append IsOpen es fs opened x.0, x.1)
 ends_then es fs rest refusal ended opened (inr x) =
     inr (
@@ -169,14 +191,15 @@ pub served_then : (b m a : Standing) (input written unread more : List ℕ) (n k
     → SoFar b input written n m unread → IsServed m unread more k ended a → IsServed b input (written ++ more) (n + k) ended a
 served_then b m a input written unread more n k ended x y = record {
   exchanges = x.exchanges ++ y.exchanges;
-  taken = x.taken ++ y.taken;
-  rest = y.rest;
-  replies = written ++ y.replies;
-  refusal = y.refusal;
-  input_is = split_then input x.taken unread y.taken y.rest x.input_is y.input_is;
-  written_is = ap (λ (z : List ℕ). written ++ z) y.written_is ∙ sym (append_assoc written y.replies y.refusal);
-  answers = answers_then b m a x.exchanges y.exchanges x.taken y.taken written y.replies x.answers y.answers;
-  ends = ends_then x.exchanges y.exchanges y.rest y.refusal ended x.opened y.ends;
+  told = record {
+    rest = y.told.rest;
+    refusal = y.told.refusal;
+    input_is = joined text_of x.exchanges y.exchanges input x.taken unread y.told.rest x.input_is x.answers.input_is y.told.input_is;
+    written_is =
+        joined reply_text x.exchanges y.exchanges (written ++ more) written more y.told.refusal refl x.answers.written_is y.told.written_is;
+    ends = ends_then x.exchanges y.exchanges y.told.rest y.told.refusal ended x.opened y.told.ends;
+  };
+  runs = runs_after b m a x.exchanges y.exchanges x.answers.runs y.runs;
   count = (let was = x.count in let now = y.count in omega (arith, was, now, length-append x.exchanges y.exchanges));
 }
 
@@ -197,17 +220,18 @@ pub IsServed-append : (b a : Standing) (input more written : List ℕ) (n : ℕ)
     → IsServed b input written n Closed a → IsServed b (input ++ more) written n Closed a
 IsServed-append b a input more written n x = record {
   exchanges = x.exchanges;
-  taken = x.taken;
-  rest = x.rest ++ more;
-  replies = x.replies;
-  refusal = x.refusal;
-  input_is = ap (λ (z : List ℕ). z ++ more) x.input_is ∙ append_assoc x.taken x.rest more;
-  written_is = x.written_is;
-  answers = x.answers;
-  ends = elim x.ends [
-    | inl y ↦ inl (y.0, (y.1.0, y.1.1, Refuses-append x.rest more y.1.0 y.1.1 y.1.2, y.1.3))
-    | inr y ↦ inr y
-  ];
+  told = record {
+    rest = x.told.rest ++ more;
+    refusal = x.told.refusal;
+    input_is =
+        ap (λ (z : List ℕ). z ++ more) x.told.input_is ∙ append_assoc (flat_map text_of x.exchanges) x.told.rest more;
+    written_is = x.told.written_is;
+    ends = elim x.told.ends [
+      | inl y ↦ inl (y.0, (y.1.0, y.1.1, Refuses-append x.told.rest more y.1.0 y.1.1 y.1.2, y.1.3))
+      | inr y ↦ inr y
+    ];
+  };
+  runs = x.runs;
   count = x.count;
 }
 
@@ -224,33 +248,42 @@ input_whole (Some xs) (Some ys) got x y = sym (x ∙ ap (λ (z : List ℕ). got 
 
 -- ---- what the loop over the whole requests says
 
-pub progress_waits : (b m a : Standing) (input more none unread left : List ℕ) (n before wanted : ℕ)
-    → SoFar b input more n m unread → IsPartial unread → WaitsFor unread wanted → none ≡ [] → Stays m a → left ≡ unread
-    → IsProgress b input (more ++ none) n (record { requests = before; closed = false; wanted = wanted }) a left
-progress_waits b m a input more none unread left n before wanted x partial waits no_text same_office same_rest = record {
-  waits = λ _. (
-    SoFar-same b m a input more (more ++ none) unread left n x same_office same_rest
-        (ap (λ (z : List ℕ). more ++ z) no_text ∙ append-nil more),
-    let P : List ℕ → Type 0 = λ u. IsPartial u in subst P (sym same_rest) partial,
-    let W : List ℕ → Type 0 = λ u. WaitsFor u wanted in subst W (sym same_rest) waits,
-  );
-  closed = λ (e : false ≡ true). absurd (false≢true e);
+pub fed_waits : (b m a : Standing) (input more none unread : List ℕ) (n : ℕ) (now : View)
+    → SoFar b input more n m unread → IsPartial unread → none ≡ [] → Stays m a → now.unread ≡ unread → now.closing ≡ false
+    → IsFed b input (more ++ none) n a now
+fed_waits b m a input more none unread n now x partial no_text same_office same_rest open_still = record {
+  stays = λ _.
+      SoFar-same b m a input more (more ++ none) unread now.unread n x same_office same_rest
+      (ap (λ (z : List ℕ). more ++ z) no_text ∙ append-nil more);
+  closes = λ e. absurd (false≢true (sym open_still ∙ e));
+  waits = λ _ _. (let P : List ℕ → Type 0 = λ u. IsPartial u in subst P (sym same_rest) partial);
 }
 
-pub progress_last : (b m a : Standing) (input more text unread left : List ℕ) (n before : ℕ) (e : Exchange)
-    → SoFar b input more n m unread → IsLast e → Takes m unread text e a left
-    → IsProgress b input (more ++ text) (n + 1) (record { requests = before; closed = true; wanted = 0 }) a left
-progress_last b m a input more text unread left n before e x is t = record {
-  waits = λ (f : true ≡ false). absurd (false≢true (sym f));
-  closed = λ _. served_last b m a input more text unread left n e x is t;
+-- too much waits to be sent
+pub fed_stalls : (b a : Standing) (input more : List ℕ) (n : ℕ) (now : View)
+    → SoFar b input more n a now.unread → now.closing ≡ false → now.stalled ≡ true → IsFed b input more n a now
+fed_stalls b a input more n now x open_still stalled = record {
+  stays = λ _. x;
+  closes = λ e. absurd (false≢true (sym open_still ∙ e));
+  waits = λ _ e. absurd (false≢true (sym e ∙ stalled));
 }
 
-pub progress_refused : (b m a : Standing) (input more text unread left : List ℕ) (n before : ℕ) (r : WireRefusal) (bare : Bool)
-    → SoFar b input more n m unread → Refuses unread r bare → text ≡ refusal_text r bare → Stays m a
-    → IsProgress b input (more ++ text) n (record { requests = before; closed = true; wanted = 0 }) a left
-progress_refused b m a input more text unread left n before r bare x is text_is same_office = record {
-  waits = λ (f : true ≡ false). absurd (false≢true (sym f));
-  closed = λ _. served_open b a input more unread text n Closed (SoFar-same b m a input more more unread unread n x same_office refl refl) (r, bare, is, text_is);
+pub fed_last : (b m a : Standing) (input more text unread left : List ℕ) (n : ℕ) (e : Exchange) (now : View)
+    → SoFar b input more n m unread → IsLast e → Takes m unread text e a left → now.closing ≡ true
+    → IsFed b input (more ++ text) (n + 1) a now
+fed_last b m a input more text unread left n e now x is t closed = record {
+  stays = λ f. absurd (false≢true (sym f ∙ closed));
+  closes = λ _. served_last b m a input more text unread left n e x is t;
+  waits = λ f _. absurd (false≢true (sym f ∙ closed));
+}
+
+pub fed_refused : (b m a : Standing) (input more text unread : List ℕ) (n : ℕ) (r : WireRefusal) (bare : Bool) (now : View)
+    → SoFar b input more n m unread → Refuses unread r bare → text ≡ refusal_text r bare → Stays m a → now.closing ≡ true
+    → IsFed b input (more ++ text) n a now
+fed_refused b m a input more text unread n r bare now x is text_is same_office closed = record {
+  stays = λ f. absurd (false≢true (sym f ∙ closed));
+  closes = λ _. served_open b a input more unread text n Closed (SoFar-same b m a input more more unread unread n x same_office refl refl) (r, bare, is, text_is);
+  waits = λ f _. absurd (false≢true (sym f ∙ closed));
 }
 
 -- a write that failed after more exchanges
@@ -372,44 +405,57 @@ asked_length method target minor fields asked e =
     let small : h.0 ≤ 262144 = within_is l.0 h.0 h.1 in
     omega arith
 
-part_within : (unread : List ℕ) (wanted : ℕ) → IsPartOfBodyOf unread wanted → length unread < 278528
-part_within unread wanted x =
-    let small : x.2.length ≤ 262144 = asked_length x.0.method x.0.target x.0.minor (map name_and_value x.0.fields) x.2 x.5 in
-    omega (arith, ap length x.4, length-append (print_request x.0) x.1, x.3.size, x.6)
-
-few_waits : (unread : List ℕ) → Waits unread → length unread < 278528
-few_waits unread (inl none) = omega (arith, ap length none)
-few_waits unread (inr (inl x)) = omega (arith, x.0)
-few_waits unread (inr (inr x)) = part_within unread x.0 x.1
-
-pub waits_within : (unread : List ℕ) (wanted : ℕ) → WaitsFor unread wanted → length unread < 278528
-waits_within unread wanted (inl x) = few_waits unread x.0
-waits_within unread wanted (inr x) = part_within unread wanted x
-
-pub waits_of : (unread : List ℕ) (wanted : ℕ) → WaitsFor unread wanted → Waits unread
-waits_of unread wanted (inl x) = x.0
-waits_of unread wanted (inr x) = inr (inr (wanted, x))
-
-pub waits_none : (unread : List ℕ) → unread ≡ [] → WaitsFor unread 0
-waits_none unread none = inl (inl none, omega arith)
-
 -- with fewer bytes than are wanted it waits still
-pub waits_still : (unread came now : List ℕ) (wanted : ℕ) → WaitsFor unread wanted → now ≡ unread ++ came → 0 < length came
-    → length now < wanted → WaitsFor now wanted
-waits_still unread came now wanted (inl x) is some few =
-    let size : length now ≡ length unread + length came = ap length is ∙ length-append unread came in
+waits_on : (front more : List ℕ) (wanted : ℕ) → WaitsFor front wanted → length (front ++ more) < wanted
+    → IsPartial (front ++ more) × WaitsFor (front ++ more) wanted
+waits_on front more wanted (inl x) few =
     let most = x.1 in
-    absurd (omega (arith, size, most, some, few))
-waits_still unread came now wanted (inr x) is some few =
-    let whole : now ≡ print_request x.0 ++ (x.1 ++ came) = is ∙ ap (λ (z : List ℕ). z ++ came) x.4 ∙ append_assoc (print_request x.0) x.1 came in
+    let none : more ≡ [] = nil_from_length more (omega (arith, length-append front more, most, few)) in
+    let same : front ++ more ≡ front = ap (λ (t : List ℕ). front ++ t) none ∙ append-nil front in
+    let P : List ℕ → Type 0 = λ u. IsPartial u × WaitsFor u wanted in
+    subst P (sym same) (partial x.0, inl x)
+  where
+    partial : Waits front → IsPartial front
+    partial (inl none) = let P : List ℕ → Type 0 = λ u. IsPartial u in subst P (sym none) (inl nothing_is_part)
+    partial (inr is) = is
+waits_on front more wanted (inr x) few =
+    let whole : front ++ more ≡ print_request x.0 ++ (x.1 ++ more) = ap (λ (z : List ℕ). z ++ more) x.4 ∙ append_assoc (print_request x.0) x.1 more in
     let wanted_is = x.7 in
-    inr (
+    let part : IsPartOfBodyOf (front ++ more) wanted = (
       x.0,
-      x.1 ++ came,
+      x.1 ++ more,
       x.2,
       x.3,
       whole,
       x.5,
-      omega (arith, ap length whole, length-append (print_request x.0) (x.1 ++ came), few, wanted_is),
+      omega (arith, ap length whole, length-append (print_request x.0) (x.1 ++ more), few, wanted_is),
       x.7,
-    )
+    ) in
+    (inr (wanted, part), inr part)
+
+pub waits_still : (unread : List ℕ) (wanted : ℕ) → MayWait unread wanted → length unread < wanted → IsPartial unread × WaitsFor unread wanted
+waits_still unread wanted (inl none) few = absurd (omega (arith, none, few))
+waits_still unread wanted (inr x) few =
+    let P : List ℕ → Type 0 = λ u. IsPartial u × WaitsFor u wanted in
+    subst P (sym x.2) (waits_on x.0 x.1 wanted x.3 (omega (arith, few, ap length x.2)))
+
+pub may_wait_more : (unread came now : List ℕ) (wanted : ℕ) → MayWait unread wanted → now ≡ unread ++ came → MayWait now wanted
+may_wait_more unread came now wanted (inl none) is = inl none
+may_wait_more unread came now wanted (inr x) is =
+    inr (x.0, x.1 ++ came, is ∙ ap (λ (t : List ℕ). t ++ came) x.2 ∙ append_assoc x.0 x.1 came, x.3)
+
+pub may_wait_same : (unread now : List ℕ) (wanted : ℕ) → MayWait unread wanted → now ≡ unread → MayWait now wanted
+may_wait_same unread now wanted may same = let P : List ℕ → Type 0 = λ u. MayWait u wanted in subst P (sym same) may
+
+pub may_wait_after : (b a : Standing) (unread written left : List ℕ) (done : Turn) → IsTurn b unread written done a left → MayWait left (wanted_after done)
+may_wait_after b a unread written left (turn.Wait wanted) t = inr (unread, [], t.4 ∙ sym (append-nil unread), t.1)
+may_wait_after b a unread written left turn.Answered t = inl refl
+may_wait_after b a unread written left turn.Last t = inl refl
+may_wait_after b a unread written left turn.Refused t = inl refl
+
+-- no memory was left for a reply, and nothing of it was written
+pub stops_unsent : (b m a : Standing) (input more unread pending : List ℕ) (n : ℕ)
+    → SoFar b input more n m unread → IsPending m unread pending a → StopsWriting b input more a
+stops_unsent b m a input more unread pending n x is =
+    let P : List ℕ → Type 0 = λ t. StopsWriting b input t a in
+    subst P (append-nil more) (stops_writing b m a input more unread pending [] pending n x is refl)

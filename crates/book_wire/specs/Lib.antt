@@ -6,4 +6,5 @@ pub mod Sending
 pub mod Serving
 pub mod Stream
 pub mod Turn
+pub mod Connection
 pub mod Reading

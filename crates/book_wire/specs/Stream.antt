@@ -138,17 +138,20 @@ Ends exchanges rest written ended =
     ⊎ ((opened : List Exchange) × (last : Exchange) × (exchanges ≡ opened ++ last ∷ []) × AllByRecursion IsOpen opened
     × IsLast last × (written ≡ []) × (ended ≡ Closed))
 
--- the input is so many whole requests and a rest; what is written is their replies, and the refusal with which the rest begins
+-- what one connection is told, whatever others ask in between: the input is these whole requests and a rest; what is written is
+-- their replies, and the refusal with which the rest begins
+pub record IsTold (exchanges : List Exchange) (input written : List ℕ) (ended : Ended) : Type 0 where
+  pub rest : List ℕ
+  pub refusal : List ℕ
+  pub input_is : input ≡ flat_map text_of exchanges ++ rest
+  pub written_is : written ≡ flat_map reply_text exchanges ++ refusal
+  pub ends : Ends exchanges rest refusal ended
+
+-- what one connection is told, and the run of the machine over its requests alone
 pub record IsServed (before : Standing) (input written : List ℕ) (requests : ℕ) (ended : Ended) (after : Standing) : Type 0 where
   pub exchanges : List Exchange
-  pub taken : List ℕ
-  pub rest : List ℕ
-  pub replies : List ℕ
-  pub refusal : List ℕ
-  pub input_is : input ≡ taken ++ rest
-  pub written_is : written ≡ replies ++ refusal
-  pub answers : Answers before exchanges taken replies after
-  pub ends : Ends exchanges rest refusal ended
+  pub told : IsTold exchanges input written ended
+  pub runs : Runs before after (map answered_of exchanges)
   pub count : requests ≡ length exchanges
 
 -- the count stays at its last value

@@ -1,16 +1,14 @@
 -- What one step of a stream does.
-use Rattle.std.specs.Prelude.{◌≡◌, ℕ, ◌<◌, ◌⊎◌, Bool, true, false, List, [], ◌∷◌, ◌++◌, map, length}
+use Rattle.std.specs.Prelude.{◌≡◌, ℕ, ◌<◌, ◌⊎◌, Bool, List, [], ◌∷◌, ◌++◌, map, length}
 use Rattle.std.specs.List.{flat_map, AllByRecursion}
 use Rattle.book_wire.specs.declared.head.WireRefusal.{WireRefusal}
-use Rattle.book_wire.specs.declared.stream.Progress.{Progress}
-use Rattle.book_wire.specs.declared.stream.Ended.TheVariants.{Closed}
 use Rattle.book_wire.specs.declared.turns.Turn.{Turn}
 use Rattle.book_wire.specs.declared.turns.Turn.TheVariants.{Wait, Answered, Last, Refused}
 use Rattle.book_office.specs.Keeping.{Standing}
 use Rattle.book_wire.specs.Requests.{caller_name}
 use Rattle.book_wire.specs.Serving.{ServesAny, Stays, Runs}
 use Rattle.book_wire.specs.Spelling.{refusal_text}
-use Rattle.book_wire.specs.Stream.{Exchange, IsExchange, IsOpen, IsLast, IsPartial, Refuses, SoFar, Waits, WaitsFor, IsServed, reply_text, text_of, answered_of}
+use Rattle.book_wire.specs.Stream.{Exchange, IsExchange, IsOpen, IsLast, IsPartial, Refuses, SoFar, Waits, WaitsFor, reply_text, text_of, answered_of}
 
 -- what is unread begins with the exchange, and the machine served it
 pub record Takes (before : Standing) (unread written : List ℕ) (e : Exchange) (after : Standing) (left : List ℕ) : Type 0 where
@@ -64,8 +62,3 @@ pub record StopsReading (before : Standing) (input written : List ℕ) (after : 
   pub unread : List ℕ
   pub so_far : SoFar before input written requests after unread
   pub waits : Waits unread
-
--- so many whole requests are answered: the rest waits, or the connection closed
-pub record IsProgress (before : Standing) (input written : List ℕ) (requests : ℕ) (progress : Progress) (after : Standing) (unread : List ℕ) : Type 0 where
-  pub waits : progress.closed ≡ false → SoFar before input written requests after unread × IsPartial unread × WaitsFor unread progress.wanted
-  pub closed : progress.closed ≡ true → IsServed before input written requests Closed after

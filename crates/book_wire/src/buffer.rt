@@ -1,6 +1,6 @@
-//! What was read and not yet used, in memory that is taken once.
+//! What was read and not yet used, in memory that grows with it.
 
-ghost use Rattle.std.specs.Prelude.{◌≡◌, ℕ, List, [], ◌++◌, ◌<◌, ◌≤◌, ◌+◌, ◌-◌, length, take, drop, vec_len, IfOk, OnErr, IfErr};
+ghost use Rattle.std.specs.Prelude.{◌≡◌, ℕ, List, [], ◌++◌, ◌<◌, ◌≤◌, ◌+◌, ◌-◌, ◌^◌, length, take, drop, vec_len, IfOk, OnOk, OnErr, IfErr};
 ghost use Rattle.std.specs.Io.KnownBytes.{Consumes, IsAtEnd, Keeps};
 
 use crate::stream::StreamFault;
@@ -9,10 +9,10 @@ use std::alloc::{AllocError, Global};
 use std::io::Read;
 use std::marker::Model;
 
-/// The longest head and the longest body together.
+/// The longest head and the longest body together. What is less than a whole request is shorter.
 pub(crate) const CAPACITY: usize = MAX_HEAD + MAX_BODY;
 
-/// The unread bytes of a stream. It never grows.
+/// The unread bytes of a connection.
 #[derive(Drop)]
 pub(crate) struct Buffer {
     bytes: Vec<u8>,
@@ -25,12 +25,24 @@ impl Model for Buffer {
 
     ghost view = { λ b. drop b.start (take b.end b.bytes.items) };
 
-    ghost invariant = { λ b. (vec_len b.bytes ≡ 278528) × (b.start ≤ b.end) × (b.end ≤ 278528) };
+    ghost invariant = { λ b. (b.start ≤ b.end) × (b.end ≤ vec_len b.bytes) };
 }
 
 impl Buffer {
-    /// An empty buffer. An error is want of memory.
-    pub(crate) fn new(alloc: Global) -> Result<Buffer, AllocError>
+    /// An empty buffer, which takes no memory.
+    pub(crate) fn new(alloc: Global) -> Buffer
+        ensures { result ≡ [] }
+    {
+        Buffer {
+            bytes: Vec::new(alloc),
+            start: 0,
+            end: 0,
+        }
+    }
+
+    /// An empty buffer with room for each request: it takes no memory later, where less than a whole request is unread
+    /// before each read. An error is want of memory.
+    pub(crate) fn whole(alloc: Global) -> Result<Buffer, AllocError>
         ensures { IfOk result (λ b. b ≡ []) }
     {
         let bytes = vec![in alloc; 0u8; CAPACITY]?;
@@ -44,7 +56,7 @@ impl Buffer {
     /// What was read and not yet used.
     pub(crate) fn unread(&self) -> &[u8]
         ensures value { result.now ≡ self.now }
-        ensures fits { length result.now ≤ CAPACITY }
+        ensures fits { length result.now < 2 ^ 63 }
     {
         &self.bytes[self.start..self.end]
     }
@@ -63,24 +75,72 @@ impl Buffer {
     }
 
     /// Reads once, and says how many bytes came. None come only at the end of the input.
+    ///
+    /// # Errors
+    ///
+    /// `Read` where the read failed, or where memory was refused before it.
     pub(crate) fn fill<R: Read>(&mut self, reader: &mut R) -> Result<usize, StreamFault>
-        requires { length self.old < CAPACITY }
         ensures ok { IfOk result (λ n. (came : List ℕ) × (self.new ≡ self.old ++ came) × (length came ≡ n)
             × Consumes (R.remaining reader.old) (R.remaining reader.new) came
             × (n ≡ 0 → IsAtEnd (R.remaining reader.new))) }
         ensures err { OnErr result ((self.new ≡ self.old) × Keeps (R.remaining reader.old) (R.remaining reader.new)) }
         ensures fault { IfErr result (λ e. e ≡ StreamFault.Read) }
     {
-        if self.end == CAPACITY {
-            move_to_front(&mut self.bytes, self.start, self.end);
-            self.end -= self.start;
-            self.start = 0;
+        let start = settle(&mut self.bytes, self.start, self.end, 1);
+        let end = self.end - (self.start - start);
+        self.start = start;
+        self.end = end;
+        if grow(&mut self.bytes, end, 1).is_err() {
+            return Err(StreamFault::Read);
         }
-        let end = self.end;
         let count = read_after(reader, &mut self.bytes, end)?;
         self.end += count;
         Ok(count)
     }
+
+    /// Adds bytes at the end. An error is want of memory, and leaves it as it was.
+    pub(crate) fn push(&mut self, more: &[u8]) -> Result<(), AllocError>
+        ensures ok { OnOk result (self.new ≡ self.old ++ more.now) }
+        ensures err { OnErr result (self.new ≡ self.old) }
+    {
+        let start = settle(&mut self.bytes, self.start, self.end, more.len());
+        let end = self.end - (self.start - start);
+        self.start = start;
+        self.end = end;
+        grow(&mut self.bytes, end, more.len())?;
+        write_after(&mut self.bytes, end, more);
+        self.end += more.len();
+        Ok(())
+    }
+
+    /// Lets its memory go, where nothing is unread.
+    pub(crate) fn shrink(&mut self, alloc: Global)
+        ensures { self.new ≡ self.old }
+    {
+        if self.start == self.end {
+            self.bytes = Vec::new(alloc);
+            self.start = 0;
+            self.end = 0;
+        }
+    }
+}
+
+/// Makes room for so many bytes behind the first `end` ones. An error is want of memory.
+fn grow(bytes: &mut Vec<u8>, end: usize, more: usize) -> Result<(), AllocError>
+    requires { end ≤ length bytes.old.items }
+    ensures kept { take end bytes.new.items ≡ take end bytes.old.items }
+    ensures size { end ≤ length bytes.new.items }
+    ensures ok { OnOk result (end + more ≤ length bytes.new.items) }
+{
+    let size = bytes.len();
+    if more <= size - end {
+        return Ok(());
+    }
+    let least = end.saturating_add(more);
+    if least - end < more {
+        return Err(AllocError);
+    }
+    bytes.resize(least.max(size.saturating_mul(2)), 0)
 }
 
 /// Reads once, behind the first `end` bytes.
@@ -90,7 +150,7 @@ fn read_after<R: Read>(reader: &mut R, bytes: &mut [u8], end: usize) -> Result<u
         × (take (end + n) bytes.new ≡ take end bytes.old ++ came)
         × Consumes (R.remaining reader.old) (R.remaining reader.new) came
         × (n ≡ 0 → IsAtEnd (R.remaining reader.new))) }
-    ensures err { OnErr result ((take end bytes.new ≡ take end bytes.old)
+    ensures err { OnErr result ((take end bytes.new ≡ take end bytes.old) × (end ≤ length bytes.new)
         × Keeps (R.remaining reader.old) (R.remaining reader.new)) }
     ensures fault { IfErr result (λ e. e ≡ StreamFault.Read) }
 {
@@ -100,11 +160,47 @@ fn read_after<R: Read>(reader: &mut R, bytes: &mut [u8], end: usize) -> Result<u
     }
 }
 
+/// Copies bytes behind the first `end` ones.
+fn write_after(bytes: &mut [u8], end: usize, more: &[u8])
+    requires { end + length more.now ≤ length bytes.old }
+    ensures copied { take (end + length more.now) bytes.new ≡ take end bytes.old ++ more.now }
+    ensures size { length bytes.new ≡ length bytes.old }
+{
+    bytes[end..end + more.len()].copy_from_slice(more);
+}
+
+/// Moves the bytes from `start` to `end` to the front, if there is no room for so many more behind them, and says where
+/// they begin.
+fn settle(bytes: &mut [u8], start: usize, end: usize, more: usize) -> usize
+    requires ordered { start ≤ end }
+    requires within { end ≤ length bytes.old }
+    ensures front { result ≤ start }
+    ensures kept { drop result (take (end - (start - result)) bytes.new) ≡ drop start (take end bytes.old) }
+    ensures size { length bytes.new ≡ length bytes.old }
+{
+    if more <= bytes.len() - end {
+        return start;
+    }
+    move_to_front(bytes, start, end);
+    0
+}
+
 /// Copies the bytes from `start` to `end` to the front.
 fn move_to_front(bytes: &mut [u8], start: usize, end: usize)
     requires ordered { start ≤ end }
     requires within { end ≤ length bytes.old }
-    ensures { take (end - start) bytes.new ≡ drop start (take end bytes.old) }
+    ensures moved { take (end - start) bytes.new ≡ drop start (take end bytes.old) }
+    ensures size { length bytes.new ≡ length bytes.old }
 {
     bytes.copy_within(start..end, 0);
+}
+
+/// Drops so many bytes at the front, and moves the others there.
+pub(crate) fn drop_front(bytes: &mut Vec<u8>, count: usize)
+    requires { count ≤ length bytes.old.items }
+    ensures { bytes.new.items ≡ drop count bytes.old.items }
+{
+    let end = bytes.len();
+    move_to_front(bytes, count, end);
+    bytes.truncate(end - count);
 }

@@ -1,15 +1,18 @@
 //! The wire: requests of the machine as HTTP/1.1 (RFC 9112) over any reader and writer.
 //!
 //! It stands on `book_machine`, whose run it shows in bytes; on `book_wire_targets` for targets, methods and phrases;
-//! on `book_wire_json` and `book_wire_json` for JSON; and on `httparse`, whose grammar says what a head is. The crate
-//! above uses that `serve_stream` writes the replies of a run of the machine over the requests that the input spells,
-//! however the input was cut into pieces, and what stands where a read or a write fails.
+//! on `book_wire_json` for JSON; and on `httparse`, whose grammar says what a head is. The crates above use that
+//! `serve_stream` writes the replies of a run of the machine over the requests that the input spells, however the input
+//! was cut into pieces, and what stands where a read or a write fails; and that `Connection::feed` makes the same bytes
+//! for one connection of many, a piece at a time.
 //!
-//! Read `stream` first, with `turns`, which answers one request; then `head` and `members`, `requests`, and `reply`;
-//! and `buffer` and `output`, which have the bytes; and `laws`.
+//! Read `stream` first, with `connection`, which is one connection without its socket, and `turns`, which answers one
+//! request; then `head` and `members`, `requests`, and `reply`; and `buffer` and `output`, which have the bytes; and
+//! `laws`.
 #![tactic(auto)]
 
 mod buffer;
+mod connection;
 mod head;
 mod laws;
 mod members;
@@ -19,5 +22,6 @@ mod requests;
 mod stream;
 mod turns;
 
+pub use connection::{Connection, Wire};
 pub use laws::streams_are_synced;
 pub use stream::{Ended, Served, StreamFault, serve_stream};

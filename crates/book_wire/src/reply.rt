@@ -1,6 +1,6 @@
 //! The bytes of replies (RFC 9112, section 4).
 
-ghost use Rattle.std.specs.Prelude.{◌≡◌, ◌≢◌, ℕ, ◌+◌, ◌≤◌, Bool, List, ◌++◌, [], length, IfOk, OnOk, OnErr, IfErr, IfSome};
+ghost use Rattle.std.specs.Prelude.{◌≡◌, ◌≢◌, ℕ, ◌+◌, ◌≤◌, Bool, true, List, ◌++◌, [], length, IfOk, OnOk, OnErr, IfErr, IfSome};
 ghost use Rattle.std.specs.Io.KnownBytes.{Appends};
 ghost use Rattle.arrayvec.specs.ArrayString.{array_string_len};
 ghost use Rattle.book_machine.specs.AllowedMethods.{allowed_text};
@@ -12,7 +12,7 @@ ghost use Rattle.book_wire.specs.Sending.{IsMade, IsSent, allowed_line};
 ghost use Rattle.book_wire.specs.Spelling.{allow_line, body_bytes, close_line, head_text, json_line, length_line, refusal_text, refused_allow, sent_text, spelling, type_line, wire_body, wire_status};
 
 use crate::head::WireRefusal;
-use crate::output::put_joined;
+use crate::output::put_both;
 use crate::stream::StreamFault;
 use arrayvec::ArrayString;
 use book_machine::{AllowedMethods, Content, Refusal, Reply};
@@ -242,7 +242,6 @@ fn sent_body(body: &[u8], bare: bool) -> &[u8]
 #[tactic(auto, unfolding(crate::specs::Spelling::spelling))]
 fn write_reply<W: Write>(
     writer: &mut W,
-    out: &mut [u8],
     reply: &Reply,
     made: &Option<Vec<u8>>,
     bare: bool,
@@ -264,7 +263,7 @@ fn write_reply<W: Write>(
         body.len(),
         closes,
     );
-    put_joined(writer, out, text.as_bytes(), sent_body(body, bare))
+    put_both(writer, text.as_bytes(), sent_body(body, bare))
 }
 
 /// The body of the refusal that comes where memory is refused. Takes no memory.
@@ -279,7 +278,6 @@ fn unavailable_text() -> &'static [u8]
 #[tactic(auto, unfolding(crate::specs::Spelling::spelling, serde_json::proofs::OnLiterals::serde_json_on_literals))]
 pub(crate) fn write_unavailable<W: Write>(
     writer: &mut W,
-    out: &mut [u8],
     bare: bool,
     closes: bool,
 ) -> Result<(), StreamFault>
@@ -292,7 +290,7 @@ pub(crate) fn write_unavailable<W: Write>(
     let body = unavailable_text();
     let mut text = ArrayString::new();
     push_head(&mut text, 503, None, json_line_of(bare), body.len(), closes);
-    put_joined(writer, out, text.as_bytes(), sent_body(body, bare))
+    put_both(writer, text.as_bytes(), sent_body(body, bare))
 }
 
 /// The status (RFC 9110, section 15; RFC 6585, section 5).
@@ -323,7 +321,6 @@ fn text_of(refusal: WireRefusal) -> &'static [u8]
 #[tactic(auto, unfolding(crate::specs::Spelling::refusal_text))]
 pub(crate) fn refuse<W: Write>(
     writer: &mut W,
-    out: &mut [u8],
     refusal: WireRefusal,
     bare: bool,
 ) -> Result<(), StreamFault>
@@ -341,28 +338,68 @@ pub(crate) fn refuse<W: Write>(
         body.len(),
         true,
     );
-    put_joined(writer, out, text.as_bytes(), sent_body(body, bare))
+    put_both(writer, text.as_bytes(), sent_body(body, bare))
 }
 
-/// Writes a reply that the machine gave, or, where its body can't be made for want of memory, that it is unavailable. A
-/// reply to an edit has no body, and takes no memory.
-pub(crate) fn send<W: Write>(
+/// Whether a reply has a content; a reply to an edit has none.
+fn has_content(content: &Content) -> bool
+    ensures { result ≡ true → content.now ≢ contents.Empty }
+{
+    match content {
+        Content::Empty => false,
+        Content::Card(_)
+        | Content::Allow(_)
+        | Content::Listing(_)
+        | Content::Synced(_)
+        | Content::Members(_, _)
+        | Content::Rulings(_)
+        | Content::Names(_, _)
+        | Content::Refusal(_) => true,
+    }
+}
+
+/// The text of a body that is made for the reply, and room for the bytes of the reply. An error is want of memory.
+fn prepare(
     alloc: Global,
-    writer: &mut W,
-    out: &mut [u8],
+    made: &mut Vec<u8>,
+    content: &Content,
+) -> Result<Option<Vec<u8>>, AllocError>
+    ensures kept { made.new.items ≡ made.old.items }
+    ensures text { IfOk result (λ text. IsMade content.now text) }
+    ensures telling { OnErr result (content.now ≢ contents.Empty) }
+{
+    let text = match made_body(alloc, content) {
+        Ok(text) => text,
+        Err(error) => return Err(error),
+    };
+    if !has_content(content) {
+        return Ok(text);
+    }
+    let size = bytes_of(content, &text).len();
+    match made.reserve(size.saturating_add(MAX_REPLY_HEAD)) {
+        Ok(()) => Ok(text),
+        Err(error) => Err(error),
+    }
+}
+
+/// Makes the bytes of a reply that the machine gave, or, where there is no memory for them, of one that it is
+/// unavailable. A reply to an edit has no body.
+pub(crate) fn send(
+    alloc: Global,
+    made: &mut Vec<u8>,
     reply: &Reply,
     bare: bool,
     closes: bool,
 ) -> Result<(), StreamFault>
     ensures ok { OnOk result ((sent : ReplyOf) × IsSent reply.now sent
-        × Appends (W.contents writer.old) (W.contents writer.new) (spelling sent bare closes)) }
+        × (made.new.items ≡ made.old.items ++ spelling sent bare closes)) }
     ensures err { IfErr result (λ e. (e ≡ StreamFault.Write) × ((sent : ReplyOf) × (front left : List ℕ)
         × IsSent reply.now sent
         × (spelling sent bare closes ≡ front ++ left)
-        × Appends (W.contents writer.old) (W.contents writer.new) front)) }
+        × (made.new.items ≡ made.old.items ++ front))) }
 {
-    match made_body(alloc, &reply.content) {
-        Ok(made) => write_reply(writer, out, reply, &made, bare, closes),
-        Err(_) => write_unavailable(writer, out, bare, closes),
+    match prepare(alloc, made, &reply.content) {
+        Ok(text) => write_reply(made, reply, &text, bare, closes),
+        Err(_) => write_unavailable(made, bare, closes),
     }
 }

@@ -1,21 +1,17 @@
 //! A stream of requests (RFC 9112, section 9.3).
 
-ghost use Rattle.std.specs.Prelude.{◌≡◌, ◌≢◌, ◌⊎◌, ℕ, ◌+◌, ◌-◌, ◌^◌, min, List, [], ◌++◌, length, IfOk, IfErr, OnOk, OnErr, Err};
-ghost use Rattle.std.specs.Io.KnownBytes.{Appends, Consumes, Keeps, IsAtEnd};
-ghost use Rattle.book_wire_targets.specs.Targets.{HasHomes};
+ghost use Rattle.std.specs.Prelude.{◌≡◌, ◌≢◌, ◌⊎◌, ℕ, ◌+◌, ◌-◌, ◌^◌, min, false, List, [], ◌++◌, IfOk, IfErr, OnOk, OnErr, Err};
+ghost use Rattle.std.specs.Io.KnownBytes.{Appends, Consumes, Keeps};
+ghost use Rattle.book_wire.specs.Connection.{IsFed, fresh};
 ghost use Rattle.book_wire.specs.Serving.{Stays};
 ghost use Rattle.book_wire.specs.Stream.{IsStream, IsInput};
-ghost use Rattle.book_wire.specs.Turn.{IsProgress, StopsReading, StopsWriting};
+ghost use Rattle.book_wire.specs.Turn.{StopsReading, StopsWriting};
 
-use crate::buffer::Buffer;
-use crate::head::FieldSpans;
-use crate::turns::{Turn, answer_one};
-use book_limits::MAX_FIELDS;
+use crate::connection::{Connection, Wire};
+use crate::output::put;
+use crate::turns::Turn;
 use book_machine::Machine;
 use book_office::Keeper;
-use book_wire_targets::{Home, homes};
-use httparse::spans::EMPTY_HEADER_SPAN;
-use matchit::Router;
 use std::alloc::Global;
 use std::io::{Read, Write};
 
@@ -52,62 +48,68 @@ pub enum StreamFault {
     Write,
 }
 
-/// How far the whole requests led.
-#[derive(Clone, Copy, Debug, PartialEq, Eq)]
-pub(crate) struct Progress {
-    /// How many were answered.
-    pub(crate) requests: u64,
-    /// Whether the connection closes.
-    pub(crate) closed: bool,
-    /// With fewer bytes than these no further request is whole.
-    pub(crate) wanted: usize,
+/// Sends all that is to be sent.
+fn send_all<W: Write>(connection: &mut Connection, writer: &mut W) -> Result<(), StreamFault>
+    ensures ok { OnOk result (Appends (W.contents writer.old) (W.contents writer.new) connection.old.unsent × (connection.new.unsent ≡ [])) }
+    ensures err { IfErr result (λ e. (e ≡ StreamFault.Write) × ((front left : List ℕ) × (connection.old.unsent ≡ front ++ left)
+        × Appends (W.contents writer.old) (W.contents writer.new) front)) }
+    ensures unread { connection.new.unread ≡ connection.old.unread }
+    ensures closing { connection.new.closing ≡ connection.old.closing }
+    ensures stalled { connection.new.stalled ≡ connection.old.stalled }
+{
+    let unsent = connection.unsent();
+    let count = unsent.len();
+    match put(writer, unsent) {
+        Ok(()) => {
+            connection.did_send(count);
+            Ok(())
+        }
+        Err(fault) => Err(fault),
+    }
 }
 
-/// A reply of at most so many bytes, head and body, is written at once.
-const MAX_JOINED: usize = 66_048;
-
-/// Answers each whole request that is there.
+/// Answers each whole request that is there, and sends each reply before the next request is read. It says how many
+/// requests were answered with those before.
 fn answer_all<K: Keeper, W: Write>(
     alloc: Global,
     machine: &mut Machine<K>,
-    router: &Router<Home>,
+    wire: &mut Wire,
+    connection: &mut Connection,
     writer: &mut W,
-    out: &mut [u8],
-    headers: &mut FieldSpans,
-    buffer: &mut Buffer,
     before: u64,
-) -> Result<Progress, StreamFault>
-    requires { HasHomes router.now }
-    ensures ok { IfOk result (λ progress. (more : List ℕ) × (count : ℕ) × Appends (W.contents writer.old) (W.contents writer.new) more
-        × (progress.requests ≡ min (before + count) (2 ^ 64 - 1))
-        × IsProgress (K.standing machine.old.keeper) buffer.old more count progress (K.standing machine.new.keeper) buffer.new) }
+) -> Result<u64, StreamFault>
+    requires open { connection.old.closing ≡ false }
+    requires going { connection.old.stalled ≡ false }
+    requires sent { connection.old.unsent ≡ [] }
+    ensures ok { IfOk result (λ requests. (more : List ℕ) × (count : ℕ) × Appends (W.contents writer.old) (W.contents writer.new) more
+        × (requests ≡ min (before + count) (2 ^ 64 - 1))
+        × IsFed (K.standing machine.old.keeper) connection.old.unread more count (K.standing machine.new.keeper) connection.new
+        × (connection.new.stalled ≡ false) × (connection.new.unsent ≡ [])) }
     ensures err { OnErr result ((more : List ℕ) × Appends (W.contents writer.old) (W.contents writer.new) more
-        × StopsWriting (K.standing machine.old.keeper) buffer.old more (K.standing machine.new.keeper)) }
+        × StopsWriting (K.standing machine.old.keeper) connection.old.unread more (K.standing machine.new.keeper)) }
     ensures fault { IfErr result (λ e. e ≡ StreamFault.Write) }
 {
     let mut requests = before;
     loop {
-        match answer_one(alloc, machine, router, writer, out, headers, buffer) {
+        match connection.answer_next(alloc, machine, wire) {
             Ok(turn) => match turn {
-                Turn::Wait(wanted) => return Ok(Progress {
-                    requests,
-                    closed: false,
-                    wanted,
-                }),
-                Turn::Answered => requests = requests.saturating_add(1),
+                Turn::Wait(_) => return Ok(requests),
+                Turn::Answered => match send_all(connection, writer) {
+                    Ok(()) => requests = requests.saturating_add(1),
+                    Err(fault) => return Err(fault),
+                },
                 Turn::Last => {
-                    let requests = requests.saturating_add(1);
-                    return Ok(Progress {
-                        requests,
-                        closed: true,
-                        wanted: 0,
-                    });
+                    return match send_all(connection, writer) {
+                        Ok(()) => Ok(requests.saturating_add(1)),
+                        Err(fault) => Err(fault),
+                    };
                 }
-                Turn::Refused => return Ok(Progress {
-                    requests,
-                    closed: true,
-                    wanted: 0,
-                }),
+                Turn::Refused => {
+                    return match send_all(connection, writer) {
+                        Ok(()) => Ok(requests),
+                        Err(fault) => Err(fault),
+                    };
+                }
             },
             Err(fault) => return Err(fault),
         }
@@ -130,8 +132,8 @@ fn end_at(unread: &[u8]) -> Ended
 /// it was read is answered unavailable, and so is one whose reply can't be made for want of memory. The buffers and the
 /// router are made before the first byte is read.
 ///
-/// No clause says when it writes: it answers each whole request before it reads on, by one write where head and body
-/// take at most 66,048 bytes, and else by two.
+/// No clause says when it writes: it answers each whole request, and sends the reply by one write, before the next one is
+/// answered, and before it reads on.
 ///
 /// # Errors
 ///
@@ -159,41 +161,27 @@ pub fn serve_stream<K: Keeper, R: Read, W: Write>(
         × Appends (W.contents writer.old) (W.contents writer.new) written
         × StopsWriting (K.standing machine.old.keeper) input written (K.standing machine.new.keeper) }
 {
-    let router = match homes(alloc) {
-        Ok(router) => router,
+    let mut wire = match Wire::new(alloc) {
+        Ok(wire) => wire,
         Err(_) => return Err(StreamFault::Memory),
     };
-    let mut out = match vec![in alloc; 0u8; MAX_JOINED] {
-        Ok(out) => out,
+    let mut connection = match Connection::whole(alloc) {
+        Ok(connection) => connection,
         Err(_) => return Err(StreamFault::Memory),
     };
-    let mut buffer = match Buffer::new(alloc) {
-        Ok(buffer) => buffer,
-        Err(_) => return Err(StreamFault::Memory),
-    };
-    serve_from(
-        alloc,
-        machine,
-        &router,
-        reader,
-        writer,
-        &mut out,
-        &mut buffer,
-    )
+    serve_from(alloc, machine, &mut wire, &mut connection, reader, writer)
 }
 
 /// Serves the requests of a reader, with nothing read so far.
 fn serve_from<K: Keeper, R: Read, W: Write>(
     alloc: Global,
     machine: &mut Machine<K>,
-    router: &Router<Home>,
+    wire: &mut Wire,
+    connection: &mut Connection,
     reader: &mut R,
     writer: &mut W,
-    out: &mut [u8],
-    buffer: &mut Buffer,
 ) -> Result<Served, StreamFault>
-    requires homes { HasHomes router.now }
-    requires empty { buffer.old ≡ [] }
+    requires { connection.old ≡ fresh }
     ensures served { IfOk result (λ served. (input written : List ℕ)
         × IsInput (R.remaining reader.old) input
         × Appends (W.contents writer.old) (W.contents writer.new) written
@@ -208,42 +196,25 @@ fn serve_from<K: Keeper, R: Read, W: Write>(
         × Appends (W.contents writer.old) (W.contents writer.new) written
         × StopsWriting (K.standing machine.old.keeper) input written (K.standing machine.new.keeper) }
 {
-    let mut headers = [EMPTY_HEADER_SPAN; MAX_FIELDS];
     let mut requests = 0;
-    let mut wanted = 0;
     for _ in 0..u64::MAX {
-        let count = match buffer.fill(reader) {
+        let count = match connection.fill(reader) {
             Ok(count) => count,
             Err(fault) => return Err(fault),
         };
         if count == 0 {
-            let ended = end_at(buffer.unread());
+            let ended = end_at(connection.unread());
             return Ok(Served { requests, ended });
         }
-        if buffer.unread().len() < wanted {
-            continue;
-        }
-        match answer_all(
-            alloc,
-            machine,
-            router,
-            writer,
-            out,
-            &mut headers,
-            buffer,
-            requests,
-        ) {
-            Ok(progress) => {
-                requests = progress.requests;
-                wanted = progress.wanted;
-                if progress.closed {
-                    return Ok(Served {
-                        requests,
-                        ended: Ended::Closed,
-                    });
-                }
-            }
+        match answer_all(alloc, machine, wire, connection, writer, requests) {
+            Ok(answered) => requests = answered,
             Err(fault) => return Err(fault),
+        }
+        if connection.is_closing() {
+            return Ok(Served {
+                requests,
+                ended: Ended::Closed,
+            });
         }
     }
     Err(StreamFault::Read)

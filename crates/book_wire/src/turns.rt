@@ -1,10 +1,10 @@
 //! One whole request, and its reply.
 
 ghost use Rattle.std.specs.Prelude.{◌≡◌, ℕ, Option, Some, List, ◌++◌, IfOk, IfErr, OnOk, OnErr};
-ghost use Rattle.std.specs.Io.KnownBytes.{Appends};
 ghost use Rattle.book_machine.specs.declared.messages.Reply.{Reply as ReplyOf};
 ghost use Rattle.book_machine.specs.declared.messages.Request.{Request as RequestOf};
 ghost use Rattle.book_wire_targets.specs.Targets.{HasHomes};
+ghost use Rattle.book_wire.specs.Connection.{closes_after, wanted_after};
 ghost use Rattle.book_wire.specs.Reading.{asked_view};
 ghost use Rattle.book_wire.specs.Requests.{caller_name};
 ghost use Rattle.book_machine.specs.Laws.{TellingRepliesChangeNothing};
@@ -24,7 +24,6 @@ use book_rights::Method;
 use book_wire_targets::Home;
 use matchit::Router;
 use std::alloc::Global;
-use std::io::Write;
 
 /// What became of the bytes at the front.
 #[derive(Clone, Copy, Debug, PartialEq, Eq)]
@@ -35,8 +34,30 @@ pub(crate) enum Turn {
     Answered,
     /// A request was answered, and the connection closes.
     Last,
-    /// No request: the refusal was written, and the connection closes.
+    /// No request: the refusal was made, and the connection closes.
     Refused,
+}
+
+impl Turn {
+    /// With fewer unread bytes than these no further request is whole; none where nothing is known of it.
+    pub(crate) fn wanted(self) -> usize
+        ensures { result ≡ wanted_after self }
+    {
+        match self {
+            Turn::Wait(wanted) => wanted,
+            Turn::Answered | Turn::Last | Turn::Refused => 0,
+        }
+    }
+
+    /// Whether the connection closes.
+    pub(crate) fn closes(self) -> bool
+        ensures { result ≡ closes_after self }
+    {
+        match self {
+            Turn::Last | Turn::Refused => true,
+            Turn::Wait(_) | Turn::Answered => false,
+        }
+    }
 }
 
 /// Whether a reply to the method has its head alone (RFC 9110, section 9.3.2).
@@ -66,43 +87,34 @@ fn telling_changes_nothing()
     refusals_change_nothing();
 }
 
-/// Serves a request and writes the reply.
-fn reply_to<K: Keeper, W: Write>(
+/// Serves a request and makes the reply.
+fn reply_to<K: Keeper>(
     alloc: Global,
     machine: &mut Machine<K>,
-    writer: &mut W,
-    out: &mut [u8],
+    made: &mut Vec<u8>,
     asked: AskedByHead<'_>,
     request: &Request,
 ) -> Result<(), StreamFault>
     ensures ok { OnOk result ((reply : ReplyOf)
         × ServesAny (K.standing machine.old.keeper) (K.standing machine.new.keeper) (caller_name (asked_view asked.entry).caller) (Some request.now) reply
-        × Appends (W.contents writer.old) (W.contents writer.new) (spelling reply (is_head_method asked.entry.method) asked.entry.closes)) }
+        × (made.new.items ≡ made.old.items ++ spelling reply (is_head_method asked.entry.method) asked.entry.closes)) }
     ensures err { IfErr result (λ e. (e ≡ StreamFault.Write) × ((reply : ReplyOf) × (front left : List ℕ)
         × ServesAny (K.standing machine.old.keeper) (K.standing machine.new.keeper) (caller_name (asked_view asked.entry).caller) (Some request.now) reply
         × (spelling reply (is_head_method asked.entry.method) asked.entry.closes ≡ front ++ left)
-        × Appends (W.contents writer.old) (W.contents writer.new) front)) }
+        × (made.new.items ≡ made.old.items ++ front))) }
 {
     telling_changes_nothing();
     let reply = machine.serve(alloc, caller_name(asked.caller), request);
-    send(
-        alloc,
-        writer,
-        out,
-        &reply,
-        is_bare(asked.method),
-        asked.closes,
-    )
+    send(alloc, made, &reply, is_bare(asked.method), asked.closes)
 }
 
-/// Serves the request that a head and a body spell, and writes the reply: unavailable where memory is refused before
+/// Serves the request that a head and a body spell, and makes the reply: unavailable where memory is refused before
 /// the request is read.
-fn answer<K: Keeper, W: Write>(
+fn answer<K: Keeper>(
     alloc: Global,
     machine: &mut Machine<K>,
     router: &Router<Home>,
-    writer: &mut W,
-    out: &mut [u8],
+    made: &mut Vec<u8>,
     asked: AskedByHead<'_>,
     body: &[u8],
 ) -> Result<(), StreamFault>
@@ -110,41 +122,40 @@ fn answer<K: Keeper, W: Write>(
     ensures ok { OnOk result ((request : Option RequestOf) × (reply : ReplyOf)
         × IsAskedBy (asked_view asked.entry) body.now request reply
         × ServesAny (K.standing machine.old.keeper) (K.standing machine.new.keeper) (caller_name (asked_view asked.entry).caller) request reply
-        × Appends (W.contents writer.old) (W.contents writer.new) (spelling reply (is_head_method asked.entry.method) asked.entry.closes)) }
+        × (made.new.items ≡ made.old.items ++ spelling reply (is_head_method asked.entry.method) asked.entry.closes)) }
     ensures err { IfErr result (λ e. (e ≡ StreamFault.Write) × ((request : Option RequestOf) × (reply : ReplyOf) × (front left : List ℕ)
         × IsAskedBy (asked_view asked.entry) body.now request reply
         × ServesAny (K.standing machine.old.keeper) (K.standing machine.new.keeper) (caller_name (asked_view asked.entry).caller) request reply
         × (spelling reply (is_head_method asked.entry.method) asked.entry.closes ≡ front ++ left)
-        × Appends (W.contents writer.old) (W.contents writer.new) front)) }
+        × (made.new.items ≡ made.old.items ++ front))) }
 {
     match request_of(alloc, router, &asked, body) {
-        Ok(request) => reply_to(alloc, machine, writer, out, asked, &request),
-        Err(_) => write_unavailable(writer, out, is_bare(asked.method), asked.closes),
+        Ok(request) => reply_to(alloc, machine, made, asked, &request),
+        Err(_) => write_unavailable(made, is_bare(asked.method), asked.closes),
     }
 }
 
 /// Answers the request at the front, if it is whole.
-pub(crate) fn answer_one<K: Keeper, W: Write>(
+pub(crate) fn answer_one<K: Keeper>(
     alloc: Global,
     machine: &mut Machine<K>,
     router: &Router<Home>,
-    writer: &mut W,
-    out: &mut [u8],
+    made: &mut Vec<u8>,
     headers: &mut FieldSpans,
     buffer: &mut Buffer,
 ) -> Result<Turn, StreamFault>
     requires { HasHomes router.now }
-    ensures ok { IfOk result (λ turn. (written : List ℕ) × Appends (W.contents writer.old) (W.contents writer.new) written
+    ensures ok { IfOk result (λ turn. (written : List ℕ) × (made.new.items ≡ made.old.items ++ written)
         × IsTurn (K.standing machine.old.keeper) buffer.old written turn (K.standing machine.new.keeper) buffer.new) }
     ensures err { IfErr result (λ e. (e ≡ StreamFault.Write) × ((pending front left : List ℕ)
         × IsPending (K.standing machine.old.keeper) buffer.old pending (K.standing machine.new.keeper)
-        × (pending ≡ front ++ left) × Appends (W.contents writer.old) (W.contents writer.new) front)) }
+        × (pending ≡ front ++ left) × (made.new.items ≡ made.old.items ++ front))) }
     ensures kept { OnErr result (buffer.new ≡ buffer.old) }
 {
     let unread = buffer.unread();
     match read_head(unread, headers) {
         Reading::Partial => Ok(Turn::Wait(unread.len() + 1)),
-        Reading::Refused(refusal, bare) => match refuse(writer, out, refusal, bare) {
+        Reading::Refused(refusal, bare) => match refuse(made, refusal, bare) {
             Ok(()) => Ok(Turn::Refused),
             Err(fault) => Err(fault),
         },
@@ -154,15 +165,7 @@ pub(crate) fn answer_one<K: Keeper, W: Write>(
             }
             let whole = head + asked.length;
             let closes = asked.closes;
-            match answer(
-                alloc,
-                machine,
-                router,
-                writer,
-                out,
-                asked,
-                &unread[head..whole],
-            ) {
+            match answer(alloc, machine, router, made, asked, &unread[head..whole]) {
                 Ok(()) => {
                     buffer.consume(whole);
                     Ok(if closes { Turn::Last } else { Turn::Answered })

@@ -35,11 +35,23 @@ const COMMANDS: &[(&str, &str)] = &[
     ),
     (
         "serve --port 0 --connections 1",
-        "Serve { port: 0, connections: 1, store: None, policy: None, existing: false }",
+        "Serve { port: 0, connections: Some(1), at_once: None, idle: None, store: None, policy: None, existing: false }",
     ),
     (
         "serve --port 65535 --connections 10000 --store office.db --policy office.toml --existing",
-        "Serve { port: 65535, connections: 10000, store: Some(\"office.db\"), policy: Some(\"office.toml\"), existing: true }",
+        "Serve { port: 65535, connections: Some(10000), at_once: None, idle: None, store: Some(\"office.db\"), policy: Some(\"office.toml\"), existing: true }",
+    ),
+    (
+        "serve --forever --port 80",
+        "Serve { port: 80, connections: None, at_once: None, idle: None, store: None, policy: None, existing: false }",
+    ),
+    (
+        "serve --port 80 --forever --at-once 1 --idle 1",
+        "Serve { port: 80, connections: None, at_once: Some(1), idle: Some(1), store: None, policy: None, existing: false }",
+    ),
+    (
+        "serve --port 80 --connections 7 --at-once 1000 --idle 3600 --store office.db",
+        "Serve { port: 80, connections: Some(7), at_once: Some(1000), idle: Some(3600), store: Some(\"office.db\"), policy: None, existing: false }",
     ),
     ("--help", "Help"),
     ("--version", "Help"),
@@ -74,10 +86,6 @@ const REFUSED: &[(&str, &str)] = &[
         "2 error: the following required arguments were not provided:",
     ),
     (
-        "serve --port 0",
-        "2 error: the following required arguments were not provided:",
-    ),
-    (
         "serve --connections 1",
         "2 error: the following required arguments were not provided:",
     ),
@@ -94,10 +102,32 @@ const REFUSED: &[(&str, &str)] = &[
         "2 error: invalid value '10001' for '--connections <N>': 10001 is not in 1..=10000",
     ),
     (
-        "serve --port 0 --connections 1 --existing",
-        "2 error: the option '--existing' wants '--store <FILE>'",
+        "serve --port 0 --forever --at-once 0",
+        "2 error: invalid value '0' for '--at-once <N>': 0 is not in 1..=1000",
     ),
+    (
+        "serve --port 0 --forever --at-once 1001",
+        "2 error: invalid value '1001' for '--at-once <N>': 1001 is not in 1..=1000",
+    ),
+    (
+        "serve --port 0 --forever --at-once 1 --idle 0",
+        "2 error: invalid value '0' for '--idle <N>': 0 is not in 1..=3600",
+    ),
+    (
+        "serve --port 0 --forever --at-once 1 --idle 3601",
+        "2 error: invalid value '3601' for '--idle <N>': 3601 is not in 1..=3600",
+    ),
+    ("serve --port 0", SERVE_WANTS),
+    ("serve --port 0 --at-once 2", SERVE_WANTS),
+    ("serve --port 0 --connections 1 --forever", SERVE_WANTS),
+    ("serve --port 0 --forever --idle 5", SERVE_WANTS),
+    ("serve --port 0 --connections 1 --idle 5", SERVE_WANTS),
+    ("serve --port 0 --connections 1 --existing", SERVE_WANTS),
 ];
+
+/// What is told where the options of `serve` lack what they want of each other.
+const SERVE_WANTS: &str =
+    "2 error: serve wants one of '--connections <N>' and '--forever', with '--idle <N>' also '--at-once <N>', and with '--existing' also '--store <FILE>'";
 
 /// The status, and the first line of what is told.
 fn first_line(alloc: Global, fault: &WordsFault) -> Result<String, AllocError> {

@@ -2,8 +2,8 @@
 
 use crate::checks::{check_fact, check_text};
 use book_lists::{
-    Caller, Circle, Entry, Here, Name, Outcome, Pairs, Principal, Who, applies, decide, expand,
-    granted,
+    Caller, Circle, Entry, Here, Name, Outcome, Pairs, Principal, Who, applies, closure, decide,
+    expand, granted, reached_in,
 };
 use book_rights::{Leaf, LeafSet, Privilege};
 use std::alloc::{AllocError, Global};
@@ -118,12 +118,16 @@ const MEMBERS: &[(&str, &str)] = &[
     ("/groups/own", "/groups/own"),
 ];
 
-fn pairs(rt: &impl Abort, alloc: Global) -> Pairs {
+fn pairs_of(rt: &impl Abort, alloc: Global, members: &[(&str, &str)]) -> Pairs {
     let mut pairs = Pairs::new(alloc);
-    for (group, member) in MEMBERS {
+    for (group, member) in members {
         add(rt, alloc, &mut pairs, group, member);
     }
     pairs
+}
+
+fn pairs(rt: &impl Abort, alloc: Global) -> Pairs {
+    pairs_of(rt, alloc, MEMBERS)
 }
 
 fn circle(rt: &impl Abort, alloc: Global, pairs: &Pairs, person: Option<&str>) -> Circle {
@@ -144,10 +148,10 @@ const LISTED: &[(&str, &str)] = &[
     ("/groups/staff", "/people/ann"),
 ];
 
-fn check_listed(rt: &impl Abort, pairs: &Pairs) {
+fn check_listed(rt: &impl Abort, pairs: &Pairs, listed: &[(&str, &str)]) {
     let list = pairs.list().expect(rt, "memory");
-    check_fact(rt, list.len() == LISTED.len(), "pairs");
-    for (group, member) in LISTED {
+    check_fact(rt, list.len() == listed.len(), "pairs");
+    for (group, member) in listed {
         let found = list.iter().any(|pair| pair.group.text() == *group
             && pair.member.text() == *member);
         check_fact(rt, found, member);
@@ -165,7 +169,7 @@ fn pairs_are_a_set(rt: HostRuntime) {
     let has_one = pairs.has(&staff, &ann) && !pairs.has(&ann, &staff);
     check_fact(&rt, has_one, "a pair");
     check_fact(&rt, copied(&rt, &pairs).len() == 6, "a copy");
-    check_listed(&rt, &pairs);
+    check_listed(&rt, &pairs, LISTED);
 }
 
 fn check_circle(
@@ -209,6 +213,43 @@ fn callers_belong_by_chains_and_cycles(rt: HostRuntime) {
     let cid = ["/people/cid"];
     check_circle(&rt, alloc, &pairs, Some("/people/cid"), cid.as_slice());
     check_circle(&rt, alloc, &pairs, None, [].as_slice());
+}
+
+/// Groups that are within each other, and a person within one of them.
+const WITHIN: &[(&str, &str)] = &[
+    ("/groups/a", "/groups/b"),
+    ("/groups/b", "/groups/a"),
+    ("/groups/b", "/people/cem"),
+];
+
+/// Each of the groups with both groups and the person.
+const CLOSED: &[(&str, &str)] = &[
+    ("/groups/a", "/groups/a"),
+    ("/groups/a", "/groups/b"),
+    ("/groups/a", "/people/cem"),
+    ("/groups/b", "/groups/a"),
+    ("/groups/b", "/groups/b"),
+    ("/groups/b", "/people/cem"),
+];
+
+/// A closure has a pair for each chain, and tells a caller what the chains tell.
+#[test]
+fn closures_tell_what_chains_lead_to(rt: HostRuntime) {
+    let alloc = rt.alloc();
+    let closed = closure(&pairs_of(&rt, alloc, WITHIN)).expect(&rt, "memory");
+    check_listed(&rt, &closed, CLOSED);
+    let a = named(&rt, alloc, "/groups/a");
+    let b = named(&rt, alloc, "/groups/b");
+    let cem = named(&rt, alloc, "/people/cem");
+    let caller = Caller::Known(copied(&rt, &cem));
+    let circle = reached_in(&closed, &caller).expect(&rt, "memory");
+    let has_all = circle.has(&a) && circle.has(&b) && circle.has(&cem);
+    check_fact(&rt, has_all, "both groups and the person");
+    let mut groups = Vec::new(alloc);
+    groups.push(copied(&rt, &a)).expect(&rt, "memory");
+    let circle = Circle::of(alloc, &caller, groups).expect(&rt, "memory");
+    let has_one = circle.has(&a) && !circle.has(&b) && circle.has(&cem);
+    check_fact(&rt, has_one, "one group and the person");
 }
 
 fn entry(who: Who, deny: bool, set: LeafSet) -> Entry {

@@ -2,7 +2,7 @@
 
 use crate::checks::check;
 use crate::row_texts::{node, store, whole_rows};
-use book_tables_schema::{create, is_book_schema, reopen, says_other_version};
+use book_tables_schema::{create, is_beside_reach, is_book_schema, reopen, says_other_version};
 use sqlite::{Connection, MemStore};
 use std::process::Abort;
 
@@ -23,22 +23,58 @@ fn schemas_are_told_apart(rt: HostRuntime) {
     assert!(rt; !is_book_schema(connection.schema()));
     create(&mut connection).expect(&rt, "a new store");
     assert!(rt; is_book_schema(connection.schema()));
-    run(&rt, &mut connection, "DROP INDEX gone_book");
+    run(&rt, &mut connection, "DROP INDEX reach_grp");
     assert!(rt; !is_book_schema(connection.schema()));
-    let index = "CREATE INDEX gone_book ON gone (book)";
+    let index = "CREATE INDEX reach_grp ON reach (member)";
     run(&rt, &mut connection, index);
     assert!(rt; !is_book_schema(connection.schema()));
-    run(&rt, &mut connection, "DROP INDEX gone_book");
-    let index = "CREATE INDEX gone_book ON gone (book, number)";
+    run(&rt, &mut connection, "DROP INDEX reach_grp");
+    let index = "CREATE INDEX reach_grp ON reach (grp)";
     run(&rt, &mut connection, index);
     assert!(rt; is_book_schema(connection.schema()));
-    run(
-        &rt,
-        &mut connection,
-        "CREATE VIEW all_nodes AS SELECT path FROM node",
-    );
+    run(&rt, &mut connection, "DROP TABLE reach");
     assert!(rt; !is_book_schema(connection.schema()));
     drop(connection);
+}
+
+/// What is done to a new store, and whether its tables are then those of a store, whatever table `reach` it has.
+const BESIDE: &[(&str, bool)] = &[
+    ("", true),
+    ("DROP TABLE reach", true),
+    ("DROP INDEX reach_grp", true),
+    ("CREATE INDEX reach_member ON reach (member)", true),
+    ("DROP TABLE reach; CREATE TABLE reach (note TEXT)", true),
+    (
+        "DROP TABLE reach; CREATE TABLE reach (id INTEGER PRIMARY KEY, above INTEGER REFERENCES reach)",
+        false,
+    ),
+    (
+        "DROP TABLE reach; CREATE TABLE reach (id INTEGER PRIMARY KEY AUTOINCREMENT)",
+        false,
+    ),
+    ("CREATE TABLE note (text TEXT)", false),
+    ("DROP TABLE reach; CREATE TABLE note (text TEXT)", false),
+    ("CREATE INDEX node_label ON node (label)", false),
+    ("DROP INDEX node_owner", false),
+    ("CREATE VIEW all_nodes AS SELECT path FROM node", false),
+];
+
+#[test]
+fn tables_stand_beside_any_reach(rt: HostRuntime) {
+    let alloc = rt.alloc();
+    for (sql, wanted) in BESIDE {
+        let mut connection = Connection::open_in_memory(alloc).expect(&rt, "memory");
+        assert!(rt; !is_beside_reach(connection.schema(), true), "{sql}");
+        create(&mut connection).expect(&rt, "a new store");
+        connection.execute_batch(sql).expect(&rt, sql);
+        assert_eq!(rt;
+            is_beside_reach(connection.schema(), true),
+            *wanted,
+            "{sql}"
+        );
+        assert!(rt; !is_beside_reach(connection.schema(), false), "{sql}");
+        drop(connection);
+    }
 }
 
 #[test]

@@ -1,16 +1,18 @@
-//! Worked examples of the tables of a store, over a store in memory. As rows: founding a store, finding one that is there,
-//! each edit, and each read, once on its happy path. As an Office: each edit through `Tables`, and what is found after it;
-//! stores that are there, opened as they were left and with rows that are changed by hand, and stores of version 1, migrated. They stand in a crate of
-//! their own, since a crate with tests is proved twice.
+//! Worked examples of the tables of a store, over a store in memory. As rows: founding a store, finding one that is
+//! there, each edit, and each read, once on its happy path. As an Office: each edit through `Tables`, and what is found
+//! after it; stores that are there, opened as they were left and with rows that are changed by hand, and stores of
+//! version 1, migrated. They stand in a crate of their own, since a crate with tests is proved twice.
 //!
-//! The wanted rows and answers are those of the rules (RFC 3744, RFC 4918 and own profile), worked out by hand. `row_texts`
-//! tells rows as texts, and `new_tables` what tables have at a path.
+//! The wanted rows and answers are those of the rules (RFC 3744, RFC 4918 and own profile), worked out by hand.
+//! `row_texts` tells rows as texts, and `new_tables` what tables have at a path.
 #![tactic(auto)]
 
 #[cfg(test)]
 mod cards;
 #[cfg(test)]
 mod checks;
+#[cfg(test)]
+mod closures;
 #[cfg(test)]
 mod edits;
 #[cfg(test)]
@@ -29,5 +31,7 @@ mod new_tables;
 mod opened;
 #[cfg(test)]
 mod policies;
+#[cfg(test)]
+mod reaching;
 #[cfg(test)]
 mod row_texts;

@@ -140,14 +140,14 @@ fn groups_get_members(rt: HostRuntime) {
     let alloc = rt.alloc();
     let mut connection = store(&rt, alloc);
     let both = texts(&rt, alloc, &["/people/ann", "/people/bob"]);
-    set_members(&mut connection, "/groups/staff", &both).expect(&rt, "members");
+    set_members(&mut connection, "/groups/staff", &both, &[], &[]).expect(&rt, "members");
     check(
         &rt,
         members(&rt, alloc, &mut connection),
         "/groups/staff /people/ann; /groups/staff /people/bob",
     );
     let one = texts(&rt, alloc, &["/people/ann"]);
-    set_members(&mut connection, "/groups/staff", &one).expect(&rt, "members");
+    set_members(&mut connection, "/groups/staff", &one, &[], &[]).expect(&rt, "members");
     check(
         &rt,
         members(&rt, alloc, &mut connection),
@@ -155,7 +155,7 @@ fn groups_get_members(rt: HostRuntime) {
     );
     check_number(&rt, epoch(&rt, &mut connection), 2);
     let twice = texts(&rt, alloc, &["/people/ann", "/people/ann"]);
-    assert!(rt; set_members(&mut connection, "/groups/staff", &twice).is_err());
+    assert!(rt; set_members(&mut connection, "/groups/staff", &twice, &[], &[]).is_err());
     check_number(&rt, epoch(&rt, &mut connection), 2);
     drop(connection);
 }

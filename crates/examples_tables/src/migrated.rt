@@ -2,9 +2,11 @@
 
 use crate::checks::check;
 use crate::new_tables::{found, tables};
+use crate::row_texts::reach;
 use book_tables::{OpenFault, Tables};
 use book_tables_migrating::migrate;
 use book_tables_opening::open;
+use book_tables_schema::is_book_schema;
 use sqlite::{Connection, MemStore};
 use std::alloc::Global;
 use std::process::Abort;
@@ -172,7 +174,42 @@ const TOLD: &[(&str, &str)] = &[
         "CREATE TABLE note (id INTEGER PRIMARY KEY) STRICT",
         "no-store",
     ),
+    ("CREATE TABLE reach (note TEXT)", "migrated"),
+    (
+        "CREATE TABLE reach (id INTEGER PRIMARY KEY, above INTEGER REFERENCES reach ON DELETE CASCADE)",
+        "no-store",
+    ),
 ];
+
+/// A table `reach` in a store of version 1: right, wrong, and of other columns.
+const REACHES: &[&str] = &[
+    "CREATE TABLE reach (grp TEXT NOT NULL REFERENCES node (path), member TEXT NOT NULL REFERENCES node (path), PRIMARY KEY (member, grp)) STRICT; CREATE INDEX reach_grp ON reach (grp); INSERT INTO reach VALUES ('/groups/staff', '/people/gus')",
+    "CREATE TABLE reach (grp TEXT NOT NULL REFERENCES node (path), member TEXT NOT NULL REFERENCES node (path), PRIMARY KEY (member, grp)) STRICT; INSERT INTO reach VALUES ('/groups/staff', '/people/ann')",
+    "CREATE TABLE reach (id INTEGER PRIMARY KEY, note TEXT UNIQUE); INSERT INTO reach (note) VALUES ('one'); CREATE INDEX notes ON reach (note)",
+];
+
+#[test]
+fn reach_of_a_store_of_version_1_is_made_anew(rt: HostRuntime) {
+    let alloc = rt.alloc();
+    for sql in REACHES {
+        let mut connection = first(&rt, alloc);
+        connection.execute_batch(sql).expect(&rt, sql);
+        let (tables, entries) = migrated(&rt, alloc, connection);
+        assert_eq!(rt; entries, 5);
+        let mut connection = tables.release();
+        assert!(rt; is_book_schema(connection.schema()), "{sql}");
+        check(
+            &rt,
+            reach(&rt, alloc, &mut connection),
+            "/groups/staff /people/gus",
+        );
+        for (sql, wanted) in MIGRATED {
+            let shown = numbers(&rt, alloc, &mut connection, sql);
+            check(&rt, shown, wanted);
+        }
+        drop(connection);
+    }
+}
 
 #[test]
 fn rows_that_are_not_of_version_1_are_not_migrated(rt: HostRuntime) {

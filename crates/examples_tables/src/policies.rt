@@ -67,7 +67,7 @@ fn a_policy_is_adopted(rt: HostRuntime) {
         group: text(&rt, alloc, "/groups/staff"),
         members: both.expect(&rt, "memory"),
     }];
-    adopt_rows(&mut connection, &places, &lists, &groups).expect(&rt, "a policy");
+    adopt_rows(&mut connection, &places, &lists, &groups, &[], &[]).expect(&rt, "a policy");
     check(
         &rt,
         children(&rt, alloc, &mut connection, "/people"),
@@ -118,7 +118,7 @@ fn a_policy_that_names_nobody_changes_nothing(rt: HostRuntime) {
             "Law",
         ),
     ];
-    assert!(rt; adopt_rows(&mut connection, &places, &[], &[]).is_err());
+    assert!(rt; adopt_rows(&mut connection, &places, &[], &[], &[], &[]).is_err());
     let lists = [ListsRow {
         path: text(&rt, alloc, "/books/law"),
         protected: Vec::new(alloc),
@@ -126,7 +126,7 @@ fn a_policy_that_names_nobody_changes_nothing(rt: HostRuntime) {
     }];
     let none = Err(Error::QueryReturnedNoRows);
     assert_eq!(rt;
-        adopt_rows(&mut connection, &places[..1], &lists, &[]),
+        adopt_rows(&mut connection, &places[..1], &lists, &[], &[], &[]),
         none
     );
     check(

@@ -2,7 +2,7 @@
 
 use book_tables_rows::{
     changed_rows, child_entry_rows, child_rows, entry_rows, entry_rows_at, gone_rows, insert_node,
-    look_up, member_rows, read_epoch,
+    look_up, member_rows, reach_rows, read_epoch,
 };
 use book_tables_schema::{all_entry_rows, all_gone_rows, all_meta_rows, all_node_rows, create};
 use sqlite::{Connection, MemStore, Row};
@@ -192,6 +192,18 @@ pub(crate) fn members(
     assert!(rt; connection.is_autocommit());
     let mut transaction = connection.transaction();
     let rows = member_rows(&mut transaction).expect(rt, "members");
+    told(rt, alloc, &rows, "tt")
+}
+
+/// Group and member of each row of `reach`.
+pub(crate) fn reach(
+    rt: &impl Abort,
+    alloc: Global,
+    connection: &mut Connection<MemStore>,
+) -> String {
+    assert!(rt; connection.is_autocommit());
+    let mut transaction = connection.transaction();
+    let rows = reach_rows(&mut transaction).expect(rt, "reach");
     told(rt, alloc, &rows, "tt")
 }
 

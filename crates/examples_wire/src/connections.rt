@@ -7,6 +7,7 @@ use std::io;
 use std::io::{ErrorKind, Read, Write};
 use std::net::{OpenListener, OpenStream, Shutdown, SocketAddr, TcpListener, TcpStream};
 use std::process::Abort;
+use std::rt::Clock;
 
 /// What a client sends before it is accepted, how many reads and writes of its connection succeed, and what it is sent.
 #[derive(Clone, Copy)]
@@ -21,7 +22,7 @@ const ALL: u64 = u64::MAX;
 
 /// Clients whose connections are to be served, so many of them; whether none failed, or nothing where one could not be
 /// accepted; and what is told of those that failed.
-type Row<'a> = (&'a [Client<'a>], u16, Option<bool>, &'a str);
+type Row<'a> = (&'a [Client<'a>], u64, Option<bool>, &'a str);
 
 const CREATED: &str = "HTTP/1.1 201 Created\r\nContent-Length: 0\r\n\r\n";
 
@@ -155,12 +156,12 @@ fn send(rt: &impl Abort, mut stream: &TcpStream, client: &Client<'_>) {
 }
 
 /// Serves the connections of a row.
-fn check_served(rt: &(impl Abort + AllocGlobal), doors: &Doors<'_>, row: &Row<'_>) {
+fn check_served(rt: &(impl Abort + AllocGlobal + Clock), doors: &Doors<'_>, row: &Row<'_>) {
     let (_, count, sound, told) = *row;
     let alloc = rt.alloc();
     let mut machine = machine(rt, alloc, POLICY);
     let mut errors = Vec::new(alloc);
-    let served = serve_connections(alloc, &mut machine, doors, count, &mut errors);
+    let served = serve_connections(rt, alloc, &mut machine, doors, count, &mut errors);
     drop(machine);
     assert_eq!(rt; served.ok(), sound);
     assert_eq!(rt; errors.as_slice(), told.as_bytes());
@@ -175,7 +176,7 @@ fn check_told(rt: &(impl Abort + AllocGlobal), mut stream: &TcpStream, client: &
 
 /// Serves a row whose clients are connected; all is sent before the first is accepted, and read after the last.
 fn check(
-    rt: &(impl Abort + AllocGlobal),
+    rt: &(impl Abort + AllocGlobal + Clock),
     listener: &TcpListener,
     streams: &[TcpStream],
     row: &Row<'_>,

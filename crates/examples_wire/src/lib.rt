@@ -19,6 +19,8 @@ mod offices;
 #[cfg(test)]
 mod replies;
 #[cfg(test)]
+mod rounds;
+#[cfg(test)]
 mod streams;
 #[cfg(test)]
 mod targets;
@@ -26,3 +28,5 @@ mod targets;
 mod telling;
 #[cfg(test)]
 mod texts;
+#[cfg(test)]
+mod together;

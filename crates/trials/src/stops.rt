@@ -1,23 +1,25 @@
 //! What a stop leaves of a store. Over a store in memory each kind of edit is made again and again: first the log and
-//! then the database file fails from its call k on, for each k counting from 0 until the file passes every call. What is
-//! left tells the Office before the edit or the one after it, and the one after it where the edit was answered `Ok`: once
-//! as the program alone stops, so that all that was written is kept, and once as the machine stops, so that what was not
-//! synced is lost. Each time the store is then closed and opened once more, and tells the same.
+//! then the database file fails from its call k on, for each k counting from 0 until the file passes every call. What
+//! is left tells the Office before the edit or the one after it, and the one after it where the edit was answered `Ok`:
+//! once as the program alone stops, so that all that was written is kept, and once as the machine stops, so that what
+//! was not synced is lost. Each time the store is then closed and opened once more, and tells the same.
 //!
-//! It prints a line a kind, `NAME: N stops, B before, A after, W wrong`, where B, A and W count both ways of stopping, and
-//! last `N stops, W wrong`; the status is 1 where one is wrong. Words name the kinds; without any all are tried. Which
-//! Offices are wanted is told by a keeper in memory. The first open of a store, which makes its files, is stopped alike:
-//! its line is `first open: N stops, A taken, W wrong`, where what is left opens and takes the tables. The migration of a
-//! store of version 1 is tried where no kind or the word `migrate` is given: before it is of version 1 and can be migrated.
+//! It prints a line a kind, `NAME: N stops, B before, A after, W wrong`, where B, A and W count both ways of stopping,
+//! and last `N stops, W wrong`; the status is 1 where one is wrong. Words name the kinds; without any all are tried.
+//! Which Offices are wanted is told by a keeper in memory. The first open of a store, which makes its files, is stopped
+//! alike: its line is `first open: N stops, A taken, W wrong`, where what is left opens and takes the tables. The
+//! migration of a store of version 1 is tried where no kind or the word `migrate` is given: before it is of version 1
+//! and can be migrated. The open of a store without `reach` is tried where no kind or the word `open` is given: before
+//! it has none.
 //!
 //! Read `cases` for what is edited, `crate::disks` for the files, `texts` for what is compared, and then `trials`;
-//! `beginnings` has the first open, and `migrations` the migration.
+//! `beginnings` has the first open, and `renewals` the migration and the open of a store without `reach`.
 
 mod beginnings;
 mod cases;
 mod counts;
-mod migrations;
 mod plans;
+mod renewals;
 mod texts;
 mod trials;
 
@@ -26,7 +28,7 @@ use anyhow::{Context, Result};
 use beginnings::stops_of_first_open;
 use cases::{CASES, Case};
 use counts::Count;
-use migrations::stops_of_migration;
+use renewals::{Renewal, stops_of_renewal};
 use sqlite_disk::Files;
 use std::alloc::Global;
 use trials::{start_files, stops_of};
@@ -34,11 +36,14 @@ use trials::{start_files, stops_of};
 /// The word for the migration of a store of version 1.
 const MIGRATE: &str = "migrate";
 
+/// The word for the open of a store without `reach`.
+const OPEN: &str = "open";
+
 /// The kinds of edits that the words name.
 fn asked_cases(alloc: Global, words: &[&str]) -> Result<Vec<Case>> {
     let mut asked = Vec::new(alloc);
     for word in words {
-        if *word != MIGRATE {
+        if *word != MIGRATE && *word != OPEN {
             asked.push(Case::named(word).context("no such kind of edit")?)?;
         }
     }
@@ -67,19 +72,24 @@ fn print_first_stops(rt: &(impl AllocGlobal + Print)) -> Result<Count> {
     Ok(count)
 }
 
-/// Tries the stops of a migration where the words ask for it, and prints their line.
-fn print_migration_stops(rt: &(impl AllocGlobal + Print), words: &[&str]) -> Result<Count> {
-    if !words.is_empty() && !words.contains(&MIGRATE) {
+/// Tries the stops of a renewal where the words ask for it, and prints their line.
+fn print_renewal_stops(
+    rt: &(impl AllocGlobal + Print),
+    words: &[&str],
+    word: &str,
+    renewal: Renewal,
+) -> Result<Count> {
+    if !words.is_empty() && !words.contains(&word) {
         return Ok(Count::none());
     }
-    let count = stops_of_migration(rt.alloc())?;
+    let count = stops_of_renewal(rt.alloc(), renewal)?;
     let Count {
         stops,
         before,
         after,
         wrong,
     } = count;
-    println!(rt; "migrate: {stops} stops, {before} before, {after} after, {wrong} wrong")?;
+    println!(rt; "{word}: {stops} stops, {before} before, {after} after, {wrong} wrong")?;
     Ok(count)
 }
 
@@ -105,14 +115,15 @@ fn print_asked(rt: &(impl AllocGlobal + Print), words: &[&str], asked: &[Case]) 
     count
 }
 
-/// Tries the stops of the kinds that the words name, or of all where there is no word, and prints what they left: whether
-/// nothing is wrong.
+/// Tries the stops of the kinds that the words name, or of all where there is no word, and prints what they left:
+/// whether nothing is wrong.
 pub(crate) fn try_stops(rt: &(impl AllocGlobal + Print), words: &[&str]) -> Result<bool> {
     let asked = asked_cases(rt.alloc(), words)?;
     let first = print_first_stops(rt)?;
-    let migration = print_migration_stops(rt, words)?;
+    let migration = print_renewal_stops(rt, words, MIGRATE, Renewal::Migration)?;
+    let opening = print_renewal_stops(rt, words, OPEN, Renewal::Opening)?;
     let asked = print_asked(rt, words, asked.as_slice())?;
-    let all = first.plus(migration).plus(asked);
+    let all = first.plus(migration).plus(opening).plus(asked);
     let (stops, wrong) = (all.stops, all.wrong);
     println!(rt; "{stops} stops, {wrong} wrong")?;
     Ok(wrong == 0)

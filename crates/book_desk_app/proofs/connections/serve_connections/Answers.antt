@@ -6,7 +6,7 @@ use Rattle.std.proofs.lemmas.List.{length-append}
 use Rattle.book_desk_app.specs.Connections.{ServedConnection, none_had_a_fault, outcomes_of}
 use Rattle.book_desk_app.proofs.InTurn.{connections_run, one_more, outcomes_more, sound_after}
 use Rattle.book_desk_app.proofs.connections.serve_connections.Goals as goal
-use Rattle.book_desk_app.proofs.connections.serve_connections.Goals.{then-not-serve_one, else-not-serve_one}
+use Rattle.book_desk_app.proofs.connections.serve_connections.Goals.{then-not-is_sound, else-not-is_sound}
 
 pub loop-init : goal.loop-init
 loop-init g c = (([], refl, refl, refl), λ sound. Keeps-refl (g.E.Write.contents c.args.errors.now))
@@ -14,28 +14,27 @@ loop-init g c = (([], refl, refl, refl), λ sound. Keeps-refl (g.E.Write.content
 pub loop-preserved : goal.loop-preserved
 loop-preserved g c =
     let so_far = c.loop.invariant in
-    let one = c.serve_one.ensures.served in
     let last : ServedConnection g.row.S.Denot = record {
       reader = c.in_ok-reader.reader;
       writer = c.in_ok-writer.writer;
-      reader_left = c.serve_one.new.reader;
-      writer_left = c.serve_one.new.writer;
-      outcome = one.0;
+      reader_left = c.serve_one-outcome.new.reader;
+      writer_left = c.serve_one-outcome.new.writer;
+      outcome = c.serve_one-outcome.result;
     } in
-    let turns = one_more g.S.Read.remaining g.S.Write.contents g.K.Keeper.standing c.args.machine.now.keeper c.loop.machine.keeper c.serve_one.new.machine.keeper so_far.0.0 last so_far.0.1 one.2 in
+    let turns = one_more g.S.Read.remaining g.S.Write.contents g.K.Keeper.standing c.args.machine.now.keeper c.loop.machine.keeper c.serve_one-outcome.new.machine.keeper so_far.0.0 last so_far.0.1 c.serve_one-outcome.ensures.served in
     let count : length (so_far.0.0 ++ last ∷ []) ≡ c.loop.counter + 1 = length-append so_far.0.0 (last ∷ []) ∙ ap (λ n. n + 1) so_far.0.2 in
-    let sound = sound_after (outcomes_of so_far.0.0) one.0 c.loop.sound c.serve_one.result so_far.0.3 one.1 ∙ ap none_had_a_fault (sym (outcomes_more so_far.0.0 last)) in
-    elim c.if-not-serve_one.branch [
-      | then-not-serve_one w ↦
-          let failed : c.serve_one.result ≡ false = search rules in (
+    let sound = sound_after (outcomes_of so_far.0.0) c.serve_one-outcome.result c.loop.sound c.is_sound.result so_far.0.3 c.is_sound.ensures ∙ ap none_had_a_fault (sym (outcomes_more so_far.0.0 last)) in
+    elim c.if-not-is_sound.branch [
+      | then-not-is_sound w ↦
+          let failed : c.is_sound.result ≡ false = search rules in (
             (so_far.0.0 ++ last ∷ [], turns, count, w.sound-is ∙ sym (ap (λ (b : Bool). cond b c.loop.sound false) failed) ∙ sound),
             λ t. absurd (true≢false (sym t ∙ w.sound-is)),
           )
-      | else-not-serve_one w ↦
-          let passed : c.serve_one.result ≡ true = search rules in (
+      | else-not-is_sound w ↦
+          let passed : c.is_sound.result ≡ true = search rules in (
             (so_far.0.0 ++ last ∷ [], turns, count, w.sound-is ∙ sym (ap (λ (b : Bool). cond b c.loop.sound false) passed) ∙ sound),
-            λ t. Keeps-trans (g.E.Write.contents c.args.errors.now) (g.E.Write.contents c.loop.errors) (g.E.Write.contents c.serve_one.new.errors)
-                (so_far.1 (sym w.sound-is ∙ t)) (c.serve_one.ensures.silent passed),
+            λ t. Keeps-trans (g.E.Write.contents c.args.errors.now) (g.E.Write.contents c.loop.errors) (g.E.Write.contents c.serve_one-outcome.new.errors)
+                (so_far.1 (sym w.sound-is ∙ t)) (c.serve_one-outcome.ensures.silent (sym c.is_sound.ensures ∙ passed)),
           )
     ]
 

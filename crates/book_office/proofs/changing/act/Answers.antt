@@ -1,5 +1,7 @@
-use Rattle.book_office.proofs.Common.{◌≤◌, sym, arith, on_ok_weaker, on_err_weaker, LAST_NUMBER, put_card, remove_card, at_some}
+use Rattle.book_office.proofs.Common.{◌≤◌, refl, sym, arith, on_ok_weaker, on_err_weaker, LAST_NUMBER, put_card, remove_card, at_some}
 use Rattle.book_office.proofs.OfficeEdits.{edited, kept}
+use Rattle.book_office.proofs.StayingPairs.{list_pairs, pairs_either}
+use Rattle.book_office.specs.Edits.{add_book, set_list}
 use Rattle.book_office.proofs.changing.act.Goals as goal
 
 pub returns-in-Some-clause-ok : goal.returns-in-Some-clause-ok
@@ -55,3 +57,13 @@ pub returns-in-SetLabel-clause-ok : goal.returns-in-SetLabel-clause-ok
 returns-in-SetLabel-clause-ok c = rw c.in-SetLabel.is (on_ok_weaker c.set_label.result
     (λ h sound _. h (λ name book at. (sound.books name book at).1.last))
     c.set_label.ensures.ok)
+
+pub returns-in-AddBook-clause-pairs : goal.returns-in-AddBook-clause-pairs
+returns-in-AddBook-clause-pairs c = λ _.
+    pairs_either c.add_book.result c.args.office.now c.add_book.new.office (add_book c.in-AddBook.book c.in-AddBook.owner c.args.office.now)
+    c.add_book.ensures.ok c.add_book.ensures.err refl
+
+pub returns-in-SetList-clause-pairs : goal.returns-in-SetList-clause-pairs
+returns-in-SetList-clause-pairs c = λ _.
+    pairs_either c.set_list.result c.args.office.now c.set_list.new.office (set_list c.in-SetList.path c.in-SetList.entries c.args.office.now)
+    c.set_list.ensures.ok c.set_list.ensures.err (list_pairs c.in-SetList.path c.in-SetList.entries c.args.office.now)

@@ -5,8 +5,8 @@ use Rattle.book_tables.specs.Adopting.{AddsGroups, compared_homes}
 use Rattle.book_tables.proofs.Comparisons.{adds_both}
 use Rattle.book_tables.proofs.differences.compare_offices.Goals as goal
 
-pub returns : goal.returns
-returns c =
+pub returns-clause-differ : goal.returns-clause-differ
+returns-clause-differ c =
     let old = c.args.old.now in
     let new = c.args.new.now in
     let homes = compared_homes old new in

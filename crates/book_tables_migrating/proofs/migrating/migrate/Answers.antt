@@ -1,20 +1,21 @@
 use Rattle.std.proofs.Common.{subst}
 use Rattle.std.proofs.lemmas.Result.{IfOk-weaker}
 use Rattle.sqlite.specs.Held.{state}
-use Rattle.book_tables_migrating.specs.Migrating.{IsReopenedFirst, IsUnmigrated, StandsWidened}
+use Rattle.book_tables_opening.specs.Reading.{IsReopened}
+use Rattle.book_tables_migrating.specs.Migrating.{IsUnmigrated, StandsWidened}
 use Rattle.book_tables_migrating.proofs.Rewritings.{if_err, if_some}
 use Rattle.book_tables_migrating.proofs.migrating.migrate.Goals as goal
 
 pub returns-in-Ok-clause-stands : goal.returns-in-Ok-clause-stands
 returns-in-Ok-clause-stands g c =
-    let reopened : IsReopenedFirst (state g.S.Store c.in-Ok.opened) = λ clean. ((c.in-Ok.ensures.opens clean).0, c.in-Ok.ensures.first clean) in
+    let reopened : IsReopened (state g.S.Store c.in-Ok.opened) = λ clean. ((c.in-Ok.ensures.opens clean).0, c.in-Ok.ensures.tabled clean) in
     IfOk-weaker c.migrate_again.result _ _
     (λ t h clean. let x = h clean in subst (λ trees. StandsWidened trees (state g.S.Store t.0.connection) t.1) (c.in-Ok.ensures.same x.0) x.1)
     (c.migrate_again.ensures.stands reopened)
 
 pub returns-in-Ok-clause-kept : goal.returns-in-Ok-clause-kept
 returns-in-Ok-clause-kept g c =
-    let reopened : IsReopenedFirst (state g.S.Store c.in-Ok.opened) = λ clean. ((c.in-Ok.ensures.opens clean).0, c.in-Ok.ensures.first clean) in
+    let reopened : IsReopened (state g.S.Store c.in-Ok.opened) = λ clean. ((c.in-Ok.ensures.opens clean).0, c.in-Ok.ensures.tabled clean) in
     if_err c.migrate_again.result _ _
     (λ e h. if_some e.1 _ _ (λ k kept clean. let x = kept clean in subst (λ trees. IsUnmigrated trees (state g.S.Store k)) (c.in-Ok.ensures.same x.0) x.1) h)
     (c.migrate_again.ensures.kept reopened)

@@ -1,8 +1,8 @@
-use Rattle.std.proofs.Common.{◌≡◌, ◌≤◌, true, rules, arith, sym, ap, subst, IsTrue}
+use Rattle.std.proofs.Common.{◌≡◌, ◌≤◌, false, true, rules, arith, sym, ap, subst, IsTrue}
 use Rattle.sqlite.specs.Held.{state}
 use Rattle.sqlite.specs.State.{State, HasCleanDisk}
 use Rattle.sqlite_trees.specs.View.{doubt}
-use Rattle.book_tables_rows.specs.Schema.{first_schema}
+use Rattle.book_tables_schema.specs.OtherReach.{IsBeside}
 use Rattle.book_tables_migrating.specs.Migrating.{IsMigrated, Rewritten, TellsRewritten}
 use Rattle.book_tables_migrating.proofs.Rewritings.{migrated, leaves_migrated}
 use Rattle.book_tables_migrating.proofs.migrating.migrate_first.Goals as goal
@@ -13,7 +13,7 @@ returns-in_err-commit-clause-left g c =
     let begun = state g.S.Store c.transaction-transaction.result.conn.now in
     let inner = state g.S.Store c.rewrite.new.transaction.conn.now in
     let is : begun ≡ record old { in_transaction = true } = ap (state g.S.Store) c.transaction-transaction.ensures.begun in
-    let schema : old.now.schema ≡ first_schema = search rules in
+    let schema : IsBeside false old.now.schema = search rules in
     let left = leaves_migrated old begun inner _ c.in-Some.count schema is c.rewrite.ensures.survives
     (λ clean inside. subst (TellsRewritten begun inner) c.in-Some.is (c.in_ok-count.ensures.told clean inside)) c.commit.ensures.survives in
     search (rules, left)
@@ -25,7 +25,7 @@ returns-clause-told g c clean =
     let inner = state g.S.Store c.rewrite.new.transaction.conn.now in
     let new = state g.S.Store c.commit.new.self.0 in
     let is : begun ≡ record old { in_transaction = true } = ap (state g.S.Store) c.transaction-transaction.ensures.begun in
-    let schema : old.now.schema ≡ first_schema = search rules in
+    let schema : IsBeside false old.now.schema = search rules in
     let same : c.commit.new.self.0 ≡ c.connection-2-1.given.0 = search rules in
     let clean_new : HasCleanDisk new = subst (λ s. HasCleanDisk (state g.S.Store s)) (sym same) clean in
     let survived : doubt inner.is_clean ≤ doubt new.is_clean = c.commit.ensures.survives.clean in
@@ -41,7 +41,7 @@ returns-clause-left g c =
     let begun = state g.S.Store c.transaction-transaction.result.conn.now in
     let inner = state g.S.Store c.rewrite.new.transaction.conn.now in
     let is : begun ≡ record old { in_transaction = true } = ap (state g.S.Store) c.transaction-transaction.ensures.begun in
-    let schema : old.now.schema ≡ first_schema = search rules in
+    let schema : IsBeside false old.now.schema = search rules in
     let left = leaves_migrated old begun inner _ c.in-Some.count schema is c.rewrite.ensures.survives
     (λ clean inside. subst (TellsRewritten begun inner) c.in-Some.is (c.in_ok-count.ensures.told clean inside)) c.commit.ensures.survives in
     search (rules, left)

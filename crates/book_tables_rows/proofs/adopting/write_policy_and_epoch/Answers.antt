@@ -1,4 +1,5 @@
 use Rattle.book_tables_rows.proofs.Common.{map, arith, ◌∙◌, IsTrue, HasCleanDisk, state, placed_row, listed_row, joined, Looks}
+use Rattle.book_tables_rows.specs.Reach.{pair_said}
 use Rattle.book_tables_rows.proofs.Keeping.{on_ok}
 use Rattle.book_tables_rows.proofs.PolicyWrites.{adopts}
 use Rattle.book_tables_rows.proofs.adopting.write_policy_and_epoch.Goals as goal
@@ -8,11 +9,14 @@ returns-clause-done g c clean inside =
     let old = state g.S.Store c.args.transaction.now.conn.now in
     let before = state g.S.Store c.read_epoch.new.transaction.conn.now in
     let between = state g.S.Store c.write_policy.new.transaction.conn.now in
+    let after = state g.S.Store c.renew_reach.new.transaction.conn.now in
     let new = state g.S.Store c.set_epoch.new.transaction.conn.now in
-    let clean_between : HasCleanDisk between = omega (arith, c.set_epoch.ensures.survives.clean) in
+    let clean_after : HasCleanDisk after = omega (arith, c.set_epoch.ensures.survives.clean) in
+    let clean_between : HasCleanDisk between = omega (arith, c.renew_reach.ensures.survives.clean) in
     let clean_before : HasCleanDisk before = omega (arith, c.write_policy.ensures.survives.clean) in
     let first : Looks old before = c.in_ok-epoch.ensures.stays clean_before in
     let inside_before : IsTrue before.in_transaction = first.mode ∙ inside in
     let written = c.in_ok-write_policy.ensures.done clean_between inside_before in
-    on_ok c.set_epoch.result _ _ (λ raised. adopts old before between new (map placed_row c.args.places.now) (map listed_row c.args.lists.now) (map joined c.args.groups.now)
-    c.in_ok-epoch.epoch first (c.in_ok-epoch.ensures.found clean_before) written raised) (c.set_epoch.ensures.done clean written.inside)
+    let renewed = c.in_ok-renew_reach.ensures.done clean_after written.inside in
+    on_ok c.set_epoch.result _ _ (λ raised. adopts old before between after new (map placed_row c.args.places.now) (map listed_row c.args.lists.now) (map joined c.args.groups.now) (map pair_said c.args.old.now) (map pair_said c.args.new.now)
+    c.in_ok-epoch.epoch first (c.in_ok-epoch.ensures.found clean_before) written renewed raised) (c.set_epoch.ensures.done clean renewed.inside)

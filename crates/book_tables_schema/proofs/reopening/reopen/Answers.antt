@@ -1,6 +1,5 @@
-use Rattle.book_tables_schema.proofs.Common.{arith, ◌≡◌, false, sym, ◌∙◌, state, book_schema}
+use Rattle.book_tables_schema.proofs.Common.{arith, ◌≡◌, false, sym, ◌∙◌, state}
 use Rattle.sqlite_trees.specs.View.{IsClean}
-use Rattle.book_tables_rows.specs.Schema.{first_schema}
 use Rattle.book_tables_schema.proofs.RisingRows.{tabled_of, open_of}
 use Rattle.book_tables_schema.proofs.reopening.reopen.Goals as goal
 
@@ -11,20 +10,11 @@ returns-in-Ok-clause-same g c clean =
     let unbroken : v.is_broken ≡ false = sym (c.is_broken.ensures sure) ∙ c.if-is_broken.false in
     c.in-Ok.ensures.trees clean ∙ (c.into_store-store.ensures.undone.undone (open_of v.is_open v.is_broken (g.met.S.Store.broken_if_shut c.into_store-store.result) unbroken)).0
 
-pub returns-in-Ok-clause-book : goal.returns-in-Ok-clause-book
-returns-in-Ok-clause-book g c clean has =
+pub returns-in-Ok-clause-tabled : goal.returns-in-Ok-clause-tabled
+returns-in-Ok-clause-tabled g c clean =
     let opened = state g.S.Store c.in-Ok.connection in
     let v = g.S.Store.view c.into_store-store.result in
     let sure : IsClean v = omega (arith, c.in-Ok.ensures.clean) in
     let unbroken : v.is_broken ≡ false = sym (c.is_broken.ensures sure) ∙ c.if-is_broken.false in
     let both = c.in-Ok.ensures.opens clean in
-    tabled_of book_schema v opened.now (c.in-Ok.ensures.trees clean) (both.1 both.0.is_open).0 (g.met.S.Alter.listed c.into_store-store.result unbroken) (g.met.S.Store.ordered c.into_store-store.result unbroken) has
-
-pub returns-in-Ok-clause-first : goal.returns-in-Ok-clause-first
-returns-in-Ok-clause-first g c clean has =
-    let opened = state g.S.Store c.in-Ok.connection in
-    let v = g.S.Store.view c.into_store-store.result in
-    let sure : IsClean v = omega (arith, c.in-Ok.ensures.clean) in
-    let unbroken : v.is_broken ≡ false = sym (c.is_broken.ensures sure) ∙ c.if-is_broken.false in
-    let both = c.in-Ok.ensures.opens clean in
-    tabled_of first_schema v opened.now (c.in-Ok.ensures.trees clean) (both.1 both.0.is_open).0 (g.met.S.Alter.listed c.into_store-store.result unbroken) (g.met.S.Store.ordered c.into_store-store.result unbroken) has
+    tabled_of v opened.now (c.in-Ok.ensures.trees clean) (both.1 both.0.is_open).0 (g.met.S.Alter.listed c.into_store-store.result unbroken) (g.met.S.Store.ordered c.into_store-store.result unbroken)

@@ -20,4 +20,4 @@ returns-in-MoveCard c = λ o remembers.
     c.in-MoveCard.from_book c.in-MoveCard.from_card c.in-MoveCard.to_book c.in-MoveCard.to_card c.count_card-in-MoveCard.new.counts c.forget_cards.ensures.nodes c.forget_cards.ensures.bare c.count_card-in-MoveCard.ensures)
 
 pub returns-in-AddBook : goal.returns-in-AddBook
-returns-in-AddBook c = λ o remembers. c.forget.ensures _
+returns-in-AddBook c = c.forget_after.ensures

@@ -1,6 +1,9 @@
 use Rattle.book_tables.proofs.Common.{◌≡◌, true, false, List, map, Err, refl, state, State, Office, adoption_of, taken_over, bare, Standing, Reads, Adopt, Place, Joined, placed_row, listed_row, joined, AreDifferences, standing_of}
 use Rattle.book_office.specs.declared.keepers.StoreFault.TheVariants.{Memory}
 use Rattle.book_tables_rows.specs.Adopting.{Listed, adopting}
+use Rattle.book_tables_rows.specs.Reach.{pair_said}
+use Rattle.book_tables_rows.specs.Writes.{Pair}
+use Rattle.book_tables.specs.Reach.{Renews}
 use Rattle.book_tables.proofs.AdoptedOffices.{Changes, adopts_policy, told_stays, told_changes}
 use Rattle.book_tables.proofs.ReadActing.{read_then_edited, read_then_rested, read_fails_edit}
 use Rattle.book_tables.proofs.Readings.{then_gives_up}
@@ -33,9 +36,11 @@ returns-in-Some g c =
     let places : List Place = map placed_row written.places.items in
     let lists : List Listed = map listed_row written.lists.items in
     let groups : List Joined = map joined written.groups.items in
-    let told : ((adoption_of t office).changed ≡ true) × AreDifferences office (bare (taken_over t office)) places lists groups = rw c.in-Some.is at c.in_ok-written.ensures in
-    let known : (o : Office) → Told o office → Changes t places lists groups o = λ o e. told_changes t o office e told.0 places lists groups told.1 in
-    read_then_edited mid new (Adopt t) (adopting places lists groups) (Changes t places lists groups) (adopts_policy t places lists groups)
+    let gone : List Pair = map pair_said written.renewal.gone.items in
+    let come : List Pair = map pair_said written.renewal.come.items in
+    let told : ((adoption_of t office).changed ≡ true) × AreDifferences office (bare (taken_over t office)) places lists groups × Renews office.pairs (bare (taken_over t office)).pairs gone come = rw c.in-Some.is at c.in_ok-written.ensures in
+    let known : (o : Office) → Told o office → Changes t places lists groups gone come o = λ o e. told_changes t o office e told.0 places lists groups gone come told.1 told.2 in
+    read_then_edited mid new (Adopt t) (adopting places lists groups gone come) (Changes t places lists groups gone come) (adopts_policy t places lists groups gone come)
     c.write.ensures.left (g.met.S.Store.settled c.write.new.self.connection.store)
     old c.bare_office.new.self.failures office Told c.in_ok-office.ensures known
     c.write.new.self.failures c.write.result c.write.ensures.counted c.write.ensures.made c.write.ensures.kept

@@ -1,0 +1,4 @@
+pub mod Common
+pub mod Histories
+pub mod Places
+pub mod Drops

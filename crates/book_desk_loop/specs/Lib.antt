@@ -1,0 +1,2 @@
+pub mod ManyConnections
+pub mod Closing

@@ -1,0 +1,253 @@
+//! Many connections of one machine, without their sockets.
+
+ghost use Rattle.std.specs.Prelude.{◌≡◌, ◌⊎◌, ℕ, ◌+◌, ◌≤◌, ◌<◌, true, false, List, [], ◌++◌, length, take, get_or, map, None, IfOk, IfSome, OnOk, OnErr};
+ghost use Rattle.book_wire.specs.Connection.{fresh};
+ghost use Rattle.book_wire.specs.Serving.{Runs};
+ghost use Rattle.book_desk_loop.specs.ManyConnections.{AllStay, History, Entry, AreServed, TakesBytes, IsAnswered, Holds, OthersStay, answered_in, receives, is_sent};
+
+use book_machine::Machine;
+use book_office::Keeper;
+use book_wire::{Connection, StreamFault, Wire};
+use std::alloc::{AllocError, Global};
+use std::mem;
+
+/// With so many bytes of a connection waiting to be sent, no further request of it is answered, and no more is read.
+pub const MOST_UNSENT: usize = 8_192;
+
+/// A connection that is there, and its number: how many came before it.
+#[derive(Drop)]
+pub struct Accepted {
+    /// How many connections came before it.
+    pub number: u64,
+    /// The connection.
+    pub connection: Connection,
+}
+
+/// A machine, and the connections that it serves, each at a place. One that was let go leaves its place to another.
+#[derive(Drop)]
+pub struct Connections<K> {
+    wire: Wire,
+    /// The machine.
+    pub machine: Machine<K>,
+    /// How many connections came.
+    pub opened: u64,
+    /// How many requests were answered. It stays at its last value.
+    pub answered: u64,
+    /// The places.
+    pub places: Vec<Option<Accepted>>,
+}
+
+impl<K: Keeper> Connections<K> {
+    /// A machine that serves nobody yet.
+    pub fn new(alloc: Global, wire: Wire, machine: Machine<K>) -> Connections<K>
+        ensures machine { result.machine ≡ machine }
+        ensures none { (result.opened ≡ 0) × (result.places.items ≡ []) }
+    {
+        Connections {
+            wire,
+            machine,
+            opened: 0,
+            answered: 0,
+            places: Vec::new(alloc),
+        }
+    }
+
+    /// The machine.
+    pub fn release(self) -> Machine<K>
+        ensures { result ≡ self.machine }
+    {
+        self.machine
+    }
+
+    /// A place with nothing in it.
+    #[tactic(auto, using(crate::proofs::Places::all_same, crate::proofs::Places::all_equal, crate::proofs::Places::none_there))]
+    fn free_place(&mut self) -> Result<usize, AllocError>
+        ensures place { IfOk result (λ place. place < length self.new.places.items) }
+        ensures free { IfOk result (λ place. get_or self.new.places.items place None ≡ None) }
+        ensures all { AllStay self.old.places.items self.new.places.items }
+        ensures served { (histories : ℕ → History) (log : List Entry)
+            → AreServed histories log self.old.opened self.old.places.items
+            → AreServed histories log self.new.opened self.new.places.items }
+        ensures count { self.new.opened ≡ self.old.opened }
+        ensures machine { self.new.machine ≡ self.old.machine }
+    {
+        let count = self.places.len();
+        for place in 0..count {
+            if self.places[place].is_none() {
+                return Ok(place);
+            }
+        }
+        self.places.push(None)?;
+        Ok(count)
+    }
+
+    /// The place of one more connection.
+    ///
+    /// # Errors
+    ///
+    /// Want of memory, or 18,446,744,073,709,551,615 connections came.
+    pub fn open(&mut self, alloc: Global) -> Result<usize, AllocError>
+        ensures place { IfOk result (λ place. (l : Accepted) × Holds self.new.places.items place l × (l.number ≡ self.old.opened) × (l.connection ≡ fresh)) }
+        ensures free { IfOk result (λ place. get_or self.old.places.items place None ≡ None) }
+        ensures others { IfOk result (λ place. OthersStay place self.old.places.items self.new.places.items) }
+        ensures opened { IfOk result (λ place. self.new.opened ≡ self.old.opened + 1) }
+        ensures err { OnErr result ((self.new.opened ≡ self.old.opened) × AllStay self.old.places.items self.new.places.items) }
+        ensures machine { self.new.machine ≡ self.old.machine }
+        ensures served { (histories : ℕ → History) (log : List Entry)
+            → AreServed histories log self.old.opened self.old.places.items
+            → AreServed histories log self.new.opened self.new.places.items }
+    {
+        let place = self.free_place()?;
+        let Some(opened) = self.opened.checked_add(1) else {
+            return Err(AllocError);
+        };
+        self.places[place] = Some(Accepted {
+            number: self.opened,
+            connection: Connection::new(alloc),
+        });
+        self.opened = opened;
+        Ok(place)
+    }
+
+    /// Whether the connection is there and takes bytes: it is not to close, and less than 8,192 bytes wait to be sent.
+    pub fn takes_bytes(&self, place: usize) -> bool
+        ensures takes { result ≡ true → TakesBytes self.now.places.items place }
+        ensures takes_none { result ≡ false → (a : Accepted) → Holds self.now.places.items place a
+            → (a.connection.closing ≡ true) ⊎ (8192 ≤ length a.connection.unsent) }
+    {
+        match self.places.get(place) {
+            Some(Some(accepted)) => {
+                !accepted.connection.is_closing()
+                    && accepted.connection.unsent().len() < MOST_UNSENT
+            }
+            Some(None) => false,
+            None => false,
+        }
+    }
+
+    /// What waits to be sent to a connection, if it is there.
+    pub fn unsent(&self, place: usize) -> Option<&[u8]>
+        ensures there { IfSome result (λ bytes. (l : Accepted) × Holds self.now.places.items place l × (bytes.now ≡ l.connection.unsent)) }
+        ensures none { result ≡ None → get_or self.now.places.items place None ≡ None }
+    {
+        match self.places.get(place) {
+            Some(Some(accepted)) => Some(accepted.connection.unsent()),
+            Some(None) => None,
+            None => None,
+        }
+    }
+
+    /// Whether the connection is there, is to close, and nothing waits to be sent.
+    pub(crate) fn is_done(&self, place: usize) -> bool {
+        match self.places.get(place) {
+            Some(Some(accepted)) => {
+                accepted.connection.is_closing() && accepted.connection.unsent().is_empty()
+            }
+            Some(None) => false,
+            None => false,
+        }
+    }
+
+    /// Whether whole requests of the connection may be unread, since too much waits to be sent: `feed` goes on with them.
+    pub(crate) fn is_stalled(&self, place: usize) -> bool {
+        match self.places.get(place) {
+            Some(Some(accepted)) => accepted.connection.is_stalled(),
+            Some(None) => false,
+            None => false,
+        }
+    }
+
+    /// Whether the connection is there, and nothing of it is unread or unsent.
+    pub(crate) fn is_idle(&self, place: usize) -> bool {
+        match self.places.get(place) {
+            Some(Some(accepted)) => {
+                accepted.connection.is_between_requests() && accepted.connection.unsent().is_empty()
+            }
+            Some(None) => false,
+            None => false,
+        }
+    }
+
+    /// Whether a request of the connection began and is not whole. Where too much waits to be sent, that isn't known.
+    pub(crate) fn is_within_request(&self, place: usize) -> bool {
+        match self.places.get(place) {
+            Some(Some(accepted)) => {
+                !accepted.connection.is_between_requests()
+                    && !accepted.connection.is_closing()
+                    && !accepted.connection.is_stalled()
+            }
+            Some(None) => false,
+            None => false,
+        }
+    }
+
+    /// So many bytes were sent to the connection. The memory of one that is idle then is let go.
+    #[tactic(auto, using(crate::proofs::Places::others_set, crate::proofs::Places::others_twice))]
+    pub fn did_send(&mut self, alloc: Global, place: usize, count: usize)
+        requires { (l : Accepted) × Holds self.old.places.items place l × (count ≤ length l.connection.unsent) }
+        ensures machine { self.new.machine ≡ self.old.machine }
+        ensures others { OthersStay place self.old.places.items self.new.places.items }
+        ensures sent { (l : Accepted) → Holds self.old.places.items place l → (histories : ℕ → History) (log : List Entry)
+            → AreServed histories log self.old.opened self.old.places.items
+            → AreServed (is_sent histories l.number (take count l.connection.unsent)) log self.new.opened self.new.places.items }
+    {
+        match mem::replace(&mut self.places[place], None) {
+            Some(mut kept) => {
+                kept.connection.did_send(count);
+                kept.connection.shrink(alloc);
+                self.places[place] = Some(kept);
+            }
+            None => {}
+        }
+    }
+
+    /// Lets a connection go, if it is there. What was not sent is lost.
+    #[tactic(auto, using(crate::proofs::Places::others_same, crate::proofs::Places::others_set))]
+    pub fn let_go(&mut self, place: usize)
+        ensures machine { self.new.machine ≡ self.old.machine }
+        ensures gone { get_or self.new.places.items place None ≡ None }
+        ensures others { OthersStay place self.old.places.items self.new.places.items }
+        ensures served { (histories : ℕ → History) (log : List Entry)
+            → AreServed histories log self.old.opened self.old.places.items
+            → AreServed histories log self.new.opened self.new.places.items }
+    {
+        if place < self.places.len() {
+            self.places[place] = None;
+        }
+    }
+
+    /// Takes bytes of a connection, and answers its requests that are whole, until 8,192 bytes wait to be sent.
+    ///
+    /// # Errors
+    ///
+    /// Where memory was refused: the connection was let go.
+    #[tactic(auto, using(crate::proofs::Places::others_set, crate::proofs::Places::others_twice))]
+    pub fn feed(&mut self, alloc: Global, place: usize, bytes: &[u8]) -> Result<(), StreamFault>
+        requires { TakesBytes self.old.places.items place }
+        ensures served { (l : Accepted) → Holds self.old.places.items place l → (histories : ℕ → History) (log : List Entry)
+            → AreServed histories log self.old.opened self.old.places.items
+            → (more : List Entry) × AreServed (receives histories l.number bytes.now) (log ++ more) self.new.opened self.new.places.items
+            × Runs (K.standing self.old.machine.keeper) (K.standing self.new.machine.keeper) (map answered_in more) }
+        ensures others { OthersStay place self.old.places.items self.new.places.items }
+        ensures there { OnOk result ((l : Accepted) × Holds self.new.places.items place l × IsAnswered l.connection) }
+        ensures gone { OnErr result (get_or self.new.places.items place None ≡ None) }
+    {
+        match mem::replace(&mut self.places[place], None) {
+            Some(mut accepted) => match accepted.connection.feed(
+                alloc,
+                &mut self.machine,
+                &mut self.wire,
+                bytes,
+                MOST_UNSENT,
+            ) {
+                Ok(answered) => {
+                    self.answered = self.answered.saturating_add(answered);
+                    self.places[place] = Some(accepted);
+                    Ok(())
+                }
+                Err(fault) => Err(fault),
+            },
+            None => Ok(()),
+        }
+    }
+}

@@ -1,0 +1,23 @@
+//! Many connections at once, in one thread, over any keeper, listener and streams that do not wait.
+//!
+//! It stands on `book_wire`, whose `Connection` is one connection without its socket, and on `mio`, which tells which
+//! sockets can go on. The program above uses that `serve_at_once` does to the Office what one run of all requests does,
+//! in the order in which they were completed (`AreServed`).
+//!
+//! Read `connections` first: those of one machine, without their sockets; then `moves`, which ties each to a reader and a
+//! writer, and gives one its turn; then `looping`, the loop, over `sockets` and `readiness`; and `closing`, which also
+//! serves a program that has one connection after the other.
+#![tactic(auto)]
+
+mod closing;
+mod connections;
+mod looping;
+mod moves;
+mod readiness;
+mod sockets;
+
+pub use closing::close_in_stages;
+pub use connections::{Accepted, Connections, MOST_UNSENT};
+pub use looping::{Faults, Limits, serve_at_once};
+pub use moves::{Moved, Turn, go_on, read_once, write_once};
+pub use readiness::{Polled, Readiness};

@@ -1,0 +1,99 @@
+//! How `reach` is renewed: the pairs that go and those that come where direct memberships become others.
+
+ghost use Rattle.std.specs.Prelude.{◌≡◌, ◌&&◌, not, IfOk, OnOk, map};
+ghost use Rattle.std.specs.FinSet as set;
+ghost use Rattle.std.specs.List.{list_any};
+ghost use Rattle.std.specs.Ordering.{eq_by_cmp};
+ghost use Rattle.book_lists.specs.Memberships.{membership_cmp};
+ghost use Rattle.book_lists.specs.declared.memberships.Membership.{Membership as MembershipOf};
+ghost use Rattle.book_tables_rows.specs.Reach.{pair_said};
+ghost use Rattle.book_tables.specs.Reach.{PushesOther, Renews, is_among, pair_of};
+
+use book_lists::{Membership, Pairs, closure};
+use book_tables_rows::ReachRow;
+use std::alloc::{AllocError, Global};
+
+/// The rows of `reach` that are taken out, and those that are added.
+#[derive(Debug, Drop)]
+pub(crate) struct Renewal {
+    /// The rows that go.
+    pub(crate) gone: Vec<ReachRow>,
+    /// The rows that come.
+    pub(crate) come: Vec<ReachRow>,
+}
+
+/// The row of a pair.
+fn row_of(alloc: Global, pair: &Membership) -> Result<ReachRow, AllocError>
+    ensures { IfOk result (λ row. pair_said row ≡ pair_of pair.now) }
+{
+    Ok(ReachRow {
+        group: String::from_str(alloc, pair.group.text())?,
+        member: String::from_str(alloc, pair.member.text())?,
+    })
+}
+
+/// Adds the row of a pair, unless it is among others.
+fn push_other(
+    alloc: Global,
+    rows: &mut Vec<ReachRow>,
+    pair: &Membership,
+    others: &Pairs,
+) -> Result<(), AllocError>
+    ensures { OnOk result (PushesOther pair.now others.now (map pair_said rows.old.items)
+        (map pair_said rows.new.items)) }
+{
+    if others.has(&pair.group, &pair.member) {
+        return Ok(());
+    }
+    rows.push(row_of(alloc, pair)?)?;
+    Ok(())
+}
+
+/// The pairs of a list that are not among others.
+fn others_in(
+    alloc: Global,
+    list: &[Membership],
+    others: &Pairs,
+) -> Result<Vec<ReachRow>, AllocError>
+    ensures { IfOk result (λ rows. (m : MembershipOf) → is_among (map pair_said rows.items) m
+        ≡ (list_any (eq_by_cmp membership_cmp m) list.now && not (set.contains others.now m))) }
+{
+    let mut rows = Vec::new(alloc);
+    'pairs: for pair in list {
+        push_other(alloc, &mut rows, pair, others)?;
+    }
+    Ok(rows)
+}
+
+/// The pairs that are not among others.
+pub(crate) fn without(
+    alloc: Global,
+    pairs: &Pairs,
+    others: &Pairs,
+) -> Result<Vec<ReachRow>, AllocError>
+    ensures { IfOk result (λ rows. (m : MembershipOf) → is_among (map pair_said rows.items) m
+        ≡ (set.contains pairs.now m && not (set.contains others.now m))) }
+{
+    let list = pairs.list()?;
+    others_in(alloc, list.as_slice(), others)
+}
+
+/// The rows of all pairs.
+pub(crate) fn all_pairs(alloc: Global, pairs: &Pairs) -> Result<Vec<ReachRow>, AllocError>
+    ensures { IfOk result (λ rows. (m : MembershipOf) → is_among (map pair_said rows.items) m ≡ set.contains pairs.now m) }
+{
+    let none = Pairs::new(alloc);
+    without(alloc, pairs, &none)
+}
+
+/// What goes and what comes where direct memberships become others: `closure` of both, and their difference. An error
+/// is want of memory.
+pub(crate) fn renewal_of(alloc: Global, old: &Pairs, new: &Pairs) -> Result<Renewal, AllocError>
+    ensures { IfOk result (λ r. Renews old.now new.now (map pair_said r.gone.items) (map pair_said r.come.items)) }
+{
+    let before = closure(old)?;
+    let after = closure(new)?;
+    let gone = without(alloc, &before, &after)?;
+    let come = without(alloc, &after, &before)?;
+    Ok(Renewal { gone, come })
+}

@@ -1,0 +1,114 @@
+//! `reach` becomes what chains of the direct members lead to, where it is not.
+
+ghost use Rattle.std.specs.Prelude.{◌≡◌, IfOk, IfSome, IsTrue};
+ghost use Rattle.std.specs.FinSet as set;
+ghost use Rattle.std.specs.List.{list_any};
+ghost use Rattle.sqlite.specs.declared.types.Value.TheVariants.{Text};
+ghost use Rattle.sqlite.specs.Held.{state};
+ghost use Rattle.sqlite.specs.State.{HasCleanDisk, Survives};
+ghost use Rattle.book_lists.specs.declared.memberships.Membership.{Membership as MembershipOf};
+ghost use Rattle.book_tables_rows.specs.Lists.{pair_group, pair_member};
+ghost use Rattle.book_tables_rows.specs.Steps.{Keeps};
+ghost use Rattle.book_tables.specs.Listing.{tells_member};
+ghost use Rattle.book_tables.specs.Reach.{TellsSettled};
+
+use crate::members::pairs_of;
+use crate::renewals::{all_pairs, without};
+use book_lists::{Membership, Pairs, Principal, closure};
+use book_tables_rows::{clear_reach, member_rows, reach_rows, renew_reach};
+use sqlite::{Alter, Error, Row, Transaction};
+use std::alloc::{AllocError, Global};
+
+/// The principal with this path, if it is one's.
+fn principal_at(alloc: Global, path: &str) -> Result<Option<Principal>, AllocError>
+    ensures { IfOk result (λ principal. IfSome principal (λ p. p ≡ path.now)) }
+{
+    let Some(principal) = Principal::parse(alloc, path)? else {
+        return Ok(None);
+    };
+    if principal.text() != path {
+        return Ok(None);
+    }
+    Ok(Some(principal))
+}
+
+/// The pair of group and member that a row tells, if it tells one.
+fn pair_told(alloc: Global, row: &Row) -> Result<Option<Membership>, Error>
+    ensures group { IfOk result (λ pair. IfSome pair (λ m. pair_group row.now ≡ Text m.group)) }
+    ensures member { IfOk result (λ pair. IfSome pair (λ m. pair_member row.now ≡ Text m.member)) }
+{
+    let group: String = row.get(0)?;
+    let member: String = row.get(1)?;
+    let Some(group) = principal_at(alloc, group.as_str())? else {
+        return Ok(None);
+    };
+    let Some(member) = principal_at(alloc, member.as_str())? else {
+        return Ok(None);
+    };
+    Ok(Some(Membership { group, member }))
+}
+
+/// The pairs that rows tell; none where one tells none.
+fn pairs_told(alloc: Global, rows: &[Row]) -> Result<Option<Pairs>, Error>
+    ensures { IfOk result (λ pairs. IfSome pairs (λ p. (m : MembershipOf)
+        → set.contains p m ≡ list_any (tells_member m) rows.now)) }
+{
+    let mut pairs = Pairs::new(alloc);
+    'rows: for row in rows {
+        let Some(pair) = pair_told(alloc, row)? else {
+            return Ok(None);
+        };
+        pairs.add(pair.group, pair.member)?;
+    }
+    Ok(Some(pairs))
+}
+
+/// Whether there are the same pairs, where it is true.
+fn are_same(alloc: Global, pairs: &Pairs, others: &Pairs) -> Result<bool, AllocError>
+    ensures { IfOk result (λ same. IsTrue same → (m : MembershipOf) → set.contains pairs.now m ≡ set.contains others.now m) }
+{
+    let gone = without(alloc, pairs, others)?;
+    if !gone.is_empty() {
+        return Ok(false);
+    }
+    let come = without(alloc, others, pairs)?;
+    Ok(come.is_empty())
+}
+
+/// Whether rows tell exactly those pairs, where it is true.
+fn tell_all(alloc: Global, rows: &[Row], wanted: &Pairs) -> Result<bool, Error>
+    ensures { IfOk result (λ same. IsTrue same → (m : MembershipOf)
+        → list_any (tells_member m) rows.now ≡ set.contains wanted.now m) }
+{
+    let Some(told) = pairs_told(alloc, rows)? else {
+        return Ok(false);
+    };
+    Ok(are_same(alloc, &told, wanted)?)
+}
+
+/// Makes `reach` what chains of the direct members lead to, in any transaction, and tells whether it was something
+/// else: its rows are then taken out, whatever they are, and written anew. All rows of `member` and `reach` are read.
+pub fn settle_reach<S: Alter>(
+    alloc: Global,
+    transaction: &mut Transaction<'_, S>,
+) -> Result<bool, Error>
+    ensures same_reference { transaction.new.conn.ghost_name ≡ transaction.old.conn.ghost_name }
+    ensures survives { Survives (state S.Store transaction.old.conn.now) (state S.Store transaction.new.conn.now)
+        (λ _. ⊥) }
+    ensures kept { Keeps (state S.Store transaction.old.conn.now) (state S.Store transaction.new.conn.now) }
+    ensures told { HasCleanDisk (state S.Store transaction.new.conn.now)
+        → IsTrue (state S.Store transaction.old.conn.now).in_transaction
+        → IfOk result (TellsSettled (state S.Store transaction.old.conn.now) (state S.Store transaction.new.conn.now)) }
+{
+    let members = member_rows(transaction)?;
+    let pairs = pairs_of(alloc, &members)?;
+    let wanted = closure(&pairs)?;
+    let rows = reach_rows(transaction)?;
+    if tell_all(alloc, &rows, &wanted)? {
+        return Ok(false);
+    }
+    let all = all_pairs(alloc, &wanted)?;
+    clear_reach(transaction)?;
+    renew_reach(transaction, &[], all.as_slice())?;
+    Ok(true)
+}

@@ -1,0 +1,22 @@
+use Rattle.book_tables_rows.proofs.Common.{IfOk-weaker, state}
+use Rattle.book_tables_rows.specs.Texts.{read_reached}
+use Rattle.book_tables_rows.proofs.Keeping.{query_keeps, looked}
+use Rattle.book_tables_rows.proofs.Meanings.{read_reached_plain}
+use Rattle.book_tables_rows.proofs.Reaching.{shows_reached}
+use Rattle.book_tables_rows.proofs.reach.reached_rows.Goals as goal
+
+pub returns-clause-kept : goal.returns-clause-kept
+returns-clause-kept g c clean inside =
+    query_keeps (λ rows. rows.items) read_reached _ (state g.S.Store c.args.transaction.now.conn.now) (state g.S.Store c.query_all.new.self.conn.now) c.query_all.result inside (c.query_all.ensures.ok clean) (c.query_all.ensures.err clean)
+
+pub returns-clause-stays : goal.returns-clause-stays
+returns-clause-stays g c clean =
+    let old = state g.S.Store c.args.transaction.now.conn.now in
+    let new = state g.S.Store c.query_all.new.self.conn.now in
+    IfOk-weaker c.query_all.result _ _ (λ rows h. looked read_reached read_reached_plain _ old new rows.items h) (c.query_all.ensures.ok clean)
+
+pub returns-clause-shown : goal.returns-clause-shown
+returns-clause-shown g c clean =
+    let old = state g.S.Store c.args.transaction.now.conn.now in
+    let new = state g.S.Store c.query_all.new.self.conn.now in
+    IfOk-weaker c.query_all.result _ _ (λ rows h. shows_reached old new c.args.member.now rows.items (rw (c.params-to_sql.ensures) at h)) (c.query_all.ensures.ok clean)

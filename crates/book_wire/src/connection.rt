@@ -1,0 +1,301 @@
+//! One connection, without its socket (RFC 9112, section 9.3).
+
+ghost use Rattle.std.specs.Prelude.{◌≡◌, ◌≢◌, ℕ, ◌==◌, ◌≤◌, ◌-◌, ◌^◌, min, true, false, List, [], ◌++◌, length, drop, IfOk, IfErr, OnErr, Err};
+ghost use Rattle.std.specs.Io.KnownBytes.{Consumes, IsAtEnd, Keeps};
+ghost use Rattle.book_wire.specs.Connection.{IsFed, closes_after, fresh};
+ghost use Rattle.book_wire.specs.Serving.{Stays};
+ghost use Rattle.book_wire.specs.Turn.{IsPending, IsTurn, StopsWriting};
+
+use crate::buffer::{Buffer, drop_front};
+use crate::head::FieldSpans;
+use crate::stream::StreamFault;
+use crate::turns::{Turn, answer_one};
+use book_limits::MAX_FIELDS;
+use book_machine::Machine;
+use book_office::Keeper;
+use book_wire_targets::{Home, homes};
+use httparse::spans::EMPTY_HEADER_SPAN;
+use matchit::Router;
+use std::alloc::{AllocError, Global};
+use std::io::Read;
+use std::marker::Model;
+
+/// A reply of at most so many bytes, head and body, takes no memory of a connection that was made whole.
+const MAX_JOINED: usize = 66_048;
+
+/// What all connections share: the routes, and memory for the fields of a head.
+#[derive(Drop)]
+pub struct Wire {
+    router: Router<Home>,
+    headers: FieldSpans,
+}
+
+impl Model for Wire {
+    ghost use Rattle.book_wire_targets.specs.Targets.{HasHomes};
+
+    ghost Value = { Unit {0} };
+
+    ghost view = { λ w. tt };
+
+    ghost invariant = { λ w. HasHomes w.router };
+}
+
+impl Wire {
+    /// An error is want of memory.
+    pub fn new(alloc: Global) -> Result<Wire, AllocError> {
+        match homes(alloc) {
+            Ok(router) => Ok(Wire {
+                router,
+                headers: [EMPTY_HEADER_SPAN; MAX_FIELDS],
+            }),
+            Err(_) => Err(AllocError),
+        }
+    }
+}
+
+/// A connection. Contracts see what is unread, what is made and not sent, whether it closes once that is sent, and
+/// whether whole requests may be unread, since too much waits to be sent.
+#[derive(Drop)]
+pub struct Connection {
+    buffer: Buffer,
+    made: Vec<u8>,
+    sent: usize,
+    /// With fewer unread bytes than these no further request is whole.
+    wanted: usize,
+    closing: bool,
+    stalled: bool,
+}
+
+impl Model for Connection {
+    ghost use Rattle.std.specs.Prelude.{◌≤◌, drop, vec_len};
+    ghost use Rattle.book_wire.specs.Connection.{View, MayWait};
+
+    ghost Value = { View };
+
+    ghost view = { λ c. record { unread = c.buffer; unsent = drop c.sent c.made.items; closing = c.closing; stalled = c.stalled } };
+
+    ghost invariant = { λ c. (c.sent ≤ vec_len c.made) × MayWait c.buffer c.wanted };
+}
+
+impl Connection {
+    /// A connection that brought nothing. It takes no memory yet.
+    pub fn new(alloc: Global) -> Connection
+        ensures { result ≡ fresh }
+    {
+        Connection {
+            buffer: Buffer::new(alloc),
+            made: Vec::new(alloc),
+            sent: 0,
+            wanted: 0,
+            closing: false,
+            stalled: false,
+        }
+    }
+
+    /// A connection with memory for each request, and for each reply of at most 66,048 bytes. An error is want of
+    /// memory.
+    pub(crate) fn whole(alloc: Global) -> Result<Connection, AllocError>
+        ensures { IfOk result (λ connection. connection ≡ fresh) }
+    {
+        let buffer = Buffer::whole(alloc)?;
+        let made = Vec::with_capacity(alloc, MAX_JOINED)?;
+        Ok(Connection {
+            buffer,
+            made,
+            sent: 0,
+            wanted: 0,
+            closing: false,
+            stalled: false,
+        })
+    }
+
+    /// What it brought that is not answered yet.
+    pub(crate) fn unread(&self) -> &[u8]
+        ensures { result.now ≡ self.now.unread }
+    {
+        self.buffer.unread()
+    }
+
+    /// What was made and is to be sent.
+    pub fn unsent(&self) -> &[u8]
+        ensures { result.now ≡ self.now.unsent }
+    {
+        &self.made[self.sent..]
+    }
+
+    /// So many bytes were sent. Of those that were sent, fewer are kept than wait to be sent.
+    pub fn did_send(&mut self, count: usize)
+        requires { count ≤ length self.old.unsent }
+        ensures unsent { self.new.unsent ≡ drop count self.old.unsent }
+        ensures unread { self.new.unread ≡ self.old.unread }
+        ensures closing { self.new.closing ≡ self.old.closing }
+        ensures stalled { self.new.stalled ≡ self.old.stalled }
+    {
+        self.sent += count;
+        // At most as many bytes are moved as are dropped.
+        if self.sent >= self.made.len() - self.sent {
+            drop_front(&mut self.made, self.sent);
+            self.sent = 0;
+        }
+    }
+
+    /// Whether it closes once all is sent, and takes no more bytes.
+    pub fn is_closing(&self) -> bool
+        ensures { result ≡ self.now.closing }
+    {
+        self.closing
+    }
+
+    /// Whether whole requests may be unread, since too much waits to be sent.
+    pub fn is_stalled(&self) -> bool
+        ensures { result ≡ self.now.stalled }
+    {
+        self.stalled
+    }
+
+    /// Whether nothing is unread.
+    pub fn is_between_requests(&self) -> bool
+        ensures { result ≡ (length self.now.unread == 0) }
+    {
+        self.buffer.unread().is_empty()
+    }
+
+    /// Lets the memory go that nothing is in.
+    #[tactic(auto, using(crate::proofs::Streams::may_wait_same))]
+    pub fn shrink(&mut self, alloc: Global)
+        ensures { self.new ≡ self.old }
+    {
+        self.buffer.shrink(alloc);
+        if self.sent == self.made.len() {
+            self.made = Vec::new(alloc);
+            self.sent = 0;
+        }
+    }
+
+    /// Reads once, and says how many bytes came. None come only at the end of the input.
+    ///
+    /// # Errors
+    ///
+    /// `Read` where the read failed, or where memory was refused before it.
+    #[tactic(auto, using(crate::proofs::Streams::may_wait_same, crate::proofs::Streams::may_wait_more))]
+    pub(crate) fn fill<R: Read>(&mut self, reader: &mut R) -> Result<usize, StreamFault>
+        ensures ok { IfOk result (λ n. (came : List ℕ) × (self.new.unread ≡ self.old.unread ++ came) × (length came ≡ n)
+            × Consumes (R.remaining reader.old) (R.remaining reader.new) came
+            × (n ≡ 0 → IsAtEnd (R.remaining reader.new))) }
+        ensures rest { (self.new.unsent ≡ self.old.unsent) × (self.new.closing ≡ self.old.closing) × (self.new.stalled ≡ self.old.stalled) }
+        ensures err { OnErr result ((self.new ≡ self.old) × Keeps (R.remaining reader.old) (R.remaining reader.new)) }
+        ensures fault { IfErr result (λ e. e ≡ StreamFault.Read) }
+    {
+        match self.buffer.fill(reader) {
+            Ok(count) => Ok(count),
+            Err(fault) => Err(fault),
+        }
+    }
+
+    /// Answers the request at the front, if it is whole. The reply is to be sent.
+    pub(crate) fn answer_next<K: Keeper>(
+        &mut self,
+        alloc: Global,
+        machine: &mut Machine<K>,
+        wire: &mut Wire,
+    ) -> Result<Turn, StreamFault>
+        requires { self.old.closing ≡ false }
+        ensures ok { IfOk result (λ turn. (written : List ℕ) × (self.new.unsent ≡ self.old.unsent ++ written)
+            × IsTurn (K.standing machine.old.keeper) self.old.unread written turn (K.standing machine.new.keeper) self.new.unread
+            × (self.new.closing ≡ closes_after turn)) }
+        ensures err { IfErr result (λ e. (e ≡ StreamFault.Write) × ((pending front left : List ℕ)
+            × IsPending (K.standing machine.old.keeper) self.old.unread pending (K.standing machine.new.keeper)
+            × (pending ≡ front ++ left) × (self.new.unsent ≡ self.old.unsent ++ front))) }
+        ensures stalled { self.new.stalled ≡ self.old.stalled }
+    {
+        if self.buffer.unread().len() < self.wanted {
+            return Ok(Turn::Wait(self.wanted));
+        }
+        let turn = match answer_one(
+            alloc,
+            machine,
+            &wire.router,
+            &mut self.made,
+            &mut wire.headers,
+            &mut self.buffer,
+        ) {
+            Ok(turn) => turn,
+            Err(fault) => return Err(fault),
+        };
+        self.wanted = turn.wanted();
+        self.closing = turn.closes();
+        Ok(turn)
+    }
+
+    /// Answers the requests that are there and whole, until so many bytes wait to be sent, and says how many. That stays
+    /// at its last value.
+    fn answer_some<K: Keeper>(
+        &mut self,
+        alloc: Global,
+        machine: &mut Machine<K>,
+        wire: &mut Wire,
+        most: usize,
+    ) -> Result<u64, StreamFault>
+        requires { self.old.closing ≡ false }
+        ensures ok { IfOk result (λ answered. (more : List ℕ) × (count : ℕ) × (answered ≡ min count (2 ^ 64 - 1))
+            × (self.new.unsent ≡ self.old.unsent ++ more)
+            × IsFed (K.standing machine.old.keeper) self.old.unread more count (K.standing machine.new.keeper) self.new) }
+        ensures stalled { IfOk result (λ answered. self.new.stalled ≡ true → most ≤ length self.new.unsent) }
+        ensures memory { result ≢ Err StreamFault.Memory }
+        ensures write { result ≡ Err StreamFault.Write → (more : List ℕ) × (self.new.unsent ≡ self.old.unsent ++ more)
+            × StopsWriting (K.standing machine.old.keeper) self.old.unread more (K.standing machine.new.keeper) }
+        ensures read { result ≢ Err StreamFault.Read }
+    {
+        let mut answered: u64 = 0;
+        self.stalled = false;
+        loop {
+            if self.unsent().len() >= most {
+                self.stalled = true;
+                return Ok(answered);
+            }
+            match self.answer_next(alloc, machine, wire) {
+                Ok(turn) => match turn {
+                    Turn::Wait(_) => return Ok(answered),
+                    Turn::Answered => answered = answered.saturating_add(1),
+                    Turn::Last => return Ok(answered.saturating_add(1)),
+                    Turn::Refused => return Ok(answered),
+                },
+                Err(fault) => return Err(fault),
+            }
+        }
+    }
+
+    /// Takes bytes that the connection brought, and answers its requests that are whole, until so many bytes wait to be
+    /// sent. It says how many requests it answered, which stays at its last value. Without bytes it goes on with those
+    /// that are unread.
+    ///
+    /// # Errors
+    ///
+    /// The connection can't go on: `Memory` where there was none for the bytes, and nothing was done. `Write` where there
+    /// was none for a reply: of the requests that are answered in what is unsent, only the one after them may have acted.
+    #[tactic(auto, using(crate::proofs::Streams::may_wait_same, crate::proofs::Streams::may_wait_more))]
+    pub fn feed<K: Keeper>(
+        &mut self,
+        alloc: Global,
+        machine: &mut Machine<K>,
+        wire: &mut Wire,
+        bytes: &[u8],
+        most: usize,
+    ) -> Result<u64, StreamFault>
+        requires { self.old.closing ≡ false }
+        ensures ok { IfOk result (λ answered. (more : List ℕ) × (count : ℕ) × (answered ≡ min count (2 ^ 64 - 1))
+            × (self.new.unsent ≡ self.old.unsent ++ more)
+            × IsFed (K.standing machine.old.keeper) (self.old.unread ++ bytes.now) more count (K.standing machine.new.keeper) self.new) }
+        ensures stalled { IfOk result (λ answered. self.new.stalled ≡ true → most ≤ length self.new.unsent) }
+        ensures memory { result ≡ Err StreamFault.Memory → (self.new ≡ self.old)
+            × Stays (K.standing machine.old.keeper) (K.standing machine.new.keeper) }
+        ensures write { result ≡ Err StreamFault.Write → (more : List ℕ) × (self.new.unsent ≡ self.old.unsent ++ more)
+            × StopsWriting (K.standing machine.old.keeper) (self.old.unread ++ bytes.now) more (K.standing machine.new.keeper) }
+        ensures read { result ≢ Err StreamFault.Read }
+    {
+        if self.buffer.push(bytes).is_err() {
+            return Err(StreamFault::Memory);
+        }
+        self.answer_some(alloc, machine, wire, most)
+    }
+}

@@ -1,0 +1,381 @@
+//! Connections at once over loopback, by a clock of the test's own: whose turn it is, which is closed, and when.
+
+use crate::offices::{POLICY, machine};
+use book_desk_loop::{Faults, Limits, Readiness, close_in_stages, serve_at_once};
+use book_wire::StreamFault;
+use std::cell::Cell;
+use std::io;
+use std::io::{ErrorKind, Read, Write};
+use std::net::{OpenListener, OpenStream, Shutdown, SocketAddr, TcpListener, TcpStream};
+use std::process::Abort;
+use std::rt::Clock;
+use std::time::{Duration, Instant};
+
+/// What a client sends before it is accepted, whether it sends no more, how many reads of its connection succeed, and what
+/// it is sent.
+#[derive(Clone, Copy)]
+struct Client<'a> {
+    sent: &'a str,
+    ends: bool,
+    reads: u64,
+    told: &'a str,
+}
+
+/// Connections that are served.
+struct Row<'a> {
+    at_once: usize,
+    /// The time-out, in seconds.
+    idle: Option<u64>,
+    clients: &'a [Client<'a>],
+    /// The error of the first call that is to accept one, as the system numbers them; 0 where it has none.
+    refused: i32,
+    /// Whether the loop came to its end.
+    served: bool,
+    /// How many connections had a fault.
+    faults: u64,
+    /// How many whole seconds passed.
+    seconds: u64,
+}
+
+const ALL: u64 = u64::MAX;
+
+const ABSENT: &str =
+    "HTTP/1.1 404 Not Found\r\nContent-Type: application/json\r\nContent-Length: 21\r\n\r\n{\"error\":\"not-found\"}";
+
+/// One that sends nothing.
+const IDLE: Client<'static> = Client {
+    sent: "",
+    ends: false,
+    reads: ALL,
+    told: "",
+};
+
+/// One that sends a part of a head.
+const CUT: Client<'static> = Client {
+    sent: "GET /books/none HTTP/1.1\r\nx-office-",
+    ..IDLE
+};
+
+/// One that sends a request, and stays.
+const STAYS: Client<'static> = Client {
+    sent: "GET /books/none HTTP/1.1\r\n\r\n",
+    told: ABSENT,
+    ..IDLE
+};
+
+/// One that sends a request, and no more.
+const ENDS: Client<'static> = Client {
+    ends: true,
+    ..STAYS
+};
+
+/// One whose connection can be read once.
+const UNREAD: Client<'static> = Client { reads: 1, ..STAYS };
+
+/// One that sends too long a body, and waits for the reply.
+const LONG: Client<'static> = Client {
+    sent: "PUT /books/sales/n.vcf HTTP/1.1\r\nContent-Length: 262145\r\n\r\nBEGIN:VCARD\r\n",
+    told: "HTTP/1.1 413 Payload Too Large\r\nContent-Type: application/json\r\nContent-Length: 26\r\nConnection: close\r\n\r\n{\"error\":\"body-too-large\"}",
+    ..IDLE
+};
+
+const PLAIN: Row<'static> = Row {
+    at_once: 2,
+    idle: None,
+    clients: &[],
+    refused: 0,
+    served: true,
+    faults: 0,
+    seconds: 0,
+};
+
+const ROWS: &[Row<'static>] = &[
+    // Another is served beside an idle one, which is closed once no more are to come.
+    Row {
+        clients: &[IDLE, ENDS],
+        seconds: 1,
+        ..PLAIN
+    },
+    // Where there is no room, the idle one is closed for the other.
+    Row {
+        at_once: 1,
+        clients: &[IDLE, ENDS],
+        ..PLAIN
+    },
+    // One that waits within a request is not idle, and the other waits until its time is up.
+    Row {
+        at_once: 1,
+        idle: Some(5),
+        clients: &[CUT, ENDS],
+        seconds: 5,
+        ..PLAIN
+    },
+    // A request has 30 seconds.
+    Row {
+        idle: Some(3_600),
+        clients: &[CUT],
+        seconds: 30,
+        ..PLAIN
+    },
+    // After a refusal the client has 2 seconds to read it.
+    Row {
+        clients: &[LONG],
+        seconds: 2,
+        ..PLAIN
+    },
+    // A fault ends one alone.
+    Row {
+        clients: &[UNREAD, ENDS],
+        faults: 1,
+        ..PLAIN
+    },
+    // Where no file descriptor is left (24), it waits for one.
+    Row {
+        clients: &[ENDS],
+        refused: 24,
+        ..PLAIN
+    },
+    // Any other error (22) ends it.
+    Row {
+        refused: 22,
+        served: false,
+        ..PLAIN
+    },
+];
+
+/// The time that has passed.
+#[derive(Drop)]
+struct Time {
+    passed: Cell<Duration>,
+}
+
+impl Clock for Time {
+    fn monotonic(&self) -> io::Result<Duration> {
+        Ok(self.passed.get())
+    }
+
+    fn since_1970(&self) -> io::Result<Duration> {
+        Ok(self.passed.get())
+    }
+}
+
+/// Tells of each stream once, when it is watched first, and lets as much time pass as it may.
+#[derive(Drop)]
+struct Script<'t> {
+    time: &'t Time,
+    watched: Vec<usize>,
+}
+
+impl Readiness<Peer> for Script<'_> {
+    fn watch(&mut self, _stream: &Peer, place: usize) -> io::Result<()> {
+        self.watched.push(place)?;
+        Ok(())
+    }
+
+    fn wait(&mut self, most: Option<Duration>, ready: &mut Vec<usize>) -> io::Result<bool> {
+        let passed = self.time.passed.get();
+        let most = most.unwrap_or(Duration::from_secs(1));
+        self.time.passed.set(passed.saturating_add(most));
+        for place in &self.watched {
+            ready.push(*place)?;
+        }
+        self.watched.clear();
+        Ok(true)
+    }
+
+    fn now(&self) -> io::Result<Instant> {
+        Instant::now(self.time)
+    }
+}
+
+/// A listener whose first call may fail.
+#[derive(Drop)]
+struct Doors<'a> {
+    listener: &'a TcpListener,
+    clients: &'a [Client<'a>],
+    refused: Cell<i32>,
+    next: Cell<usize>,
+}
+
+impl OpenListener for Doors<'_> {
+    type Stream = Peer;
+
+    fn accept(&self) -> io::Result<(Peer, SocketAddr)> {
+        let refused = self.refused.get();
+        if refused != 0 {
+            self.refused.set(0);
+            return Err(io::Error::from_raw_os_error(refused));
+        }
+        let next = self.next.get();
+        let Some(client) = self.clients.get(next) else {
+            return Err(ErrorKind::WouldBlock.into());
+        };
+        self.next.set(next.saturating_add(1));
+        let (stream, address) = self.listener.accept()?;
+        let peer = Peer {
+            stream,
+            reads: client.reads,
+        };
+        Ok((peer, address))
+    }
+}
+
+/// A connection that fails after so many reads.
+#[derive(Drop)]
+struct Peer {
+    stream: TcpStream,
+    reads: u64,
+}
+
+impl Read for Peer {
+    fn read(&mut self, buf: &mut [u8]) -> io::Result<usize> {
+        if self.reads == 0 {
+            return Err(ErrorKind::Other.into());
+        }
+        self.reads -= 1;
+        self.stream.read(buf)
+    }
+}
+
+impl Write for Peer {
+    fn write(&mut self, buf: &[u8]) -> io::Result<usize> {
+        self.stream.write(buf)
+    }
+
+    fn flush(&mut self) -> io::Result<()> {
+        Ok(())
+    }
+}
+
+impl OpenStream for Peer {
+    fn shutdown(&self, how: Shutdown) -> io::Result<()> {
+        self.stream.shutdown(how)
+    }
+
+    fn set_nonblocking(&self, nonblocking: bool) -> io::Result<()> {
+        self.stream.set_nonblocking(nonblocking)
+    }
+}
+
+/// How many connections had a fault.
+#[derive(Drop)]
+struct Told {
+    faults: u64,
+}
+
+impl Faults for Told {
+    fn tell(&mut self, _fault: StreamFault) {
+        self.faults = self.faults.saturating_add(1);
+    }
+}
+
+/// How many connections a row has in all.
+fn total_of(row: &Row<'_>) -> u16 {
+    match u16::try_from(row.clients.len()) {
+        Ok(0) => 1,
+        Ok(count) => count,
+        Err(_) => u16::MAX,
+    }
+}
+
+/// Serves the connections of a row.
+fn check_served(rt: &(impl Abort + AllocGlobal), doors: &Doors<'_>, row: &Row<'_>) {
+    let alloc = rt.alloc();
+    let time = Time {
+        passed: Cell::new(Duration::ZERO),
+    };
+    let mut script = Script {
+        time: &time,
+        watched: Vec::new(alloc),
+    };
+    let mut told = Told { faults: 0 };
+    let limits = Limits {
+        at_once: row.at_once,
+        total: Some(total_of(row)),
+        idle: match row.idle {
+            Some(seconds) => Some(Duration::from_secs(seconds)),
+            None => None,
+        },
+    };
+    let (machine, served) = serve_at_once(
+        alloc,
+        machine(rt, alloc, POLICY),
+        doors,
+        &mut script,
+        limits,
+        &mut told,
+    );
+    drop(machine);
+    assert_eq!(rt; served.is_ok(), row.served);
+    assert_eq!(rt; told.faults, row.faults);
+    assert_eq!(rt; time.passed.get().as_secs(), row.seconds);
+}
+
+/// Sends all that a client sends.
+fn send(rt: &impl Abort, mut stream: &TcpStream, client: &Client<'_>) {
+    let sent = stream.write_all(client.sent.as_bytes());
+    sent.expect(rt, "a request");
+    if client.ends {
+        stream.shutdown(Shutdown::Write).expect(rt, "a request");
+    }
+}
+
+/// Reads what a client is sent.
+fn check_told(rt: &(impl Abort + AllocGlobal), mut stream: &TcpStream, client: &Client<'_>) {
+    let mut reply = Vec::new(rt.alloc());
+    stream.read_to_end(&mut reply).expect(rt, "a reply");
+    assert_eq!(rt; reply.as_slice(), client.told.as_bytes());
+}
+
+/// Serves a row whose clients are connected; all is sent before the first is accepted, and read after the last.
+fn check(
+    rt: &(impl Abort + AllocGlobal),
+    listener: &TcpListener,
+    streams: &[TcpStream],
+    row: &Row<'_>,
+) {
+    for (stream, client) in streams.iter().zip(row.clients) {
+        send(rt, stream, client);
+    }
+    let doors = Doors {
+        listener,
+        clients: row.clients,
+        refused: Cell::new(row.refused),
+        next: Cell::new(0),
+    };
+    check_served(rt, &doors, row);
+    for (stream, client) in streams.iter().zip(row.clients) {
+        check_told(rt, stream, client);
+    }
+}
+
+#[test]
+fn each_is_served_or_closed_in_time(rt: HostRuntime) {
+    let listener = TcpListener::bind(&rt, "127.0.0.1:0").expect(&rt, "a listener");
+    let address = listener.local_addr().expect(&rt, "an address");
+    for row in ROWS {
+        let mut streams = Vec::new(rt.alloc());
+        for _ in row.clients {
+            let stream = TcpStream::connect(&rt, address).expect(&rt, "a connection");
+            streams.push(stream).expect(&rt, "memory");
+        }
+        check(&rt, &listener, &streams, row);
+    }
+}
+
+/// Bytes that a client sends after its last reply: they are read, and the client is told that no more comes.
+#[test]
+fn late_bytes_are_dropped(rt: HostRuntime) {
+    let listener = TcpListener::bind(&rt, "127.0.0.1:0").expect(&rt, "a listener");
+    let address = listener.local_addr().expect(&rt, "an address");
+    let mut client = TcpStream::connect(&rt, address).expect(&rt, "a connection");
+    let (mut stream, _) = listener.accept().expect(&rt, "a connection");
+    client.write_all(b"late").expect(&rt, "bytes");
+    client.shutdown(Shutdown::Write).expect(&rt, "an end");
+    close_in_stages(&rt, &mut stream);
+    let mut told = Vec::new(rt.alloc());
+    client.read_to_end(&mut told).expect(&rt, "an end");
+    assert_eq!(rt; told.len(), 0);
+    let mut rest = [0u8; 8];
+    assert_eq!(rt; stream.read(&mut rest).ok(), Some(0));
+}
