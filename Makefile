@@ -14,7 +14,8 @@
 #   make bench   builds the program, and prints the processor time that it takes for many workloads, and the instructions
 #                of requests at two sizes of what they should not rest on
 #   make figures builds the program, and prints what its requests over a store in a file take
-#   make many    builds the program, and serves 10,000 connections, 100 at once; ends it by TERM at 100 moments; asks it through nginx
+#   make many    builds the program, and serves 10,000 connections, 100 at once, and each worked stream cut at each byte, four
+#                at once; ends it by TERM at 100 moments; asks it through nginx
 #   make clients tests the gateway with clients as they are: vdirsyncer, khard, curl, nginx, Chromium (gateway/packages.txt)
 #   make gateway-demo runs the server and the gateway with two persons, for at most an hour
 #   make clean   removes what the others made
@@ -67,6 +68,7 @@ figures: build
 
 many: build
 	@tools/together build/book_desk
+	@tools/cuts build/book_desk
 	@tools/terminated build/book_desk
 	@tools/proxied build/book_desk
 
