@@ -13,7 +13,8 @@
 #   make faults  makes stores, memory and disks fail at each point at which they can, and compares what is answered and kept
 #   make bench   builds the program, and prints the processor time that it takes for many workloads, and the instructions
 #                of requests at two sizes of what they should not rest on
-#   make figures builds the program, and prints what its requests over a store in a file take
+#   make figures builds the program, and prints what its requests over a store in a file take, and asks for what takes most
+#                memory under an address space of 512 MB
 #   make many    builds the program, and serves 10,000 connections, 100 at once, and each worked stream cut at each byte, four
 #                at once; ends it by TERM at 100 moments; asks it through nginx
 #   make clients tests the gateway with clients as they are: vdirsyncer, khard, curl, nginx, Chromium (gateway/packages.txt)
@@ -65,6 +66,7 @@ bench: build
 
 figures: build
 	@tools/figures build/book_desk
+	@tools/bounded build/book_desk
 
 many: build
 	@tools/together build/book_desk

@@ -18,6 +18,7 @@ use book_desk_loop::{Limits, Polled};
 use book_desk_words::{Command, WordsFault, command_of, words_not_text};
 use book_machine::Machine;
 use book_office::Keeper;
+use book_tables_schema::Unopened;
 use files::{Opened, close, open_inputs};
 use sqlite::{Alter, Connection};
 use std::env;
@@ -93,6 +94,17 @@ fn work<W: Write, E: Write>(
     status
 }
 
+/// The connection that is left of a store. A store that could not be opened again is let go as it is.
+fn connection_of<S: Alter + Drop>(left: Unopened<S>) -> Option<Connection<S>> {
+    match left {
+        Unopened::Connection(connection) => Some(connection),
+        Unopened::Store(store) => {
+            drop(store);
+            None
+        }
+    }
+}
+
 /// The command `migrate`: the store's file, which has to be there, is opened and migrated.
 fn migrate<W: Write, E: Write>(
     rt: &HostRuntime,
@@ -112,8 +124,8 @@ fn migrate<W: Write, E: Write>(
     let Some(opened) = opened else {
         return tell(errors, &Failure::Store(StoreFailure::NoStore));
     };
-    let (status, connection) = run_migration(rt.alloc(), opened, writer, errors);
-    close(rt, store, before, connection);
+    let (status, left) = run_migration(rt.alloc(), opened, writer, errors);
+    close(rt, store, before, connection_of(left));
     status
 }
 
@@ -265,7 +277,8 @@ fn serve_with<W: Write, E: Write>(
             drop(store);
             (tell(errors, &Failure::Store(failure)), None)
         }
-        Err((failure, store)) => (tell(errors, &failure), store),
+        Err((failure, Some(left))) => (tell(errors, &failure), connection_of(left)),
+        Err((failure, None)) => (tell(errors, &failure), None),
     };
     close(rt, &named.store, before, store);
     status

@@ -16,7 +16,7 @@ use Rattle.book_desk_app.specs.Tasks.{EndsPipe}
 module _ (old new : Standing) (was is : Remembered) (nothing : (o : Office) → Remembers was o) where
   runs_behind : (answered : List Answered) → Runs (remembering old was) (remembering new is) answered → Runs old new answered
   runs_behind answered runs = record {
-    paths = runs.paths;
+    well_formed = runs.well_formed;
     was_honest = runs.was_honest;
     run = λ h o stands. let x = runs.run h o (stands, nothing o) in (x.0, x.1.0, x.2, x.3);
   }

@@ -1,25 +1,27 @@
 -- What comes back of a store that could not be opened.
-use Rattle.book_desk_app.proofs.Common.{Option, Some}
-use Rattle.std.proofs.Common.{◌≢◌, None, IfSome}
-use Rattle.std.specs.Prelude.{IsTrue, IsSomeAnd}
-use Rattle.sqlite.specs.Effect.{Database}
-use Rattle.sqlite.specs.State.{State, HasCleanDisk}
+use Rattle.std.specs.Prelude.{◌≢◌, IsTrue}
+use Rattle.sqlite.specs.Held.{Held, state}
+use Rattle.sqlite.specs.State.{HasCleanDisk}
+use Rattle.sqlite_trees.specs.declared.store.Store.{Ghosts}
 use Rattle.book_tables_schema.specs.Founding.{no_schema}
+use Rattle.book_tables_schema.specs.Reopening.{IfConnection, IfStore, IsConnectionAnd, IsUnharmed}
+use Rattle.book_tables_schema.specs.declared.reopening.Unopened.{Unopened}
+use Rattle.book_tables_schema.specs.declared.reopening.Unopened.TheVariants.{Connection, Store}
 use Rattle.book_tables.specs.declared.opening.OpenFault.{OpenFault}
-use Rattle.book_tables_opening.specs.Reading.{IsRefused, IsUnopened, StandsForNone}
+use Rattle.book_tables_opening.specs.Reading.{FaultSays, IsRefused, IsUnopened, StandsForNone}
 use Rattle.book_desk_app.specs.Runs.{LeavesStore}
 
-module _ (says : Database → OpenFault → Type 0) where
-  -- one with tables, which could not be opened
-  pub unopened : {C : Type 0} (state : C → State) (store : C) (fault : OpenFault) (back : Option C) → (state store).now.schema ≢ no_schema
-      → (IsRefused fault → IsSomeAnd back (λ c. HasCleanDisk (state c) → StandsForNone (state c)))
-      → (IsRefused fault → IsSomeAnd back (λ c. HasCleanDisk (state c) → IsTrue (state c).is_open → says (state c).now fault))
-      → IfSome back (λ c. HasCleanDisk (state c) → IsUnopened (state store).committed.trees (state c))
-      → LeavesStore state says store fault back
-  unopened state store fault None full none other left = (full, λ refused. none refused)
-  unopened state store fault (Some c) full none other left = λ clean. record {
-    bare = λ bare. absurd (full bare);
-    left = λ _. left clean;
-    none = λ refused. none refused clean;
-    other = λ refused. other refused clean;
-  }
+-- one with tables, which could not be opened
+pub unopened : {S : Type 0} (g : Ghosts S) (store : Held S) (fault : OpenFault) (back : Unopened S) → (state g store).now.schema ≢ no_schema
+    → (IsRefused fault → IsConnectionAnd back (λ c. HasCleanDisk (state g c) → StandsForNone (state g c)))
+    → (IsRefused fault → IsConnectionAnd back (λ c. HasCleanDisk (state g c) → IsTrue (state g c).is_open → FaultSays g 2 (state g c).now fault))
+    → IfConnection back (λ c. HasCleanDisk (state g c) → IsUnopened (state g store).committed.trees (state g c))
+    → IfStore back (IsUnharmed g (state g store))
+    → LeavesStore g store fault back
+unopened g store fault (Store left) full none other kept unharmed = (full, (λ refused. none refused), unharmed)
+unopened g store fault (Connection c) full none other kept unharmed = λ clean. record {
+  bare = λ bare. absurd (full bare);
+  left = λ _. kept clean;
+  none = λ refused. none refused clean;
+  other = λ refused. other refused clean;
+}

@@ -1,14 +1,16 @@
 -- What `serve` does before it listens (own profile).
-use Rattle.std.specs.Prelude.{◌≡◌, ◌⊎◌, ℕ, List, Option, Some, None}
-use Rattle.sqlite.specs.Effect.{Database}
+use Rattle.std.specs.Prelude.{◌≡◌, ◌⊎◌, ℕ, List, Option, Some, None, option_map}
+use Rattle.sqlite.specs.Held.{Held, state as state_of}
 use Rattle.sqlite.specs.State.{State}
+use Rattle.sqlite_trees.specs.declared.store.Store.{Ghosts}
 use Rattle.book_office_cache.specs.Remembering.{Remembers}
 use Rattle.book_office_cache.specs.declared.cached.Cached.{Cached}
 use Rattle.book_office_values.specs.declared.offices.Office.{Office}
 use Rattle.book_office.specs.Edits.{empty_office}
 use Rattle.book_office.specs.Keeping.{in_memory}
 use Rattle.book_policy_values.specs.declared.parts.PolicyTables.{PolicyTables}
-use Rattle.book_tables.specs.declared.opening.OpenFault.{OpenFault}
+use Rattle.book_tables_schema.specs.declared.reopening.Unopened.{Unopened}
+use Rattle.book_tables_schema.specs.declared.reopening.Unopened.TheVariants.{Connection}
 use Rattle.book_tables.specs.declared.tables.Tables.{Tables}
 use Rattle.book_desk_app.specs.Imports.{AdoptsGiven, FailsToAdopt}
 use Rattle.book_desk_app.specs.Runs.{AreTablesOf, FailsToOpen, standing_in}
@@ -36,23 +38,25 @@ module _ {C K : Type 0} (state : C → State) (connection : K → C) (failures_o
       × AdoptsGiven (standing_in state connection failures_of old) policy (standing_in state connection failures_of new.keeper))
       × ((o : Office) → Remembers new.remembered o)
 
-  -- the tables were not had; or the policy was not adopted over them, and the store comes back
-  abbrev pub FailsOverStore : (Database → OpenFault → Type 0) → C → Option PolicyTables → Failure → Option C → Type 0
-  FailsOverStore says store policy failure back =
-      ((fault : StoreFailure) × (failure ≡ failures.Store fault) × FailsToOpen state says store fault back)
-      ⊎ ((old : K) × (new : K) × AreTablesOf state connection failures_of store old
-      × FailsToAdopt (standing_in state connection failures_of old) policy failure (standing_in state connection failures_of new)
-      × (back ≡ Some (connection new)))
+-- the same of connections to a store
+module _ {S K : Type 0} (g : Ghosts S) (connection : K → Held S) (failures_of : K → ℕ) where
+  -- the tables were not had; or the policy was not adopted over them, and the connection comes back
+  abbrev pub FailsOverStore : Held S → Option PolicyTables → Failure → Unopened S → Type 0
+  FailsOverStore store policy failure back =
+      ((fault : StoreFailure) × (failure ≡ failures.Store fault) × FailsToOpen g store fault back)
+      ⊎ ((old : K) × (new : K) × AreTablesOf (state_of g) connection failures_of store old
+      × FailsToAdopt (standing_in (state_of g) connection failures_of old) policy failure (standing_in (state_of g) connection failures_of new)
+      × (back ≡ Connection (connection new)))
 
-  abbrev pub FailsOver : (Database → OpenFault → Type 0) → Option C → Option PolicyTables → Failure → Option C → Type 0
-  FailsOver says None policy failure back = FailsInMemory policy failure × (back ≡ None)
-  FailsOver says (Some store) policy failure back = FailsOverStore says store policy failure back
+  abbrev pub FailsOver : Option (Held S) → Option PolicyTables → Failure → Option (Unopened S) → Type 0
+  FailsOver None policy failure back = FailsInMemory policy failure × (back ≡ None)
+  FailsOver (Some store) policy failure back = (left : Unopened S) × (back ≡ Some left) × FailsOverStore store policy failure left
 
   -- the file spells no policy, and nothing was done; or it does, and what follows failed
-  abbrev pub FailsToPrepare : {F : Type 0} → (Database → OpenFault → Type 0) → (F → List ℕ) → Option C → Option F → Failure → Option C → Type 0
-  FailsToPrepare says bytes store file failure back =
-      (IsNotGiven bytes file failure × (back ≡ store))
-      ⊎ ((policy : Option PolicyTables) × IsGiven bytes file policy × FailsOver says store policy failure back)
+  abbrev pub FailsToPrepare : {F : Type 0} → (F → List ℕ) → Option (Held S) → Option F → Failure → Option (Unopened S) → Type 0
+  FailsToPrepare bytes store file failure back =
+      (IsNotGiven bytes file failure × (back ≡ option_map Connection store))
+      ⊎ ((policy : Option PolicyTables) × IsGiven bytes file policy × FailsOver store policy failure back)
 
 -- a machine over the store, if there is one, else over an Office in memory
 module _ {S C : Type 0} (state : C → State) (connection : Tables S → C) (failures_of : Tables S → ℕ) where

@@ -2,16 +2,21 @@
 use Rattle.std.specs.Prelude.{◌≡◌, ◌≢◌, ◌⊎◌, ℕ, List, Option, Some, None, IsTrue}
 use Rattle.std.specs.Io.KnownBytes.{Keeps}
 use Rattle.sqlite.specs.Effect.{Database}
+use Rattle.sqlite.specs.Held.{Held, state as state_of}
 use Rattle.sqlite.specs.State.{State, HasCleanDisk}
+use Rattle.sqlite_trees.specs.declared.store.Store.{Ghosts}
 use Rattle.book_office_values.specs.declared.offices.Office.{Office}
 use Rattle.book_office.specs.Edits.{empty_office}
 use Rattle.book_office.specs.Keeping.{Standing, in_memory}
 use Rattle.book_tables_schema.specs.Founding.{no_schema}
+use Rattle.book_tables_schema.specs.Reopening.{IsUnharmed}
+use Rattle.book_tables_schema.specs.declared.reopening.Unopened.{Unopened}
+use Rattle.book_tables_schema.specs.declared.reopening.Unopened.TheVariants.{Connection, Store}
 use Rattle.book_tables.specs.Keeps.{standing_of}
 use Rattle.book_tables.specs.Opened.{IsUnfounded, StandsAlone}
 use Rattle.book_tables.specs.declared.opening.OpenFault.{OpenFault}
 use Rattle.book_tables.specs.declared.opening.OpenFault.TheVariants as faults
-use Rattle.book_tables_opening.specs.Reading.{IsRefused, IsUnopened, SameRows, StandsForItsOffice, StandsForNone}
+use Rattle.book_tables_opening.specs.Reading.{FaultSays, IsRefused, IsUnopened, SameRows, StandsForItsOffice, StandsForNone}
 use Rattle.book_desk_app.specs.Failures.{failure_status}
 use Rattle.book_desk_app.specs.Tasks.{Performs}
 use Rattle.book_desk_app.specs.Works.{GivesNoTask, SpellsTask}
@@ -45,15 +50,18 @@ pub record IsGivenBack (says : Database → OpenFault → Type 0) (before after 
   pub none : IsRefused fault → StandsForNone after
   pub other : IsRefused fault → IsTrue after.is_open → says after.now fault
 
-module _ {C : Type 0} (state : C → State) (says : Database → OpenFault → Type 0) where
-  -- none comes back where a store with tables could not be opened again
-  abbrev pub LeavesStore : C → OpenFault → Option C → Type 0
-  LeavesStore store fault None = ((state store).now.schema ≢ no_schema) × ¬ (IsRefused fault)
-  LeavesStore store fault (Some left) = HasCleanDisk (state left) → IsGivenBack says (state store) (state left) fault
+module _ {S : Type 0} (g : Ghosts S) where
+  -- what comes back: the connection; or its store, unharmed, where one with tables could not be opened again
+  abbrev pub LeavesStore : Held S → OpenFault → Unopened S → Type 0
+  LeavesStore store fault (Connection left) = HasCleanDisk (state_of g left) → IsGivenBack (FaultSays g 2) (state_of g store) (state_of g left) fault
+  LeavesStore store fault (Store left) = ((state_of g store).now.schema ≢ no_schema) × ¬ (IsRefused fault) × IsUnharmed g (state_of g store) left
 
   -- why the tables of a store were not had, and what came back
-  abbrev pub FailsToOpen : C → StoreFailure → Option C → Type 0
+  abbrev pub FailsToOpen : Held S → StoreFailure → Unopened S → Type 0
   FailsToOpen store failure left = (fault : OpenFault) × (failure ≡ store_failure fault) × LeavesStore store fault left
+
+  abbrev pub IsNotHad : Held S → StoreFailure → Type 0
+  IsNotHad store failure = (left : Unopened S) × FailsToOpen store failure left
 
 -- over connections with their state, and keepers with their connection and the number of their failures
 module _ {C K : Type 0} (state : C → State) (connection : K → C) (failures : K → ℕ) where
@@ -66,12 +74,12 @@ module _ {C K : Type 0} (state : C → State) (connection : K → C) (failures :
   abbrev pub standing_in : K → Standing
   standing_in tables = standing_of (state (connection tables)) (failures tables)
 
-  -- what the query for the version says of tables that are refused
-  module _ (says : Database → OpenFault → Type 0) where
+  -- why the tables of a store were not had, and what was left of it
+  module _ (is_not_had : C → StoreFailure → Type 0) where
     -- the tables were not had, and nothing was read or written; or the task was done over them
     abbrev pub RunsOver : Task → C → Option (List ℕ) → Option (List ℕ) → Option (List ℕ) → Option (List ℕ) → ℕ → Option C → Type 0
     RunsOver task store before after held holds status back =
-        ((failure : StoreFailure) × (left : Option C) × FailsToOpen state says store failure left × (status ≡ 3) × (back ≡ None)
+        ((failure : StoreFailure) × is_not_had store failure × (status ≡ 3) × (back ≡ None)
         × Keeps before after × Keeps held holds)
         ⊎ ((old : K) × (new : K) × AreTablesOf store old × Performs standing_in task old before after held holds status new
         × (back ≡ Some (connection new)))

@@ -2,13 +2,13 @@
 
 ghost use Rattle.std.specs.Prelude.{◌≡◌, IfErr, OnOk};
 ghost use Rattle.std.specs.Io.KnownBytes.{Appends, Keeps};
-ghost use Rattle.sqlite.specs.Held.{state};
 ghost use Rattle.book_desk_app.specs.Migrations.{MigratesStore, migration_line};
 ghost use Rattle.book_desk_app.specs.declared.failures.Failure.TheVariants.{Output};
 
 use crate::stores::store_failure;
 use crate::{Failure, tell};
 use book_tables_migrating::migrate;
+use book_tables_schema::Unopened;
 use sqlite::{Alter, Connection};
 use std::alloc::Global;
 use std::io::Write;
@@ -26,14 +26,14 @@ fn write_entries<W: Write>(writer: &mut W, entries: u64) -> Result<(), Failure>
 
 /// Makes a store of version 1 one of version 2, writes how many entries it has, and gives the status of the program: 0
 /// where both are done, 3 where the store was not migrated, or the line could not be written. A failure is told on
-/// `errors`. The connection comes back but where the store could not be opened again.
+/// `errors`. The connection comes back; where the store could not be opened again, the store itself.
 pub fn run_migration<S: Alter + Drop, W: Write, E: Write>(
     alloc: Global,
     store: Connection<S>,
     writer: &mut W,
     errors: &mut E,
-) -> (u8, Option<Connection<S>>)
-    ensures runs { MigratesStore (state S.Store) store (W.contents writer.old) (W.contents writer.new) result.0 result.1 }
+) -> (u8, Unopened<S>)
+    ensures runs { MigratesStore S.Store store (W.contents writer.old) (W.contents writer.new) result.0 result.1 }
     ensures silent { result.0 ≡ 0 → Keeps (E.contents errors.old) (E.contents errors.new) }
 {
     match migrate(alloc, store) {
@@ -42,11 +42,11 @@ pub fn run_migration<S: Alter + Drop, W: Write, E: Write>(
                 Ok(()) => 0,
                 Err(failure) => tell(errors, &failure),
             };
-            (status, Some(tables.release()))
+            (status, Unopened::Connection(tables.release()))
         }
-        Err((fault, connection)) => {
+        Err((fault, left)) => {
             let status = tell(errors, &Failure::Store(store_failure(fault)));
-            (status, connection)
+            (status, left)
         }
     }
 }

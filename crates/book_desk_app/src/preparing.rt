@@ -1,9 +1,8 @@
 //! What `serve` does before it listens: the policy's text is read, the tables of the store are had, and the policy is
 //! adopted.
 
-ghost use Rattle.std.specs.Prelude.{◌≡◌, IfErr, IfOk};
+ghost use Rattle.std.specs.Prelude.{◌≡◌, IfErr, IfOk, option_map};
 ghost use Rattle.sqlite.specs.Held.{state};
-ghost use Rattle.book_tables_opening.specs.Reading.{FaultSays};
 ghost use Rattle.book_tables.specs.declared.tables.Tables.{Tables};
 ghost use Rattle.book_desk_app.specs.Preparing.{FailsInMemory, FailsOver, FailsOverStore, FailsToPrepare, IsReadyInMemory, IsReadyOver, IsPrepared, Prepares, store_of};
 
@@ -15,6 +14,7 @@ use book_machine::Machine;
 use book_office::{MemoryKeeper, Policy};
 use book_office_cache::Cached;
 use book_tables::Tables;
+use book_tables_schema::Unopened;
 use sqlite::{Alter, Connection};
 use std::alloc::Global;
 
@@ -65,18 +65,18 @@ fn prepare_over<S: Alter + Drop>(
     alloc: Global,
     store: Connection<S>,
     policy: &Option<Policy>,
-) -> Result<Machine<Cached<Tables<S>>>, (Failure, Option<Connection<S>>)>
+) -> Result<Machine<Cached<Tables<S>>>, (Failure, Unopened<S>)>
     ensures ready { IfOk result (λ machine. IsReadyOver (state S.Store) (λ t. t.connection) (λ t. t.failures) store policy.now machine.keeper) }
-    ensures refused { IfErr result (λ e. FailsOverStore {K = Tables S} (state S.Store) (λ t. t.connection) (λ t. t.failures) (FaultSays S.Store 2) store policy.now e.0 e.1) }
+    ensures refused { IfErr result (λ e. FailsOverStore {K = Tables S} S.Store (λ t. t.connection) (λ t. t.failures) store policy.now e.0 e.1) }
 {
     let tables = match open_store(alloc, store) {
         Ok(tables) => tables,
-        Err((failure, store)) => return Err((Failure::Store(failure), store)),
+        Err((failure, left)) => return Err((Failure::Store(failure), left)),
     };
     let mut machine = Machine::new(tables);
     match adopt_given(alloc, &mut machine, policy) {
         Ok(()) => Ok(Machine::new(Cached::new(alloc, machine.release()))),
-        Err(failure) => Err((failure, Some(machine.release().release()))),
+        Err(failure) => Err((failure, Unopened::Connection(machine.release().release()))),
     }
 }
 
@@ -85,19 +85,29 @@ fn prepare_given<S: Alter + Drop>(
     alloc: Global,
     store: Option<Connection<S>>,
     policy: &Option<Policy>,
-) -> Result<Prepared<S>, (Failure, Option<Connection<S>>)>
+) -> Result<Prepared<S>, (Failure, Option<Unopened<S>>)>
     ensures ready { IfOk result (IsPrepared (state S.Store) (λ t. t.connection) (λ t. t.failures) store policy.now) }
-    ensures refused { IfErr result (λ e. FailsOver {K = Tables S} (state S.Store) (λ t. t.connection) (λ t. t.failures) (FaultSays S.Store 2) store policy.now e.0 e.1) }
+    ensures refused { IfErr result (λ e. FailsOver {K = Tables S} S.Store (λ t. t.connection) (λ t. t.failures) store policy.now e.0 e.1) }
 {
     match store {
         Some(store) => match prepare_over(alloc, store, policy) {
             Ok(machine) => Ok(Prepared::Store(machine)),
-            Err(error) => Err(error),
+            Err((failure, left)) => Err((failure, Some(left))),
         },
         None => match prepare_in_memory(alloc, policy) {
             Ok(machine) => Ok(Prepared::Memory(machine)),
             Err(failure) => Err((failure, None)),
         },
+    }
+}
+
+/// A connection over which nothing was done, if there is one, as what is left of it.
+fn as_left<S: Alter>(store: Option<Connection<S>>) -> Option<Unopened<S>>
+    ensures { result ≡ option_map Unopened.Connection store }
+{
+    match store {
+        Some(store) => Some(Unopened::Connection(store)),
+        None => None,
     }
 }
 
@@ -108,14 +118,14 @@ fn prepare_given<S: Alter + Drop>(
 ///
 /// In this order: `Input` and `Policy`, where the bytes spell no policy: nothing was done over the store, which comes back;
 /// `Store`, where its tables were not had, as `open_store`; `Adoption`, where the policy was not adopted: the Office is as
-/// it was, and the store comes back.
+/// it was, and the connection comes back.
 pub fn prepare<S: Alter + Drop>(
     alloc: Global,
     store: Option<Connection<S>>,
     policy: Option<Vec<u8>>,
-) -> Result<Prepared<S>, (Failure, Option<Connection<S>>)>
+) -> Result<Prepared<S>, (Failure, Option<Unopened<S>>)>
     ensures ready { IfOk result (Prepares (state S.Store) (λ t. t.connection) (λ t. t.failures) (λ given. given.items) store policy) }
-    ensures refused { IfErr result (λ e. FailsToPrepare {K = Tables S} (state S.Store) (λ t. t.connection) (λ t. t.failures) (FaultSays S.Store 2) (λ given. given.items) store policy e.0 e.1) }
+    ensures refused { IfErr result (λ e. FailsToPrepare {K = Tables S} S.Store (λ t. t.connection) (λ t. t.failures) (λ given. given.items) store policy e.0 e.1) }
 {
     match given_policy(alloc, policy) {
         Ok(policy) => {
@@ -123,6 +133,6 @@ pub fn prepare<S: Alter + Drop>(
             drop(policy);
             prepared
         }
-        Err(failure) => Err((failure, store)),
+        Err(failure) => Err((failure, as_left(store))),
     }
 }

@@ -3,8 +3,7 @@
 ghost use Rattle.std.specs.Prelude.{◌≡◌, ◌≢◌};
 ghost use Rattle.std.specs.Io.KnownBytes.{Keeps};
 ghost use Rattle.sqlite.specs.Held.{state};
-ghost use Rattle.book_tables_opening.specs.Reading.{FaultSays};
-ghost use Rattle.book_desk_app.specs.Runs.{Runs, RunsIn, RunsOver, standing_in};
+ghost use Rattle.book_desk_app.specs.Runs.{IsNotHad, Runs, RunsIn, RunsOver, standing_in};
 ghost use Rattle.book_tables.specs.declared.tables.Tables.{Tables};
 ghost use Rattle.book_desk_app.specs.Tasks.{EndsPipe, Performs, PipesAfter};
 
@@ -95,7 +94,7 @@ fn perform_in<S: Alter + Drop, R: Read, W: Write, E: Write>(
     writer: &mut W,
     errors: &mut E,
 ) -> (u8, Option<Connection<S>>)
-    ensures runs { RunsOver {K = Tables S} (state S.Store) (λ t. t.connection) (λ t. t.failures) (FaultSays S.Store 2) task.now store
+    ensures runs { RunsOver {K = Tables S} (state S.Store) (λ t. t.connection) (λ t. t.failures) (IsNotHad S.Store) task.now store
         (R.remaining reader.old) (R.remaining reader.new) (W.contents writer.old) (W.contents writer.new) result.0 result.1 }
     ensures silent { result.0 ≡ 0 → Keeps (E.contents errors.old) (E.contents errors.new) }
 {
@@ -120,7 +119,7 @@ fn perform_given<S: Alter + Drop, R: Read, W: Write, E: Write>(
     writer: &mut W,
     errors: &mut E,
 ) -> (u8, Option<Connection<S>>)
-    ensures runs { RunsIn {K = Tables S} (state S.Store) (λ t. t.connection) (λ t. t.failures) (FaultSays S.Store 2) task.now store
+    ensures runs { RunsIn {K = Tables S} (state S.Store) (λ t. t.connection) (λ t. t.failures) (IsNotHad S.Store) task.now store
         (R.remaining reader.old) (R.remaining reader.new) (W.contents writer.old) (W.contents writer.new) result.0 result.1 }
     ensures silent { result.0 ≡ 0 → Keeps (E.contents errors.old) (E.contents errors.new) }
 {
@@ -148,7 +147,7 @@ pub fn run<S: Alter + Drop, R: Read, W: Write, E: Write>(
     writer: &mut W,
     errors: &mut E,
 ) -> (u8, Option<Connection<S>>)
-    ensures runs { Runs {K = Tables S} (state S.Store) (λ t. t.connection) (λ t. t.failures) (FaultSays S.Store 2) (λ given. given.items) work store policy
+    ensures runs { Runs {K = Tables S} (state S.Store) (λ t. t.connection) (λ t. t.failures) (IsNotHad S.Store) (λ given. given.items) work store policy
         (R.remaining reader.old) (R.remaining reader.new) (W.contents writer.old) (W.contents writer.new) result.0 result.1 }
     ensures silent { result.0 ≡ 0 → Keeps (E.contents errors.old) (E.contents errors.new) }
 {

@@ -2,13 +2,12 @@
 
 ghost use Rattle.std.specs.Prelude.{◌≡◌, IfErr, IfOk};
 ghost use Rattle.sqlite.specs.Held.{state};
-ghost use Rattle.book_tables_opening.specs.Reading.{FaultSays};
 ghost use Rattle.book_desk_app.specs.Runs.{AreTablesOf, FailsToOpen, store_failure};
 
 use crate::failures::StoreFailure;
 use book_tables::{OpenFault, Tables};
 use book_tables_opening::open;
-use book_tables_schema::is_empty;
+use book_tables_schema::{Unopened, is_empty};
 use sqlite::{Alter, Connection};
 use std::alloc::Global;
 
@@ -29,25 +28,29 @@ pub(crate) fn store_failure(fault: OpenFault) -> StoreFailure
 ///
 /// # Errors
 ///
-/// As `Tables::create` and `book_tables_opening::open`. The connection comes back but where the store could not be opened
-/// again. It shows what it showed, where the store has no table, and a stop leaves that or the empty Office; of any other
-/// store it shows what was committed, and a stop leaves that, or the same Office with `reach` made.
+/// As `Tables::create` and `book_tables_opening::open`. The connection comes back. It shows what it showed, where the
+/// store has no table, and a stop leaves that or the empty Office; of any other store it shows what was committed, and a
+/// stop leaves that, or the same Office with `reach` made. Where the store could not be opened again, it comes back
+/// itself, and a stop leaves what was committed, if the connection was open.
 pub fn open_store<S: Alter + Drop>(
     alloc: Global,
     connection: Connection<S>,
-) -> Result<Tables<S>, (StoreFailure, Option<Connection<S>>)>
+) -> Result<Tables<S>, (StoreFailure, Unopened<S>)>
     ensures opened { IfOk result (AreTablesOf (state S.Store) (λ t. t.connection) (λ t. t.failures) connection) }
-    ensures refused { IfErr result (λ e. FailsToOpen (state S.Store) (FaultSays S.Store 2) connection e.0 e.1) }
+    ensures refused { IfErr result (λ e. FailsToOpen S.Store connection e.0 e.1) }
 {
     if is_empty(&connection) {
         match Tables::create(connection) {
             Ok(tables) => Ok(tables),
-            Err((fault, connection)) => Err((store_failure(fault), Some(connection))),
+            Err((fault, connection)) => Err((
+                store_failure(fault),
+                Unopened::Connection(connection),
+            )),
         }
     } else {
         match open(alloc, connection) {
             Ok(tables) => Ok(tables),
-            Err((fault, connection)) => Err((store_failure(fault), connection)),
+            Err((fault, left)) => Err((store_failure(fault), left)),
         }
     }
 }

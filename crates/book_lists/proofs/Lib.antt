@@ -7,6 +7,7 @@ pub mod GoingScans
 pub mod OneReader
 pub mod Pairing
 pub mod GroupLists
+pub mod MembersOf
 pub mod Searches
 pub mod PathEnds
 pub mod OneOutcome
@@ -15,3 +16,7 @@ pub mod Widened
 pub mod Reaching
 pub mod ReachedCircles
 pub mod Climbing
+pub mod Elements
+pub mod Decided
+pub mod Closures
+pub mod FoundCircles

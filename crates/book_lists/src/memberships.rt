@@ -6,7 +6,7 @@ ghost use Rattle.std.specs.BTreeMap.{IsOrdered};
 ghost use Rattle.book_lists.specs.Circles.{has_path};
 ghost use Rattle.book_lists.specs.GroupEntries.{pairs_in, groups_at};
 ghost use Rattle.std.specs.List.Sorted.{IsStrictlySortedBy};
-ghost use Rattle.book_lists.specs.Memberships.{membership_cmp, set_of, GetsGroups, IsDirect, IsReachOf};
+ghost use Rattle.book_lists.specs.Memberships.{membership_cmp, members_of, set_of, GetsGroups, IsDirect, IsReachOf};
 ghost use Rattle.book_lists.specs.PrincipalSets.{AreKnown, Grows, GrowsAt, ListsAll, IsAbove, IsClosure, IsFound, IsGroupsOf};
 ghost use Rattle.book_lists.specs.Climbing.{Climbs};
 ghost use Rattle.book_lists.specs.Principals.{path_cmp};
@@ -168,6 +168,19 @@ impl Pairs {
             groups.append_memberships(member, &mut list)?;
         }
         in_order(self.alloc, list)
+    }
+
+    /// The pairs that have the group. Each member of any group is looked at once. An error is want of memory.
+    pub fn members_of(&self, group: &Principal) -> Result<Pairs, AllocError>
+        ensures { IfOk result (λ pairs. pairs ≡ members_of self.now group.now) }
+    {
+        let mut pairs = Pairs::new(self.alloc);
+        for (member, groups) in self.groups.iter() {
+            if groups.has(group) {
+                pairs.add(group.clone()?, member.clone()?)?;
+            }
+        }
+        Ok(pairs)
     }
 
     /// Whether the principal is a direct member of no group. Takes no memory.

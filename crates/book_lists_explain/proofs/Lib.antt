@@ -8,3 +8,8 @@ pub mod OneMeaning
 pub mod OneReading
 pub mod OneAnswer
 pub mod OneExplanation
+pub mod FoundDecisions
+pub mod FoundAnswers
+pub mod FoundMeanings
+pub mod FoundReadings
+pub mod FoundExplanations

@@ -58,7 +58,7 @@ known_names names set a unknown =
     unknown.2 (get_or a.0 unknown.0 All) (sym (ap (λ xs. get_or xs unknown.0 []) a.1) ∙ get_or-map name_of a.0 unknown.0 All [] within)
 
 -- ---- the form of a line by its words
-form_of : List (List ℕ) → Form
+pub form_of : List (List ℕ) → Form
 form_of ws =
     let word = get_or ws 0 [] in
     let invert = bytes_eq (get_or ws 1 []) (codes "not") in
@@ -77,7 +77,7 @@ differs xs ys n = go (bytes_eq xs ys) refl
     go true e = absurd (n ((bytes_eq-Decides xs ys).0 e))
     go false e = refl
 
-form_of-words : (form : Form) → IsProper form → form_of (words form) ≡ form
+pub form_of-words : (form : Form) → IsProper form → form_of (words form) ≡ form
 unfolding form_of
 form_of-words (member_form group member) p = refl
 form_of-words (caller_form person) p = refl

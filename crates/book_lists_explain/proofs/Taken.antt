@@ -10,10 +10,10 @@ use Rattle.std.specs.Prelude.{option_to_list}
 use Rattle.book_lists_explain.specs.Questions.{caller_in, need_in, owner_in, here_in, entry_in}
 use Rattle.book_lists.proofs.Pairing.{push_is_insert}
 
-kept : {A : Type 0} (f : Line → Option A) (said : List Line) (line : Line) → filter_map f (line ∷ []) ≡ [] → filter_map f said ≡ filter_map f (said ++ line ∷ [])
+pub kept : {A : Type 0} (f : Line → Option A) (said : List Line) (line : Line) → filter_map f (line ∷ []) ≡ [] → filter_map f said ≡ filter_map f (said ++ line ∷ [])
 kept f said line e = sym (filter_map-append f said (line ∷ []) ∙ ap (λ xs. filter_map f said ++ xs) e ∙ append-nil _)
 
-added : {A : Type 0} (f : Line → Option A) (said : List Line) (line : Line) (x : A) → filter_map f (line ∷ []) ≡ x ∷ [] → filter_map f said ++ x ∷ [] ≡ filter_map f (said ++ line ∷ [])
+pub added : {A : Type 0} (f : Line → Option A) (said : List Line) (line : Line) (x : A) → filter_map f (line ∷ []) ≡ x ∷ [] → filter_map f said ++ x ∷ [] ≡ filter_map f (said ++ line ∷ [])
 added f said line x e = sym (filter_map-append f said (line ∷ []) ∙ ap (λ xs. filter_map f said ++ xs) e)
 
 none_listed : {A : Type 0} (o : Option A) (b : Bool) → b ≡ is_some o → b ≡ false → option_to_list o ≡ []

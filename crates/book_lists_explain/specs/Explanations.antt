@@ -41,3 +41,7 @@ HasOneFault = (text : List ℕ) (kind other_kind : ExplainFaultKind) (number oth
 -- a text that has an answer has no fault but want of memory
 abbrev pub AnswerExcludesFault : Type 0
 AnswerExcludesFault = (text answer : List ℕ) (kind : ExplainFaultKind) (number : ℕ) → AnswersText text answer → IsFault text kind number → kind ≡ Memory
+
+-- each text has an answer, or a fault other than want of memory
+abbrev pub HasAnswerOrFault : Type 0
+HasAnswerOrFault = (text : List ℕ) → ((answer : List ℕ) × AnswersText text answer) ⊎ ((kind : ExplainFaultKind) × (number : ℕ) × (kind ≢ Memory) × IsFault text kind number)

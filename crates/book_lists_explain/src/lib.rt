@@ -16,5 +16,7 @@ mod short_names;
 
 pub use explanations::explain;
 pub use faults::{ExplainFault, ExplainFaultKind};
-pub use laws::{answers_are_one, answers_exclude_faults, explain_faults_are_one};
+pub use laws::{
+    answers_are_one, answers_exclude_faults, explain_faults_are_one, texts_have_answers_or_faults,
+};
 pub use short_names::{has_read, has_write, short_privileges};

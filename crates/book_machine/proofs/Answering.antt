@@ -1,5 +1,5 @@
 -- A request is answered by its plan, and then by the edit of it.
-use Rattle.book_machine.proofs.Common.{◌≡◌, ◌⊎◌, inl, inr, ℕ, List, Option, Some, None, Ok, Err, refl, sym, ap, ◌∙◌, Edit, Office, apply, Standing, one_more, Fits, Request, Plan, Refusal, Unavailable, Asks, MeetsPlan, HasPaths, ServePromise, refused, apply_any, settled}
+use Rattle.book_machine.proofs.Common.{◌≡◌, ◌⊎◌, inl, inr, ℕ, List, Option, Some, None, Ok, Err, refl, sym, ap, ◌∙◌, Edit, Office, apply, Standing, one_more, Fits, Request, Plan, Refusal, Unavailable, Asks, MeetsPlan, IsWellFormed, ServePromise, refused, apply_any, settled}
 use Rattle.book_office.specs.declared.keepers.StoreFault.{StoreFault}
 use Rattle.book_office.specs.declared.keepers.StoreFault.TheVariants.{Memory, Store}
 use Rattle.book_office.specs.Keeping.{Edits, whole, failures_after_fault}
@@ -51,7 +51,7 @@ module _ (old new : Standing) (name : Option (List ℕ)) (request : Request) whe
     counted = inl asked.counted;
   }
 
-  module _ (mid : Standing) (p : Plan) (edit : Edit) (named : HasPaths request) (asked : Asks old mid (Ok p) (λ o r. MeetsPlan o name request r)) (has_edit : p.edit ≡ Some edit) where
+  module _ (mid : Standing) (p : Plan) (edit : Edit) (named : IsWellFormed request) (asked : Asks old mid (Ok p) (λ o r. MeetsPlan o name request r)) (has_edit : p.edit ≡ Some edit) where
     stepped : (o : Office) → (p.reply, apply o edit) ≡ settled o (Ok p)
     stepped o = ap (λ e. (p.reply, apply_any o e)) (sym has_edit)
 

@@ -56,9 +56,9 @@ pub use Rattle.book_office_listings.specs.declared.messages.Ruling.{Ruling}
 pub use Rattle.book_machine.specs.Agreement.{MayRead, Agree, outline, outline_of_book, outline_of_card, named}
 pub use Rattle.book_machine.specs.AllowedMethods.{goes_on}
 pub use Rattle.book_machine.specs.Asked.{destination_in, method_of, asked_of, destination_path, copy_asked, destination_asked, each_once, move_asked, report_asked}
-pub use Rattle.book_machine.specs.Asking.{MeetsAny, Asks, Meets, Counted, HasPaths, MeetsPlan, TellsWhether}
+pub use Rattle.book_machine.specs.Asking.{MeetsAny, Asks, Meets, Counted, IsWellFormed, MeetsPlan, TellsWhether}
 pub use Rattle.book_machine.specs.Laws.{is_late}
-pub use Rattle.book_machine.specs.LeadingRuns.{HavePaths}
+pub use Rattle.book_machine.specs.LeadingRuns.{AreWellFormed}
 pub use Rattle.book_machine.specs.Promises.{ServePromise}
 pub use Rattle.book_machine.specs.Refusals.{refused}
 pub use Rattle.book_machine.specs.Runs.{Call, calls_of, last_office}

@@ -1,5 +1,5 @@
 -- What sync reports tell in runs of the machine.
-use Rattle.book_machine.proofs.Common.{◌≡◌, inl, inr, ℕ, List, [], ◌∷◌, false, Option, Some, None, option_map, Result, Ok, Err, refl, sym, ap, ◌∙◌, subst, arith, CircleOf, IsCircle, one_circle, Office, Path, Standing, node_at, unnumbered, IsSound, Node, Method, Report, named, asked_of, destination_in, report_asked, HavePaths, refused, Call, caller_of, at_node, at_unmapped, target_of, suits_target, destination_of, ready_of, report_plan, IsBodyAnswer, limits_of, IsSuccessOf, IsDone, IsPlan, IsPlannedFrom, settled, Serves, IsGranted, Reply, Request, Plan, Ready, Target, Refusal, NeedPrivileges, Unavailable, ValidSyncToken}
+use Rattle.book_machine.proofs.Common.{◌≡◌, inl, inr, ℕ, List, [], ◌∷◌, false, Option, Some, None, option_map, Result, Ok, Err, refl, sym, ap, ◌∙◌, subst, arith, CircleOf, IsCircle, one_circle, Office, Path, Standing, node_at, unnumbered, IsSound, Node, Method, Report, named, asked_of, destination_in, report_asked, AreWellFormed, refused, Call, caller_of, at_node, at_unmapped, target_of, suits_target, destination_of, ready_of, report_plan, IsBodyAnswer, limits_of, IsSuccessOf, IsDone, IsPlan, IsPlannedFrom, settled, Serves, IsGranted, Reply, Request, Plan, Ready, Target, Refusal, NeedPrivileges, Unavailable, ValidSyncToken}
 use Rattle.book_office_values.specs.declared.paths.Path.TheVariants as path
 use Rattle.book_office_sync.proofs.SyncedRuns.{told as told_report, valid_epoch, copies_follow, copies_begin}
 use Rattle.book_office_sync.specs.Copies.{sync}
@@ -107,11 +107,11 @@ none_by : (o : Office) (circle : CircleOf) (b : List ℕ) (t : Token) (limit : O
 none_by o circle b t limit None is other = refl
 none_by o circle b t limit (Some r) is other = let h = told_report o circle b (Some t) limit r is in absurd (other (valid_epoch o b h.book t h.valid))
 
-calls_fine : (calls : List Call) → HavePaths calls → AreCalls machine_steps calls
+calls_fine : (calls : List Call) → AreWellFormed calls → AreCalls machine_steps calls
 calls_fine [] have = tt
 calls_fine (call ∷ calls) have = (have.0, calls_fine calls have.1)
 
-module _ (o : Office) (calls : List Call) (replies : List Reply) (sound : IsSound o) (have : HavePaths calls) where
+module _ (o : Office) (calls : List Call) (replies : List Reply) (sound : IsSound o) (have : AreWellFormed calls) where
   reports_follow : ReportsFollow o calls replies
   reports_follow p q i k name b token limit most first second finds onwards a c =
       copies_follow machine_steps machine_are o p q calls replies i k name b token limit most first second sound (calls_fine calls have) finds onwards a c
@@ -137,7 +137,7 @@ module _ (o : Office) (calls : List Call) (replies : List Reply) (sound : IsSoun
         | inr unavailable ↦ inr unavailable.0
       ]
 
-pub synced : (standing : Standing) (calls : List Call) (replies : List Reply) → HavePaths calls → Synced standing calls replies
+pub synced : (standing : Standing) (calls : List Call) (replies : List Reply) → AreWellFormed calls → Synced standing calls replies
 synced standing calls replies have = record {
   follow = λ o stands. reports_follow o calls replies (standing.sound o stands) have;
   begin = λ o stands. reports_begin o calls replies (standing.sound o stands) have;

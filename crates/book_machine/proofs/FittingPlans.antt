@@ -1,7 +1,8 @@
 -- The edit of a plan fits the Office that it was made for.
-use Rattle.book_machine.proofs.Common.{All, ◌≡◌, ◌≢◌, ℕ, ◌+◌, ◌<◌, ◌≤◌, List, length, Bool, true, false, ◌&&◌, ◌||◌, nat_lt, Option, Some, None, is_some, Result, Ok, Err, inl, inr, refl, sym, ap, ◌∙◌, subst, option_map, option_and_then, unwrap_or, arith, get, len, bytes_eq, bytes_eq-Decides, if◌then◌else◌, nat_le, same_Some, card_fault, CardFault, CircleOf, IsName, person_path, Caller, Nobody, Known, Kind, Path, kind_of, entries_of, group_path, Submitted, Edit, PutCard, RemoveCard, Node, Book, Office, MAX_CARDS, LAST_NUMBER, Resource, properties_resource, resource_at, node_of, node_at, unnumbered, count_at, book_resource, card_resource, card_in, number_of, IsMapped, IsSound, Fits, Find, Method, Get, Head, Options, Put, Propfind, Proppatch, Acl, Copy, Move, Delete, Mkcol, goes_on, asked_of, each_once, report_asked, method_of, destination_asked, copy_asked, move_asked, destination_in, destination_path, HasPaths, ◌>>=◌, check, caller_of, target_of, at_node, at_unmapped, suits_target, destination_of, ready_of, bad_card, IsBodyAnswer, can_change, can_change_twice, move_limits, label_limits, limits_of, replied, text_of, body_then_limits, IsListed, IsSuccess, IsDone, IsGrantedPlan, IsPlannedFrom, IsPlan, IsTarget, Asked, Destination, Content, Patch, Request, Plan, Ready, Target, Refusal, BadRequest, BodyOnMkcol, Full, UnknownCaller}
+use Rattle.book_machine.proofs.Common.{All, ◌≡◌, ◌≢◌, ℕ, ◌+◌, ◌<◌, ◌≤◌, List, length, Bool, true, false, ◌&&◌, ◌||◌, nat_lt, Option, Some, None, is_some, Result, Ok, Err, inl, inr, refl, sym, ap, ◌∙◌, subst, option_map, option_and_then, unwrap_or, arith, get, len, bytes_eq, bytes_eq-Decides, if◌then◌else◌, nat_le, same_Some, card_fault, CardFault, CircleOf, IsName, person_path, Caller, Nobody, Known, Kind, Path, kind_of, entries_of, group_path, Submitted, Edit, PutCard, RemoveCard, Node, Book, Office, MAX_CARDS, LAST_NUMBER, Resource, properties_resource, resource_at, node_of, node_at, unnumbered, count_at, book_resource, card_resource, card_in, number_of, IsMapped, IsSound, Fits, Find, Method, Get, Head, Options, Put, Propfind, Proppatch, Acl, Copy, Move, Delete, Mkcol, goes_on, asked_of, each_once, report_asked, method_of, destination_asked, copy_asked, move_asked, destination_in, destination_path, IsWellFormed, ◌>>=◌, check, caller_of, target_of, at_node, at_unmapped, suits_target, destination_of, ready_of, bad_card, IsBodyAnswer, can_change, can_change_twice, move_limits, label_limits, limits_of, replied, text_of, body_then_limits, IsListed, IsSuccess, IsDone, IsGrantedPlan, IsPlannedFrom, IsPlan, IsTarget, Asked, Destination, Content, Patch, Request, Plan, Ready, Target, Refusal, BadRequest, BodyOnMkcol, Full, UnknownCaller}
 use Rattle.std.proofs.lemmas.Bool.Decides.{nat_tests}
 use Rattle.std.proofs.lemmas.Bool.{and_parts, or_cases}
+use Rattle.std.specs.Str.{IsUtf8}
 use Rattle.book_office_values.specs.declared.paths.Kind.TheVariants as kind
 use Rattle.book_office_values.specs.declared.paths.Path.TheVariants as path
 use Rattle.book_office.proofs.FittingEdits.{put_card_fits, remove_card_fits, copy_card_fits, move_across_fits, move_within_fits, add_book_fits, remove_book_fits}
@@ -14,13 +15,14 @@ use Rattle.book_office_listings.specs.declared.messages.Extent.{Extent}
 use Rattle.book_office_listings.specs.declared.messages.Extent.TheVariants.{Resource as Alone, Children}
 use Rattle.book_office_listings.specs.declared.messages.Property.{Property}
 use Rattle.book_rights.specs.declared.methods.Method.TheVariants.{Report}
+use Rattle.book_machine.proofs.AskedTexts.{AsksTexts, put_texts, proppatch_texts}
 use Rattle.book_machine.proofs.BodyAnswers.{accepted_list}
 use Rattle.book_machine.proofs.Outlines.{there_mapped}
 use Rattle.book_machine.proofs.ReportPlans.{reported_told}
 use Rattle.book_machine.specs.Asked.{put_asked, find_asked_to, find_asked, patch_asked, proppatch_asked, acl_asked, mkcol_asked, is_empty}
 pub use Rattle.book_machine.proofs.DestinedCards.{IsDestined, answered, bind_ok, is_taken, same_Ok}
 use Rattle.book_machine.proofs.DestinedCards.{IsAskedTo, asked_to, check_true, copied_to, destination_told, destined_at, moved_to, some_not_none}
-use Rattle.book_machine.specs.Asking.{HasPath}
+use Rattle.book_machine.specs.Asking.{HasPath, HasTexts}
 use Rattle.book_machine.specs.Finding.{find_of, may_be_asked, needed_for}
 use Rattle.book_machine.specs.Stages.{suits, copy_limits, owner_of}
 use Rattle.book_machine.specs.declared.asked.Asked.TheVariants as asked
@@ -152,12 +154,12 @@ module _ (o : Office) (sound : IsSound o) where
       ] refl (kept _ v limits)
 
   put_fits : (b c : List ℕ) (owner : Option (List ℕ)) (text : List ℕ) (u v : Unit {0}) → IsName c → IsOwner o owner
-      → answered u ≡ bad_card (card_fault text)
+      → IsUtf8 text → answered u ≡ bad_card (card_fault text)
       → check (can_change (node_at o (path.Book b)) && (is_some (node_at o (path.Card b c)) || nat_lt (count_at o (path.Book b)) MAX_CARDS)) Full ≡ Ok v
       → Fits o (PutCard b c owner text)
-  put_fits b c owner text u v named owned body limits =
+  put_fits b c owner text u v named owned utf8 body limits =
       let room = room_at o b c (kept _ v limits) in
-      put_card_fits o b c owner text room.0 sound room.1 named owned room.2 room.3 (short_text text u body)
+      put_card_fits o b c owner text room.0 sound room.1 named owned room.2 room.3 (record { utf8 = utf8; short = short_text text u body })
 
   remove_fits : (b c : List ℕ) (v : Unit {0}) → is_some (node_at o (path.Card b c)) ≡ true
       → check (can_change (node_at o (path.Book b))) Full ≡ Ok v → Fits o (RemoveCard b c)
@@ -211,6 +213,7 @@ pub record Passed (o : Office) (request : Request) (ready : Ready) : Type 0 wher
   pub free : node_at o at ≡ None → at_unmapped o (method_of what) at ≡ Ok tt
   pub there : (n : Node) → node_at o at ≡ Some n → goes_on (method_of what) n.kind ≡ true
   pub suited : suits what (kind_of at) ≡ true
+  pub texts : HasTexts request.body → AsksTexts what
   pub shaped : IsShaped what
   pub destined : HasPath request.destination → IsDestined o at (destination_in what)
   pub is : ready ≡ ready_at o at caller what
@@ -247,17 +250,17 @@ module _ (o : Office) (sound : IsSound o) (circle : CircleOf) (caller : Caller) 
   abbrev Succeeds : Asked → Path → Type 0
   Succeeds what p = IsSuccess o circle (ready_at o p caller what) (Ok plan)
 
-  put_plan_fits : (text : List ℕ) (p : Path) → HasPath (Some p) → answered u ≡ bad_card (card_fault text)
+  put_plan_fits : (text : List ℕ) (p : Path) → HasPath (Some p) → IsUtf8 text → answered u ≡ bad_card (card_fault text)
       → limits_of o (asked.Put text) (ready_at o p caller (asked.Put text)).target ≡ Ok v → Succeeds (asked.Put text) p → Fits o edit
-  put_plan_fits text path.Root named body limits is = absurd cc
-  put_plan_fits text path.People named body limits is = absurd cc
-  put_plan_fits text path.Groups named body limits is = absurd cc
-  put_plan_fits text path.Books named body limits is = absurd cc
-  put_plan_fits text (path.Person n) named body limits is = absurd cc
-  put_plan_fits text (path.Group n) named body limits is = absurd cc
-  put_plan_fits text (path.Book b) named body limits is = absurd cc
-  put_plan_fits text (path.Card b c) named body limits is =
-      subst (Fits o) (same_Some _ _ (edit_told _ _ _ plan edit is has)) (put_fits o sound b c (owner_of caller) text u v named.1 owned body
+  put_plan_fits text path.Root named utf8 body limits is = absurd cc
+  put_plan_fits text path.People named utf8 body limits is = absurd cc
+  put_plan_fits text path.Groups named utf8 body limits is = absurd cc
+  put_plan_fits text path.Books named utf8 body limits is = absurd cc
+  put_plan_fits text (path.Person n) named utf8 body limits is = absurd cc
+  put_plan_fits text (path.Group n) named utf8 body limits is = absurd cc
+  put_plan_fits text (path.Book b) named utf8 body limits is = absurd cc
+  put_plan_fits text (path.Card b c) named utf8 body limits is =
+      subst (Fits o) (same_Some _ _ (edit_told _ _ _ plan edit is has)) (put_fits o sound b c (owner_of caller) text u v named.1 owned utf8 body
       (subst (λ mapped. check (can_change (node_at o (path.Book b)) && (mapped || nat_lt (count_at o (path.Book b)) MAX_CARDS)) Full ≡ Ok v) (there_mapped unnumbered (node_at o (path.Card b c))) limits))
 
   copy_plan_fits : (to : Destination) (p : Path) → (node_at o p ≡ None → at_unmapped o Copy p ≡ Ok tt) → IsDestined o p (Some to)
@@ -331,12 +334,12 @@ module _ (o : Office) (sound : IsSound o) (circle : CircleOf) (caller : Caller) 
       let same : changes.0 ≡ book = same_Some _ _ (sym changes.1 ∙ found) in
       subst (λ (k : Book). k.changes.number < LAST_NUMBER) same changes.2
 
-  label_plan_fits : (label : List ℕ) (p : Path) → (node_at o p ≡ None → at_unmapped o Proppatch p ≡ Ok tt) → length label ≤ MAX_LABEL_BYTES
+  label_plan_fits : (label : List ℕ) (p : Path) → (node_at o p ≡ None → at_unmapped o Proppatch p ≡ Ok tt) → IsUtf8 label → length label ≤ MAX_LABEL_BYTES
       → limits_of o (asked.Proppatch (patch.DisplayName label)) (ready_at o p caller (asked.Proppatch (patch.DisplayName label))).target ≡ Ok v
       → Succeeds (asked.Proppatch (patch.DisplayName label)) p → Fits o edit
-  label_plan_fits label p free short limits is =
+  label_plan_fits label p free utf8 short limits is =
       let there = is_there (node_at o p) (λ none. let h = free none in absurd cc) in
-      subst (Fits o) (same_Some _ _ (edit_told _ _ _ plan edit is has)) (set_label_fits o p label sound (resource_there p there) short (number_for p limits))
+      subst (Fits o) (same_Some _ _ (edit_told _ _ _ plan edit is has)) (set_label_fits o p label sound (resource_there p there) (record { utf8 = utf8; short = short }) (number_for p limits))
 
   -- a group that is there
   group_there : (n : List ℕ) → is_some (node_at o (path.Group n)) ≡ true → get o.groups n ≢ None
@@ -366,22 +369,22 @@ module _ (o : Office) (sound : IsSound o) (circle : CircleOf) (caller : Caller) 
       subst (Fits o) (same_Some _ _ (edit_told _ _ _ plan edit is has))
       (set_list_fits o p (entries_of list) sound (resource_there p there) (accepted_list o p list body) (below _ _ (kept _ v limits)))
 
-  pub plan_at_fits : (what : Asked) (p : Path) → HasPath (Some p) → IsShaped what → IsDestined o p (destination_in what) → (node_at o p ≡ None → at_unmapped o (method_of what) p ≡ Ok tt)
+  pub plan_at_fits : (what : Asked) (p : Path) → HasPath (Some p) → AsksTexts what → IsShaped what → IsDestined o p (destination_in what) → (node_at o p ≡ None → at_unmapped o (method_of what) p ≡ Ok tt)
       → ((n : Node) → node_at o p ≡ Some n → goes_on (method_of what) n.kind ≡ true)
       → IsBodyAnswer o what p (Ok u) → limits_of o what (ready_at o p caller what).target ≡ Ok v → Succeeds what p → Fits o edit
-  plan_at_fits asked.Get p named shaped destined free there body limits is = absurd (text_makes_none (text_of (option_map unnumbered (node_at o p))) _ _ plan edit is has)
-  plan_at_fits asked.Head p named shaped destined free there body limits is = absurd (text_makes_none (text_of (option_map unnumbered (node_at o p))) _ _ plan edit is has)
-  plan_at_fits asked.Options p named shaped destined free there body limits is = let h = edit_told _ _ None plan edit is has in absurd (cc (h))
-  plan_at_fits (asked.Put text) p named shaped destined free there body limits is = put_plan_fits text p named body limits is
-  plan_at_fits (asked.Propfind find) p named shaped destined free there body limits is = absurd (listing_makes_none o circle find p (option_map unnumbered (node_at o p)) plan edit is has)
-  plan_at_fits (asked.Proppatch (patch.DisplayName label)) p named shaped destined free there body limits is = label_plan_fits label p free shaped limits is
-  plan_at_fits (asked.Proppatch (patch.GroupMembers members)) p named shaped destined free there body limits is = members_plan_fits members p free body shaped limits is
-  plan_at_fits (asked.Acl list) p named shaped destined free there body limits is = acl_plan_fits list p free body limits is
-  plan_at_fits (asked.Copy to) p named shaped destined free there body limits is = copy_plan_fits to p free destined limits is
-  plan_at_fits (asked.Move to) p named shaped destined free there body limits is = move_plan_fits to p free destined limits is
-  plan_at_fits asked.Delete p named shaped destined free there body limits is = delete_plan_fits p free limits is
-  plan_at_fits asked.Mkcol p named shaped destined free there body limits is = mkcol_plan_fits p named there limits is
-  plan_at_fits (asked.Report which) p named shaped destined free there body limits is =
+  plan_at_fits asked.Get p named texts shaped destined free there body limits is = absurd (text_makes_none (text_of (option_map unnumbered (node_at o p))) _ _ plan edit is has)
+  plan_at_fits asked.Head p named texts shaped destined free there body limits is = absurd (text_makes_none (text_of (option_map unnumbered (node_at o p))) _ _ plan edit is has)
+  plan_at_fits asked.Options p named texts shaped destined free there body limits is = let h = edit_told _ _ None plan edit is has in absurd (cc (h))
+  plan_at_fits (asked.Put text) p named texts shaped destined free there body limits is = put_plan_fits text p named texts body limits is
+  plan_at_fits (asked.Propfind find) p named texts shaped destined free there body limits is = absurd (listing_makes_none o circle find p (option_map unnumbered (node_at o p)) plan edit is has)
+  plan_at_fits (asked.Proppatch (patch.DisplayName label)) p named texts shaped destined free there body limits is = label_plan_fits label p free texts shaped limits is
+  plan_at_fits (asked.Proppatch (patch.GroupMembers members)) p named texts shaped destined free there body limits is = members_plan_fits members p free body shaped limits is
+  plan_at_fits (asked.Acl list) p named texts shaped destined free there body limits is = acl_plan_fits list p free body limits is
+  plan_at_fits (asked.Copy to) p named texts shaped destined free there body limits is = copy_plan_fits to p free destined limits is
+  plan_at_fits (asked.Move to) p named texts shaped destined free there body limits is = move_plan_fits to p free destined limits is
+  plan_at_fits asked.Delete p named texts shaped destined free there body limits is = delete_plan_fits p free limits is
+  plan_at_fits asked.Mkcol p named texts shaped destined free there body limits is = mkcol_plan_fits p named there limits is
+  plan_at_fits (asked.Report which) p named texts shaped destined free there body limits is =
       let told = reported_told o circle which p plan is in
       let h = edit_told told.status told.what None plan edit told.is has in absurd (cc (h))
 
@@ -605,6 +608,23 @@ asked_shaped Report r what e = by_report r.body e
     by_report (body.Report which) e = subst IsShaped (same_Ok _ what e) tt
     by_report body.Unread e = absurd (cc (e))
 
+-- the texts of what is asked are UTF-8
+asked_texts : (m : Method) (r : Request) (what : Asked) → asked_of m r ≡ Ok what → HasTexts r.body → AsksTexts what
+asked_texts m r asked.Get e has = tt
+asked_texts m r asked.Head e has = tt
+asked_texts m r asked.Options e has = tt
+asked_texts m r (asked.Put text) e has =
+    put_texts r.body (asked.Put text) (subst (λ x. asked_of x r ≡ Ok (asked.Put text)) (sym (asked_by m r (asked.Put text) e)) e) has
+asked_texts m r (asked.Propfind find) e has = tt
+asked_texts m r (asked.Proppatch p) e has =
+    proppatch_texts r.body (asked.Proppatch p) (subst (λ x. asked_of x r ≡ Ok (asked.Proppatch p)) (sym (asked_by m r (asked.Proppatch p) e)) e) has
+asked_texts m r (asked.Acl list) e has = tt
+asked_texts m r (asked.Copy to) e has = tt
+asked_texts m r (asked.Move to) e has = tt
+asked_texts m r asked.Delete e has = tt
+asked_texts m r asked.Mkcol e has = tt
+asked_texts m r (asked.Report which) e has = tt
+
 -- what is asked leads to another card
 asked_destined : (m : Method) (r : Request) (what : Asked) → asked_of m r ≡ Ok what → HasPath r.destination → IsAskedTo r.path (destination_in what)
 asked_destined m r asked.Get e named = tt
@@ -700,6 +720,7 @@ module _ (o : Office) (request : Request) where
         free = λ none. ap (λ m. at_unmapped o m at.0) by ∙ at.2.free none;
         there = λ n some. ap (λ m. goes_on m n.kind) by ∙ at.2.there n some;
         suited = ap (λ (t : Target). suits s.what (kind_of t.path)) (sym at.2.is) ∙ check_true _ _ s.fits_kind s.suits_kind;
+        texts = asked_texts request.method request s.what s.what_is;
         shaped = asked_shaped request.method request s.what s.what_is;
         destined = λ named.
             destined_at o request.path at.0 (destination_in s.what) s.found at.1 (asked_destined request.method request s.what s.what_is named) s.found_at;
@@ -717,16 +738,16 @@ module _ (o : Office) (request : Request) where
       ap (λ (x : Ready). method_of x.asked) (sym s.made) ∙ asked_by request.method request s.what s.what_is
 
   -- the edit of a success fits where body and limits have passed
-  pub success_fits : (circle : CircleOf) (ready : Ready) (plan : Plan) (edit : Edit) (u v : Unit {0}) → IsSound o → HasPaths request → Passed o request ready
+  pub success_fits : (circle : CircleOf) (ready : Ready) (plan : Plan) (edit : Edit) (u v : Unit {0}) → IsSound o → IsWellFormed request → Passed o request ready
       → IsBodyAnswer o ready.asked ready.target.path (Ok u) → limits_of o ready.asked ready.target ≡ Ok v → IsSuccess o circle ready (Ok plan) → plan.edit ≡ Some edit → Fits o edit
   success_fits circle ready plan edit u v sound named past body limits is has =
-      plan_at_fits o sound circle past.caller past.owned u v plan edit has past.what past.at (past.named named.path) past.shaped (past.destined named.destination) past.free past.there
+      plan_at_fits o sound circle past.caller past.owned u v plan edit has past.what past.at (past.named named.path) (past.texts named.body) past.shaped (past.destined named.destination) past.free past.there
       (subst (λ (x : Ready). IsBodyAnswer o x.asked x.target.path (Ok u)) past.is body)
       (subst (λ (x : Ready). limits_of o x.asked x.target ≡ Ok v) past.is limits)
       (subst (λ (x : Ready). IsSuccess o circle x (Ok plan)) past.is is)
 
   -- the edit of a plan fits
-  pub plan_fits : (name : Option (List ℕ)) (p : Plan) (edit : Edit) → IsSound o → HasPaths request → IsPlan o name request (Ok p) → p.edit ≡ Some edit → Fits o edit
+  pub plan_fits : (name : Option (List ℕ)) (p : Plan) (edit : Edit) → IsSound o → IsWellFormed request → IsPlan o name request (Ok p) → p.edit ≡ Some edit → Fits o edit
   plan_fits name p edit sound named planned is =
       let r = planned_ready o (ready_of o name request) p planned in
       let answer = r.3 in

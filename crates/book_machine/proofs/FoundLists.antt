@@ -13,7 +13,7 @@ use Rattle.book_lists.specs.declared.entries.Who.TheVariants.{Href, Everyone, Au
 use Rattle.book_lists.specs.declared.list_edits.EditFault.{EditFault}
 use Rattle.book_lists.specs.declared.list_edits.EditFault.TheVariants as fault
 use Rattle.book_office.specs.Sound.{IsMappedPerson, IsMappedGroup}
-use Rattle.book_office_listings.proofs.FoundDecisions.{In, in_all}
+use Rattle.book_lists_explain.proofs.FoundDecisions.{In, in_all}
 use Rattle.book_machine.specs.Stages.{IsKnownWho, IsListAnswer, list_refusal}
 use Rattle.book_machine.specs.declared.refusals.Refusal.TheVariants.{LimitedNumberOfAces}
 

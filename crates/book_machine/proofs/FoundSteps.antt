@@ -6,7 +6,7 @@ use Rattle.book_office_members.proofs.FoundMembers.{members_exist, names_exist}
 use Rattle.book_office_listings.proofs.FoundListings.{granted_or_denied, listings_exist, rulings_exist}
 use Rattle.book_office_listings.specs.Verdicts.{IsDeniedAt}
 use Rattle.book_machine.proofs.FittingPlans.{passed}
-use Rattle.book_machine.proofs.FoundCircles.{circle_exists}
+use Rattle.book_lists.proofs.FoundCircles.{circle_exists}
 use Rattle.book_machine.proofs.FoundLists.{Answer, acl_answer, all_mapped, mapped_or_not}
 use Rattle.book_machine.specs.Laws.{StepsExist}
 use Rattle.book_machine.specs.Steps.{Steps}

@@ -1,5 +1,5 @@
 -- Where runs of the machine lead.
-use Rattle.book_machine.proofs.Common.{◌≡◌, inl, inr, ℕ, List, [], ◌∷◌, ◌++◌, Option, Some, None, Result, Ok, Err, refl, sym, ap, subst, Office, IsSound, Edit, HasPaths, HavePaths, Call, calls_of, last_office, IsPlan, apply_any, settled, Reply, Request, Plan, Refusal}
+use Rattle.book_machine.proofs.Common.{◌≡◌, inl, inr, ℕ, List, [], ◌∷◌, ◌++◌, Option, Some, None, Result, Ok, Err, refl, sym, ap, subst, Office, IsSound, Edit, IsWellFormed, AreWellFormed, Call, calls_of, last_office, IsPlan, apply_any, settled, Reply, Request, Plan, Refusal}
 use Rattle.std.proofs.Common.{String}
 use Rattle.std.specs.declared.alloc.Global.{Global}
 use Rattle.book_office_sync.specs.Copies.{Later}
@@ -11,7 +11,7 @@ use Rattle.book_machine.proofs.FittingPlans.{plan_fits}
 stays : (o p : Office) → p ≡ o → IsSound o → IsSound p × Later o p
 stays o p is sound = (subst IsSound (sym is) sound, subst (Later o) (sym is) (later_refl o))
 
-module _ (o : Office) (name : Option (List ℕ)) (request : Request) (sound : IsSound o) (named : HasPaths request) where
+module _ (o : Office) (name : Option (List ℕ)) (request : Request) (sound : IsSound o) (named : IsWellFormed request) where
   edit_leads : (plan : Plan) (edit : Option Edit) → plan.edit ≡ edit → IsPlan o name request (Ok plan) → IsSound (apply_any o edit) × Later o (apply_any o edit)
   edit_leads plan None e planned = stays o o refl sound
   edit_leads plan (Some edit) e planned =
@@ -46,6 +46,6 @@ pub calls_more : (calls : List (Option (String Global) × Request)) (call : Opti
 calls_more [] call = refl
 calls_more (c ∷ calls) call = ap (λ rest. call_of c ∷ rest) (calls_more calls call)
 
-pub paths_more : (calls : List Call) (call : Call) → HavePaths calls → HasPaths call.1 → HavePaths (calls ++ call ∷ [])
-paths_more [] call have has = (has, tt)
-paths_more (c ∷ calls) call have has = (have.0, paths_more calls call have.1 has)
+pub well_formed_more : (calls : List Call) (call : Call) → AreWellFormed calls → IsWellFormed call.1 → AreWellFormed (calls ++ call ∷ [])
+well_formed_more [] call have has = (has, tt)
+well_formed_more (c ∷ calls) call have has = (have.0, well_formed_more calls call have.1 has)

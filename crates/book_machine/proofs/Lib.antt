@@ -4,13 +4,13 @@ pub mod AlikePlans
 pub mod AlikeReports
 pub mod Answering
 pub mod AnsweringAdoptions
+pub mod AskedTexts
 pub mod AskingEach
 pub mod AvailableSteps
 pub mod BodyAnswers
 pub mod CopiesOfRuns
 pub mod DestinedCards
 pub mod FittingPlans
-pub mod FoundCircles
 pub mod FoundLists
 pub mod FoundPrincipals
 pub mod FoundSteps

@@ -2,6 +2,7 @@
 use Rattle.std.specs.Prelude.{◌≡◌, ◌⊎◌, ◌↔◌, ℕ, Bool, IsTrue, List, Option, Some, None, Result, Ok, Err}
 use Rattle.std.specs.List.{AllZip}
 use Rattle.std.specs.Prelude.{Vec}
+use Rattle.std.specs.Str.{IsUtf8}
 use Rattle.std.specs.declared.alloc.Global.{Global}
 use Rattle.book_lists.specs.declared.submitted.Submitted.{Submitted}
 use Rattle.book_office.specs.Keeping.{Leftover, Standing, one_more}
@@ -13,6 +14,9 @@ use Rattle.book_machine.specs.Stages.{IsChecked}
 use Rattle.book_machine.specs.Steps.{IsPlan}
 use Rattle.book_office_listings.specs.Verdicts.{principal_of}
 use Rattle.book_machine.specs.declared.machine.Machine.{Machine}
+use Rattle.book_machine.specs.declared.messages.Body.{Body}
+use Rattle.book_machine.specs.declared.messages.Body.TheVariants as body
+use Rattle.book_machine.specs.declared.messages.Patch.TheVariants as patch
 use Rattle.book_machine.specs.declared.messages.Request.{Request}
 use Rattle.book_machine.specs.declared.plans.Plan.{Plan}
 use Rattle.book_machine.specs.declared.refusals.Refusal.{Refusal}
@@ -83,10 +87,22 @@ abbrev pub HasPath : Option Path → Type 0
 HasPath None = Unit {0}
 HasPath (Some p) = IsPath p
 
--- the names of the paths of a request are names
-pub record HasPaths (request : Request) : Type 0 where
+-- the text of a card and a label are UTF-8
+abbrev pub HasTexts : Body → Type 0
+HasTexts body.Empty = Unit {0}
+HasTexts (body.Text text) = IsUtf8 text
+HasTexts (body.Find properties) = Unit {0}
+HasTexts (body.Patch (patch.DisplayName label)) = IsUtf8 label
+HasTexts (body.Patch (patch.GroupMembers members)) = Unit {0}
+HasTexts (body.List list) = Unit {0}
+HasTexts (body.Report report) = Unit {0}
+HasTexts body.Unread = Unit {0}
+
+-- the names of the paths of a request are names, and the texts of its body are UTF-8
+pub record IsWellFormed (request : Request) : Type 0 where
   pub path : HasPath request.path
   pub destination : HasPath request.destination
+  pub body : HasTexts request.body
 
 -- a plan of the request has the edit
 abbrev pub IsPlanned : Office → Option (List ℕ) → Request → Edit → Type 0

@@ -9,8 +9,8 @@ use Rattle.book_office_listings.specs.Laws.{TellsFirst}
 use Rattle.book_office_listings.specs.declared.messages.Response.{Response}
 use Rattle.book_rights.specs.declared.methods.Method.TheVariants as method
 use Rattle.book_office_values.specs.declared.paths.Path.{Path}
-use Rattle.book_machine.specs.Asking.{HasPaths}
-use Rattle.book_machine.specs.LeadingRuns.{HavePaths}
+use Rattle.book_machine.specs.Asking.{IsWellFormed}
+use Rattle.book_machine.specs.LeadingRuns.{AreWellFormed}
 use Rattle.book_machine.specs.Refusals.{refused}
 use Rattle.book_machine.specs.Runs.{Call, Run}
 use Rattle.book_machine.specs.Stages.{ready_of, IsBodyAnswer, IsSuccess}
@@ -88,7 +88,7 @@ StepsAreAvailable = (o : Office) (name : Option (List ℕ)) (request : Request) 
 -- a request that is granted, with a body that is accepted, is refused as full exactly where its edit would leave an Office beyond a limit
 abbrev pub RequestsAreFullAtLimits : Type 0
 RequestsAreFullAtLimits = (o : Office) (name : Option (List ℕ)) (request : Request) (ready : Ready) (edit : Edit) (reply : Reply) (after : Office)
-    → IsSound o → HasPaths request → ready_of o name request ≡ Ok ready → (granted : IsGranted o ready)
+    → IsSound o → IsWellFormed request → ready_of o name request ≡ Ok ready → (granted : IsGranted o ready)
     → IsBodyAnswer o ready.asked ready.target.path (Ok tt) → (plan : Plan) → IsSuccess o granted.circle ready (Ok plan) → plan.edit ≡ Some edit → Steps o name request reply after
     → (reply ≡ refused Full) ↔ (IsSound (apply o edit) → ⊥)
 
@@ -107,5 +107,5 @@ FindsItsOffices o calls replies offices = (i : ℕ) (p : Office) → slice_get (
 -- between, and the tokens end with the epoch
 abbrev pub RunsAreSynced : Type 0
 RunsAreSynced = (o : Office) (calls : List Call) (replies : List Reply) (offices : List Office)
-    → IsSound o → HavePaths calls → Run o calls replies offices
+    → IsSound o → AreWellFormed calls → Run o calls replies offices
     → FindsItsOffices o calls replies offices × Synced (in_memory o) calls replies

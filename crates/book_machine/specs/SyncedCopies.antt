@@ -15,7 +15,7 @@ use Rattle.book_office_sync.specs.declared.messages.Report.{Report}
 use Rattle.book_office_sync.specs.declared.messages.Seen.{Seen}
 use Rattle.book_office_sync.specs.declared.messages.Token.{Token}
 use Rattle.book_machine.specs.Agreement.{named}
-use Rattle.book_machine.specs.Asking.{HasPaths}
+use Rattle.book_machine.specs.Asking.{IsWellFormed}
 use Rattle.book_machine.specs.Refusals.{refused}
 use Rattle.book_machine.specs.Runs.{Call}
 use Rattle.book_machine.specs.Stages.{ready_of}
@@ -67,7 +67,7 @@ abbrev pub machine_steps : CopySteps
 machine_steps = record {
   Call = Call;
   Reply = Reply;
-  IsCall = λ call. HasPaths call.1;
+  IsCall = λ call. IsWellFormed call.1;
   Serves = λ o call reply after. Serves o call.0 call.1 reply after;
   caller = λ call. call.0;
   IsCircle = λ pairs name circle. IsCircle pairs (named name) circle;

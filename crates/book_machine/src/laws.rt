@@ -63,7 +63,7 @@ pub fn unread_contents_stay_unseen()
     ensures runs { AgreeingOfficesRunAlike }
 {}
 
-/// In each run of calls whose paths have names, from a sound Office, copies that are kept by reports are what their
+/// In each run of well formed calls, from a sound Office, copies that are kept by reports are what their
 /// callers may read, whatever others ask in between (RFC 6578, section 3); a token ends with the epoch (own profile).
 pub fn runs_are_synced()
     ensures { RunsAreSynced }

@@ -8,8 +8,8 @@ ghost use Rattle.book_office.specs.Resources.{count_at, node_at};
 ghost use Rattle.book_office.specs.Sound.{IsMapped};
 ghost use Rattle.book_office_values.specs.declared.paths.Path.TheVariants as path;
 ghost use Rattle.book_machine.specs.Asked.{destination_in};
-ghost use Rattle.book_machine.specs.Asking.{HasPath, HasPaths, Meets, MeetsAny, MeetsItems, MeetsPlan, MeetsSeen, StageAsks, TellsChecked, TellsCheckedEntry, TellsWhether};
-ghost use Rattle.book_machine.specs.LeadingRuns.{HavePaths};
+ghost use Rattle.book_machine.specs.Asking.{IsWellFormed, Meets, MeetsAny, MeetsItems, MeetsPlan, MeetsSeen, StageAsks, TellsChecked, TellsCheckedEntry, TellsWhether};
+ghost use Rattle.book_machine.specs.LeadingRuns.{AreWellFormed};
 ghost use Rattle.book_machine.specs.Promises.{ServeAllPromise, ServeHidesUnread, ServePromise};
 ghost use Rattle.book_machine.specs.Runs.{calls_of, name_of};
 ghost use Rattle.book_machine.specs.SyncedCopies.{Synced};
@@ -310,8 +310,8 @@ impl<K: Keeper> Machine<K> {
         self.check_others(alloc, circle, ready, target, others)
     }
 
-    /// The verdict: each need of the request in turn. The owner of the target is taken out of its node until they are
-    /// checked, and is not copied.
+    /// The verdict: each need of the request in turn. To save a copy, the owner of the target is moved out of its node
+    /// while they are checked, and put back after them.
     fn check_needs(
         &mut self,
         alloc: Global,
@@ -690,9 +690,9 @@ impl<K: Keeper> Machine<K> {
     pub fn serve(&mut self, alloc: Global, name: Option<&str>, request: &Request) -> Reply
         ensures served { ServePromise (K.standing self.old.keeper) (K.standing self.new.keeper) (option_copied name.entry) request.now result }
         ensures unseen { ServeHidesUnread (K.standing self.old.keeper) (K.standing self.new.keeper) (option_copied name.entry) request.now result }
-        ensures paths { HasPaths request.now }
+        ensures well_formed { IsWellFormed request.now }
     {
-        has_paths(request);
+        request.known();
         match self.plan(alloc, name, request) {
             Err(refusal) => refused(refusal),
             Ok(Plan { reply, edit }) => match edit {
@@ -724,7 +724,7 @@ impl<K: Keeper> Machine<K> {
     ) -> Result<Vec<Reply>, AllocError>
         ensures served { IfOk result (λ replies. ServeAllPromise (K.standing self.old.keeper) (K.standing self.new.keeper) (calls_of calls.now) replies.items) }
         ensures copies { IfOk result (λ replies. Synced (K.standing self.old.keeper) (calls_of calls.now) replies.items) }
-        ensures paths { OnOk result (HavePaths (calls_of calls.now)) }
+        ensures well_formed { OnOk result (AreWellFormed (calls_of calls.now)) }
         ensures err { OnErr result (self.new ≡ self.old) }
     {
         let mut replies = Vec::with_capacity(alloc, calls.len())?;
@@ -765,21 +765,4 @@ fn put_owner(node: &mut Option<Node>, owner: Option<Principal>)
     if let Some(node) = node {
         node.owner = owner;
     }
-}
-
-/// Hands out that the names of a path are names.
-fn has_path(path: &Option<Path>)
-    ensures { HasPath path.now }
-{
-    if let Some(path) = path {
-        path.known();
-    }
-}
-
-/// Hands out that the names of the paths of a request are names.
-fn has_paths(request: &Request)
-    ensures { HasPaths request.now }
-{
-    has_path(&request.path);
-    has_path(&request.destination);
 }

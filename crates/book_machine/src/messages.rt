@@ -1,5 +1,7 @@
 //! Requests and replies.
 
+ghost use Rattle.book_machine.specs.Asking.{HasPath, HasTexts, IsWellFormed};
+
 use crate::allowed_methods::AllowedMethods;
 use crate::refusals::Refusal;
 use book_lists::{Caller, Name, Principal, Submitted};
@@ -110,6 +112,17 @@ pub struct Request {
     pub body: Body,
 }
 
+impl Request {
+    /// Hands out the rule that each request meets: the names of its paths are names, and the texts of its body are UTF-8.
+    pub(crate) fn known(&self)
+        ensures { IsWellFormed self.now }
+    {
+        has_path(&self.path);
+        has_path(&self.destination);
+        has_texts(&self.body);
+    }
+}
+
 /// What a reply carries.
 #[derive(Debug, Drop)]
 pub enum Content {
@@ -140,4 +153,29 @@ pub struct Reply {
     pub status: u16,
     /// What it carries.
     pub content: Content,
+}
+
+/// Hands out that the names of a path are names.
+fn has_path(path: &Option<Path>)
+    ensures { HasPath path.now }
+{
+    if let Some(path) = path {
+        path.known();
+    }
+}
+
+/// Hands out that the text of a card and a label are UTF-8.
+fn has_texts(body: &Body)
+    ensures { HasTexts body.now }
+{
+    match body {
+        Body::Text(text) => text.known(),
+        Body::Patch(Patch::DisplayName(label)) => label.known(),
+        Body::Empty
+        | Body::Find(_)
+        | Body::Patch(Patch::GroupMembers(_))
+        | Body::List(_)
+        | Body::Report(_)
+        | Body::Unread => {}
+    }
 }

@@ -8,7 +8,7 @@ pub use Rattle.std.specs.FinSet.{contains-retain, same_set}
 pub use Rattle.std.specs.List.{flat_map, list_any}
 pub use Rattle.std.specs.Str.{bytes_eq}
 pub use Rattle.std.specs.Vec.Iter.{into_iter_items, into_iter_len}
-pub use Rattle.book_limits.specs.declared.TheConstants.{LAST_NUMBER, MAX_LABEL_BYTES}
+pub use Rattle.book_limits.specs.declared.TheConstants.{LAST_NUMBER}
 pub use Rattle.book_rights.specs.declared.privileges.Leaf.{Leaf}
 pub use Rattle.book_lists.proofs.Pairing.{memberships_exact, memberships_total}
 pub use Rattle.book_lists.specs.Decisions.{IsAllowed}

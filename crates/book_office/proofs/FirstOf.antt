@@ -1,6 +1,6 @@
 -- The first so many items of a list.
 use Rattle.book_office.proofs.Common.{◌≡◌, List, [], ◌∷◌, map, Option, Some, None, refl, ap}
-use Rattle.std.proofs.Common.{ℕ, zero, suc, take}
+use Rattle.std.proofs.Common.{ℕ, zero, suc, Bool, true, false, cond, take, filter}
 use Rattle.book_office.specs.Resources.{first_of}
 
 take_map : {A B : Type 0} (f : A → B) (n : ℕ) (xs : List A) → map f (take n xs) ≡ take n (map f xs)
@@ -20,3 +20,11 @@ take_none (suc n) = refl
 pub first_none : {A : Type 0} (most : Option ℕ) → ◌≡◌ {A = List A} [] (first_of most [])
 first_none None = refl
 first_none (Some n) = take_none n
+
+-- a test after the items are told is the test before
+pub filter_map : {A B : Type 0} (f : A → B) (p : B → Bool) (xs : List A) → filter p (map f xs) ≡ map f (filter (λ x. p (f x)) xs)
+filter_map f p [] = refl
+filter_map f p (x ∷ xs) = elim (p (f x)) as (λ b. cond b (f x ∷ filter p (map f xs)) (filter p (map f xs)) ≡ map f (cond b (x ∷ filter (λ y. p (f y)) xs) (filter (λ y. p (f y)) xs))) [
+  | true ↦ ap (λ l. f x ∷ l) (filter_map f p xs)
+  | false ↦ filter_map f p xs
+]

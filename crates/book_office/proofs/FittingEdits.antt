@@ -1,12 +1,14 @@
 -- An edit of a sound Office within the limits leaves a sound Office.
-use Rattle.book_office.proofs.Common.{◌≡◌, ◌≢◌, inr, ℕ, ◌+◌, ◌<◌, ◌≤◌, List, length, Option, Some, None, refl, sym, ap, ◌∙◌, subst, option_map, option_and_then, le_trans, arith, get, insert, remove, same_Some, IsName, Book, StoredCard, Office, MAX_LABEL_BYTES, LAST_NUMBER, changed_at, with_book, put_card, remove_card, copy_from, move_to, new_book, card_at, NamesTo, IsMapped, IsOwner, IsSoundCard, IsSoundBook, IsSound, some_apart, where_some, is_there, by_put, by_removed, by_changed}
+use Rattle.book_office.proofs.Common.{◌≡◌, ◌≢◌, inr, ℕ, ◌+◌, ◌<◌, ◌≤◌, List, Option, Some, None, refl, sym, ap, ◌∙◌, subst, option_map, option_and_then, le_trans, arith, get, insert, remove, same_Some, IsName, Book, StoredCard, Office, LAST_NUMBER, changed_at, with_book, put_card, remove_card, copy_from, move_to, new_book, card_at, NamesTo, IsMapped, IsOwner, IsSoundCard, IsSoundBook, IsSound, some_apart, where_some, is_there, by_put, by_removed, by_changed}
 use Rattle.std.proofs.Common.{◌-◌}
 use Rattle.std.specs.FinMap.{len}
-use Rattle.book_limits.specs.declared.TheConstants.{MAX_CARD_BYTES, MAX_CARDS, MAX_BOOKS}
+use Rattle.book_limits.specs.declared.TheConstants.{MAX_CARDS, MAX_BOOKS}
 use Rattle.book_office.specs.Edits.{card_put, card_copied}
 use Rattle.book_office.specs.Fitting.{PutCardFits, RemoveCardFits, CopyCardFits, MoveAcrossFits, MoveWithinFits, AddBookFits, RemoveBookFits}
 use Rattle.book_office.specs.Fitting.{HasRoom}
 use Rattle.book_office.proofs.KnownPrincipals.{properties_known, card_known, book_known}
+use Rattle.book_office_values.proofs.Labels.{empty_label}
+use Rattle.book_office_values.specs.Texts.{IsLabel, IsCardText}
 use Rattle.book_office_values.proofs.NameMapLaws.{len_put, len_removed, len_removed_there}
 use Rattle.book_office_values.proofs.OneName.{changed_here, changed_elsewhere, len_changed}
 use Rattle.book_office.proofs.MovedCards.{card_there, card_is}
@@ -49,8 +51,8 @@ with_book_sound o b change book sound at good = books_sound o (changed_at change
 
 -- PUT leaves a sound card
 card_put_sound : (o : Office) (old : Option StoredCard) (owner : Option (List ℕ)) (text : List ℕ) → ((card : StoredCard) → old ≡ Some card → IsSoundCard o card)
-    → IsOwner o owner → length text ≤ MAX_CARD_BYTES → IsSoundCard o (card_put old owner text)
-card_put_sound o None owner text good known short = record { owner = known; label = omega arith; own = record { few = omega arith; known = λ k d l. absurd (omega arith) }; text = short }
+    → IsOwner o owner → IsCardText text → IsSoundCard o (card_put old owner text)
+card_put_sound o None owner text good known short = record { owner = known; label = empty_label; own = record { few = omega arith; known = λ k d l. absurd (omega arith) }; text = short }
 card_put_sound o (Some card) owner text good known short = let h = good card refl in record { owner = h.owner; label = h.label; own = h.own; text = short }
 
 pub put_card_fits : PutCardFits
@@ -72,7 +74,7 @@ remove_card_fits o b c book sound at mapped low =
 
 -- COPY leaves a sound card
 card_copied_sound : (o : Office) (old : Option StoredCard) (owner : Option (List ℕ)) (label text : List ℕ) → ((card : StoredCard) → old ≡ Some card → IsSoundCard o card)
-    → IsOwner o owner → length label ≤ MAX_LABEL_BYTES → length text ≤ MAX_CARD_BYTES → IsSoundCard o (card_copied old owner label text)
+    → IsOwner o owner → IsLabel label → IsCardText text → IsSoundCard o (card_copied old owner label text)
 card_copied_sound o None owner label text good known low short =
     record { owner = known; label = low; own = record { few = omega arith; known = λ k d l. absurd (omega arith) }; text = short }
 card_copied_sound o (Some card) owner label text good known low short = let h = good card refl in record { owner = h.owner; label = low; own = h.own; text = short }

@@ -1,5 +1,5 @@
 -- A label, an own list or the members of a group, set in a sound Office within the limits, leave a sound Office.
-use Rattle.book_office.proofs.Common.{◌≡◌, ◌≢◌, inl, inr, ℕ, ◌+◌, ◌<◌, ◌≤◌, List, [], ◌∷◌, Bool, true, false, not, cond, ◌&&◌, ◌||◌, length, Option, Some, None, refl, sym, ap, ◌∙◌, subst, option_map, option_and_then, le_trans, arith, list_any, false≢true, get, contains-retain, same_set, bytes_eq, same_Some, memberships_total, memberships_exact, Memberships, membership_cmp, members_of, IsName, Entry, Membership, NamesTo, MAX_LABEL_BYTES, LAST_NUMBER, Book, Office, Properties, Path, changed_at, card_labelled, label_card, label_set, list_set, listed_card, with_book_properties, with_cards, card_in, card_resource, number_of, IsMapped, IsSoundList, AreSoundProperties, IsSoundBook, IsSoundCard, IsSound, some_apart, by_option, where_some, by_changed}
+use Rattle.book_office.proofs.Common.{◌≡◌, ◌≢◌, inl, inr, ℕ, ◌+◌, ◌<◌, ◌≤◌, List, [], ◌∷◌, Bool, true, false, not, cond, ◌&&◌, ◌||◌, length, Option, Some, None, refl, sym, ap, ◌∙◌, subst, option_map, option_and_then, le_trans, arith, list_any, false≢true, get, contains-retain, same_set, bytes_eq, same_Some, memberships_total, memberships_exact, Memberships, membership_cmp, members_of, IsName, Entry, Membership, NamesTo, LAST_NUMBER, Book, Office, Properties, Path, changed_at, card_labelled, label_card, label_set, list_set, listed_card, with_book_properties, with_cards, card_in, card_resource, number_of, IsMapped, IsSoundList, AreSoundProperties, IsSoundBook, IsSoundCard, IsSound, some_apart, by_option, where_some, by_changed}
 use Rattle.std.specs.List.{All}
 use Rattle.std.proofs.lemmas.List.{length-map}
 use Rattle.std.proofs.lemmas.List.Elements.{All-head, All-tail}
@@ -9,6 +9,7 @@ use Rattle.std.specs.Ordering.{eq_by_cmp}
 use Rattle.std.proofs.lemmas.Cmp.{nat_list_eq_equiv}
 use Rattle.book_lists.proofs.Pairing.{same_path, path_itself}
 use Rattle.book_limits.specs.declared.TheConstants.{MAX_MEMBERS}
+use Rattle.book_office_values.specs.Texts.{IsLabel}
 use Rattle.book_office_values.specs.declared.paths.Path.TheVariants as path
 use Rattle.book_office.specs.Edits.{members_set, with_properties}
 use Rattle.book_office.specs.Fitting.{SetLabelFits, SetListFits, SetMembersFits}
@@ -124,7 +125,7 @@ module _ (o : Office) (sound : IsSound o) (epoch : ℕ) (low : epoch ≤ LAST_NU
 
 -- ---- labels
 
-label_keeps : (o : Office) (label : List ℕ) → length label ≤ MAX_LABEL_BYTES → (x : Properties) → AreSoundProperties o x → AreSoundProperties o (label_set label x)
+label_keeps : (o : Office) (label : List ℕ) → IsLabel label → (x : Properties) → AreSoundProperties o x → AreSoundProperties o (label_set label x)
 label_keeps o label short x h = record { owner = h.owner; label = short; protected = h.protected; own = h.own }
 
 -- a resource of a card is a card
@@ -132,7 +133,7 @@ is_card : (found : Option Book) (c : List ℕ) → option_and_then (λ (book : B
 is_card None c e = refl
 is_card (Some book) c e = ap (option_map (card_resource (number_of book c))) e
 
-card_label_sound : (o : Office) (b c label : List ℕ) → IsSound o → resource_at o (path.Card b c) ≢ None → length label ≤ MAX_LABEL_BYTES
+card_label_sound : (o : Office) (b c label : List ℕ) → IsSound o → resource_at o (path.Card b c) ≢ None → IsLabel label
     → ((book : Book) → get o.books b ≡ Some book → book.changes.number < LAST_NUMBER)
     → IsSound (record o { books = changed_at (λ (book : Book). label_card c label (get book.cards c) book) o.books b })
 card_label_sound o b c label sound there short low =

@@ -2,6 +2,7 @@
 use Rattle.book_office.proofs.Common.{◌≡◌, Bool, true, ◌&&◌, None, sym, ap, ◌∙◌, arith, memberships_total, memberships_exact, membership_cmp, name_cmp, Membership, IsSound, AreSoundProperties, Book, Office}
 use Rattle.std.specs.FinMap.{empty, len-empty}
 use Rattle.std.specs.FinSet as set
+use Rattle.book_office_values.proofs.Labels.{empty_label}
 use Rattle.book_office_values.proofs.OneName.{nothing_in}
 use Rattle.book_office.specs.Edits.{empty_office, empty_properties}
 
@@ -17,7 +18,7 @@ no_pair pair e = absurd (let none = set.contains-empty membership_cmp pair in cc
 empty_properties_sound : (o : Office) → AreSoundProperties o (empty_properties None)
 empty_properties_sound o = record {
   owner = tt;
-  label = omega arith;
+  label = empty_label;
   protected = record { few = omega arith; known = λ k d l. absurd (omega arith) };
   own = record { few = omega arith; known = λ k d l. absurd (omega arith) };
 }

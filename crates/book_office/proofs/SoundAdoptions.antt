@@ -1,5 +1,5 @@
 -- A sound Office that adopts a policy stays sound.
-use Rattle.book_office.proofs.Common.{◌≡◌, ◌≢◌, inl, inr, ℕ, ◌+◌, ◌<◌, ◌≤◌, List, [], ◌∷◌, Bool, true, false, not, cond, ◌&&◌, ◌||◌, length, map, Option, Some, None, refl, sym, ap, ◌∙◌, subst, arith, list_any, get, same_set, bytes_eq, same_Some, members_of, memberships_total, memberships_exact, IsName, Entry, Membership, MAX_LABEL_BYTES, LAST_NUMBER, Path, same, Book, Office, Properties, taken_over, new_book, same_office, IsMapped, IsOwner, IsSoundList, AreSoundProperties, IsSoundBook, IsSound, some_apart, is_there}
+use Rattle.book_office.proofs.Common.{◌≡◌, ◌≢◌, inl, inr, ℕ, ◌+◌, ◌<◌, ◌≤◌, List, [], ◌∷◌, Bool, true, false, not, cond, ◌&&◌, ◌||◌, map, Option, Some, None, refl, sym, ap, ◌∙◌, subst, arith, list_any, get, same_set, bytes_eq, same_Some, members_of, memberships_total, memberships_exact, IsName, Entry, Membership, LAST_NUMBER, Path, same, Book, Office, Properties, taken_over, new_book, same_office, IsMapped, IsOwner, IsSoundList, AreSoundProperties, IsSoundBook, IsSound, some_apart, is_there}
 use Rattle.std.proofs.Common.{codes, filter}
 use Rattle.std.specs.List.{All}
 use Rattle.std.proofs.lemmas.List.Elements.{All-nil, All-cons, All-head, All-tail}
@@ -10,7 +10,8 @@ use Rattle.book_lists.specs.Principals.{person_path, group_path}
 use Rattle.book_lists.specs.declared.entries.Who.{Who}
 use Rattle.book_lists.specs.declared.entries.Who.TheVariants.{Href, Everyone, Authenticated, Unauthenticated, Owner, Own}
 use Rattle.book_office_values.specs.Paths.{path_text, book_path}
-use Rattle.book_policy_values.specs.Policies.{IsPolicy, IsKnown, IsKnownOwner, NamesForm, IsPrincipalOf, IsShortLabel, entries_at, stands_at}
+use Rattle.book_policy_values.specs.Policies.{IsPolicy, IsKnown, IsKnownOwner, NamesForm, IsPrincipalOf, entries_at, stands_at}
+use Rattle.book_office_values.specs.Texts.{IsLabel}
 use Rattle.book_limits.specs.declared.TheConstants.{MAX_MEMBERS, MAX_BOOKS}
 use Rattle.book_office_values.specs.declared.paths.Path.TheVariants as path
 use Rattle.book_policy_values.specs.declared.parts.PolicyBook.{PolicyBook}
@@ -98,7 +99,7 @@ module _ (t : PolicyTables) where
     own_list [] old h k = k
     own_list (e ∷ es) old h k = h
 
-    listed_sound : (at : List ℕ) (properties : Properties) → IsOwner p properties.owner → length properties.label ≤ MAX_LABEL_BYTES → IsSoundList p properties.own → AreSoundProperties p (with_lists_taken t at properties)
+    listed_sound : (at : List ℕ) (properties : Properties) → IsOwner p properties.owner → IsLabel properties.label → IsSoundList p properties.own → AreSoundProperties p (with_lists_taken t at properties)
     listed_sound at properties owner label own = record {
       owner = owner;
       label = label;
@@ -114,7 +115,7 @@ module _ (t : PolicyTables) where
 
     -- persons and groups
     person_sound : (at name : List ℕ) (label : Option (List ℕ)) (old : Option Properties)
-        → ((l : List ℕ) → label ≡ Some l → IsName name × IsShortLabel l)
+        → ((l : List ℕ) → label ≡ Some l → IsName name × IsLabel l)
         → ((k : Properties) → old ≡ Some k → IsName name × AreSoundProperties o k)
         → (properties : Properties) → person_after t at label old ≡ Some properties → IsName name × AreSoundProperties p properties
     person_sound at name None None fresh before properties e = some_apart (sym e)
@@ -142,7 +143,7 @@ module _ (t : PolicyTables) where
       last = h.last;
     }
 
-    owned_sound : (at : List ℕ) (named : PolicyBook) (book : Book) → IsShortLabel named.label → IsKnownOwner t.persons t.groups named.owner → IsSoundBook p book
+    owned_sound : (at : List ℕ) (named : PolicyBook) (book : Book) → IsLabel named.label → IsKnownOwner t.persons t.groups named.owner → IsSoundBook p book
         → IsSoundBook p (listed_book t at (owned named (Some book)))
     owned_sound at named book short owner h =
         replaced (owned named (Some book)) (with_lists_taken t at (owned named (Some book)).properties)
@@ -151,7 +152,7 @@ module _ (t : PolicyTables) where
         (listed_sound at (record book.properties { owner = named.owner; label = named.label }) (listed_owner named.owner owner) short h.properties.own)
 
     book_sound : (at name : List ℕ) (named : Option PolicyBook) (old : Option Book)
-        → ((n : PolicyBook) → named ≡ Some n → IsName name × IsShortLabel n.label × IsKnownOwner t.persons t.groups n.owner)
+        → ((n : PolicyBook) → named ≡ Some n → IsName name × IsLabel n.label × IsKnownOwner t.persons t.groups n.owner)
         → ((k : Book) → old ≡ Some k → IsName name × IsSoundBook o k)
         → (book : Book) → book_after t at named old ≡ Some book → IsName name × IsSoundBook p book
     book_sound at name None None fresh before book e = some_apart (sym e)

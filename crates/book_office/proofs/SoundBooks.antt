@@ -4,6 +4,7 @@ use Rattle.std.specs.FinMap.{len-empty}
 use Rattle.book_office_values.specs.Changes.{touched, AreNumbers}
 use Rattle.book_office_values.specs.declared.collections.changes.Numbers.{Numbers}
 use Rattle.book_limits.specs.declared.TheConstants.{MAX_CARDS}
+use Rattle.book_office_values.proofs.Labels.{empty_label}
 use Rattle.book_office.specs.Edits.{place_card}
 use Rattle.book_office.specs.Fitting.{HasRoom}
 use Rattle.book_office_values.proofs.NameMapLaws.{len_put, len_removed}
@@ -72,7 +73,7 @@ pub new_book_sound : (o : Office) (owner : Option (List ℕ)) → IsOwner o owne
 new_book_sound o owner known = record {
   properties = record {
     owner = known;
-    label = omega arith;
+    label = empty_label;
     protected = record { few = omega arith; known = λ k d l. absurd (omega arith) };
     own = record { few = omega arith; known = λ k d l. absurd (omega arith) };
   };

@@ -5,7 +5,8 @@ use Rattle.book_lists.specs.Names.{IsName}
 use Rattle.book_office.specs.declared.edits.Edit.TheVariants.{PutCard, RemoveCard, CopyCard, MoveCard, AddBook, RemoveBook, SetLabel, SetList, SetMembers, Adopt}
 use Rattle.book_office_values.specs.declared.offices.Book.{Book}
 use Rattle.book_office_values.specs.declared.offices.Office.{Office}
-use Rattle.book_limits.specs.declared.TheConstants.{MAX_MEMBERS, MAX_LABEL_BYTES, MAX_CARD_BYTES, MAX_CARDS, MAX_BOOKS, LAST_NUMBER}
+use Rattle.book_office_values.specs.Texts.{IsLabel, IsCardText}
+use Rattle.book_limits.specs.declared.TheConstants.{MAX_MEMBERS, MAX_CARDS, MAX_BOOKS, LAST_NUMBER}
 use Rattle.book_policy_values.specs.Policies.{IsPolicy}
 use Rattle.book_policy_values.specs.declared.parts.PolicyTables.{PolicyTables}
 use Rattle.book_office_adopting.specs.Adopting.{adopt}
@@ -22,7 +23,7 @@ HasRoom book c = (get book.cards c ≢ None) ⊎ (len book.cards < MAX_CARDS)
 abbrev pub PutCardFits : Type 0
 PutCardFits = (o : Office) (b c : List ℕ) (owner : Option (List ℕ)) (text : List ℕ) (book : Book) → IsSound o
     → get o.books b ≡ Some book → IsName c → IsOwner o owner
-    → book.changes.number < LAST_NUMBER → HasRoom book c → length text ≤ MAX_CARD_BYTES
+    → book.changes.number < LAST_NUMBER → HasRoom book c → IsCardText text
     → Fits o (PutCard b c owner text)
 
 abbrev pub RemoveCardFits : Type 0
@@ -77,7 +78,7 @@ HasNumberFor o (path.Card b c) = (book : Book) → get o.books b ≡ Some book �
 
 abbrev pub SetLabelFits : Type 0
 SetLabelFits = (o : Office) (p : Path) (label : List ℕ) → IsSound o
-    → resource_at o p ≢ None → length label ≤ MAX_LABEL_BYTES → HasNumberFor o p
+    → resource_at o p ≢ None → IsLabel label → HasNumberFor o p
     → Fits o (SetLabel p label)
 
 -- at most 64 entries, and each principal that one names is there

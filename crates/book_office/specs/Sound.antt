@@ -15,7 +15,8 @@ use Rattle.book_office_values.specs.declared.offices.Book.{Book}
 use Rattle.book_office_values.specs.declared.offices.StoredCard.{StoredCard}
 use Rattle.book_office_values.specs.declared.offices.Office.{Office}
 use Rattle.book_office_values.specs.declared.offices.Properties.{Properties}
-use Rattle.book_limits.specs.declared.TheConstants.{MAX_ENTRIES, MAX_MEMBERS, MAX_LABEL_BYTES, MAX_CARD_BYTES, MAX_CARDS, MAX_BOOKS, LAST_NUMBER}
+use Rattle.book_office_values.specs.Texts.{IsLabel, IsCardText}
+use Rattle.book_limits.specs.declared.TheConstants.{MAX_ENTRIES, MAX_MEMBERS, MAX_CARDS, MAX_BOOKS, LAST_NUMBER}
 use Rattle.book_office.specs.Edits.{apply}
 use Rattle.book_office.specs.Resources.{card_at, resource_at}
 
@@ -49,15 +50,15 @@ pub record IsSoundList (o : Office) (list : List Entry) : Type 0 where
 
 pub record AreSoundProperties (o : Office) (properties : Properties) : Type 0 where
   pub owner : IsOwner o properties.owner
-  pub label : length properties.label ≤ MAX_LABEL_BYTES
+  pub label : IsLabel properties.label
   pub protected : IsSoundList o properties.protected
   pub own : IsSoundList o properties.own
 
 pub record IsSoundCard (o : Office) (card : StoredCard) : Type 0 where
   pub owner : IsOwner o card.owner
-  pub label : length card.label ≤ MAX_LABEL_BYTES
+  pub label : IsLabel card.label
   pub own : IsSoundList o card.own
-  pub text : length card.text ≤ MAX_CARD_BYTES
+  pub text : IsCardText card.text
 
 pub record IsSoundBook (o : Office) (book : Book) : Type 0 where
   pub properties : AreSoundProperties o book.properties

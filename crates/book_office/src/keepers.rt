@@ -1,18 +1,19 @@
 //! What keeps an Office.
 
-ghost use Rattle.std.specs.Prelude.{◌≡◌, is_some, nat_lt, option_map};
+ghost use Rattle.std.specs.Prelude.{◌≡◌, filter, is_some, nat_lt, option_map};
 ghost use Rattle.book_lists.specs.Callers.{IsCircle};
+ghost use Rattle.book_lists.specs.Memberships.{members_of};
 ghost use Rattle.book_office.specs.declared.keepers.StoreFault.TheVariants.{Memory};
 ghost use Rattle.book_office_adopting.specs.Adopting.{adoption_of};
 ghost use Rattle.book_office.specs.Keeping.{Standing, Reads, Edits};
-ghost use Rattle.book_office.specs.Resources.{node_at, children_at, count_at, changed_after, first_of, unnumbered};
+ghost use Rattle.book_office.specs.Resources.{node_at, children_at, count_at, changed_after, cards_after, is_of_card, first_of, unnumbered};
 ghost use Rattle.book_office.specs.Levels.{level_at, lists_at};
 ghost use Rattle.book_office.specs.InForce.{AreUnlessGranted};
 
 use crate::edits::Edit;
 use crate::granting::grant;
 use crate::nodes::{Changed, Level, Listed, Lists, Node};
-use book_lists::{Caller, Circle, Here, Name, Pairs};
+use book_lists::{Caller, Circle, Here, Name, Pairs, Principal};
 use book_office_adopting::Adoption;
 use book_office_values::{Items, Path};
 use book_policy_values::Policy;
@@ -34,6 +35,26 @@ impl From<AllocError> for StoreFault {
     fn from(_error: AllocError) -> Self {
         StoreFault::Memory
     }
+}
+
+/// Of changes, those of names that have a card. Takes no memory.
+fn cards_among(changes: Items<Changed>) -> Vec<Changed>
+    ensures { result.items ≡ filter is_of_card changes }
+{
+    let mut cards = changes.into_vec();
+    cards.retain(|change| change.card.is_some());
+    cards
+}
+
+/// The first so many of them; all where no most is given.
+fn first_cards(changes: Items<Changed>, at_most: Option<u32>) -> Items<Changed>
+    ensures { result ≡ first_of at_most (filter is_of_card changes) }
+{
+    let mut cards = cards_among(changes);
+    if let Some(most) = at_most {
+        cards.truncate(most as usize);
+    }
+    Items::from_vec(cards)
 }
 
 /// What keeps an Office: the one interface between the machine and any store.
@@ -122,6 +143,31 @@ pub trait Keeper {
     ) -> Result<Items<Changed>, StoreFault>
         ensures { Reads (standing self.old) (standing self.new) result
             (λ o changes. changes ≡ first_of at_most (changed_after o book.now number)) };
+
+    /// Of the last changes of a book above a number, those of names that have a card, in order of number: all of them, or the
+    /// first so many where a most is given. A keeper may tell them without a look at removed names.
+    fn cards_after(
+        &mut self,
+        alloc: Global,
+        book: &Name,
+        number: u64,
+        at_most: Option<u32>,
+    ) -> Result<Items<Changed>, StoreFault>
+        ensures { Reads (standing self.old) (standing self.new) result
+            (λ o changes. changes ≡ first_of at_most (cards_after o book.now number)) }
+    {
+        let changes = self.changes_after(alloc, book, number, None)?;
+        Ok(first_cards(changes, at_most))
+    }
+
+    /// The direct members of one group, each as a pair. A keeper may tell them without a look at other groups.
+    fn members(&mut self, alloc: Global, group: &Principal) -> Result<Pairs, StoreFault>
+        ensures { Reads (standing self.old) (standing self.new) result
+            (λ o pairs. pairs ≡ members_of o.pairs group.now) }
+    {
+        let pairs = self.pairs(alloc)?;
+        Ok(pairs.members_of(group)?)
+    }
 
     /// The direct members of all groups.
     fn pairs(&mut self, alloc: Global) -> Result<Pairs, StoreFault>

@@ -10,8 +10,10 @@ use crate::edits::Edit;
 use crate::granting::grant_at;
 use crate::keepers::{Keeper, StoreFault};
 use crate::nodes::{Changed, Level, Listed, Lists, Node};
-use crate::reads::{changed, children, count, find, find_unnumbered, has, level, lists};
-use book_lists::{Caller, Circle, Here, Name, Pairs, closure, reached_in};
+use crate::reads::{
+    changed, changed_cards, children, count, find, find_unnumbered, has, level, lists,
+};
+use book_lists::{Caller, Circle, Here, Name, Pairs, Principal, closure, reached_in};
 use book_office_adopting::{Adoption, adoption_of};
 use book_office_values::{Items, NameMap, Office, Path, Properties};
 use book_policy_values::Policy;
@@ -133,6 +135,20 @@ impl Keeper for MemoryKeeper {
         at_most: Option<u32>,
     ) -> Result<Items<Changed>, StoreFault> {
         Ok(changed(alloc, &self.office, book, number, at_most)?)
+    }
+
+    fn cards_after(
+        &mut self,
+        alloc: Global,
+        book: &Name,
+        number: u64,
+        at_most: Option<u32>,
+    ) -> Result<Items<Changed>, StoreFault> {
+        Ok(changed_cards(alloc, &self.office, book, number, at_most)?)
+    }
+
+    fn members(&mut self, _alloc: Global, group: &Principal) -> Result<Pairs, StoreFault> {
+        Ok(self.office.pairs.members_of(group)?)
     }
 
     fn pairs(&mut self, _alloc: Global) -> Result<Pairs, StoreFault> {

@@ -1,12 +1,12 @@
 //! What an Office in memory has.
 
-ghost use Rattle.std.specs.Prelude.{◌≡◌, [], IfOk, is_some, option_map, unwrap_or};
+ghost use Rattle.std.specs.Prelude.{◌≡◌, [], filter, IfOk, is_some, option_map, unwrap_or};
 ghost use Rattle.std.specs.FinMap.{entries, get};
 ghost use Rattle.std.specs.Option.{option_copied};
 ghost use Rattle.book_lists.specs.Names.{IsName};
-ghost use Rattle.book_office_values.specs.Changes.{changes_after};
+ghost use Rattle.book_office_values.specs.Changes.{Change, changes_after};
 ghost use Rattle.book_office.specs.Levels.{level_at, lists_at, own_at, protected_at};
-ghost use Rattle.book_office.specs.Resources.{changed_after, changed_in, first_of, book_resource, card_at, card_in, card_resource, children_at, count_at, as_listed, listed_books, listed_cards, listed_home, listed_homes, listed_principals, node_at, node_of, number_of, properties_at, properties_resource, unnumbered};
+ghost use Rattle.book_office.specs.Resources.{cards_after, changed_after, changed_in, first_of, book_resource, card_at, card_in, card_resource, children_at, count_at, as_listed, listed_books, listed_cards, listed_home, listed_homes, listed_principals, node_at, node_of, number_of, properties_at, properties_resource, unnumbered};
 ghost use Rattle.book_office_values.specs.declared.paths.Kind.TheVariants as kind;
 
 use crate::nodes::{Changed, Level, Listed, Lists, Node};
@@ -332,6 +332,22 @@ fn first_of(items: Items<(u64, Name)>, at_most: Option<u32>) -> Items<(u64, Name
     Items::from_vec(first)
 }
 
+/// Changes, each with the card that has the name.
+fn with_cards(
+    alloc: Global,
+    book: &Book,
+    changes: Items<(u64, Name)>,
+) -> Result<Items<Changed>, AllocError>
+    ensures { IfOk result (λ told. told ≡ changed_in book.now changes) }
+{
+    let changes = changes.into_vec();
+    let mut told = Vec::with_capacity(alloc, changes.len())?;
+    for (number, name) in changes {
+        told.push(changed_name(book, number, name)?)?;
+    }
+    Ok(Items::from_vec(told))
+}
+
 /// The last changes of a book above a number, in order of number, and at most so many. Names are looked at up to the
 /// last one, cards are copied of those that are told.
 fn changes_of(
@@ -342,12 +358,23 @@ fn changes_of(
 ) -> Result<Items<Changed>, AllocError>
     ensures { IfOk result (λ changes. changes ≡ changed_in book.now (first_of at_most (changes_after book.now.changes.last number))) }
 {
-    let after = first_of(book.changes.after(alloc, number)?, at_most).into_vec();
-    let mut changes = Vec::with_capacity(alloc, after.len())?;
-    for (number, name) in after {
-        changes.push(changed_name(book, number, name)?)?;
-    }
-    Ok(Items::from_vec(changes))
+    let after = first_of(book.changes.after(alloc, number)?, at_most);
+    with_cards(alloc, book, after)
+}
+
+/// Of these changes those of names that have a card. The names of all cards are looked at, and no removed name; cards are
+/// copied of those that are told.
+fn cards_of(
+    alloc: Global,
+    book: &Book,
+    number: u64,
+    at_most: Option<u32>,
+) -> Result<Items<Changed>, AllocError>
+    ensures { IfOk result (λ changes. changes ≡ changed_in book.now (first_of at_most
+        (filter (λ (c : Change). is_some (get book.now.cards c.1)) (changes_after book.now.changes.last number)))) }
+{
+    let after = first_of(book.card_changes_after(alloc, number)?, at_most);
+    with_cards(alloc, book, after)
 }
 
 /// The same of the book of a name; none where there is no such book.
@@ -362,6 +389,22 @@ pub(crate) fn changed(
 {
     match office.books.get(book) {
         Some(book) => changes_of(alloc, book, number, at_most),
+        None => Ok(Items::new(alloc)),
+    }
+}
+
+/// Of these changes those of names that have a card.
+pub(crate) fn changed_cards(
+    alloc: Global,
+    office: &Office,
+    book: &Name,
+    number: u64,
+    at_most: Option<u32>,
+) -> Result<Items<Changed>, AllocError>
+    ensures { IfOk result (λ changes. changes ≡ first_of at_most (cards_after office.now book.now number)) }
+{
+    match office.books.get(book) {
+        Some(book) => cards_of(alloc, book, number, at_most),
         None => Ok(Items::new(alloc)),
     }
 }

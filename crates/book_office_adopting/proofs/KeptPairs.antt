@@ -12,7 +12,7 @@ use Rattle.std.proofs.lemmas.Map.Text.{is_eq-slice_cmp}
 use Rattle.book_lists.proofs.Pairing.{memberships_total, memberships_exact, same_membership, same_path, path_itself}
 use Rattle.book_lists.specs.Memberships.{Memberships, membership_cmp, set_of}
 use Rattle.book_lists.specs.Names.{IsName}
-use Rattle.book_policy_values.specs.Policies.{IsShortLabel}
+use Rattle.book_office_values.specs.Texts.{IsLabel}
 use Rattle.book_office_adopting.specs.Adopting.{is_group_of, adopted_pairs}
 use Rattle.book_office_adopting.proofs.Adoptions.{contains_adopted}
 use Rattle.book_policy_values.proofs.Members.{tied}
@@ -27,7 +27,7 @@ pub group_named : (t : PolicyTables) (group name : List ℕ) → group ≡ codes
 group_named t group name e = ap (is_group_of t) e ∙ any_name (keys t.groups) name ∙ sym (contains_key-keys t.groups name)
 
 -- what is no name names no group of a policy
-pub no_name : (t : PolicyTables) → ((name label : List ℕ) → get t.groups name ≡ Some label → IsName name × IsShortLabel label)
+pub no_name : (t : PolicyTables) → ((name label : List ℕ) → get t.groups name ≡ Some label → IsName name × IsLabel label)
     → (group name : List ℕ) → group ≡ codes "/groups/" ++ name → (IsName name → ⊥) → is_group_of t group ≡ false
 no_name t are group name e other = group_named t group name e ∙ elim (get t.groups name) as (λ r. get t.groups name ≡ r → is_some r ≡ false) [
   | None ↦ λ _. refl

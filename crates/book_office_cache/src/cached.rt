@@ -4,10 +4,11 @@ ghost use Rattle.std.specs.Prelude.{◌≡◌, ◌∷◌, ◌++◌, [], IfOk, If
 ghost use Rattle.book_office_adopting.specs.Adopting.{adoption_of};
 ghost use Rattle.book_office_cache.specs.Remembering.{EditsBehind, ReadsBehind, Remembers, remembering};
 ghost use Rattle.book_lists.specs.Callers.{IsCircle};
+ghost use Rattle.book_lists.specs.Memberships.{members_of};
 ghost use Rattle.book_lists.specs.Principals.{person_path};
 ghost use Rattle.book_lists.specs.declared.circles.Caller.TheVariants.{Known};
 ghost use Rattle.book_office.specs.Levels.{level_at, lists_at};
-ghost use Rattle.book_office.specs.Resources.{changed_after, first_of, children_at, count_at, node_at};
+ghost use Rattle.book_office.specs.Resources.{cards_after, changed_after, first_of, children_at, count_at, node_at};
 ghost use Rattle.book_office_values.specs.declared.offices.Office.{Office as OfficeOf};
 ghost use Rattle.book_office_values.specs.declared.paths.Path.TheVariants as paths;
 
@@ -337,6 +338,25 @@ impl<K: Keeper> Keeper for Cached<K> {
             (λ o changes. changes ≡ first_of at_most (changed_after o book.now number)) }
     {
         self.keeper.changes_after(alloc, book, number, at_most)
+    }
+
+    fn cards_after(
+        &mut self,
+        alloc: Global,
+        book: &Name,
+        number: u64,
+        at_most: Option<u32>,
+    ) -> Result<Items<Changed>, StoreFault>
+        ensures { ReadsBehind K.standing self.old self.new result
+            (λ o changes. changes ≡ first_of at_most (cards_after o book.now number)) }
+    {
+        self.keeper.cards_after(alloc, book, number, at_most)
+    }
+
+    fn members(&mut self, alloc: Global, group: &Principal) -> Result<Pairs, StoreFault>
+        ensures { ReadsBehind K.standing self.old self.new result (λ o pairs. pairs ≡ members_of o.pairs group.now) }
+    {
+        self.keeper.members(alloc, group)
     }
 
     fn pairs(&mut self, alloc: Global) -> Result<Pairs, StoreFault>

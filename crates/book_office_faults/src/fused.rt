@@ -3,13 +3,14 @@
 ghost use Rattle.std.specs.Prelude.{◌≡◌, ◌≢◌, ◌↔◌, ◌-◌, ℕ, IsTrue, Err};
 ghost use Rattle.book_office_faults.specs.Fuses.{EditsBehind, IsFused, ReadsBehind, behind, together};
 ghost use Rattle.book_lists.specs.Callers.{IsCircle};
+ghost use Rattle.book_lists.specs.Memberships.{members_of};
 ghost use Rattle.book_office_adopting.specs.Adopting.{adoption_of};
 ghost use Rattle.book_office.specs.Keeping.{one_more};
 ghost use Rattle.book_office.specs.Levels.{level_at, lists_at};
-ghost use Rattle.book_office.specs.Resources.{changed_after, first_of, children_at, count_at, node_at};
+ghost use Rattle.book_office.specs.Resources.{cards_after, changed_after, first_of, children_at, count_at, node_at};
 ghost use Rattle.book_office.specs.declared.keepers.StoreFault.TheVariants.{Store};
 
-use book_lists::{Caller, Circle, Name, Pairs};
+use book_lists::{Caller, Circle, Name, Pairs, Principal};
 use book_office::{
     Adoption, Changed, Edit, Items, Keeper, Level, Listed, Lists, Node, Path, Policy, StoreFault,
 };
@@ -151,6 +152,36 @@ impl<K: Keeper> Keeper for Fused<K> {
     {
         if self.passes() {
             self.keeper.changes_after(alloc, book, number, at_most)
+        } else {
+            self.fail()
+        }
+    }
+
+    fn cards_after(
+        &mut self,
+        alloc: Global,
+        book: &Name,
+        number: u64,
+        at_most: Option<u32>,
+    ) -> Result<Items<Changed>, StoreFault>
+        ensures keeper { ReadsBehind K.standing self.old self.new result
+            (λ o changes. changes ≡ first_of at_most (cards_after o book.now number)) }
+        ensures fuse { IsFused self.old self.new result }
+    {
+        if self.passes() {
+            self.keeper.cards_after(alloc, book, number, at_most)
+        } else {
+            self.fail()
+        }
+    }
+
+    fn members(&mut self, alloc: Global, group: &Principal) -> Result<Pairs, StoreFault>
+        ensures keeper { ReadsBehind K.standing self.old self.new result
+            (λ o pairs. pairs ≡ members_of o.pairs group.now) }
+        ensures fuse { IsFused self.old self.new result }
+    {
+        if self.passes() {
+            self.keeper.members(alloc, group)
         } else {
             self.fail()
         }

@@ -1,10 +1,10 @@
 -- Entries that apply nowhere decide nothing.
 use Rattle.book_office_listings.proofs.Common.{◌≡◌, ℕ, zero, suc, ◌+◌, ◌<◌, Bool, true, false, List, [], ◌∷◌, ◌++◌, length, get_or, take, slice_get, Some, refl, sym, ap, ◌∙◌, subst, append-nil, append_assoc, arith, take_more, Leaf, CircleOf, bears, Grants, IsAllowed, Entry, Here, AppliesAs}
 use Rattle.std.proofs.Common.{cond, ◌&&◌, find}
-use Rattle.std.proofs.lemmas.List.Elements.{filter-append}
 use Rattle.book_lists.specs.Deciding.{DecidesBy}
 use Rattle.book_lists.specs.Entries.{applies}
-use Rattle.book_office_listings.specs.Sifting.{applied}
+use Rattle.book_office_sync.specs.Sifting.{applied}
+use Rattle.book_office_sync.proofs.AppliedEntries.{applied_both}
 
 -- ---- what decides a leaf is the first that bears on it
 module _ {X : Type 0} (bears : Leaf → X → Bool) (leaf : Leaf) where
@@ -60,12 +60,6 @@ allowed_same circle here xs ys set same allowed = λ leaf wanted. granted_same c
 
 -- ---- lists one after the other
 module _ (circle : CircleOf) where
-  pub applied_both : (xs ks ys ls : List Entry) → AppliesAs circle xs ks → AppliesAs circle ys ls → AppliesAs circle (xs ++ ys) (ks ++ ls)
-  applied_both xs ks ys ls first second = λ here.
-      filter-append (λ (entry : Entry). applies entry circle here) ks ls
-      ∙ (λ k. first here k ++ second here k)
-      ∙ sym (filter-append (λ (entry : Entry). applies entry circle here) xs ys)
-
   -- one that may apply is kept, one that applies nowhere is not
   module _ (entries : List Entry) (i : ℕ) (entry : Entry) (within : i < length entries) (at : entry ≡ get_or entries i entry)
       (before kept : List Entry) (so_far : AppliesAs circle (before ++ take i entries) kept) where
@@ -74,9 +68,9 @@ module _ (circle : CircleOf) where
 
     pub kept_one : AppliesAs circle (before ++ take (i + 1) entries) (kept ++ entry ∷ [])
     kept_one = subst (λ all. AppliesAs circle all (kept ++ entry ∷ [])) one_more
-        (applied_both (before ++ take i entries) kept (entry ∷ []) (entry ∷ []) so_far (λ here. refl))
+        (applied_both circle (before ++ take i entries) kept (entry ∷ []) (entry ∷ []) so_far (λ here. refl))
 
     pub dropped_one : ((here : Here) → applies entry circle here ≡ false) → AppliesAs circle (before ++ take (i + 1) entries) kept
     dropped_one never = subst (λ all. AppliesAs circle all kept) one_more
         (subst (AppliesAs circle ((before ++ take i entries) ++ entry ∷ [])) (append-nil kept)
-        (applied_both (before ++ take i entries) kept (entry ∷ []) [] so_far (λ here. sym (ap (λ b. cond b (entry ∷ []) []) (never here)))))
+        (applied_both circle (before ++ take i entries) kept (entry ∷ []) [] so_far (λ here. sym (ap (λ b. cond b (entry ∷ []) []) (never here)))))

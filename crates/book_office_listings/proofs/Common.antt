@@ -17,11 +17,12 @@ pub use Rattle.book_office.specs.Levels.{effective_of, standing_at, effective_at
 pub use Rattle.book_office.specs.Resources.{Resource, resource_at}
 pub use Rattle.book_office.specs.declared.nodes.EffectiveEntry.{EffectiveEntry}
 pub use Rattle.book_office.specs.declared.nodes.Level.{Level}
+pub use Rattle.book_office_sync.specs.Sifting.{AppliesAs}
 pub use Rattle.book_office_listings.specs.Listings.{IsResponse, IsResponseTo, listed_paths, asks_members, asks_token, subject_of}
 pub use Rattle.book_office_listings.specs.Reading.{IsChildResponse}
 pub use Rattle.book_office_listings.specs.RulingScans.{IsProgress}
 pub use Rattle.book_office_listings.specs.Scanning.{standing_in, IsTurn}
-pub use Rattle.book_office_listings.specs.Sifting.{AppliesAs, entries_of_levels}
+pub use Rattle.book_office_listings.specs.Sifting.{entries_of_levels}
 pub use Rattle.book_office_listings.specs.Values.{acl_entry}
 pub use Rattle.book_office_listings.specs.Verdicts.{bare_entries, paths_of, here_of}
 pub use Rattle.book_office_listings.specs.declared.messages.Extent.{Extent}

@@ -21,7 +21,7 @@ use Rattle.book_office_values.specs.declared.offices.Book.{Book}
 use Rattle.book_office_values.specs.declared.paths.Path.TheVariants as path
 use Rattle.book_office.specs.Resources.{listed_cards}
 use Rattle.book_office.specs.declared.nodes.Listed.{Listed}
-use Rattle.book_office_listings.proofs.FoundDecisions.{decision, found_or_not}
+use Rattle.book_lists_explain.proofs.FoundDecisions.{decision, found_or_not}
 use Rattle.book_office_listings.proofs.OneListing.{keys_marked, marked}
 use Rattle.book_office_listings.specs.Laws.{ListingsExist, RulingsExist}
 use Rattle.book_office_listings.specs.Listings.{IsWhole, children_paths, subject_of}
@@ -47,10 +47,10 @@ sorted_keys R (e ∷ es) h = (all_less R e.0 es (first _ _ h), sorted_keys R es 
 ordered_map : List Membership → FinMap membership_cmp (Unit {0})
 ordered_map pairs = from_entries (marked pairs)
 
-ordered : List Membership → List Membership
+pub ordered : List Membership → List Membership
 ordered pairs = map (λ e. e.0) (entries (ordered_map pairs))
 
-ordered_pairs : (pairs : List Membership) → IsStrictlySortedBy membership_cmp (ordered pairs)
+pub ordered_pairs : (pairs : List Membership) → IsStrictlySortedBy membership_cmp (ordered pairs)
 unfolding ordered
 ordered_pairs pairs = sorted_keys membership_cmp (entries (ordered_map pairs)) (entries_sorted (ordered_map pairs))
 
@@ -62,7 +62,7 @@ has_ordered pairs q =
     ∙ is_some-find membership_cmp q (marked pairs)
     ∙ ap (list_any (eq_by_cmp membership_cmp q)) (keys_marked pairs)
 
-pairs_back : (pairs : Memberships) → set_of (ordered (items pairs)) ≡ pairs
+pub pairs_back : (pairs : Memberships) → set_of (ordered (items pairs)) ≡ pairs
 pairs_back pairs = same_set memberships_total memberships_exact _ _ (λ q.
     contains-from_list memberships_total (ordered (items pairs)) q ∙ has_ordered (items pairs) q ∙ sym (contains-items pairs q))
 

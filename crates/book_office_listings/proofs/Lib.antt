@@ -8,9 +8,10 @@ pub mod OneListing
 pub mod ToldResources
 pub mod ToldValues
 pub mod ViewedCards
-pub mod FoundDecisions
 pub mod FoundListings
 pub mod AppliedEntries
 pub mod SiftedLevels
 pub mod Looking
 pub mod ReadRulings
+pub mod OneGroup
+pub mod GroupPairs

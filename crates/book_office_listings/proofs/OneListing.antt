@@ -18,11 +18,12 @@ use Rattle.book_lists.proofs.Pairing.{memberships_total, memberships_exact}
 use Rattle.book_office_values.proofs.TreeMaps.{entries_tree}
 use Rattle.book_office_listings.specs.Laws.{ListingsHaveOneAnswer}
 use Rattle.book_office_listings.specs.Listings.{IsWhole}
-use Rattle.book_office_listings.specs.Values.{value_of}
+use Rattle.book_office_listings.specs.Values.{members_told, value_of}
 use Rattle.book_office_listings.specs.Verdicts.{IsDeniedBy, deciding_entry}
 use Rattle.book_office_listings.specs.declared.messages.Denial.{Denial}
 use Rattle.book_office_listings.specs.declared.messages.Property.{Property}
 use Rattle.book_office_listings.specs.declared.messages.Property.TheVariants as property
+use Rattle.book_office_listings.specs.declared.messages.PropertyValue.TheVariants as value
 
 -- ---- memberships in order are determined by their set
 abbrev pub marked : List Membership → List (Membership × Unit {0})
@@ -46,7 +47,7 @@ in_set pairs q =
 in_order : (pairs : List Membership) → IsStrictlySortedBy membership_cmp pairs → entries (from_entries {R = membership_cmp} (marked pairs)) ≡ marked pairs
 in_order pairs sorted = entries_tree memberships_total memberships_exact (marked pairs) (subst (IsStrictlySortedBy membership_cmp) (sym (keys_marked pairs)) sorted)
 
-same_pairs : (xs ys : List Membership) → IsStrictlySortedBy membership_cmp xs → IsStrictlySortedBy membership_cmp ys → set_of xs ≡ set_of ys → xs ≡ ys
+pub same_pairs : (xs ys : List Membership) → IsStrictlySortedBy membership_cmp xs → IsStrictlySortedBy membership_cmp ys → set_of xs ≡ set_of ys → xs ≡ ys
 same_pairs xs ys s t same =
     let maps : from_entries {R = membership_cmp} (marked xs) ≡ from_entries (marked ys) =
     same_map memberships_total memberships_exact _ _ (λ q.
@@ -56,8 +57,8 @@ same_pairs xs ys s t same =
     sym (keys_marked xs) ∙ ap keys_of (sym (in_order xs s) ∙ ap entries maps ∙ in_order ys t) ∙ keys_marked ys
 
 -- ---- values are those of what is asked of the whole
-same_values : (w v : Whole) (circle : CircleOf) (p : Path) (s : Subject) (list : List EffectiveEntry) (asked : List Property)
-    → (asks_members asked ≡ true → w.memberships ≡ v.memberships) → (asks_token asked ≡ true → w.epoch ≡ v.epoch)
+pub same_values : (w v : Whole) (circle : CircleOf) (p : Path) (s : Subject) (list : List EffectiveEntry) (asked : List Property)
+    → (asks_members asked ≡ true → members_told w.memberships p ≡ members_told v.memberships p) → (asks_token asked ≡ true → w.epoch ≡ v.epoch)
     → map (value_of w circle p s list) asked ≡ map (value_of v circle p s list) asked
 same_values w v circle p s list [] m t = refl
 same_values w v circle p s list (property.DisplayName ∷ rest) m t = ap (λ r. value_of v circle p s list property.DisplayName ∷ r) (same_values w v circle p s list rest m t)
@@ -67,7 +68,7 @@ same_values w v circle p s list (property.Acl ∷ rest) m t = ap (λ r. value_of
 same_values w v circle p s list (property.CurrentUserPrivilegeSet ∷ rest) m t =
     ap (λ r. value_of v circle p s list property.CurrentUserPrivilegeSet ∷ r) (same_values w v circle p s list rest m t)
 same_values w v circle p s list (property.GroupMemberSet ∷ rest) m t = λ i.
-    value_of (record { memberships = m refl i; epoch = v.epoch }) circle p s list property.GroupMemberSet ∷ same_values w v circle p s list rest (λ _. m refl) t i
+    value.GroupMemberSet (m refl i) ∷ same_values w v circle p s list rest (λ _. m refl) t i
 same_values w v circle p s list (property.SyncToken ∷ rest) m t = λ i.
     value_of (record { memberships = v.memberships; epoch = t refl i }) circle p s list property.SyncToken ∷ same_values w v circle p s list rest m (λ _. t refl) i
 
@@ -107,7 +108,7 @@ module _ (o : Office) (circle : CircleOf) (find : Find) (w v : Whole) (w_is : Is
       let values : xs ≡ ys =
       a.values
       ∙ same_values w v circle p s list find.properties
-      (λ asked. same_pairs w.memberships v.memberships (w_is.in_order asked) (v_is.in_order asked) (w_is.memberships asked ∙ sym (v_is.memberships asked)))
+      (λ asked. ap (λ l. members_told l p) (same_pairs w.memberships v.memberships (w_is.in_order asked) (v_is.in_order asked) (w_is.memberships asked ∙ sym (v_is.memberships asked))))
       (λ asked. w_is.epoch asked ∙ sym (v_is.epoch asked))
       ∙ sym b.values in
       λ k. Told (paths k) (values k)

@@ -13,9 +13,8 @@ use Rattle.book_office_values.proofs.Spelling.{go_up}
 use Rattle.book_office.specs.Levels.{level_at, lists_at}
 use Rattle.book_office.specs.Resources.{node_at, node_of, as_listed, children_at, properties_resource, book_resource, card_resource, number_of, card_in, listed_cards}
 use Rattle.book_office.specs.declared.nodes.Listed.{Listed}
-use Rattle.book_office.specs.declared.nodes.Lists.{Lists as Lists'}
 use Rattle.book_office.specs.declared.nodes.Node.{Node}
-use Rattle.book_office_listings.specs.Listings.{AreResponses, IsWhole, child_path, subject_at}
+use Rattle.book_office_listings.specs.Listings.{child_path, subject_at}
 use Rattle.book_office_listings.specs.Reading.{AreRead, child_level, child_subject, children_for, node_subject}
 use Rattle.book_office_listings.specs.Verdicts.{owner_at, principal_of}
 use Rattle.book_office_listings.specs.declared.messages.Extent.TheVariants.{Resource as Alone}
@@ -142,21 +141,9 @@ module _ (find : Find) (circle : CircleOf) (whole : Whole) (o : Office) where
     all_listed Children first rest told others =
         ((node_subject p node, node_is p node (resource_at o p) refl there, told), children_are p (children_at o p) rest (children_are_there o p) others)
 
-    responses_are : (responses : List Response) → AreRead find circle whole (lists_at o p).levels node (children_for o p find.extent) responses
+    pub responses_are : (responses : List Response) → AreRead find circle whole (lists_at o p).levels node (children_for o p find.extent) responses
         → AllZip (IsResponse find circle o whole) (listed_paths o p find.extent) responses
     responses_are [] read = absurd (read_none (children_for o p find.extent) read)
     responses_are (first ∷ rest) read =
         let told = read_some (children_for o p find.extent) first rest read in
         all_listed find.extent first rest told.0 told.1
-
--- what was read is what the definition says
-pub listing_is : (find : Find) (circle : CircleOf) (o : Office) (p : Path) (node : Node) (lists : Lists') (children : List Listed) (whole : Whole) (responses : List Response)
-    → lists ≡ lists_at o p → children ≡ children_for o p find.extent → IsWhole o find.properties whole
-    → AreRead find circle whole lists.levels node children responses → node_at o p ≡ Some node → AreResponses find circle o p responses
-listing_is find circle o p node lists children whole responses l c w read there = (
-  whole,
-  w,
-  responses_are find circle whole o p node there responses
-      (subst (λ (x : Lists'). AreRead find circle whole x.levels node (children_for o p find.extent) responses) l
-      (subst (λ xs. AreRead find circle whole lists.levels node xs responses) c read)),
-)

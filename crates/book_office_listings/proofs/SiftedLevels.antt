@@ -2,9 +2,10 @@
 use Rattle.book_office_listings.proofs.Common.{◌≡◌, ℕ, ◌+◌, ◌<◌, Bool, true, false, List, [], ◌∷◌, ◌++◌, length, get_or, take, sym, ap, ◌∙◌, subst, append-nil, flat_map, CircleOf, effective_of, EffectiveEntry, Level, standing_in, AppliesAs, entries_of_levels, bare_entries}
 use Rattle.std.proofs.lemmas.List.{map-append}
 use Rattle.book_office.specs.InForce.{list_in}
-use Rattle.book_office_listings.specs.Sifting.{applied, IsSifted}
+use Rattle.book_office_sync.specs.Sifting.{applied}
+use Rattle.book_office_sync.proofs.AppliedEntries.{applied_both}
+use Rattle.book_office_listings.specs.Sifting.{IsSifted}
 use Rattle.book_office_listings.specs.declared.sifting.Sifted.{Sifted}
-use Rattle.book_office_listings.proofs.AppliedEntries.{applied_both}
 use Rattle.book_office_listings.proofs.InTurn.{entries_standing, entries_more, levels_more, four_parts, protected_of, own_of}
 
 pub listed_more : (b : Bool) (levels : List Level) (i : ℕ) (level : Level) → i < length levels → level ≡ get_or levels i level

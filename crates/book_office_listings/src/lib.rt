@@ -10,7 +10,7 @@
 //!
 //! Read `messages` first; then `denials` and `granting`, one scan each over lists in turn, and `sifting`, for many
 //! resources below the same lists; then `effective_lists` and `property_values`, which have the properties; then
-//! `subjects` and `listings`; then `ruling`, which looks over lists in turn for one leaf, `reporting`, and `laws`; and
+//! `memberships`, `subjects` and `listings`; then `ruling`, which looks over lists in turn for one leaf, `reporting`, and `laws`; and
 //! `asked_properties` by itself.
 #![tactic(auto)]
 
@@ -20,6 +20,7 @@ mod effective_lists;
 mod granting;
 mod laws;
 mod listings;
+mod memberships;
 mod messages;
 mod property_values;
 mod reporting;

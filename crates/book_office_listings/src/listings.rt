@@ -10,17 +10,18 @@ ghost use Rattle.book_office.specs.Resources.{node_at};
 ghost use Rattle.book_office_listings.specs.Listings.{AreResponses, IsResponseTo, child_path, home_path};
 ghost use Rattle.book_office_listings.specs.Listings.{asks_members, asks_token, is_members, is_token};
 ghost use Rattle.book_office_listings.specs.Reading.{AreRead, IsChildResponse};
-ghost use Rattle.book_office_listings.specs.Reading.{child_level, child_subject, children_for, node_subject};
+ghost use Rattle.book_office_listings.specs.Reading.{child_level, child_subject, children_for, group_at, lone_group, node_subject, pairs_about};
 ghost use Rattle.book_office_listings.specs.Scanning.{IsVerdict};
 ghost use Rattle.book_office_listings.specs.Sifting.{IsSifted};
 ghost use Rattle.book_office_listings.specs.Verdicts.{principal_of};
 
 use crate::denials::judge;
+use crate::memberships::OrderedPairs;
 use crate::messages::{Denial, Extent, Find, Property, Response};
 use crate::property_values::values;
 use crate::sifting::{Sifted, judge_below, sift};
 use crate::subjects::{Subject, Whole};
-use book_lists::{Circle, Here, Membership, Name, Principal};
+use book_lists::{Circle, Here, Name, Pairs, Principal};
 use book_office::{Keeper, Level, Listed, Node, StoreFault};
 use book_office_values::{Items, Path};
 use std::alloc::{AllocError, Global};
@@ -304,21 +305,65 @@ fn children_for<K: Keeper>(
     }
 }
 
-/// The direct memberships in order, where they are asked for.
+/// The group itself, where the path is a group's.
+fn group_at(alloc: Global, path: &Path) -> Result<Option<Principal>, AllocError>
+    ensures { IfOk result (λ group. group ≡ group_at path.now) }
+{
+    match path {
+        Path::Group(name) => Ok(Some(Principal::group(alloc, name)?)),
+        Path::Root
+        | Path::People
+        | Path::Groups
+        | Path::Books
+        | Path::Person(_)
+        | Path::Book(_)
+        | Path::Card(_, _) => Ok(None),
+    }
+}
+
+/// The one group of which a listing tells, if it tells of one alone.
+fn lone_group(alloc: Global, path: &Path, extent: Extent) -> Result<Option<Principal>, AllocError>
+    ensures { IfOk result (λ group. group ≡ lone_group path.now extent) }
+{
+    match extent {
+        Extent::Resource => group_at(alloc, path),
+        Extent::Children => Ok(None),
+    }
+}
+
+/// The direct memberships of one group, or all.
+fn pairs_about<K: Keeper>(
+    alloc: Global,
+    keeper: &mut K,
+    group: &Option<Principal>,
+) -> Result<Pairs, StoreFault>
+    ensures { Reads (K.standing keeper.old) (K.standing keeper.new) result
+        (λ o pairs. pairs ≡ pairs_about o.pairs group.now) }
+{
+    match group {
+        Some(group) => keeper.members(alloc, group),
+        None => keeper.pairs(alloc),
+    }
+}
+
+/// The direct memberships in order, where they are asked for: of one group where the listing tells of it alone, and else all.
 fn memberships_for<K: Keeper>(
     alloc: Global,
     keeper: &mut K,
+    path: &Path,
+    extent: Extent,
     asked: bool,
-) -> Result<Items<Membership>, StoreFault>
+) -> Result<OrderedPairs, StoreFault>
     ensures { Reads (K.standing keeper.old) (K.standing keeper.new) result
-        (λ o memberships. (asked ≡ true → set_of memberships ≡ o.pairs)
+        (λ o memberships. (asked ≡ true → set_of memberships ≡ pairs_about o.pairs (lone_group path.now extent))
         × (asked ≡ true → IsStrictlySortedBy membership_cmp memberships)) }
 {
     if !asked {
-        return Ok(Items::new(alloc));
+        return Ok(OrderedPairs::none(alloc));
     }
-    let pairs = keeper.pairs(alloc)?;
-    Ok(Items::from_vec(pairs.list()?))
+    let group = lone_group(alloc, path, extent)?;
+    let pairs = pairs_about(alloc, keeper, &group)?;
+    Ok(OrderedPairs::from_pairs(&pairs)?)
 }
 
 /// The epoch, where it is asked for; else 0.
@@ -335,7 +380,7 @@ fn epoch_for<K: Keeper>(keeper: &mut K, asked: bool) -> Result<u64, StoreFault>
 /// path. An error is want of memory, or a store that failed.
 ///
 /// Beside the lists of the resource it reads the children, the memberships and the epoch at most once each, and nothing
-/// for a child. Entries above the children that can't apply to the caller are sifted out once: a granted child costs at
+/// for a child; of the memberships those of one group where it tells of that group alone. Entries above the children that can't apply to the caller are sifted out once: a granted child costs at
 /// most a look at each other entry in force, a denied one a look at each, and more only for what is told of it.
 pub fn listing<K: Keeper>(
     alloc: Global,
@@ -351,7 +396,7 @@ pub fn listing<K: Keeper>(
     let lists = keeper.lists(alloc, path)?;
     let children = children_for(alloc, keeper, path, find.extent)?;
     let asked = find.properties.as_slice();
-    let memberships = memberships_for(alloc, keeper, asks_members(asked))?;
+    let memberships = memberships_for(alloc, keeper, path, find.extent, asks_members(asked))?;
     let epoch = epoch_for(keeper, asks_token(asked))?;
     let whole = Whole { memberships, epoch };
     Ok(responses(

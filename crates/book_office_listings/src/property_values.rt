@@ -5,13 +5,14 @@ ghost use Rattle.std.specs.List.{filter_map};
 ghost use Rattle.book_lists_explain.specs.ShortNames.{all_leaves, has_all};
 ghost use Rattle.book_office.specs.Levels.{effective_of};
 ghost use Rattle.book_office_listings.specs.Values.{current_privileges, if_granted, if_whole, is_whole};
-ghost use Rattle.book_office_listings.specs.Values.{members_in, members_told, token_told, value_of};
+ghost use Rattle.book_office_listings.specs.Values.{members_told, token_told, value_of};
 
 use crate::effective_lists::acl;
 use crate::granting::granted_at;
+use crate::memberships::OrderedPairs;
 use crate::messages::{Property, PropertyValue};
 use crate::subjects::{Subject, Whole};
-use book_lists::{Circle, Membership, Principal};
+use book_lists::{Circle, Principal};
 use book_lists_explain::{has_read, has_write};
 use book_office::Level;
 use book_office_sync::Token;
@@ -90,39 +91,10 @@ fn current_privileges(alloc: Global, set: LeafSet) -> Result<Items<Privilege>, A
     Ok(Items::from_vec(names))
 }
 
-/// Adds the member, if the pair has the group.
-fn push_member(
-    members: &mut Vec<Principal>,
-    pair: &Membership,
-    group: &Principal,
-) -> Result<(), AllocError>
-    ensures { OnOk result (members.new.items ≡ members.old.items ++ members_in (pair.now ∷ []) group.now) }
-{
-    if pair.group == *group {
-        members.push(pair.member.clone()?)?;
-    }
-    Ok(())
-}
-
-/// The members of the pairs that have the group.
-fn members_in(
-    alloc: Global,
-    pairs: &[Membership],
-    group: &Principal,
-) -> Result<Items<Principal>, AllocError>
-    ensures { IfOk result (λ members. members ≡ members_in pairs.now group.now) }
-{
-    let mut members = Vec::new(alloc);
-    for pair in pairs {
-        push_member(&mut members, pair, group)?;
-    }
-    Ok(Items::from_vec(members))
-}
-
 /// The direct members of a group.
 fn members_told(
     alloc: Global,
-    pairs: &[Membership],
+    pairs: &OrderedPairs,
     path: &Path,
 ) -> Result<Option<Items<Principal>>, AllocError>
     ensures { IfOk result (λ members. members ≡ members_told pairs.now path.now) }
@@ -130,7 +102,7 @@ fn members_told(
     match path {
         Path::Group(name) => {
             let group = Principal::group(alloc, name)?;
-            Ok(Some(members_in(alloc, pairs, &group)?))
+            Ok(Some(pairs.members_of(alloc, &group)?))
         }
         Path::Root
         | Path::People
@@ -198,7 +170,7 @@ fn value(
             PropertyValue::CurrentUserPrivilegeSet(current_privileges(alloc, granted)?)
         }
         Property::GroupMemberSet => {
-            let pairs = whole.memberships.as_slice();
+            let pairs = &whole.memberships;
             PropertyValue::GroupMemberSet(members_told(alloc, pairs, &own.path)?)
         }
         Property::SyncToken => {

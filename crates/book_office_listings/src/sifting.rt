@@ -1,17 +1,17 @@
 //! The entries that may apply to a caller, for decisions on many resources below the same levels.
 
-ghost use Rattle.std.specs.Prelude.{◌≡◌, ◌++◌, ◌∷◌, false, IfOk, OnOk, List};
-ghost use Rattle.book_lists.specs.Entries.{applies};
+ghost use Rattle.std.specs.Prelude.{◌++◌, ◌∷◌, IfOk, OnOk, List};
 ghost use Rattle.book_lists.specs.declared.entries.Entry.{Entry as EntryModel};
-ghost use Rattle.book_lists.specs.declared.entries.Here.{Here as HereModel};
 ghost use Rattle.book_office.specs.Levels.{effective_of};
+ghost use Rattle.book_office_sync.specs.Sifting.{AppliesAs};
 ghost use Rattle.book_office_listings.specs.Scanning.{IsVerdict};
-ghost use Rattle.book_office_listings.specs.Sifting.{AppliesAs, IsSifted, entries_of_levels};
+ghost use Rattle.book_office_listings.specs.Sifting.{IsSifted, entries_of_levels};
 
 use crate::denials::{judge, list_in};
 use crate::messages::Denial;
-use book_lists::{Circle, Entry, Here, Outcome, Scan, Who, applies};
+use book_lists::{Circle, Entry, Here, Outcome, Scan};
 use book_office::Level;
+use book_office_sync::may_apply;
 use book_office_values::Items;
 use book_rights::LeafSet;
 use std::alloc::{AllocError, Global};
@@ -24,30 +24,13 @@ pub(crate) struct Sifted {
     pub(crate) own: Items<Entry>,
 }
 
-/// Whether an entry may apply to the caller at some resource: where its form does not ask of the resource, it is read
-/// at any.
-fn may_apply(entry: &Entry, circle: &Circle, anywhere: &Here) -> bool
-    ensures { result ≡ false → (here : HereModel) → applies entry.now circle.now here ≡ false }
-{
-    match &entry.who {
-        Who::Owner | Who::Own => true,
-        Who::Href(_) | Who::Everyone | Who::Authenticated | Who::Unauthenticated => applies(
-            entry, circle, anywhere,
-        ),
-    }
-}
-
 /// Adds the entries of a list that may apply to the caller.
 fn keep(kept: &mut Vec<Entry>, list: &[Entry], circle: &Circle) -> Result<(), AllocError>
     ensures { OnOk result ((before : List EntryModel) → AppliesAs circle.now before kept.old.items
         → AppliesAs circle.now (before ++ list.now) kept.new.items) }
 {
-    let anywhere = Here {
-        owner: None,
-        principal: None,
-    };
     for entry in list {
-        if may_apply(entry, circle, &anywhere) {
+        if may_apply(entry, circle) {
             kept.push(entry.clone()?)?;
         }
     }

@@ -1,7 +1,8 @@
 //! A resource of a listing, as it was read.
 
-use book_lists::{Here, Membership};
-use book_office_values::{Items, Kind, Text};
+use crate::memberships::OrderedPairs;
+use book_lists::Here;
+use book_office_values::{Kind, Text};
 
 /// A resource of a listing: what its entries and its properties ask of it.
 #[derive(Debug, Drop)]
@@ -20,7 +21,7 @@ pub struct Subject {
 #[derive(Debug, Drop)]
 pub struct Whole {
     /// The direct memberships, ordered by the group and then by the member.
-    pub memberships: Items<Membership>,
+    pub memberships: OrderedPairs,
     /// The access epoch.
     pub epoch: u64,
 }

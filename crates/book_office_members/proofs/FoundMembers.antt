@@ -20,7 +20,7 @@ use Rattle.book_office.specs.OwnLists.{entries_in_force}
 use Rattle.book_office.specs.Resources.{number_of}
 use Rattle.book_office_sync.specs.Copies.{IsView, can_read, grants, here_of_card, shown}
 use Rattle.book_office_sync.specs.Granted.{text_at}
-use Rattle.book_office_members.proofs.Closures.{LeadsBy, closure, leads_out, out_reached, reached_out}
+use Rattle.book_lists.proofs.Closures.{LeadsBy, closure, leads_out, out_reached, reached_out}
 use Rattle.book_office_members.specs.Members.{MembersExist, card_of, in_order}
 use Rattle.book_office_members.specs.Names.{NamesExist, name_told, pair_of}
 use Rattle.book_office_members.specs.Steps.{AreMembersOf, IsStep, Leads, has_member, is_uid, member_line}

@@ -1,5 +1,5 @@
 -- The texts that are read are those on which the leaf is granted.
-use Rattle.book_office_sync.proofs.Common.{◌≡◌, ℕ, ◌≤◌, ◌⊎◌, inl, inr, true, cond, List, [], ◌∷◌, map, Option, Some, None, option_map, option_and_then, unwrap_or, refl, sym, ap, ◌∙◌, subst, arith, nat_lt, if◌then◌else◌, nat_tests, get, CircleOf, Mem, Change, changes_after, NamesTo, Book, Office, StoredCard, number_of}
+use Rattle.book_office_sync.proofs.Common.{◌≡◌, ℕ, ◌≤◌, ◌⊎◌, inl, inr, true, cond, List, [], ◌∷◌, filter, is_some, map, Option, Some, None, option_map, option_and_then, unwrap_or, refl, sym, ap, ◌∙◌, subst, arith, nat_lt, if◌then◌else◌, nat_tests, get, CircleOf, Mem, Change, changes_after, NamesTo, Book, Office, StoredCard, number_of}
 use Rattle.std.specs.FinMap.{empty, get-empty}
 use Rattle.book_rights.specs.declared.privileges.Leaf.{Leaf}
 use Rattle.book_lists.specs.Names.{name_cmp}
@@ -9,7 +9,7 @@ use Rattle.book_office_values.proofs.OneName.{where_some}
 use Rattle.book_office_values.specs.declared.paths.Path.TheVariants as path
 use Rattle.book_office.specs.Levels.{effective_of, lists_at}
 use Rattle.book_office.specs.OwnLists.{entries_in_force}
-use Rattle.book_office.specs.Resources.{Resource, card_in, card_resource, changed_in, changed_after}
+use Rattle.book_office.specs.Resources.{Resource, card_in, card_resource, cards_after, changed_in, changed_after, is_of_card}
 use Rattle.book_office.specs.Sound.{IsSound, IsSoundBook}
 use Rattle.book_office.specs.declared.nodes.Changed.{Changed}
 use Rattle.book_office.specs.declared.nodes.EffectiveEntry.{EffectiveEntry}
@@ -18,6 +18,8 @@ use Rattle.book_office_sync.specs.Copies.{grants, here_of_card}
 use Rattle.book_office_sync.specs.Granted.{text_in, text_at, text_of, put_text, put_texts}
 use Rattle.book_office_sync.specs.Reading.{above_of}
 use Rattle.book_office_sync.specs.declared.reports.Above.{Above}
+use Rattle.book_office_sync.specs.Sifting.{IsAboveOf}
+use Rattle.book_office_sync.proofs.AppliedEntries.{texts_same}
 use Rattle.book_office_sync.proofs.ChangesAfter.{after_whole}
 use Rattle.book_office_sync.proofs.CopiesKept.{above, in_force, levels_with}
 use Rattle.book_office_sync.proofs.ReadingLaws.{in_force_is}
@@ -89,14 +91,31 @@ module _ (o : Office) (circle : CircleOf) (b : List ℕ) (x : Book) (at : get o.
   told c (Some k) there =
       ap (λ es. if grants es circle (here_of_card k) leaf then Some k.text else None) (in_force_is o circle b x at c k.own ∙ sym (force_is c k there))
 
+-- names that have no card add no text
+of_cards : (a : Above) (circle : CircleOf) (leaf : Leaf) (cs : List Changed) (m : NamesTo (List ℕ)) → put_texts a circle leaf (filter is_of_card cs) m ≡ put_texts a circle leaf cs m
+of_cards a circle leaf [] m = refl
+of_cards a circle leaf (c ∷ cs) m = go c.card refl (of_cards a circle leaf cs)
+  where
+    go : (card : Option StoredCard) → c.card ≡ card → ((n : NamesTo (List ℕ)) → put_texts a circle leaf (filter is_of_card cs) n ≡ put_texts a circle leaf cs n)
+        → put_texts a circle leaf (cond (is_some c.card) (c ∷ filter is_of_card cs) (filter is_of_card cs)) m ≡ put_texts a circle leaf cs (put_text m c.name (text_of a circle leaf c.card))
+    go (Some k) e later =
+        ap (λ r. put_texts a circle leaf (cond (is_some r) (c ∷ filter is_of_card cs) (filter is_of_card cs)) m) e
+        ∙ later (put_text m c.name (text_of a circle leaf c.card))
+    go None e later =
+        ap (λ r. put_texts a circle leaf (cond (is_some r) (c ∷ filter is_of_card cs) (filter is_of_card cs)) m) e
+        ∙ later m ∙ ap (λ r. put_texts a circle leaf cs (put_text m c.name (text_of a circle leaf r))) (sym e)
+
 -- what was read is what the definition says
 pub texts_read : (o : Office) (circle : CircleOf) (b : List ℕ) (leaf : Leaf) → IsSound o → (lists : Lists') (changes : List Changed) (a : Above) (texts : NamesTo (List ℕ))
-    → lists ≡ lists_at o (path.Book b) → changes ≡ changed_after o b 0 → a ≡ above_of lists.levels → texts ≡ put_texts a circle leaf changes empty
+    → lists ≡ lists_at o (path.Book b) → changes ≡ cards_after o b 0 → IsAboveOf circle lists.levels a → texts ≡ put_texts a circle leaf changes empty
     → (c : List ℕ) → get texts c ≡ text_at o circle b leaf c
 texts_read o circle b leaf sound lists changes a texts l k above_is e c = by_book (get o.books b) refl
   where
     start : get texts c ≡ get (put_texts (above_of (lists_at o (path.Book b)).levels) circle leaf (changed_after o b 0) empty) c
-    start = ap (λ m. get m c) (e ∙ (λ i. put_texts ((above_is ∙ ap (λ (r : Lists'). above_of r.levels) l) i) circle leaf (k i) empty))
+    start =
+        ap (λ m. get m c) (
+        e ∙ texts_same circle lists.levels a above_is leaf changes empty ∙ (λ i. put_texts (above_of (l i).levels) circle leaf (k i) empty)
+        ∙ of_cards (above_of (lists_at o (path.Book b)).levels) circle leaf (changed_after o b 0) empty)
 
     by_book : (found : Option Book) → get o.books b ≡ found → get texts c ≡ text_at o circle b leaf c
     by_book None at =

@@ -5,6 +5,7 @@ pub mod CopiesKept
 pub mod Patches
 pub mod ReportLaws
 pub mod SyncedRuns
+pub mod AppliedEntries
 pub mod ReadingLaws
 pub mod CutReports
 pub mod ReadReports

@@ -1,9 +1,9 @@
 -- The report that is read, and that of the definition.
 use Rattle.book_office_sync.proofs.Common.{◌≡◌, ℕ, true, cond, List, [], ◌∷◌, map, filter, Option, Some, None, is_some, option_map, option_and_then, refl, sym, ap, ◌∙◌, if◌then◌else◌, get, CircleOf, Change, Book, Office, Item, Token, seen, found_of, item_of, start_of, report, is_valid, sync}
-use Rattle.book_office_sync.specs.Copies.{listed_changes, reported, sync_of}
+use Rattle.book_office_sync.specs.Copies.{reported, sync_of}
 use Rattle.book_office_sync.specs.Limits.{AreEnough, told_report}
 use Rattle.book_office_sync.proofs.CutReports.{told_is}
-use Rattle.book_office_sync.specs.Reading.{names_place, listed_items}
+use Rattle.book_office_sync.specs.Reading.{names_place}
 
 same_valid : (o : Office) (b : List ℕ) (x : Book) (token : Option Token) → names_place b o.epoch x.changes.number token ≡ is_valid o b x token
 same_valid o b x None = refl
@@ -21,10 +21,6 @@ module _ (o : Office) (circle : CircleOf) (b : List ℕ) where
         | None ↦ found_items cs
         | Some s ↦ ap (λ r. item_of o circle b c ∷ r) (found_items cs)
       ]
-
-  pub items_listed : (token : Option Token) (cs : List Change) → listed_items token (map (item_of o circle b) cs) ≡ map (item_of o circle b) (listed_changes o circle b token cs)
-  items_listed None cs = found_items cs
-  items_listed (Some token) cs = refl
 
   of_book : (token : Option Token) (limit : Option ℕ) (x : Book) → is_valid o b x token ≡ true → Some (report o circle b x token limit) ≡ sync_of o circle b token limit x
   of_book token limit x valid = ap (λ v. if v then Some (report o circle b x token limit) else None) (sym valid)

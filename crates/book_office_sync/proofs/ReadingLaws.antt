@@ -17,6 +17,8 @@ use Rattle.book_office.specs.Resources.{Resource, book_resource, changed_after, 
 use Rattle.book_office_sync.specs.Copies.{grants, grants_read, here_of_card}
 use Rattle.book_office_sync.specs.Reading.{above_of, entries_under, is_granted, found_in, item_in}
 use Rattle.book_office_sync.specs.declared.reports.Above.{Above}
+use Rattle.book_office_sync.specs.Sifting.{IsAboveOf}
+use Rattle.book_office_sync.proofs.AppliedEntries.{item_same}
 use Rattle.book_office_sync.proofs.CopiesKept.{seen_by, above, in_force, seen_at}
 
 -- one list after another: the first that has an entry which applies and holds the leaf
@@ -105,12 +107,12 @@ module _ (o : Office) (circle : CircleOf) (b : List ℕ) (x : Book) (at : get o.
 
 -- what was read is what the definition says
 pub items_read : (o : Office) (circle : CircleOf) (b : List ℕ) (n : ℕ) (most : Option ℕ) (lists : Lists') (changes : List Changed) (a : Above) (items : List Item)
-    → lists ≡ lists_at o (path.Book b) → changes ≡ first_of most (changed_after o b n) → a ≡ above_of lists.levels → items ≡ map (item_in a circle) changes
+    → lists ≡ lists_at o (path.Book b) → changes ≡ first_of most (changed_after o b n) → IsAboveOf circle lists.levels a → items ≡ map (item_in a circle) changes
     → (x : Book) → get o.books b ≡ Some x → items ≡ map (item_of o circle b) (first_of most (changes_after x.changes.last n))
 items_read o circle b n most lists changes a items l k above_is e x at =
     let first = first_of most (changes_after x.changes.last n) in
-    e
-    ∙ (λ i. map (item_in ((above_is ∙ ap (λ (r : Lists'). above_of r.levels) l) i) circle)
+    e ∙ ap (λ f. map f changes) (item_same circle lists.levels a above_is)
+    ∙ (λ i. map (item_in (above_of (l i).levels) circle)
     ((k ∙ ap (λ found. first_of most (unwrap_or (option_map (λ (book : Book). changed_in book (changes_after book.changes.last n)) found) [])) at
     ∙ sym (first_map (λ (c : Change). record { number = c.0; name = c.1; card = get x.cards c.1 }) most (changes_after x.changes.last n))) i))
     ∙ items_are o circle b x at first

@@ -1,5 +1,5 @@
 -- How a report is read: by the lists above a book's cards, read once, and each card's own list.
-use Rattle.std.specs.Prelude.{ℕ, Bool, true, List, [], ◌∷◌, ◌++◌, ◌==◌, ◌&&◌, nat_le, filter, is_some, Option, Some, None, if◌then◌else◌}
+use Rattle.std.specs.Prelude.{ℕ, Bool, true, List, [], ◌∷◌, ◌++◌, ◌==◌, ◌&&◌, nat_le, Option, Some, None, if◌then◌else◌}
 use Rattle.std.specs.List.{flat_map}
 use Rattle.std.specs.Str.{bytes_eq}
 use Rattle.book_rights.specs.declared.privileges.Leaf.{Leaf}
@@ -47,8 +47,3 @@ item_in above circle change = record { name = change.name; number = change.numbe
 abbrev pub names_place : List ℕ → ℕ → ℕ → Option Token → Bool
 names_place b epoch number None = true
 names_place b epoch number (Some token) = bytes_eq token.book b && token.epoch == epoch && nat_le token.number number
-
--- what a report lists of the items: all of them, and without a token those of cards that may be read
-abbrev pub listed_items : Option Token → List Item → List Item
-listed_items None items = filter (λ (item : Item). is_some item.found) items
-listed_items (Some token) items = items

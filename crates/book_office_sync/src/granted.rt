@@ -79,7 +79,7 @@ pub fn texts_granted<K: Keeper>(
 {
     let path = Path::Book(book.clone()?);
     let lists = keeper.lists(alloc, &path)?;
-    let changes = keeper.changes_after(alloc, book, 0, None)?;
-    let above = join_levels(alloc, lists)?;
-    Ok(texts_in(alloc, &above, circle, leaf, changes)?)
+    let cards = keeper.cards_after(alloc, book, 0, None)?;
+    let above = join_levels(alloc, lists, circle)?;
+    Ok(texts_in(alloc, &above, circle, leaf, cards)?)
 }

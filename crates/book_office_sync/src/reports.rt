@@ -11,32 +11,34 @@ ghost use Rattle.book_office.specs.Levels.{lists_at};
 ghost use Rattle.book_office.specs.Resources.{first_of};
 ghost use Rattle.book_office_sync.specs.Copies.{item_of, reported, start_of, sync, BringsCopies, IsLimit};
 ghost use Rattle.book_office_sync.specs.Limits.{AreEnough, IsEnough, IsNextPage, found_items, last_changed, last_of_page, last_told, told_report};
-ghost use Rattle.book_office_sync.specs.Reading.{above_of, first_bearing, found_in, is_granted, is_readable, item_in};
-ghost use Rattle.book_office_sync.specs.Reading.{names_place, listed_items};
+ghost use Rattle.book_office_sync.specs.Reading.{first_bearing, found_in, is_granted, is_readable, item_in};
+ghost use Rattle.book_office_sync.specs.Reading.{names_place};
+ghost use Rattle.book_office_sync.specs.Sifting.{IsAboveOf};
 
 use crate::messages::{Found, Item, Report, Token};
+use crate::sifting::keep;
 use book_lists::{Circle, Entry, Here, Name, applies};
 use book_office::{Changed, Items, Keeper, Level, Lists, Path, StoreFault};
 use book_office_values::StoredCard;
 use book_rights::Leaf;
 use std::alloc::{AllocError, Global};
 
-/// How many changes an initial report with a limit reads at once.
+/// How many cards an initial report with a limit reads at once.
 const PAGE: u32 = 100;
 
-/// The lists above the cards of a book: the protected entries of the book and of what is above it, and the own entries
-/// likewise. They are read once for all its cards.
+/// The lists above the cards of a book without the entries that can't apply to the caller: the protected entries of the
+/// book and of what is above it, and the own entries likewise. They are read once for all its cards.
 #[derive(Debug, Drop)]
 pub struct Above {
-    /// All protected entries.
+    /// The protected entries.
     pub protected: Items<Entry>,
-    /// All own entries.
+    /// The own entries.
     pub own: Items<Entry>,
 }
 
-/// The entries of all levels. None is copied.
-pub(crate) fn join_levels(alloc: Global, lists: Lists) -> Result<Above, AllocError>
-    ensures { IfOk result (λ above. above ≡ above_of lists.levels) }
+/// The entries of all levels that may apply to the caller. None is copied.
+pub(crate) fn join_levels(alloc: Global, lists: Lists, circle: &Circle) -> Result<Above, AllocError>
+    ensures { IfOk result (λ above. IsAboveOf circle.now lists.levels above) }
 {
     let mut protected = Vec::new(alloc);
     let mut own = Vec::new(alloc);
@@ -46,8 +48,8 @@ pub(crate) fn join_levels(alloc: Global, lists: Lists) -> Result<Above, AllocErr
             own: own_here,
             ..
         } = level;
-        protected.append(&mut protected_here.into_vec())?;
-        own.append(&mut own_here.into_vec())?;
+        keep(&mut protected, protected_here, circle)?;
+        keep(&mut own, own_here, circle)?;
     }
     Ok(Above {
         protected: Items::from_vec(protected),
@@ -168,7 +170,7 @@ fn items_after<K: Keeper>(
     let path = Path::Book(book.clone()?);
     let lists = keeper.lists(alloc, &path)?;
     let changes = keeper.changes_after(alloc, book, number, at_most)?;
-    let above = join_levels(alloc, lists)?;
+    let above = join_levels(alloc, lists, circle)?;
     Ok(items_in(alloc, &above, circle, changes)?)
 }
 
@@ -211,8 +213,8 @@ fn last_of_page(page: u32, before: u64, changes: &[Changed]) -> Option<u64>
     Some(last_changed(before, changes))
 }
 
-/// One page more of a book's changes: adds its items whose cards are there and may be read, and answers the number of its
-/// last change; none where no change stands after it.
+/// One page more of a book's cards, in order of their last changes: adds the items of those that may be read, and answers the
+/// number of the last of these changes; none where no card stands after it.
 fn next_page<K: Keeper>(
     alloc: Global,
     keeper: &mut K,
@@ -223,12 +225,12 @@ fn next_page<K: Keeper>(
     items: &mut Vec<Item>,
 ) -> Result<Option<u64>, StoreFault>
     ensures { Reads (K.standing keeper.old) (K.standing keeper.new) result
-        (λ o next. (x : Book) → get o.books book.now ≡ Some x → above.now ≡ above_of (lists_at o (path.Book book.now)).levels
+        (λ o next. (x : Book) → get o.books book.now ≡ Some x → IsAboveOf circle.now (lists_at o (path.Book book.now)).levels above.now
         → IsNextPage o circle.now book.now x after items.old.items items.new.items next) }
 {
-    let changes = keeper.changes_after(alloc, book, after, Some(PAGE))?;
-    let next = last_of_page(PAGE, after, changes.as_slice());
-    push_found(items, above, circle, changes)?;
+    let cards = keeper.cards_after(alloc, book, after, Some(PAGE))?;
+    let next = last_of_page(PAGE, after, cards.as_slice());
+    push_found(items, above, circle, cards)?;
     Ok(next)
 }
 
@@ -247,7 +249,7 @@ fn readable_items<K: Keeper>(
 {
     let path = Path::Book(book.clone()?);
     let lists = keeper.lists(alloc, &path)?;
-    let above = join_levels(alloc, lists)?;
+    let above = join_levels(alloc, lists, circle)?;
     let mut items = Vec::new(alloc);
     let mut after = 0;
     'pages: for _page in 0..u64::MAX {
@@ -260,6 +262,27 @@ fn readable_items<K: Keeper>(
         }
         after = number;
     }
+    Ok(Items::from_vec(items))
+}
+
+/// The items of all cards of a book that may be read, in order of number: the lists above the cards are read once, and then
+/// all cards at once.
+fn all_readable<K: Keeper>(
+    alloc: Global,
+    keeper: &mut K,
+    circle: &Circle,
+    book: &Name,
+) -> Result<Items<Item>, StoreFault>
+    ensures { Reads (K.standing keeper.old) (K.standing keeper.new) result
+        (λ o items. (x : Book) → get o.books book.now ≡ Some x
+        → items ≡ map (item_of o circle.now book.now) (reported o circle.now book.now x None)) }
+{
+    let path = Path::Book(book.clone()?);
+    let lists = keeper.lists(alloc, &path)?;
+    let cards = keeper.cards_after(alloc, book, 0, None)?;
+    let above = join_levels(alloc, lists, circle)?;
+    let mut items = Vec::new(alloc);
+    push_found(&mut items, &above, circle, cards)?;
     Ok(Items::from_vec(items))
 }
 
@@ -299,20 +322,6 @@ fn start_of(token: Option<&Token>) -> u64
     }
 }
 
-/// What a report lists of the items: all of them, and without a token those of cards that may be read. Takes no memory.
-fn listed_items(token: Option<&Token>, items: Items<Item>) -> Items<Item>
-    ensures { result ≡ listed_items (option_copied token.entry) items }
-{
-    match token {
-        Some(_) => items,
-        None => {
-            let mut items = items.into_vec();
-            items.retain(|item| item.found.is_some());
-            Items::from_vec(items)
-        }
-    }
-}
-
 /// All items of a report on a book.
 fn all_items<K: Keeper>(
     alloc: Global,
@@ -325,8 +334,10 @@ fn all_items<K: Keeper>(
         (λ o items. (x : Book) → get o.books book.now ≡ Some x
         → items ≡ map (item_of o circle.now book.now) (reported o circle.now book.now x (option_copied token.entry))) }
 {
-    let items = items_after(alloc, keeper, circle, book, start_of(token), None)?;
-    Ok(listed_items(token, items))
+    match token {
+        Some(token) => items_after(alloc, keeper, circle, book, token.number, None),
+        None => all_readable(alloc, keeper, circle, book),
+    }
 }
 
 /// The items of a report on a book, up to more than so many.
@@ -445,9 +456,10 @@ fn read_report<K: Keeper>(
 /// present one, or a number that the book has not reached (RFC 6578, section 3.2, precondition valid-sync-token). An
 /// error is want of memory or a failure of the store.
 ///
-/// It makes four calls of the keeper, whatever the size of the book, decides once for each change, and changes nothing.
-/// With a limit it reads one change more than that; but an initial report with a limit, which leaves out what may not be
-/// read, makes a call for each 100 changes that it passes. The circle is that of the caller.
+/// It makes four calls of the keeper, whatever the size of the book, decides once for each change, and changes nothing. An
+/// initial report asks for cards alone, and for no removed name. With a limit a report reads one change more than that; but
+/// an initial one, which leaves out what may not be read, makes a call for each 100 cards that it passes. The circle is that
+/// of the caller.
 pub fn sync_report<K: Keeper>(
     alloc: Global,
     keeper: &mut K,

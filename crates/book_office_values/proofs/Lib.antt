@@ -2,6 +2,8 @@ pub mod Common
 pub mod Above
 pub mod Entered
 pub mod Indexes
+pub mod CardChanges
+pub mod Labels
 pub mod Members
 pub mod NameMapLaws
 pub mod Slashes

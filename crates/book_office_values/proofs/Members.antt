@@ -1,16 +1,12 @@
 -- Entries of lists and of finite maps.
-use Rattle.book_office_values.proofs.Common.{◌≡◌, ◌⊎◌, inl, inr, Bool, true, false, cond, ◌&&◌, List, [], ◌∷◌, Some, refl, sym, ap, ◌∙◌, subst, Ordering, Less, Equal, Greater, is_eq, is_lt, eq_by_cmp_equiv, IsAntisymmetric, get, entries, find}
-use Rattle.std.proofs.Common.{T, map}
+use Rattle.book_office_values.proofs.Common.{◌≡◌, inl, inr, Bool, true, false, cond, ◌&&◌, List, [], ◌∷◌, Some, refl, sym, ap, ◌∙◌, subst, Ordering, Less, Equal, Greater, is_eq, is_lt, eq_by_cmp_equiv, IsAntisymmetric, get, entries, find}
+use Rattle.std.proofs.Common.{T}
 use Rattle.std.specs.Ordering.{eq_by_cmp}
 use Rattle.std.specs.Cmp.{IsTotalOrder}
 use Rattle.std.specs.FinMap.{FinMap, entries_sorted, is_sorted, get-entries}
 use Rattle.std.specs.FinMap.Entries.{below_all}
-use Rattle.book_office_values.proofs.NameMapLaws.{tied}
-
--- x is among the elements
-abbrev pub Mem : {A : Type 0} → A → List A → Type 0
-Mem x [] = ⊥
-Mem x (y ∷ ys) = (x ≡ y) ⊎ Mem x ys
+pub use Rattle.book_lists.proofs.Elements.{Mem, mem_map}
+use Rattle.book_lists.proofs.Elements.{tied}
 
 pub less : (r : Ordering) → T (is_lt r) → r ≡ Less
 less Less h = refl
@@ -24,10 +20,6 @@ first false b h = h
 pub second : (a b : Bool) → T (a && b) → T b
 second true b h = h
 second false b h = absurd h
-
-pub mem_map : {A B : Type 0} (f : A → B) (x : A) (xs : List A) → Mem x xs → Mem (f x) (map f xs)
-mem_map f x [] m = absurd m
-mem_map f x (y ∷ ys) m = elim m [ inl is ↦ inl (ap f is) | inr r ↦ inr (mem_map f x ys r) ]
 
 ties_itself : {K : Type 0} {R : K → K → Ordering} → IsTotalOrder R → (k : K) → eq_by_cmp R k k ≡ true
 ties_itself o k = (eq_by_cmp_equiv o).refl k

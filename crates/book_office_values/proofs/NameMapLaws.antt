@@ -1,8 +1,9 @@
 -- Laws of finite maps from names.
-use Rattle.book_office_values.proofs.Common.{◌≡◌, ℕ, ◌+◌, ◌<◌, ◌≤◌, ◌⊎◌, inl, inr, List, [], ◌∷◌, Bool, true, false, cond, Option, Some, None, refl, sym, ap, ◌∙◌, subst, arith, Ordering, Less, Equal, Greater, is_eq, eq_by_cmp_equiv, nat_list_cmp_total, get, insert, remove, len, entries, find, get-insert, get-remove, same_map, nat_cmp-IsAntisymmetric, IsAntisymmetric, name_cmp, NamesTo}
+use Rattle.book_office_values.proofs.Common.{◌≡◌, ℕ, ◌+◌, ◌<◌, ◌≤◌, ◌⊎◌, inl, inr, List, [], ◌∷◌, Bool, true, false, cond, Option, Some, None, refl, sym, ap, ◌∙◌, subst, arith, is_eq, eq_by_cmp_equiv, nat_list_cmp_total, get, insert, remove, len, entries, find, get-insert, get-remove, same_map, nat_cmp-IsAntisymmetric, IsAntisymmetric, name_cmp, NamesTo}
 use Rattle.std.proofs.Common.{◌-◌, is_some, OnSome}
 use Rattle.std.specs.List.{AllZip}
 use Rattle.std.specs.FinMap.{get-entries, len-insert, len-remove, slice_cmp-IsAntisymmetric}
+pub use Rattle.book_lists.proofs.Elements.{tied}
 
 -- names that tie are one
 pub names_apart : IsAntisymmetric name_cmp
@@ -11,11 +12,6 @@ names_apart = slice_cmp-IsAntisymmetric nat_cmp-IsAntisymmetric
 -- whether two names are one
 abbrev pub same : List ℕ → List ℕ → Bool
 same a b = is_eq (name_cmp a b)
-
-pub tied : (r : Ordering) → is_eq r ≡ true → r ≡ Equal
-tied Less e = cc
-tied Equal e = refl
-tied Greater e = cc
 
 pub is_same : (a b : List ℕ) → same a b ≡ true → a ≡ b
 is_same a b e = names_apart a b (tied _ e)

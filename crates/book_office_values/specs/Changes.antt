@@ -57,3 +57,8 @@ put_back last name (Some n) = changed_at (λ _. n) last name
 -- the last change of a name is taken back
 abbrev pub left : Numbers → List ℕ → Option ℕ → Numbers
 left c name before = record { number = c.number - 1; last = put_back c.last name before }
+
+-- the names and one more, under the number of its last change; the same names where it never changed
+abbrev pub with_number : NumberedNames → Option ℕ → List ℕ → NumberedNames
+with_number names None name = names
+with_number names (Some n) name = insert names n name

@@ -3,3 +3,4 @@ pub mod Lending
 pub mod Names
 pub mod Paths
 pub mod Fresh
+pub mod Texts

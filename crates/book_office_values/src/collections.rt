@@ -10,5 +10,6 @@ mod texts;
 pub use changes::{Changes, Numbers};
 pub use items::Items;
 pub use name_maps::NameMap;
+pub(crate) use number_maps::NumberMap;
 pub use text_maps::TextMap;
 pub use texts::Text;

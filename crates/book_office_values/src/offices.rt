@@ -1,11 +1,13 @@
 //! The Office: everything that is kept, by kind of resource.
 
-ghost use Rattle.std.specs.Prelude.{◌≡◌};
+ghost use Rattle.std.specs.Prelude.{◌≡◌, filter, is_some, IfOk, OnOk};
+ghost use Rattle.std.specs.FinMap.{get};
+ghost use Rattle.book_office_values.specs.Changes.{Change, changes_after, with_number};
 ghost use Rattle.book_office_values.specs.Fresh.{empty_properties};
 
-use crate::collections::{Changes, Items, NameMap, Text};
-use book_lists::{Entry, Pairs, Principal};
-use std::alloc::Global;
+use crate::collections::{Changes, Items, NameMap, NumberMap, Text};
+use book_lists::{Entry, Name, Pairs, Principal};
+use std::alloc::{AllocError, Global};
 
 /// A resource other than a card: its owner, if it has one, its label (`displayname`, RFC 4918, section 15.2), and its
 /// protected and own lists of entries (RFC 3744, section 5.5), each in stored order.
@@ -57,6 +59,38 @@ pub struct Book {
     pub cards: NameMap<StoredCard>,
     /// The last change of each name that was ever there. A removed name is one with a last change and no card.
     pub changes: Changes,
+}
+
+impl Book {
+    /// The last changes above a number of the names that have a card, in order of number: each number with its name. An error
+    /// is want of memory.
+    ///
+    /// It goes through the names of the cards. Removed names are not looked at.
+    pub fn card_changes_after(
+        &self,
+        alloc: Global,
+        number: u64,
+    ) -> Result<Items<(u64, Name)>, AllocError>
+        ensures { IfOk result (λ changes. changes ≡ filter (λ (c : Change). is_some (get self.now.cards c.1))
+            (changes_after self.now.changes.last number)) }
+    {
+        self.changes.known();
+        let mut names = NumberMap::new(alloc);
+        for (name, _card) in self.cards.iter() {
+            enter(&mut names, self.changes.get(name), name)?;
+        }
+        names.after(alloc, number)
+    }
+}
+
+/// Enters a name under the number of its last change, if it has one.
+fn enter(names: &mut NumberMap, number: Option<u64>, name: &Name) -> Result<(), AllocError>
+    ensures { OnOk result (names.new ≡ with_number names.old number name.now) }
+{
+    match number {
+        Some(number) => names.insert(number, name.clone()?),
+        None => Ok(()),
+    }
 }
 
 /// Everything that is kept.

@@ -1,24 +1,19 @@
 -- Each rule on parts is kept or broken, so that each text has a policy or a fault.
-use Rattle.book_policy.proofs.Common.{◌≡◌, ◌∙◌, drop, subst, sym, List, ap, refl, ℕ, [], map, ◌∷◌, arith, inl, inr, length, ◌≤◌, ◌<◌, Bool, None, Some, true, false, ◌++◌, All, AllByRecursion, Path, NamesPrincipal, NamesForm, BookPart, GroupPart, EntryText, Parts}
-use Rattle.std.proofs.Common.{◌⊎◌, ◌≢◌, Option, IsTrue, AllPairs, codes, filter, slice_index, suc, zero, if◌then◌else◌}
-use Rattle.std.proofs.lemmas.Bool.{and_parts, cases_lt, false≢true}
-use Rattle.std.proofs.lemmas.List.Elements.{All-from_recursion, recursion_from_All}
+use Rattle.book_policy.proofs.Common.{◌≡◌, drop, subst, sym, List, ap, refl, ℕ, [], map, ◌∷◌, arith, inl, inr, length, ◌≤◌, Bool, None, Some, true, false, ◌++◌, All, AllByRecursion, Path, NamesPrincipal, NamesForm, BookPart, GroupPart, EntryText, Parts}
+use Rattle.std.proofs.Common.{◌⊎◌, ◌≢◌, Option, codes, filter, if◌then◌else◌}
+use Rattle.std.proofs.lemmas.Bool.{and_parts, cases_lt}
 use Rattle.std.proofs.lemmas.Slice.Eq.{bytes_eq-Decides}
 use Rattle.std.specs.FinMap.{get}
 use Rattle.std.specs.FinSet as set
-use Rattle.std.specs.Str.{bytes_eq}
 use Rattle.toml.specs.Data.{Members}
 use Rattle.toml.specs.Parse.{parse_document}
 use Rattle.book_limits.specs.declared.TheConstants.{MAX_ENTRIES, MAX_MEMBERS, MAX_NAMED, MAX_POLICY_BYTES}
-use Rattle.book_rights.specs.Leaves.{each_leaf}
-use Rattle.book_rights.specs.Privileges.{name_of}
-use Rattle.book_rights.specs.declared.privileges.Privilege.{Privilege}
-use Rattle.book_rights.specs.declared.privileges.Privilege.TheVariants.{One, Read, Write, All as Whole}
-use Rattle.book_lists.specs.Names.{IsName, is_name_byte}
+use Rattle.book_lists.specs.Names.{IsName}
 use Rattle.book_lists.specs.declared.entries.Entry.{Entry}
 use Rattle.book_lists.specs.declared.entries.Who.{Who}
 use Rattle.book_lists.specs.declared.entries.Who.TheVariants.{Href, Everyone, Authenticated, Unauthenticated, Owner, Own}
-use Rattle.book_office_values.proofs.Members.{Mem}
+use Rattle.book_lists.proofs.Elements.{Mem}
+use Rattle.book_lists.proofs.Decided.{OrNot, both_or_not, each_in_turn, each_or_not, either_or_not, mem_all, most_or_not, name_or_not, not_or_not, one_of, pairs_or_not, privilege_or_not, same_as, text_or_not, there_or_not, three_or_not}
 use Rattle.book_office_values.specs.Names.{NamesTo}
 use Rattle.book_office_values.specs.Paths.{IsPath, IsShort, SpellsPath, path_text}
 use Rattle.book_office_values.specs.declared.paths.Path.TheVariants as path
@@ -32,124 +27,12 @@ use Rattle.book_policy_values.specs.declared.parts.PolicyTables.{PolicyTables}
 use Rattle.book_policy.proofs.Least.{all_rules, bad_key, bad_name, least_of_text, name_twice, not_toml, other_version, too_many, unknown_principal, unknown_privilege, unknown_resource}
 use Rattle.book_policy.proofs.Whole.{text_fault, text_policy}
 use Rattle.book_policy.specs.Passes.{KeepsNames}
-use Rattle.book_policy.specs.Rules.{HasPolicyOrFault, IsFaultOf, IsLeastBroken, IsPolicyOf, IsPrivilegeName, PartsRule, SpellsParts, all_privileges, entries_in, policy_of_parts}
+use Rattle.book_policy.specs.Rules.{HasPolicyOrFault, IsFaultOf, IsLeastBroken, IsPolicyOf, IsPrivilegeName, PartsRule, SpellsParts, entries_in, policy_of_parts}
 use Rattle.book_policy.specs.Shapes.{has_version_one, parts_in}
 use Rattle.book_policy.specs.declared.faults.PolicyFault.{PolicyFault}
 use Rattle.book_policy.specs.declared.faults.PolicyFault.TheVariants.{NotToml, OtherVersion, BadKey, BadName, NameTwice, UnknownPrincipal, UnknownResource, UnknownPrivilege, TooMany}
 
--- ---- facts that hold or do not
-abbrev OrNot : Type 0 → Type 0
-OrNot P = P ⊎ (P → ⊥)
-
-both_or_not : {P Q : Type 0} → OrNot P → OrNot Q → OrNot (P × Q)
-both_or_not (inl p) (inl q) = inl (p, q)
-both_or_not (inl p) (inr never) = inr (λ h. never h.1)
-both_or_not (inr never) q = inr (λ h. never h.0)
-
-three_or_not : {P Q R : Type 0} → OrNot P → OrNot Q → OrNot R → OrNot (P × Q × R)
-three_or_not (inl p) (inl q) (inl r) = inl (p, q, r)
-three_or_not (inl p) (inl q) (inr never) = inr (λ h. never h.2)
-three_or_not (inl p) (inr never) r = inr (λ h. never h.1)
-three_or_not (inr never) q r = inr (λ h. never h.0)
-
-either_or_not : {P Q : Type 0} → OrNot P → OrNot Q → OrNot (P ⊎ Q)
-either_or_not (inl p) q = inl (inl p)
-either_or_not (inr never) (inl q) = inl (inr q)
-either_or_not (inr not_p) (inr not_q) = inr (λ h. elim h [ inl p ↦ not_p p | inr q ↦ not_q q ])
-
-not_or_not : {P : Type 0} → OrNot P → OrNot (P → ⊥)
-not_or_not (inl p) = inr (λ never. never p)
-not_or_not (inr never) = inl never
-
-same_as : {P Q : Type 0} → (P → Q) → (Q → P) → OrNot P → OrNot Q
-same_as to from (inl p) = inl (to p)
-same_as to from (inr never) = inr (λ q. never (from q))
-
-below_or_not : (m n : ℕ) → OrNot (m < n)
-below_or_not m n = elim (cases_lt m n) [ inl lt ↦ inl lt | inr le ↦ inr (λ lt. omega (arith, lt, le)) ]
-
-most_or_not : (m n : ℕ) → OrNot (m ≤ n)
-most_or_not m n = elim (cases_lt n m) [ inl lt ↦ inr (λ le. omega (arith, lt, le)) | inr le ↦ inl le ]
-
-number_or_not : (m n : ℕ) → OrNot (m ≡ n)
-number_or_not m n = elim (cases_lt m n) [
-  | inl lt ↦ inr (λ e. omega (arith, lt, e))
-  | inr le ↦ elim (cases_lt n m) [ inl lt ↦ inr (λ e. omega (arith, lt, e)) | inr ge ↦ inl (omega (arith, le, ge)) ]
-]
-
-text_or_not : (xs ys : List ℕ) → OrNot (xs ≡ ys)
-text_or_not xs ys = elim (bytes_eq xs ys) as (λ b. bytes_eq xs ys ≡ b → OrNot (xs ≡ ys)) [
-  | true ↦ λ t. inl ((bytes_eq-Decides xs ys).0 t)
-  | false ↦ λ f. inr (λ e. false≢true (sym f ∙ (bytes_eq-Decides xs ys).1 e))
-] refl
-
-true_or_not : (b : Bool) → OrNot (IsTrue b)
-true_or_not true = inl refl
-true_or_not false = inr (λ e. false≢true e)
-
-there_or_not : {A : Type 0} (found : Option A) → OrNot (found ≢ None)
-there_or_not None = inr (λ there. there refl)
-there_or_not (Some a) = inl (λ none. absurd cc)
-
-module _ {A : Type 0} (P : A → Type 0) (test : (x : A) → OrNot (P x)) where
-  each_in_turn : (xs : List A) → OrNot (AllByRecursion P xs)
-  each_in_turn [] = inl tt
-  each_in_turn (x ∷ xs) = both_or_not (test x) (each_in_turn xs)
-
-  each_or_not : (xs : List A) → OrNot (All P xs)
-  each_or_not xs = same_as (All-from_recursion P xs) (recursion_from_All P xs) (each_in_turn xs)
-
-  -- one of a list, or none of it
-  one_of : (xs : List A) → ((x : A) × P x) ⊎ ((x : A) → Mem x xs → P x → ⊥)
-  one_of [] = inr (λ x m p. m)
-  one_of (x ∷ xs) = elim (test x) [
-    | inl p ↦ inl (x, p)
-    | inr never ↦ elim (one_of xs) [
-      | inl found ↦ inl found
-      | inr none ↦ inr (λ y m p. elim m [ inl is ↦ never (subst P is p) | inr later ↦ none y later p ])
-    ]
-  ]
-
-mem_all : {A : Type 0} (P : A → Type 0) (x : A) (xs : List A) → AllByRecursion P xs → Mem x xs → P x
-mem_all P x [] all m = absurd m
-mem_all P x (y ∷ ys) all m = elim m [ inl is ↦ subst P (sym is) all.0 | inr later ↦ mem_all P x ys all.1 later ]
-
-module _ {A : Type 0} (R : A → A → Type 0) (test : (x y : A) → OrNot (R x y)) where
-  abbrev PairsInTurn : List A → Type 0
-  PairsInTurn [] = Unit {0}
-  PairsInTurn (x ∷ xs) = All (R x) xs × PairsInTurn xs
-
-  pairs_of : (xs : List A) → PairsInTurn xs → AllPairs R xs
-  pairs_of [] h i j d before within = absurd (omega (arith, within))
-  pairs_of (x ∷ xs) h zero zero d before within = absurd (omega (arith, before))
-  pairs_of (x ∷ xs) h zero (suc j) d before within = h.0 j d (omega (arith, within))
-  pairs_of (x ∷ xs) h (suc i) zero d before within = absurd (omega (arith, before))
-  pairs_of (x ∷ xs) h (suc i) (suc j) d before within = pairs_of xs h.1 i j d (omega (arith, before)) (omega (arith, within))
-
-  pairs_from : (xs : List A) → AllPairs R xs → PairsInTurn xs
-  pairs_from [] h = tt
-  pairs_from (x ∷ xs) h = (
-    λ j d within. h 0 (suc j) d (omega arith) (omega (arith, within)),
-    pairs_from xs (λ i j d before within. h (suc i) (suc j) d (omega (arith, before)) (omega (arith, within))),
-  )
-
-  pairs_in_turn : (xs : List A) → OrNot (PairsInTurn xs)
-  pairs_in_turn [] = inl tt
-  pairs_in_turn (x ∷ xs) = both_or_not (each_or_not (R x) (test x) xs) (pairs_in_turn xs)
-
-  pairs_or_not : (xs : List A) → OrNot (AllPairs R xs)
-  pairs_or_not xs = same_as (pairs_of xs) (pairs_from xs) (pairs_in_turn xs)
-
--- ---- names and paths
-name_or_not : (name : List ℕ) → OrNot (IsName name)
-name_or_not name =
-    same_as
-    (λ h. record { some = h.0; short = h.1.0; visible = h.1.1.0; each = h.1.1.1 })
-    (λ (n : IsName name). (n.some, (n.short, (n.visible, n.each))))
-    (both_or_not (below_or_not 0 (length name))
-    (both_or_not (most_or_not (length name) 64)
-    (both_or_not (not_or_not (number_or_not (slice_index name 0) 46)) (each_or_not (λ b. IsTrue (is_name_byte b)) (λ b. true_or_not (is_name_byte b)) name))))
-
+-- ---- paths
 path_or_not : (p : Path) → OrNot (IsPath p)
 path_or_not path.Root = inl tt
 path_or_not path.People = inl tt
@@ -248,22 +131,6 @@ module _ (persons groups : NamesTo (List ℕ)) where
   owner_or_not : (owner : Option (List ℕ)) → OrNot (NamesOwner persons groups owner)
   owner_or_not None = inl tt
   owner_or_not (Some text) = names_principal_or_not text
-
--- ---- privileges
-in_privileges : (p : Privilege) → Mem p all_privileges
-in_privileges (One leaf) =
-    each_leaf (λ l. Mem (One l) all_privileges) (inl refl) (inr (inl refl)) (inr (inr (inl refl))) (inr (inr (inr (inl refl))))
-    (inr (inr (inr (inr (inl refl))))) (inr (inr (inr (inr (inr (inl refl)))))) (inr (inr (inr (inr (inr (inr (inl refl)))))))
-    (inr (inr (inr (inr (inr (inr (inr (inl refl)))))))) (inr (inr (inr (inr (inr (inr (inr (inr (inl refl))))))))) leaf
-in_privileges Read = inr (inr (inr (inr (inr (inr (inr (inr (inr (inl refl)))))))))
-in_privileges Write = inr (inr (inr (inr (inr (inr (inr (inr (inr (inr (inl refl))))))))))
-in_privileges Whole = inr (inr (inr (inr (inr (inr (inr (inr (inr (inr (inr (inl refl)))))))))))
-
-privilege_or_not : (name : List ℕ) → OrNot (IsPrivilegeName name)
-privilege_or_not name = elim (one_of (λ p. name ≡ name_of p) (λ p. text_or_not name (name_of p)) all_privileges) [
-  | inl found ↦ inl found
-  | inr none ↦ inr (λ it. none it.0 (in_privileges it.0) it.1)
-]
 
 -- ---- numbers: lists that no entry names are empty
 module _ (is_protected : Bool) (at : List ℕ) where

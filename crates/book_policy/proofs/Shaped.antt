@@ -1,13 +1,16 @@
--- Parts that a table spells have short labels, and each entry of them names a privilege.
-use Rattle.book_policy.proofs.Common.{◌≡◌, ◌≤◌, ℕ, Bool, true, false, cond, List, [], ◌∷◌, ◌++◌, length, Some, None, refl, ap, subst, arith, All, GroupPart, BookPart, EntryText, Parts}
+-- Parts that a table spells have labels, and each entry of them names a privilege.
+use Rattle.book_policy.proofs.Common.{◌≡◌, ◌≤◌, ℕ, Bool, true, false, cond, List, [], ◌∷◌, ◌++◌, length, Some, None, refl, ap, subst, All, GroupPart, BookPart, EntryText, Parts}
 use Rattle.std.proofs.Common.{◌&&◌, nat_le, Option, option_map, codes}
 use Rattle.std.specs.Option.{option_and_then}
+use Rattle.std.specs.Str.{is_utf8}
 use Rattle.std.proofs.lemmas.Bool.{leb-true}
 use Rattle.std.proofs.lemmas.List.Elements.{All-nil, All-push}
+use Rattle.std.proofs.lemmas.Str.{IsUtf8-from_is_utf8}
 use Rattle.toml.specs.Data.{Data, Items, no_items, item, Members, get_member, as_str, as_array, as_table}
 use Rattle.book_limits.specs.declared.TheConstants.{MAX_LABEL_BYTES, MAX_PRIVILEGE_NAMES}
 use Rattle.book_policy_values.specs.declared.parts.PersonPart.{PersonPart}
-use Rattle.book_policy_values.specs.Policies.{IsShortLabel}
+use Rattle.book_office_values.specs.Texts.{IsLabel}
+use Rattle.book_office_values.proofs.Labels.{empty_label}
 use Rattle.book_policy_values.proofs.Names.{same_some}
 use Rattle.book_policy.specs.declared.shapes.TableKind.TheVariants.{Top, Person, Group, Book, Listed}
 use Rattle.book_policy.specs.Passes.{IsShaped}
@@ -24,13 +27,15 @@ from_if : {A : Type 0} (b : Bool) (x : Option A) (y : A) → cond b x None ≡ S
 from_if true x y h = h
 from_if false x y h = none_some h
 
-short_is : (t l : List ℕ) (b : Bool) → nat_le (length t) MAX_LABEL_BYTES ≡ b → cond b (Some t) None ≡ Some l → IsShortLabel l
-short_is t l true fits h = subst IsShortLabel (same_some h) (leb-true (length t) MAX_LABEL_BYTES fits)
-short_is t l false fits h = none_some h
+short_is : (t l : List ℕ) (a b : Bool) → is_utf8 t ≡ a → nat_le (length t) MAX_LABEL_BYTES ≡ b → cond (a && b) (Some t) None ≡ Some l → IsLabel l
+short_is t l true true utf8 fits h =
+    subst IsLabel (same_some h) (record { utf8 = IsUtf8-from_is_utf8 t utf8; short = leb-true (length t) MAX_LABEL_BYTES fits })
+short_is t l true false utf8 fits h = none_some h
+short_is t l false b utf8 fits h = none_some h
 
-label_short : (o : Option Data) (l : List ℕ) → label_of o ≡ Some l → IsShortLabel l
-label_short None l h = let e : [] ≡ l = same_some h in subst IsShortLabel e (omega arith)
-label_short (Some d) l h = let (t, at, is) = and_then_some short_label (as_str d) l h in short_is t l (nat_le (length t) MAX_LABEL_BYTES) refl is
+label_short : (o : Option Data) (l : List ℕ) → label_of o ≡ Some l → IsLabel l
+label_short None l h = let e : [] ≡ l = same_some h in subst IsLabel e empty_label
+label_short (Some d) l h = let (t, at, is) = and_then_some short_label (as_str d) l h in short_is t l (is_utf8 t) (nat_le (length t) MAX_LABEL_BYTES) refl refl is
 
 -- ---- names of privileges
 both_some : (names ns : List (List ℕ)) (a b : Bool) → nat_le 1 (length names) ≡ a → cond (a && b) (Some names) None ≡ Some ns → 1 ≤ length ns
@@ -80,20 +85,20 @@ entry_names (Some at) (Some who) (Some invert) None protected e h = none_some h
 entry_names (Some at) (Some who) (Some invert) (Some action) None e h = none_some h
 entry_names (Some at) (Some who) (Some invert) (Some action) (Some protected) e h = (action, refl, ap (λ (x : EntryText). x.names) (same_some h))
 
-person_short : (d : Data) (p : PersonPart) → person_of d ≡ Some p → IsShortLabel p.label
+person_short : (d : Data) (p : PersonPart) → person_of d ≡ Some p → IsLabel p.label
 person_short d p h =
     let (ms, at, is) = and_then_some person_in (as_table d) p h in
     let whole = from_if (has_only (keys_of Person) ms) (person_with (text_at (codes "name") ms) (label_of (get_member (codes "label") ms))) p is in
     label_short (get_member (codes "label") ms) p.label (person_label (text_at (codes "name") ms) (label_of (get_member (codes "label") ms)) p whole)
 
-group_short : (d : Data) (g : GroupPart) → group_of d ≡ Some g → IsShortLabel g.label
+group_short : (d : Data) (g : GroupPart) → group_of d ≡ Some g → IsLabel g.label
 group_short d g h =
     let (ms, at, is) = and_then_some group_in (as_table d) g h in
     let members = array_of as_str (get_member (codes "members") ms) in
     let whole = from_if (has_only (keys_of Group) ms) (group_with (text_at (codes "name") ms) (label_of (get_member (codes "label") ms)) members) g is in
     label_short (get_member (codes "label") ms) g.label (group_label (text_at (codes "name") ms) (label_of (get_member (codes "label") ms)) members g whole)
 
-book_short : (d : Data) (b : BookPart) → book_of d ≡ Some b → IsShortLabel b.label
+book_short : (d : Data) (b : BookPart) → book_of d ≡ Some b → IsLabel b.label
 book_short d b h =
     let (ms, at, is) = and_then_some book_in (as_table d) b h in
     let owner = owner_of (get_member (codes "owner") ms) in
@@ -155,9 +160,9 @@ shaped ms parts h =
     let all = arrays_of persons groups books entries parts whole in
     record {
       labels = record {
-        of_persons = array_fine person_of (λ (p : PersonPart). IsShortLabel p.label) person_short (get_member (codes "person") ms) parts.persons all.of_persons;
-        of_groups = array_fine group_of (λ (g : GroupPart). IsShortLabel g.label) group_short (get_member (codes "group") ms) parts.groups all.of_groups;
-        of_books = array_fine book_of (λ (b : BookPart). IsShortLabel b.label) book_short (get_member (codes "book") ms) parts.books all.of_books;
+        of_persons = array_fine person_of (λ (p : PersonPart). IsLabel p.label) person_short (get_member (codes "person") ms) parts.persons all.of_persons;
+        of_groups = array_fine group_of (λ (g : GroupPart). IsLabel g.label) group_short (get_member (codes "group") ms) parts.groups all.of_groups;
+        of_books = array_fine book_of (λ (b : BookPart). IsLabel b.label) book_short (get_member (codes "book") ms) parts.books all.of_books;
       };
       named = array_fine entry_text_of (λ (e : EntryText). 1 ≤ length e.names) entry_named (get_member (codes "entry") ms) parts.entries all.of_entries;
     }

@@ -6,7 +6,7 @@ use Rattle.std.specs.Str.{bytes_eq}
 use Rattle.book_lists.specs.Principals.{IsPrincipal, Spells}
 use Rattle.book_policy_values.specs.declared.parts.BookPart.{BookPart}
 use Rattle.book_policy_values.specs.declared.parts.GroupPart.{GroupPart}
-use Rattle.book_policy_values.specs.Policies.{HaveShortLabels, IsFaultless, NamesForm, NamesOwner, NamesPlace, NamesPrincipal, added, named_group, named_person}
+use Rattle.book_policy_values.specs.Policies.{HaveLabels, IsFaultless, NamesForm, NamesOwner, NamesPlace, NamesPrincipal, added, named_group, named_person}
 use Rattle.book_policy_values.specs.declared.parts.PolicyTables.{PolicyTables}
 use Rattle.book_policy.specs.Rules.{IsPrivilegeName, PartsRule, entries_in, policy_of_parts, who_of}
 use Rattle.book_policy.specs.declared.faults.PolicyFault.{PolicyFault}
@@ -73,7 +73,7 @@ IsLaterFault parts fault =
 abbrev pub IsPolicyOfParts : Parts → PolicyTables → Type 0
 IsPolicyOfParts parts policy = ((g : PolicyFault) → PartsRule parts g) × (policy ≡ policy_of_parts parts)
 
--- what every table gives: short labels, and a privilege for each entry
+-- what every table gives: labels, and a privilege for each entry
 pub record IsShaped (parts : Parts) : Type 0 where
-  pub labels : HaveShortLabels parts.persons parts.groups parts.books
+  pub labels : HaveLabels parts.persons parts.groups parts.books
   pub named : All (λ (e : EntryText). 1 ≤ length e.names) parts.entries

@@ -1,6 +1,6 @@
 -- The parts that the table of a policy spells, where its keys and values are of the right kinds.
 use Rattle.std.specs.Prelude.{ℕ, ℤ, pos, negsuc, List, [], ◌∷◌, ◌++◌, length, codes, nat_le, ◌==◌, ◌||◌, ◌&&◌, if◌then◌else◌, Bool, true, false, option_and_then, option_map, Option, Some, None}
-use Rattle.std.specs.Str.{bytes_eq}
+use Rattle.std.specs.Str.{bytes_eq, is_utf8}
 use Rattle.toml.specs.Data.{Data, Items, no_items, item, Members, no_members, member, get_member, as_bool, as_integer, as_str, as_array, as_table}
 use Rattle.book_policy_values.specs.declared.parts.PersonPart.{PersonPart}
 use Rattle.book_policy_values.specs.declared.parts.GroupPart.{GroupPart}
@@ -50,9 +50,9 @@ has_only names (member k d ms) = is_among k names && has_only names ms
 abbrev pub text_at : List ℕ → Members → Option (List ℕ)
 text_at key ms = option_and_then as_str (get_member key ms)
 
--- a label is optional and then empty, and has at most 256 bytes
+-- a label is optional and then empty; it is UTF-8, of at most 256 bytes
 abbrev pub short_label : List ℕ → Option (List ℕ)
-short_label text = if nat_le (length text) MAX_LABEL_BYTES then Some text else None
+short_label text = if is_utf8 text && nat_le (length text) MAX_LABEL_BYTES then Some text else None
 
 abbrev pub label_of : Option Data → Option (List ℕ)
 label_of None = Some []

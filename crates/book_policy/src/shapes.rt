@@ -3,7 +3,7 @@
 ghost use Rattle.std.specs.Prelude.{◌≡◌, codes, IfOk, option_map, option_copied, option_and_then};
 ghost use Rattle.toml.specs.Data.{as_str, get_member};
 ghost use Rattle.toml.specs.View.{items_view, table_view, view};
-ghost use Rattle.book_policy.specs.Shapes.{action_of, array_of, book_in, each, entry_in, group_in, has_only, is_among, keys_of, label_of, mark_of, names_in, owner_of, parts_in, person_in, text_at};
+ghost use Rattle.book_policy.specs.Shapes.{action_of, array_of, book_in, each, entry_in, group_in, has_only, is_among, keys_of, label_of, mark_of, names_in, owner_of, parts_in, person_in, short_label, text_at};
 
 use crate::parts::{EntryText, Parts};
 use book_limits::{MAX_LABEL_BYTES, MAX_PRIVILEGE_NAMES};
@@ -78,6 +78,16 @@ fn text_at<'a>(table: &'a Table, key: &str) -> Option<&'a str>
     }
 }
 
+/// The label that a text is; none where it has too many bytes.
+fn short_label(alloc: Global, text: &str) -> Result<Option<Text>, AllocError>
+    ensures { IfOk result (λ label. label ≡ short_label text.now) }
+{
+    if text.len() > MAX_LABEL_BYTES {
+        return Ok(None);
+    }
+    Ok(Some(Text::copy_of(alloc, text)?))
+}
+
 /// The label that a value gives; the empty one where there is none.
 fn label_of(alloc: Global, value: Option<&Value>) -> Result<Option<Text>, AllocError>
     ensures { IfOk result (λ label. label ≡ label_of (option_map (λ v. view v.now) value.entry)) }
@@ -88,10 +98,7 @@ fn label_of(alloc: Global, value: Option<&Value>) -> Result<Option<Text>, AllocE
     let Some(text) = value.as_str() else {
         return Ok(None);
     };
-    if text.len() > MAX_LABEL_BYTES {
-        return Ok(None);
-    }
-    Ok(Some(Text::copy_of(alloc, text)?))
+    short_label(alloc, text)
 }
 
 /// The owner that a value gives, if there is one.

@@ -18,7 +18,8 @@ use Rattle.book_policy_values.specs.declared.parts.EntryPart.{EntryPart}
 use Rattle.book_policy_values.specs.declared.parts.PolicyBook.{PolicyBook}
 use Rattle.book_policy_values.specs.declared.parts.PolicyEntry.{PolicyEntry}
 use Rattle.book_policy_values.specs.declared.parts.PolicyTables.{PolicyTables}
-use Rattle.book_policy_values.specs.Policies.{memberships, policy_of, entries_at, IsKnown, IsKnownOwner, NamesOwner, NamesForm, HoldsSome, IsShortLabel, IsFaultless, IsPolicy, AreListed}
+use Rattle.book_policy_values.specs.Policies.{memberships, policy_of, entries_at, IsKnown, IsKnownOwner, NamesOwner, NamesForm, HoldsSome, IsFaultless, IsPolicy, AreListed}
+use Rattle.book_office_values.specs.Texts.{IsLabel}
 use Rattle.book_policy_values.proofs.Lists.{are_listed, AreShort, all_fit, lists_short, entries_fit}
 use Rattle.book_policy_values.proofs.Members.{each_paired_all, few_direct}
 use Rattle.book_policy_values.proofs.Names.{all_fine, all_named, all_once, can_add, each_added, len_added, all_there}
@@ -74,10 +75,10 @@ module _ (persons : List PersonPart) (groups : List GroupPart) (books : List Boo
   -- ---- parts without a fault fit
   module _ (f : IsFaultless persons groups books entries) where
     pub persons_fit : PersonsFit empty persons
-    persons_fit = can_add (λ p. IsShortLabel p.label) named_person empty persons f.labels.of_persons f.names.of_persons f.once.of_persons (λ k d within. get-empty name_cmp _)
+    persons_fit = can_add (λ p. IsLabel p.label) named_person empty persons f.labels.of_persons f.names.of_persons f.once.of_persons (λ k d within. get-empty name_cmp _)
 
     pub groups_fit : GroupsFit empty groups
-    groups_fit = can_add (λ g. IsShortLabel g.label) named_group empty groups f.labels.of_groups f.names.of_groups f.once.of_groups (λ k d within. get-empty name_cmp _)
+    groups_fit = can_add (λ g. IsLabel g.label) named_group empty groups f.labels.of_groups f.names.of_groups f.once.of_groups (λ k d within. get-empty name_cmp _)
 
     pub books_fit : CanAdd (BookFits t.persons t.groups) named_book empty books
     books_fit = can_add (BookFits t.persons t.groups) named_book empty books (λ k d within. (f.labels.of_books k d within, f.known.owners k d within)) f.names.of_books f.once.of_books (λ k d within. get-empty name_cmp _)
@@ -94,14 +95,14 @@ module _ (persons : List PersonPart) (groups : List GroupPart) (books : List Boo
     -- ---- and make a policy
     pub is_policy : IsPolicy t
     is_policy = record {
-      persons = each_added (λ p. IsShortLabel p.label) named_person (λ name label. IsName name × IsShortLabel label) empty persons (λ q v e. nothing_in q v e) (λ k d within. (f.names.of_persons k d within, f.labels.of_persons k d within));
-      groups = each_added (λ g. IsShortLabel g.label) named_group (λ name label. IsName name × IsShortLabel label) empty groups (λ q v e. nothing_in q v e) (λ k d within. (f.names.of_groups k d within, f.labels.of_groups k d within));
-      books = each_added (BookFits t.persons t.groups) named_book (λ name book. IsName name × IsShortLabel book.label × IsKnownOwner t.persons t.groups book.owner) empty books (λ q v e. nothing_in q v e)
+      persons = each_added (λ p. IsLabel p.label) named_person (λ name label. IsName name × IsLabel label) empty persons (λ q v e. nothing_in q v e) (λ k d within. (f.names.of_persons k d within, f.labels.of_persons k d within));
+      groups = each_added (λ g. IsLabel g.label) named_group (λ name label. IsName name × IsLabel label) empty groups (λ q v e. nothing_in q v e) (λ k d within. (f.names.of_groups k d within, f.labels.of_groups k d within));
+      books = each_added (BookFits t.persons t.groups) named_book (λ name book. IsName name × IsLabel book.label × IsKnownOwner t.persons t.groups book.owner) empty books (λ q v e. nothing_in q v e)
           (λ k d within. (f.names.of_books k d within, f.labels.of_books k d within, known_owner t.persons t.groups _ (f.known.owners k d within)));
       members = each_paired_all (λ (m : Membership). ((name : List ℕ) × (m.group ≡ group_path name) × (get t.groups name ≢ None)) × IsKnown t.persons t.groups m.member) set.empty groups
           (λ q e. let clash : true ≡ false = sym e ∙ contains-empty membership_cmp q in absurd cc)
           (λ k d within. all_mapped (λ (m : Membership). ((name : List ℕ) × (m.group ≡ group_path name) × (get t.groups name ≢ None)) × IsKnown t.persons t.groups m.member) _ _
-          (λ j e inside. ((_, refl, all_there (λ g. IsShortLabel g.label) named_group empty groups k d within), known_spelled t.persons t.groups _ (f.known.members k d within j e inside))));
+          (λ j e inside. ((_, refl, all_there (λ g. IsLabel g.label) named_group empty groups k d within), known_spelled t.persons t.groups _ (f.known.members k d within j e inside))));
       few_members = few_direct MAX_MEMBERS groups f.once.of_groups f.few.few_members;
       leaves = all_mapped (λ (e : PolicyEntry). HoldsSome e.entry.set) entry_of entries f.leaves;
       forms = all_mapped (λ (e : PolicyEntry). NamesForm t.persons t.groups e.entry.who) entry_of entries f.known.forms;
@@ -109,8 +110,8 @@ module _ (persons : List PersonPart) (groups : List GroupPart) (books : List Boo
           let h = f.places k d within in
           (h.0, h.1, sym (place_spelled t.persons t.groups _ h.0 h.1 h.2 t.books h.3), h.3));
       few_entries = f.few.few_entries;
-      few_persons = few_of f.few.few_persons (len_added (λ p. IsShortLabel p.label) named_person empty persons) (len-empty name_cmp _);
-      few_groups = few_of f.few.few_groups (len_added (λ g. IsShortLabel g.label) named_group empty groups) (len-empty name_cmp _);
+      few_persons = few_of f.few.few_persons (len_added (λ p. IsLabel p.label) named_person empty persons) (len-empty name_cmp _);
+      few_groups = few_of f.few.few_groups (len_added (λ g. IsLabel g.label) named_group empty groups) (len-empty name_cmp _);
       few_books = few_of f.few.few_books (len_added (BookFits t.persons t.groups) named_book empty books) (len-empty name_cmp _);
     }
       where
@@ -130,19 +131,19 @@ module _ (persons : List PersonPart) (groups : List GroupPart) (books : List Boo
       let listed = are_listed (map entry_of entries) in
       record {
         labels = record {
-          of_persons = all_fine (λ p. IsShortLabel p.label) named_person empty persons ps;
-          of_groups = all_fine (λ g. IsShortLabel g.label) named_group empty groups gs;
+          of_persons = all_fine (λ p. IsLabel p.label) named_person empty persons ps;
+          of_groups = all_fine (λ g. IsLabel g.label) named_group empty groups gs;
           of_books = λ k d within. (book_fine k d within).0;
         };
         leaves = λ k d within. (fits k d within).0;
         names = record {
-          of_persons = all_named (λ p. IsShortLabel p.label) named_person empty persons ps;
-          of_groups = all_named (λ g. IsShortLabel g.label) named_group empty groups gs;
+          of_persons = all_named (λ p. IsLabel p.label) named_person empty persons ps;
+          of_groups = all_named (λ g. IsLabel g.label) named_group empty groups gs;
           of_books = all_named (BookFits t.persons t.groups) named_book empty books bs;
         };
         once = record {
-          of_persons = all_once (λ p. IsShortLabel p.label) named_person empty persons ps;
-          of_groups = all_once (λ g. IsShortLabel g.label) named_group empty groups gs;
+          of_persons = all_once (λ p. IsLabel p.label) named_person empty persons ps;
+          of_groups = all_once (λ g. IsLabel g.label) named_group empty groups gs;
           of_books = all_once (BookFits t.persons t.groups) named_book empty books bs;
         };
         known = record {

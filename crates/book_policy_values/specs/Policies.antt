@@ -13,7 +13,8 @@ use Rattle.book_lists.specs.declared.entries.Who.TheVariants.{Href, Everyone, Au
 use Rattle.book_lists.specs.declared.memberships.Membership.{Membership}
 use Rattle.book_office_values.specs.Names.{NamesTo}
 use Rattle.book_office_values.specs.Paths.{IsPath, SpellsPath, path_text}
-use Rattle.book_limits.specs.declared.TheConstants.{MAX_ENTRIES, MAX_MEMBERS, MAX_NAMED, MAX_LABEL_BYTES}
+use Rattle.book_office_values.specs.Texts.{IsLabel}
+use Rattle.book_limits.specs.declared.TheConstants.{MAX_ENTRIES, MAX_MEMBERS, MAX_NAMED}
 use Rattle.book_office_values.specs.declared.paths.Path.{Path}
 use Rattle.book_office_values.specs.declared.paths.Path.TheVariants as path
 use Rattle.book_policy_values.specs.declared.parts.PersonPart.{PersonPart}
@@ -147,9 +148,6 @@ HoldsSome leaves = (leaf : Leaf) × (leaves leaf ≡ true)
 
 -- ---- the faults
 
-abbrev pub IsShortLabel : List ℕ → Type 0
-IsShortLabel label = length label ≤ MAX_LABEL_BYTES
-
 -- parts that keep within the limits on numbers
 pub record IsFew (persons : List PersonPart) (groups : List GroupPart) (books : List BookPart) (entries : List EntryPart) : Type 0 where
   pub few_persons : length persons ≤ MAX_NAMED
@@ -160,11 +158,11 @@ pub record IsFew (persons : List PersonPart) (groups : List GroupPart) (books : 
   -- of one list
   pub few_entries : (is_protected : Bool) (at : List ℕ) → length (entries_at is_protected at (map entry_of entries)) ≤ MAX_ENTRIES
 
--- labels have at most 256 bytes
-pub record HaveShortLabels (persons : List PersonPart) (groups : List GroupPart) (books : List BookPart) : Type 0 where
-  pub of_persons : All (λ (p : PersonPart). IsShortLabel p.label) persons
-  pub of_groups : All (λ (g : GroupPart). IsShortLabel g.label) groups
-  pub of_books : All (λ (b : BookPart). IsShortLabel b.label) books
+-- labels are UTF-8, of at most 256 bytes
+pub record HaveLabels (persons : List PersonPart) (groups : List GroupPart) (books : List BookPart) : Type 0 where
+  pub of_persons : All (λ (p : PersonPart). IsLabel p.label) persons
+  pub of_groups : All (λ (g : GroupPart). IsLabel g.label) groups
+  pub of_books : All (λ (b : BookPart). IsLabel b.label) books
 
 -- names are names
 pub record AreNames (persons : List PersonPart) (groups : List GroupPart) (books : List BookPart) : Type 0 where
@@ -195,7 +193,7 @@ ArePlaces persons groups books entries =
 
 -- parts without a fault
 pub record IsFaultless (persons : List PersonPart) (groups : List GroupPart) (books : List BookPart) (entries : List EntryPart) : Type 0 where
-  pub labels : HaveShortLabels persons groups books
+  pub labels : HaveLabels persons groups books
   -- each entry holds a leaf
   pub leaves : All (λ (e : EntryPart). HoldsSome e.entry.set) entries
   pub names : AreNames persons groups books
@@ -208,9 +206,9 @@ pub record IsFaultless (persons : List PersonPart) (groups : List GroupPart) (bo
 -- ---- what holds of every policy
 
 pub record IsPolicy (t : PolicyTables) : Type 0 where
-  pub persons : (name : List ℕ) (label : List ℕ) → get t.persons name ≡ Some label → IsName name × IsShortLabel label
-  pub groups : (name : List ℕ) (label : List ℕ) → get t.groups name ≡ Some label → IsName name × IsShortLabel label
-  pub books : (name : List ℕ) (book : PolicyBook) → get t.books name ≡ Some book → IsName name × IsShortLabel book.label × IsKnownOwner t.persons t.groups book.owner
+  pub persons : (name : List ℕ) (label : List ℕ) → get t.persons name ≡ Some label → IsName name × IsLabel label
+  pub groups : (name : List ℕ) (label : List ℕ) → get t.groups name ≡ Some label → IsName name × IsLabel label
+  pub books : (name : List ℕ) (book : PolicyBook) → get t.books name ≡ Some book → IsName name × IsLabel book.label × IsKnownOwner t.persons t.groups book.owner
   pub members : (m : Membership) → set.contains t.members m ≡ true
       → ((name : List ℕ) × (m.group ≡ group_path name) × (get t.groups name ≢ None)) × IsKnown t.persons t.groups m.member
   pub few_members : (group : List ℕ) → set.len (members_of t.members group) ≤ MAX_MEMBERS

@@ -6,7 +6,8 @@ use Rattle.std.specs.FinSet as set
 use Rattle.book_lists.specs.Names.{IsName}
 use Rattle.book_lists.specs.declared.entries.Entry.{Entry}
 use Rattle.book_office_values.specs.Names.{NamesTo}
-use Rattle.book_policy_values.specs.Policies.{named_person, named_group, memberships, paired, entry_of, NamesPrincipal, NamesOwner, NamesForm, NamesPlace, HoldsSome, IsShortLabel, list_at}
+use Rattle.book_policy_values.specs.Policies.{named_person, named_group, memberships, paired, entry_of, NamesPrincipal, NamesOwner, NamesForm, NamesPlace, HoldsSome, list_at}
+use Rattle.book_office_values.specs.Texts.{IsLabel}
 use Rattle.book_limits.specs.declared.TheConstants.{MAX_ENTRIES, MAX_MEMBERS}
 use Rattle.book_policy_values.specs.declared.parts.PersonPart.{PersonPart}
 use Rattle.book_policy_values.specs.declared.parts.GroupPart.{GroupPart}
@@ -15,9 +16,9 @@ use Rattle.book_policy_values.specs.declared.parts.EntryPart.{EntryPart}
 use Rattle.book_policy_values.specs.declared.parts.PolicyEntry.{PolicyEntry}
 use Rattle.book_policy_values.specs.declared.parts.PolicyBook.{PolicyBook}
 
--- a name with a short label, that is not there
+-- a name with a label, that is not there
 abbrev pub IsNew : {V : Type 0} → NamesTo V → List ℕ → List ℕ → Type 0
-IsNew m name label = IsName name × IsShortLabel label × (get m name ≡ None)
+IsNew m name label = IsName name × IsLabel label × (get m name ≡ None)
 
 -- each item is fine, and has a name that none before it has
 abbrev pub CanAdd : {A V : Type 0} → (A → Type 0) → (A → List ℕ × V) → NamesTo V → List A → Type 0
@@ -25,14 +26,14 @@ CanAdd Fine entry m [] = Unit {0}
 CanAdd Fine entry m (x ∷ xs) = Fine x × IsName (entry x).0 × (get m (entry x).0 ≡ None) × CanAdd Fine entry (insert m (entry x).0 (entry x).1) xs
 
 abbrev pub PersonsFit : NamesTo (List ℕ) → List PersonPart → Type 0
-PersonsFit = CanAdd (λ p. IsShortLabel p.label) named_person
+PersonsFit = CanAdd (λ p. IsLabel p.label) named_person
 
 abbrev pub GroupsFit : NamesTo (List ℕ) → List GroupPart → Type 0
-GroupsFit = CanAdd (λ g. IsShortLabel g.label) named_group
+GroupsFit = CanAdd (λ g. IsLabel g.label) named_group
 
--- a label that is short, and an owner that is there
+-- a label, and an owner that is there
 abbrev pub BookFits : NamesTo (List ℕ) → NamesTo (List ℕ) → BookPart → Type 0
-BookFits persons groups b = IsShortLabel b.label × NamesOwner persons groups b.owner
+BookFits persons groups b = IsLabel b.label × NamesOwner persons groups b.owner
 
 abbrev pub MembersFit : NamesTo (List ℕ) → NamesTo (List ℕ) → List ℕ × List (List ℕ) → Type 0
 MembersFit persons groups given =

@@ -25,6 +25,7 @@ fn new_name<V>(
     ensures some { IfOk result (λ found. IfSome found (λ read. (read ≡ name.now) × IsNew map.now name.now label.now)) }
     ensures none { IfOk result (λ found. IfNone found (IsNew map.now name.now label.now → ⊥)) }
 {
+    label.known();
     if label.len() > MAX_LABEL_BYTES {
         return Ok(None);
     }

@@ -58,3 +58,4 @@ pub mod AdoptedRows
 pub mod ReadActing
 pub mod AdoptedOffices
 pub mod FoundMembers
+pub mod GroupsTold

@@ -8,7 +8,7 @@ use Rattle.book_tables_rows.specs.Lists as lists
 use Rattle.book_tables_rows.specs.Lists.{AreFirst, ShowsList, ShowsFirst, ShowsChildren, ShowsChildEntries, changed_number_place, removed_number_place, entry_columns, changed_id}
 use Rattle.book_tables_rows.specs.Nodes.{Finds, Told, told, told_of}
 use Rattle.book_tables_rows.specs.Writes.{entries_of}
-use Rattle.book_tables.specs.LastChanges.{AreCardsOf, AreChangesAt, ShowsEntries, ShowsCard, ShowsCards, changed_shown, own_shown}
+use Rattle.book_tables.specs.LastChanges.{AreCardsOf, AreCardChangesAt, ShowsCardChanges, AreChangesAt, ShowsEntries, ShowsCard, ShowsCards, changed_shown, own_shown}
 use Rattle.book_tables.proofs.ChildShares.{cards_are, do_not_fall, shares_are}
 use Rattle.book_tables.proofs.SameLists.{has_mapped, has_permuted}
 use Rattle.book_tables.proofs.FirstChanges.{has_first}
@@ -110,6 +110,52 @@ in_any_order s path number at_most changes ordered shows same = (shows.0, λ boo
     go : (r : Option Row) → AreChangesAt (rows_of s.now.trees) path number at_most changes r → AreChangesAt (rows_of s.now.trees) path number at_most ordered r
     go None none = nothing ordered (subst (λ l. IsPermutation l ordered) none same)
     go (Some node) are = record { cards = are.cards; names = are.names; first_cards = are.first_cards; first_names = are.first_names; same = IsPermutation-trans _ _ _ are.same same }
+
+-- ---- changes of cards alone
+
+pub no_cards_changed : (s : State) (path : List ℕ) (number : ℕ) (at_most : Option ℕ) (found : Option FoundNode) → found ≡ None → Finds s path (option_map told found) → ShowsCardChanges s path number at_most []
+no_cards_changed s path number at_most found is finds = (finds.0, λ book. go book (row_at (rows_of s.now.trees) path) refl)
+  where
+    go : IsBook s.now → (r : Option Row) → row_at (rows_of s.now.trees) path ≡ r → AreCardChangesAt (rows_of s.now.trees) path number at_most [] r
+    go book None e = refl
+    go book (Some node) e = some_apart (sym (ap (option_map told_of) e) ∙ sym (finds.1 book) ∙ ap (option_map told) is)
+
+module _ (old first second : State) (path front : List ℕ) (number : ℕ) (at_most : Option ℕ) (f : FoundNode) (found : Option FoundNode) (is : found ≡ Some f) (finds : Finds old path (option_map told found))
+    (look : Looks old first) (look_on : Looks first second) (cards : List Row) (shows_cards : ShowsFirst first at_most changed_number_place (lists.changed_rows f.id number) cards)
+    (front_is : front ≡ path ++ codes "/") (changes : List Changed) (are_shown : ShowsCards second f.id front cards changes) where
+  cards_at_node : IsBook old.now → (r : Option Row) → row_at (rows_of old.now.trees) path ≡ r → AreCardChangesAt (rows_of old.now.trees) path number at_most changes r
+  cards_at_node book None e = some_apart (sym (ap (option_map told) is) ∙ finds.1 book ∙ ap (option_map told_of) e)
+  cards_at_node book (Some node) e =
+      let same : told f ≡ told_of node = same_Some _ _ (sym (ap (option_map told) is) ∙ finds.1 book ∙ ap (option_map told_of) e) in
+      let id : f.id ≡ id_in (rowid node) = ap (λ (t : Told). t.id) same in
+      let rows = rows_of old.now.trees in
+      let e1 : first.now ≡ old.now = look.same book in
+      let b1 : IsBook first.now = subst IsBook (sym e1) book in
+      let e2 : second.now ≡ old.now = look_on.same b1 ∙ e1 in
+      let b2 : IsBook second.now = subst IsBook (sym e2) book in
+      let in_cards : AreFirst at_most changed_number_place (lists.changed_rows (id_in (rowid node)) number rows) cards =
+      subst (λ k. AreFirst at_most changed_number_place (lists.changed_rows k number rows) cards) id
+      (subst (λ (d : Database). AreFirst at_most changed_number_place (lists.changed_rows f.id number (rows_of d.trees)) cards) e1 (shows_cards.1 b1)) in
+      let are_cards : AreCardsOf (rows_of second.now.trees) f.id cards =
+      subst (λ (d : Database). AreCardsOf (rows_of d.trees) f.id cards) (sym e2) (subst (λ k. AreCardsOf rows k cards) (sym id) (cards_found rows (id_in (rowid node)) number at_most cards in_cards)) in
+      let all : changes ≡ map (card_shown rows (path ++ codes "/")) cards =
+      are_shown b2 are_cards ∙ ap (λ (d : Database). map (card_shown (rows_of d.trees) front) cards) e2 ∙ ap (λ t. map (card_shown rows t) cards) front_is in
+      record {
+        cards = cards;
+        first_cards = in_cards;
+        same = subst (IsPermutation (map (card_shown rows (path ++ codes "/")) cards)) (sym all) (IsPermutation-refl _);
+      }
+
+  pub all_cards_changed : ShowsCardChanges old path number at_most changes
+  all_cards_changed = (finds.0, λ book. cards_at_node book (row_at (rows_of old.now.trees) path) refl)
+
+pub cards_in_any_order : (s : State) (path : List ℕ) (number : ℕ) (at_most : Option ℕ) (changes ordered : List Changed) → ShowsCardChanges s path number at_most changes → IsPermutation changes ordered
+    → ShowsCardChanges s path number at_most ordered
+cards_in_any_order s path number at_most changes ordered shows same = (shows.0, λ book. go (row_at (rows_of s.now.trees) path) (shows.1 book))
+  where
+    go : (r : Option Row) → AreCardChangesAt (rows_of s.now.trees) path number at_most changes r → AreCardChangesAt (rows_of s.now.trees) path number at_most ordered r
+    go None none = nothing ordered (subst (λ l. IsPermutation l ordered) none same)
+    go (Some node) are = record { cards = are.cards; first_cards = are.first_cards; same = IsPermutation-trans _ _ _ are.same same }
 
 -- ---- children
 

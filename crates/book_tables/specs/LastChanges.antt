@@ -70,6 +70,21 @@ AreChangesAt rows path number at_most changes (Some book) = AreChangesOf rows (p
 abbrev pub ShowsChanges : State → List ℕ → ℕ → Option ℕ → List Changed → Type 0
 ShowsChanges s path number at_most changes = IsTrue s.is_open × (IsBook s.now → AreChangesAt (rows_of s.now.trees) path number at_most changes (row_at (rows_of s.now.trees) path))
 
+-- the changes of the first so many cards of the book whose row this is above a number, in some order
+pub record AreCardChangesOf (rows : Rows) (front : List ℕ) (number : ℕ) (at_most : Option ℕ) (book : Row) (changes : List Changed) : Type 0 where
+  pub cards : List Row
+  pub first_cards : AreFirst at_most changed_number_place (lists.changed_rows (id_in (rowid book)) number rows) cards
+  pub same : IsPermutation (map (card_shown rows front) cards) changes
+
+-- those of the book at a path; none where no row has it
+abbrev pub AreCardChangesAt : Rows → List ℕ → ℕ → Option ℕ → List Changed → Option Row → Type 0
+AreCardChangesAt rows path number at_most changes None = changes ≡ []
+AreCardChangesAt rows path number at_most changes (Some book) = AreCardChangesOf rows (path ++ codes "/") number at_most book changes
+
+-- an open connection shows those changes
+abbrev pub ShowsCardChanges : State → List ℕ → ℕ → Option ℕ → List Changed → Type 0
+ShowsCardChanges s path number at_most changes = IsTrue s.is_open × (IsBook s.now → AreCardChangesAt (rows_of s.now.trees) path number at_most changes (row_at (rows_of s.now.trees) path))
+
 -- each change has a number below those of the changes after it
 abbrev pub DoRise : List Changed → Type 0
 DoRise = IsAscending (λ a b. a.number < b.number)

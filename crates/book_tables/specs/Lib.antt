@@ -13,3 +13,4 @@ pub mod LastChanges
 pub mod Adopting
 pub mod Shares
 pub mod Levels
+pub mod Groups

@@ -25,9 +25,10 @@ use book_tables_rows::{changed_rows, child_entry_rows, entry_rows, gone_rows, lo
 use sqlite::{Alter, Connection, Error, ErrorCode, Row, Transaction};
 use std::alloc::Global;
 
-/// Up to this many cards the lists are looked up one by one: a look-up of all at once looks at the entries of every card
-/// of the book.
-const FEW_CARDS: usize = 64;
+/// Above this many cards the lists are looked up at once: a book has at most ten times as many.
+const MANY_CARDS: u64 = 1_000;
+/// Where these are more than one in so many changes of the book, too.
+const FEW_OF: u64 = 8;
 
 /// The name that a text is; an error where it is none.
 fn name_of(alloc: Global, text: &str) -> Result<Name, Error>
@@ -192,12 +193,21 @@ fn many_cards<S: Alter>(
     cards_joined(alloc, front, rows, &entries)
 }
 
-/// The changes of cards of the book with a number: the lists of few are looked up one by one, those of many at once; but
-/// one by one where a most is given, since such a report is not to cost what stands in the book.
-fn cards_of<S: Alter>(
+/// Whether the lists of so many cards are looked up at once, which looks at the entries of every card of the book. A book
+/// has at most as many cards as its change number, so this looks at no more than ten cards for each that is told. Where a
+/// most is given, the lists are looked up one by one.
+fn are_many(told: usize, number: u64, at_most: Option<u32>) -> bool {
+    let told = told as u64;
+    at_most.is_none() && (told > MANY_CARDS || told > number / FEW_OF)
+}
+
+/// The changes of cards of the book with a number and a change number: the lists of few are looked up one by one, those
+/// of many at once.
+pub(crate) fn cards_of<S: Alter>(
     alloc: Global,
     transaction: &mut Transaction<'_, S>,
     book: i64,
+    number: u64,
     front: &str,
     rows: &[Row],
     at_most: Option<u32>,
@@ -210,8 +220,7 @@ fn cards_of<S: Alter>(
     ensures shown { HasCleanDisk (state S.Store transaction.new.conn.now)
         → IfOk result (λ changes. ShowsCards (state S.Store transaction.old.conn.now) book front.now rows.now changes.items) }
 {
-    let are_many = rows.len() > FEW_CARDS && at_most.is_none();
-    if are_many {
+    if are_many(rows.len(), number, at_most) {
         many_cards(alloc, transaction, book, front, rows)
     } else {
         changed_cards(alloc, transaction, front, rows)
@@ -252,7 +261,15 @@ fn changes_at<S: Alter>(
     let front = format!(in alloc; "{path}/")?;
     let cards = changed_rows(transaction, book.id, number, at_most)?;
     let names = gone_rows(transaction, book.id, number, at_most)?;
-    let mut changes = cards_of(alloc, transaction, book.id, front.as_str(), &cards, at_most)?;
+    let mut changes = cards_of(
+        alloc,
+        transaction,
+        book.id,
+        book.number,
+        front.as_str(),
+        &cards,
+        at_most,
+    )?;
     push_removed(alloc, &mut changes, &names)?;
     Ok(changes)
 }
@@ -280,7 +297,7 @@ fn rows_changed<S: Alter>(
 }
 
 /// The changes in order of their numbers; an error where two have one number.
-fn in_order(changes: Vec<Changed>) -> Result<Items<Changed>, Error>
+pub(crate) fn in_order(changes: Vec<Changed>) -> Result<Items<Changed>, Error>
     ensures kept { IfOk result (λ ordered. IsPermutation changes.items ordered) }
     ensures rise { IfOk result (λ ordered. DoRise ordered) }
 {
@@ -293,7 +310,7 @@ fn in_order(changes: Vec<Changed>) -> Result<Items<Changed>, Error>
 }
 
 /// The first so many changes; all of them where no most is given.
-fn first_of(changes: Items<Changed>, at_most: Option<u32>) -> Items<Changed>
+pub(crate) fn first_of(changes: Items<Changed>, at_most: Option<u32>) -> Items<Changed>
     ensures { result ≡ first_of at_most changes }
 {
     let mut first = changes.into_vec();
@@ -324,7 +341,7 @@ fn shown_changes<S: Alter>(
 }
 
 /// The number, or the last one that there is: no change is above either.
-fn up_to_last(number: u64) -> u64
+pub(crate) fn up_to_last(number: u64) -> u64
     ensures { result ≡ min number LAST_NUMBER }
 {
     number.min(LAST_NUMBER)

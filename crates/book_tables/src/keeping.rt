@@ -1,7 +1,7 @@
 //! The keeper of an Office over tables.
 
 use crate::tables::Tables;
-use book_lists::{Caller, Circle, Name, Pairs};
+use book_lists::{Caller, Circle, Name, Pairs, Principal};
 use book_office::{Changed, Edit, Keeper, Level, Listed, Lists, Node, StoreFault};
 use book_office_adopting::Adoption;
 use book_office_values::{Items, Path};
@@ -43,6 +43,20 @@ impl<S: Alter> Keeper for Tables<S> {
         at_most: Option<u32>,
     ) -> Result<Items<Changed>, StoreFault> {
         Tables::changes_after(self, alloc, book, number, at_most)
+    }
+
+    fn cards_after(
+        &mut self,
+        alloc: Global,
+        book: &Name,
+        number: u64,
+        at_most: Option<u32>,
+    ) -> Result<Items<Changed>, StoreFault> {
+        Tables::cards_after(self, alloc, book, number, at_most)
+    }
+
+    fn members(&mut self, alloc: Global, group: &Principal) -> Result<Pairs, StoreFault> {
+        Tables::members(self, alloc, group)
     }
 
     fn pairs(&mut self, alloc: Global) -> Result<Pairs, StoreFault> {

@@ -22,10 +22,12 @@
 
 mod adopting;
 mod bare_office;
+mod card_changes;
 mod changes;
 mod differences;
 mod entries;
 mod faults;
+mod group_members;
 mod keeping;
 mod laws;
 mod levels;

@@ -1,5 +1,5 @@
 -- What the steps of a migration leave of a connection.
-use Rattle.std.proofs.Common.{◌≡◌, inl, inr, ℕ, true, false, [], length, Option, Some, None, Result, Ok, Err, IfErr, IfSome, refl, sym, ap, subst, ◌∙◌, IsTrue, arith}
+use Rattle.std.proofs.Common.{◌≡◌, inl, inr, ℕ, true, false, [], length, Option, Some, None, Result, Ok, Err, IfErr, refl, sym, ap, subst, ◌∙◌, IsTrue, arith}
 use Rattle.sqlite.specs.Effect.{Database}
 use Rattle.sqlite.specs.State.{State, HasCleanDisk, Opens, Shows, Survives}
 use Rattle.book_office_values.specs.declared.offices.Office.{Office}
@@ -14,7 +14,7 @@ use Rattle.book_tables_schema.specs.Tabled.{HasTables, IsTabled}
 use Rattle.book_tables_renewing.specs.Renewal.{first_rows_of, AreFirstRows, Renewed}
 use Rattle.book_tables.specs.Stands.{Gives, IsKept, LeftBy, Stands}
 use Rattle.book_tables.proofs.OneOffice.{kept_stands, one_office, only_left}
-use Rattle.book_tables_opening.specs.Reading.{AreReadable, RowsRise, Settled, StandsForOne}
+use Rattle.book_tables_opening.specs.Reading.{RowsRise, Settled, StandsForOne}
 use Rattle.book_tables_migrating.specs.Migrating.{HasFirst, StandsFirst, StandsForNoFirst, Rewritten, IsMigrated, MayMigrate, StandsWidened, IsUnmigrated}
 use Rattle.book_tables_migrating.specs.Widen.{widen}
 use Rattle.book_tables_migrating.proofs.MappedRows.{as_first, widened_stands, stood_first}
@@ -64,7 +64,6 @@ module _ (old between : State) (drops : DropsReach old between) where
           let one = stood_first between.now tables (renewed.first tables) mid.now made.0 made.1 it.office it.stood in
           let same : it.office ≡ widen one.0 = one_office (rows_of mid.now.trees) it.office (widen one.0) it.stood.gives one.2.gives it.stood.sound one.2.sound in
           (one.0, stood_before first one.0 one.1, subst (IsKept new.now) same it.kept);
-      readable = λ first. let made = renewed.made (tables_left first) in (settles.1 (tabled_of mid.now made.0)).readable;
       counted = λ first. renewed.counted (tables_left first) ∙ ap (λ (r : Rows). length r.entries) (rows_left first);
     }
 
@@ -79,7 +78,6 @@ migrated old begun inner new count schema is made shows =
       is_open = shows.is_open;
       committed = shows.committed_is ∙ sym shows.now_is;
       stands = λ tables. let x = it.stands tables in (x.0, x.1, subst (λ db. IsKept db (widen x.0)) (sym shows.now_is) x.2);
-      readable = λ tables. subst AreReadable (sym shows.now_is) (it.readable tables);
       counted = it.counted;
     }
 
@@ -121,7 +119,6 @@ widened_alone old new count rise at_rest m =
             let same : left.0 ≡ new.now.trees = at_rest left.0 m.is_open left.1 ∙ ap (λ (d : Database). d.trees) m.committed in
             only_left new.now (widen x.0) l (kept_stands new.now (widen x.0) x.2) (subst (λ t. LeftBy t l) same left.2);
       };
-      readable = λ _. m.readable tables;
       counted = m.counted tables;
     }
 
@@ -139,7 +136,3 @@ unmigrated old new clean opens at_rest rise stays survives = record {
 pub if_err : {X E : Type 0} (r : Result X E) (P Q : E → Type 0) → ((e : E) → P e → Q e) → IfErr r P → IfErr r Q
 if_err (Ok x) P Q f h = tt
 if_err (Err e) P Q f h = f e h
-
-pub if_some : {A : Type 0} (o : Option A) (P Q : A → Type 0) → ((a : A) → P a → Q a) → IfSome o P → IfSome o Q
-if_some None P Q f h = tt
-if_some (Some a) P Q f h = f a h

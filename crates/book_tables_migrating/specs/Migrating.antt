@@ -20,7 +20,7 @@ use Rattle.book_tables_schema.specs.OtherReach.{IsBeside}
 use Rattle.book_tables_renewing.specs.Renewal.{first_rows_of, AreFirstRows}
 use Rattle.book_tables.specs.Opened.{StandsAlone}
 use Rattle.book_tables.specs.Stands.{Gives, IsKept, Stands}
-use Rattle.book_tables_opening.specs.Reading.{AreReadable, RowsRise}
+use Rattle.book_tables_opening.specs.Reading.{RowsRise}
 use Rattle.book_tables_migrating.specs.Widen.{widen}
 
 -- ---- version 1
@@ -60,7 +60,6 @@ pub record Rewritten (old new : State) (count : ℕ) : Type 0 where
   pub inside : IsTrue new.in_transaction
   pub was_open : IsTrue old.is_open
   pub stands : HasFirst old.now → (o : Office) × StandsFirst old.now o × IsKept new.now (widen o)
-  pub readable : HasFirst old.now → AreReadable new.now
   pub counted : HasFirst old.now → count ≡ length (old.now.trees ace_tree)
 
 -- whether they did: if not, they stood for no Office
@@ -75,7 +74,6 @@ pub record IsMigrated (old new : State) (count : ℕ) : Type 0 where
   pub is_open : IsTrue new.is_open
   pub committed : new.committed ≡ new.now
   pub stands : HasFirst old.now → (o : Office) × StandsFirst old.now o × IsKept new.now (widen o)
-  pub readable : HasFirst old.now → AreReadable new.now
   pub counted : HasFirst old.now → count ≡ length (old.now.trees ace_tree)
 
 -- what a stop may leave of it
@@ -96,7 +94,6 @@ pub record StandsWidened (trees : Trees) (new : State) (count : ℕ) : Type 0 wh
   pub office : Office
   pub first : StandsFirstBy trees office
   pub stands : StandsAlone new (widen office)
-  pub readable : IsTrue new.is_open → AreReadable new.now
   pub counted : count ≡ length (trees ace_tree)
 
 -- what an open connection shows stands for no Office as tables of version 1

@@ -1,16 +1,17 @@
 //! Migrating a store, in one transaction.
 
-ghost use Rattle.std.specs.Prelude.{◌≡◌, IfOk, IfErr, IfSome, IsSomeAnd, OnErr, IsTrue};
+ghost use Rattle.std.specs.Prelude.{◌≡◌, IfOk, IfErr, OnErr, IsTrue};
 ghost use Rattle.sqlite.specs.Held.{state};
 ghost use Rattle.sqlite.specs.State.{HasCleanDisk, Survives};
 ghost use Rattle.book_tables_rows.specs.Steps.{Keeps, Stays};
+ghost use Rattle.book_tables_schema.specs.Reopening.{IfConnection, IfStore, IsConnectionAnd, IsUnharmed};
 ghost use Rattle.book_tables_opening.specs.Reading.{FaultSays, IsRefused, IsReopened};
 ghost use Rattle.book_tables_migrating.specs.Migrating.{IsUnmigrated, MayMigrate, StandsForNoneFirst, StandsWidened, TellsMigrated, TellsRewritten};
 
 use book_tables::{OpenFault, Tables};
 use book_tables_opening::{open_fault_of, settle_office, tells_other};
 use book_tables_renewing::renew;
-use book_tables_schema::{drop_reach, is_beside_reach, reopen};
+use book_tables_schema::{Unopened, drop_reach, is_beside_reach, reopen};
 use sqlite::{Alter, Connection, Error, ErrorCode, Transaction};
 use std::alloc::Global;
 
@@ -85,26 +86,27 @@ fn refusal_of<S: Alter>(connection: &mut Connection<S>) -> OpenFault
 fn migrate_again<S: Alter>(
     alloc: Global,
     mut connection: Connection<S>,
-) -> Result<(Tables<S>, u64), (OpenFault, Option<Connection<S>>)>
+) -> Result<(Tables<S>, u64), (OpenFault, Unopened<S>)>
     ensures stands { IsReopened (state S.Store connection)
         → IfOk result (λ t. HasCleanDisk (state S.Store t.0.connection) → HasCleanDisk (state S.Store connection)
         × StandsWidened (state S.Store connection).now.trees (state S.Store t.0.connection) t.1) }
     ensures counted { IfOk result (λ t. t.0.failures ≡ 0) }
-    ensures refused { IfErr result (λ e. IsRefused e.0 → IsSomeAnd e.1 (λ c.
+    ensures refused { IfErr result (λ e. IsRefused e.0 → IsConnectionAnd e.1 (λ c.
         HasCleanDisk (state S.Store c) → StandsForNoneFirst (state S.Store c))) }
-    ensures other { IfErr result (λ e. IsRefused e.0 → IsSomeAnd e.1 (λ c. HasCleanDisk (state S.Store c)
+    ensures other { IfErr result (λ e. IsRefused e.0 → IsConnectionAnd e.1 (λ c. HasCleanDisk (state S.Store c)
         → IsTrue (state S.Store c).is_open → FaultSays S.Store 1 (state S.Store c).now e.0)) }
     ensures kept { IsReopened (state S.Store connection)
-        → IfErr result (λ e. IfSome e.1 (λ c. HasCleanDisk (state S.Store c) → HasCleanDisk (state S.Store connection)
+        → IfErr result (λ e. IfConnection e.1 (λ c. HasCleanDisk (state S.Store c) → HasCleanDisk (state S.Store connection)
         × IsUnmigrated (state S.Store connection).now.trees (state S.Store c))) }
+    ensures connected { IfErr result (λ e. IfStore e.1 (λ _. ⊥)) }
 {
     match migrate_first(alloc, &mut connection) {
         Ok(Some(count)) => Ok((Tables::over(connection), count as u64)),
         Ok(None) => {
             let fault = refusal_of(&mut connection);
-            Err((fault, Some(connection)))
+            Err((fault, Unopened::Connection(connection)))
         }
-        Err(error) => Err((open_fault_of(error), Some(connection))),
+        Err(error) => Err((open_fault_of(error), Unopened::Connection(connection))),
     }
 }
 
@@ -117,24 +119,25 @@ fn migrate_again<S: Alter>(
 ///
 /// `OtherVersion` where the tables stand for no Office as those of version 1, and `meta` has one row, with another
 /// version than 1; `NoStore` where they stand for none else. `Memory` is want of memory, `Store` any other failure of
-/// the store. The connection comes back but where the store could not be opened again, and shows what was committed; a
-/// stop leaves that, or what is migrated.
+/// the store. The connection comes back, and shows what was committed; a stop leaves that, or what is migrated. Where the
+/// store could not be opened again, it comes back itself: a stop leaves what was committed, if the connection was open.
 pub fn migrate<S: Alter + Drop>(
     alloc: Global,
     connection: Connection<S>,
-) -> Result<(Tables<S>, u64), (OpenFault, Option<Connection<S>>)>
+) -> Result<(Tables<S>, u64), (OpenFault, Unopened<S>)>
     ensures stands { IfOk result (λ t. HasCleanDisk (state S.Store t.0.connection)
         → StandsWidened (state S.Store connection).committed.trees (state S.Store t.0.connection) t.1) }
     ensures counted { IfOk result (λ t. t.0.failures ≡ 0) }
-    ensures refused { IfErr result (λ e. IsRefused e.0 → IsSomeAnd e.1 (λ c.
+    ensures refused { IfErr result (λ e. IsRefused e.0 → IsConnectionAnd e.1 (λ c.
         HasCleanDisk (state S.Store c) → StandsForNoneFirst (state S.Store c))) }
-    ensures other { IfErr result (λ e. IsRefused e.0 → IsSomeAnd e.1 (λ c. HasCleanDisk (state S.Store c)
+    ensures other { IfErr result (λ e. IsRefused e.0 → IsConnectionAnd e.1 (λ c. HasCleanDisk (state S.Store c)
         → IsTrue (state S.Store c).is_open → FaultSays S.Store 1 (state S.Store c).now e.0)) }
-    ensures kept { IfErr result (λ e. IfSome e.1 (λ c. HasCleanDisk (state S.Store c)
+    ensures kept { IfErr result (λ e. IfConnection e.1 (λ c. HasCleanDisk (state S.Store c)
         → IsUnmigrated (state S.Store connection).committed.trees (state S.Store c))) }
+    ensures unharmed { IfErr result (λ e. IfStore e.1 (IsUnharmed S.Store (state S.Store connection))) }
 {
     match reopen(alloc, connection) {
         Ok(opened) => migrate_again(alloc, opened),
-        Err(error) => Err((open_fault_of(error), None)),
+        Err((error, store)) => Err((open_fault_of(error), Unopened::Store(store))),
     }
 }

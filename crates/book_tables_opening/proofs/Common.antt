@@ -55,6 +55,5 @@ pub use Rattle.book_tables.specs.Rows.{row_at, resource_of, kind_code, flag_in, 
 pub use Rattle.book_tables.specs.Stands.{Gives, IsNode, IsEntry, IsParent, IsRemoved}
 pub use Rattle.book_tables_opening.specs.Directories.{is_of_kind, first_shown_at, node_numbered, number_at, shown_with, is_int_of, is_text_of}
 pub use Rattle.book_tables_opening.specs.Opening.{AreAtMost, Key, IsNodeRow, same_key, AreOfficeRows, IsEntryRow, IsBelow, IsGoneRow, IsMemberRow, IsWithinBook, IsChangeNumber, IsContent, IsKnown, IsMetaRows, card_changes, change_keys, gone_change, gone_changes, list_keys}
-pub use Rattle.book_tables_opening.specs.Reading.{HasUtf8}
 pub use Rattle.book_tables_opening.specs.Shown.{shown_path, shown_id, shown_parent, shown_protected}
 pub use Rattle.book_tables_opening.specs.WholeNodes.{node_shown, whole_nodes}

@@ -34,6 +34,8 @@ pub mod AnyOrder
 pub mod Within
 pub mod AsciiPaths
 pub mod PathRows
+pub mod Textless
+pub mod NodeTexts
 pub mod ReadTables
 pub mod OpenedTables
 pub mod SettledStores

@@ -1,9 +1,9 @@
--- Rows are those of an Office where they have the form and keep the limits.
-use Rattle.book_tables_opening.proofs.Common.{List, Row, AreOfficeRows, IsMetaRows}
-use Rattle.book_tables_opening.specs.Opening.{HaveForm, KeepLimits}
+-- Rows are those of an Office, but for the texts, where they have the form and keep the limits.
+use Rattle.book_tables_opening.proofs.Common.{List, Row, IsMetaRows}
+use Rattle.book_tables_opening.specs.Opening.{AreTextlessRows, HaveForm, KeepLimits}
 
 module _ (nodes entries members gone meta : List Row) where
-  pub whole : HaveForm nodes entries members gone → KeepLimits nodes entries members gone → IsMetaRows meta → AreOfficeRows nodes entries members gone meta
+  pub whole : HaveForm nodes entries members gone → KeepLimits nodes entries members gone → IsMetaRows meta → AreTextlessRows nodes entries members gone meta
   whole f l m = record {
     each_node = f.each_node;
     homes = f.homes;
@@ -19,8 +19,8 @@ module _ (nodes entries members gone meta : List Row) where
     meta_rows = m;
   }
 
-  pub form : AreOfficeRows nodes entries members gone meta → HaveForm nodes entries members gone
+  pub form : AreTextlessRows nodes entries members gone meta → HaveForm nodes entries members gone
   form a = record { each_node = a.each_node; homes = a.homes; each_entry = a.each_entry; each_member = a.each_member; each_gone = a.each_gone }
 
-  pub limits : AreOfficeRows nodes entries members gone meta → KeepLimits nodes entries members gone
+  pub limits : AreTextlessRows nodes entries members gone meta → KeepLimits nodes entries members gone
   limits a = record { lists = a.lists; groups = a.groups; changes = (a.within, a.different); cards = a.cards; books = a.books }

@@ -1,6 +1,6 @@
 -- Tables whose rows are those of a sound Office stand for it, and those of others for none.
-use Rattle.book_tables_opening.proofs.Common.{◌≡◌, inl, inr, Bool, true, false, List, [], Option, Some, None, IsTrue, refl, sym, ap, subst, ◌∙◌, arith, AllByRecursion, Database, Row, State, HasCleanDisk, pairs_of, rows_of, IsBook, book_schema, entries_shown, gone_shown, meta_shown, AreOfficeRows, HasUtf8, whole_nodes}
-use Rattle.std.proofs.Common.{◌↔◌, ◌⊎◌, IfSome}
+use Rattle.book_tables_opening.proofs.Common.{◌≡◌, inl, inr, Bool, true, false, List, [], Option, Some, None, IsTrue, refl, sym, ap, subst, ◌∙◌, arith, Database, Row, State, HasCleanDisk, pairs_of, rows_of, IsBook, book_schema, entries_shown, gone_shown, meta_shown, AllByRecursion, AreOfficeRows, whole_nodes}
+use Rattle.std.proofs.Common.{◌↔◌, ◌⊎◌}
 use Rattle.std.proofs.lemmas.Bool.{true≢false}
 use Rattle.std.proofs.lemmas.List.Sorted.{IsPermutation-sym}
 use Rattle.sqlite.specs.State.{Opens, Survives}
@@ -18,32 +18,51 @@ use Rattle.book_tables.specs.Reach as reaching
 use Rattle.book_tables.specs.Stands.{Gives, IsKept, LeftBy, LeftOf, Stands}
 use Rattle.book_tables.proofs.OneOffice.{base_of, kept_stands, one_office, only_left}
 use Rattle.book_tables.proofs.RenewedReach.{gives_with_reach}
-use Rattle.book_tables_opening.specs.Reading.{Commits, IsOpened, IsReopened, IsUnopened, IsWhole, LeavesReach, MaySettle, RowsRise, SameRows, Settled, ShowsTables, AreReadable, StandsForItsOffice, StandsForOne, StandsForNone, TellsOffice, TellsSettled, TellsStanding, WritesReach}
+use Rattle.book_tables_opening.specs.Opening.{AreTextlessRows, HasTextIn}
+use Rattle.book_tables_opening.specs.Reading.{Commits, IsOpened, IsReopened, IsUnopened, LeavesReach, MaySettle, RowsRise, SameRows, Settled, ShowsTables, StandsForItsOffice, StandsForOne, StandsForNone, TellsOffice, TellsSettled, TellsStanding, WritesReach}
 use Rattle.book_tables_opening.proofs.AnyOrder.{any_order}
 use Rattle.book_tables_opening.proofs.GivenRows.{given_rows}
+use Rattle.book_tables_opening.proofs.NodeTexts.{texts_own, texts_there}
 use Rattle.book_tables_opening.proofs.RowOffices.{office_of_rows}
+use Rattle.book_tables_opening.proofs.Textless.{office_with_texts, textless_office, texts_of_office}
 
--- what the tests of the rows that are shown tell
+-- what the tests of the rows that are shown, and of the texts, tell
 module _ (s : State) (nodes entries members gone meta : List Row) (shows : ShowsTables s nodes entries members gone meta) where
-  office_shown : (book : IsBook s.now) → AreOfficeRows nodes entries members gone meta → StandsForOne s.now
-  office_shown book are =
+  office_shown : (book : IsBook s.now) → AreTextlessRows nodes entries members gone meta → AllByRecursion (HasTextIn (rows_of s.now.trees)) nodes → StandsForOne s.now
+  office_shown book are texts =
       let rows = rows_of s.now.trees in
-      let exact = subst (λ ns. AreOfficeRows ns (entries_shown rows) (pairs_of rows) (gone_shown rows) (meta_shown rows)) (shows.nodes_are.1 book)
-      (any_order nodes entries (entries_shown rows) members (pairs_of rows) gone (gone_shown rows) meta (meta_shown rows)
-      (IsPermutation-sym _ _ (shows.lists.entries_are.1 book)) (IsPermutation-sym _ _ (shows.lists.members_are.1 book)) (IsPermutation-sym _ _ (shows.rest.gone_are.1 book)) (IsPermutation-sym _ _ (shows.rest.meta_are.1 book)) are) in
+      let bare = subst (λ ns. AreTextlessRows ns entries members gone meta) (shows.nodes_are.1 book) are in
+      let own = texts_own s.now book (subst (AllByRecursion (HasTextIn rows)) (shows.nodes_are.1 book) texts) in
+      let exact = any_order (whole_nodes rows) entries (entries_shown rows) members (pairs_of rows) gone (gone_shown rows) meta (meta_shown rows)
+      (IsPermutation-sym _ _ (shows.lists.entries_are.1 book)) (IsPermutation-sym _ _ (shows.lists.members_are.1 book)) (IsPermutation-sym _ _ (shows.rest.gone_are.1 book)) (IsPermutation-sym _ _ (shows.rest.meta_are.1 book))
+      (office_with_texts (whole_nodes rows) entries members gone meta bare own) in
       let o = office_of_rows s.now book exact in
       (o.0, record { base = base_of s.now book; gives = o.1; sound = o.2 })
 
-  shown_office : (book : IsBook s.now) → StandsForOne s.now → AreOfficeRows nodes entries members gone meta
+  shown_office : (book : IsBook s.now) → StandsForOne s.now → AreOfficeRows (whole_nodes (rows_of s.now.trees)) entries members gone meta
   shown_office book (o, st) =
       let rows = rows_of s.now.trees in
-      subst (λ ns. AreOfficeRows ns entries members gone meta) (sym (shows.nodes_are.1 book))
-      (any_order (whole_nodes rows) (entries_shown rows) entries (pairs_of rows) members (gone_shown rows) gone (meta_shown rows) meta
-      (shows.lists.entries_are.1 book) (shows.lists.members_are.1 book) (shows.rest.gone_are.1 book) (shows.rest.meta_are.1 book) (given_rows s.now book o st.gives st.sound))
+      any_order (whole_nodes rows) (entries_shown rows) entries (pairs_of rows) members (gone_shown rows) gone (meta_shown rows) meta
+      (shows.lists.entries_are.1 book) (shows.lists.members_are.1 book) (shows.rest.gone_are.1 book) (shows.rest.meta_are.1 book) (given_rows s.now book o st.gives st.sound)
 
-  pub office_told : (is : Bool) → (IsTrue is → AreOfficeRows nodes entries members gone meta) → (AreOfficeRows nodes entries members gone meta → IsTrue is) → (IsTrue is → AllByRecursion HasUtf8 nodes) → TellsStanding s is
-  office_told is passes found texts =
-      (shows.nodes_are.0, λ book. (λ yes. (office_shown book (passes yes), subst (AllByRecursion HasUtf8) (shows.nodes_are.1 book) (texts yes)), λ one. found (shown_office book one)))
+  -- where the rows are not those of an Office, whatever the texts
+  pub none_told : ¬ (AreTextlessRows nodes entries members gone meta) → TellsStanding s false
+  none_told none = (
+    shows.nodes_are.0,
+    λ book. (
+      λ yes. absurd (true≢false (sym yes)),
+      λ one. absurd (none (subst (λ ns. AreTextlessRows ns entries members gone meta) (sym (shows.nodes_are.1 book)) (textless_office _ entries members gone meta (shown_office book one)))),
+    ),
+  )
+
+  pub office_told : AreTextlessRows nodes entries members gone meta → (is : Bool) → (IsBook s.now → IsTrue is ↔ AllByRecursion (HasTextIn (rows_of s.now.trees)) nodes) → TellsStanding s is
+  office_told are is told = (
+    shows.nodes_are.0,
+    λ book. (
+      λ yes. office_shown book are ((told book).0 yes),
+      λ one. (told book).1 (subst (AllByRecursion (HasTextIn (rows_of s.now.trees))) (sym (shows.nodes_are.1 book)) (texts_there s.now book (texts_of_office _ entries members gone meta (shown_office book one)))),
+    ),
+  )
 
 -- tables without the schema of a store stand for none
 pub foreign_none : (db : Database) → ¬ (IsBeside true db.schema) → ¬ (StandsForOne db)
@@ -56,8 +75,8 @@ former_none db some (o, st) = some st.base.former
 -- ---- in a transaction
 
 -- other tables than `reach` that stay, and a `reach` that holds what chains lead to, are kept for the Office
-settled : (db new : Database) (o : Office) → Stands db o → AreReadable db → IsBook new → (reach : List Row) → rows_of new.trees ≡ record (rows_of db.trees) { reach = reach } → HoldsReach reach o.pairs → Settled db new
-settled db new o st texts book reach rows_are holds = record {
+settled : (db new : Database) (o : Office) → Stands db o → IsBook new → (reach : List Row) → rows_of new.trees ≡ record (rows_of db.trees) { reach = reach } → HoldsReach reach o.pairs → Settled db new
+settled db new o st book reach rows_are holds = record {
   office = o;
   stood = st;
   kept = record {
@@ -66,7 +85,6 @@ settled db new o st texts book reach rows_are holds = record {
     sound = st.sound;
     reach = subst (λ (rows : Rows). HoldsReach rows.reach o.pairs) (sym rows_are) holds;
   };
-  readable = subst (λ rows. AllByRecursion HasUtf8 (whole_nodes rows)) (sym rows_are) texts;
   same = rows_are ∙ (λ i. record (rows_of db.trees) { reach = sym (ap (λ (rows : Rows). rows.reach) rows_are) i });
 }
 
@@ -87,8 +105,8 @@ module _ (old first second : State) (looks : Looks old first) (again : Looks fir
         true≢false (sym ((standing.1 (subst IsBook (sym is) book)).1 (subst StandsForOne (sym is) one)))
 
     module _ (standing : TellsStanding first true) where
-      whole_is : IsTabled old.now → IsWhole old.now
-      whole_is tabled = let book = book_is tabled in let is = looks.same book in subst IsWhole is ((standing.1 (subst IsBook (sym is) book)).0 refl)
+      one_is : IsTabled old.now → StandsForOne old.now
+      one_is tabled = let book = book_is tabled in let is = looks.same book in subst StandsForOne is ((standing.1 (subst IsBook (sym is) book)).0 refl)
 
       same_now : (tabled : IsTabled old.now) → second.now ≡ old.now
       same_now tabled = let book = book_is tabled in let is = looks.same book in again.same (subst IsBook (sym is) book) ∙ is
@@ -101,12 +119,12 @@ module _ (old first second : State) (looks : Looks old first) (again : Looks fir
         inside = settles.inside;
         is_open = settles.is_open;
         made = λ tabled.
-            let whole_old = whole_is tabled in
-            let o = whole_old.0.0 in
-            let st = whole_old.0.1 in
+            let one = one_is tabled in
+            let o = one.0 in
+            let st = one.1 in
             let is = same_now tabled in
             let done = settles.made (subst IsBook (sym is) (book_is tabled)) in
-            settled old.now third.now o st whole_old.1 done.0 done.1 (done.2 ∙ ap (λ (db : Database). record (rows_of db.trees) { reach = done.1 }) is)
+            settled old.now third.now o st done.0 done.1 (done.2 ∙ ap (λ (db : Database). record (rows_of db.trees) { reach = done.1 }) is)
             (done.3 o.pairs (members_at is o st));
       }
 
@@ -114,14 +132,14 @@ module _ (old first second : State) (looks : Looks old first) (again : Looks fir
       reach_left third inside holds = record {
         inside = subst IsTrue (sym (holds.looks.mode ∙ again.mode ∙ looks.mode)) inside;
         made = λ tabled.
-            let whole_old = whole_is tabled in
-            let o = whole_old.0.0 in
-            let st = whole_old.0.1 in
+            let one = one_is tabled in
+            let o = one.0 in
+            let st = one.1 in
             let book = book_is tabled in
             let is = same_now tabled in
             let book_second = subst IsBook (sym is) book in (
               holds.looks.same book_second ∙ is,
-              settled old.now old.now o st whole_old.1 book (rows_of old.now.trees).reach refl
+              settled old.now old.now o st book (rows_of old.now.trees).reach refl
                   (subst (λ (db : Database). HoldsReach (rows_of db.trees).reach o.pairs) is (holds.holds book_second o.pairs (members_at is o st))),
             );
       }
@@ -173,7 +191,6 @@ module _ (old new : State) (survives : Survives old new (MaySettle old)) (clean 
         ];
       },
     );
-    readable = λ open_now. subst AreReadable (sym (stays open_now).1) s.readable;
     same = λ open_now. subst (λ (db : Database). SameRows old.now.trees db.trees) (sym (stays open_now).1) s.same;
   }
 
@@ -191,7 +208,6 @@ module _ (old new : State) (survives : Survives old new (MaySettle old)) (clean 
                 only_left new.now s.office x (kept_stands new.now s.office s.kept) (subst (λ trees. LeftBy trees x) same left.2);
           },
         );
-        readable = λ open_now. s.readable;
         same = λ open_now. s.same;
       }
 
@@ -212,7 +228,3 @@ module _ (old new : State) (survives : Survives old new (MaySettle old)) (clean 
   -- one whose tables stood for none stands for none
   pub refused : TellsSettled old new false → StandsForNone new
   refused (stays, none) open_now one = none rise (subst StandsForOne (stays open_now).1 one)
-
-pub some_weaker : {A : Type 0} (P Q : A → Type 0) (found : Option A) → ((x : A) → P x → Q x) → IfSome found P → IfSome found Q
-some_weaker P Q None f h = tt
-some_weaker P Q (Some x) f h = f x h

@@ -1,9 +1,9 @@
 -- The path whose text stands in a row of `node`.
-use Rattle.book_tables_opening.proofs.Common.{◌≡◌, ◌≢◌, inl, List, ℕ, Some, sym, ap, subst, ◌∙◌, Value, Text, Row, Path, IsPath, path_text, kind_of, one_text, text_in, IsNodeRow, shown_path}
+use Rattle.book_tables_opening.proofs.Common.{◌≡◌, ◌≢◌, inl, List, ℕ, Some, sym, ap, subst, ◌∙◌, Value, Text, Row, Path, IsPath, path_text, kind_of, one_text, text_in, shown_path}
 use Rattle.std.specs.Str.{IsUtf8}
 use Rattle.book_office_values.specs.Paths.{SpellsPath}
 use Rattle.book_office_values.proofs.Spelling.{one_path}
-use Rattle.book_tables_opening.specs.Opening.{HasNoPath, StandsAt, HasContent}
+use Rattle.book_tables_opening.specs.Opening.{HasNoPath, StandsAt, HasContent, IsTextlessRow}
 use Rattle.book_tables_opening.proofs.AsciiPaths.{path_is_utf8}
 
 text_of : (v : Value) (t u : List ℕ) → text_in v ≡ Some t → v ≡ Text u → t ≡ u
@@ -21,7 +21,7 @@ slashed v t q has named_q spells apart p named is =
     apart (here ∙ ap path_text same)
 
 module _ (nodes : List Row) (row : Row) (p : Path) (named : IsPath p) (is : shown_path row ≡ Text (path_text p)) where
-  pub node_row : StandsAt nodes p row → HasContent nodes (kind_of p) row → IsNodeRow nodes row
+  pub node_row : StandsAt nodes p row → HasContent nodes (kind_of p) row → IsTextlessRow nodes row
   node_row at content = record {
     at = p;
     named = named;
@@ -30,16 +30,15 @@ module _ (nodes : List Row) (row : Row) (p : Path) (named : IsPath p) (is : show
     kind = at.kind;
     owner = content.owner;
     label = content.label;
-    text = content.text;
     natural = content.natural;
     number = content.number;
   }
 
-  its_path : (n : IsNodeRow nodes row) → n.at ≡ p
+  its_path : (n : IsTextlessRow nodes row) → n.at ≡ p
   its_path n = one_text n.at p n.named named (let both = sym n.path ∙ is in cc)
 
-  pub stands : IsNodeRow nodes row → StandsAt nodes p row
+  pub stands : IsTextlessRow nodes row → StandsAt nodes p row
   stands n = subst (λ q. StandsAt nodes q row) (its_path n) (record { parent = n.parent; kind = n.kind })
 
-  pub says : IsNodeRow nodes row → HasContent nodes (kind_of p) row
-  says n = subst (λ q. HasContent nodes (kind_of q) row) (its_path n) (record { owner = n.owner; label = n.label; text = n.text; natural = n.natural; number = n.number })
+  pub says : IsTextlessRow nodes row → HasContent nodes (kind_of p) row
+  says n = subst (λ q. HasContent nodes (kind_of q) row) (its_path n) (record { owner = n.owner; label = n.label; natural = n.natural; number = n.number })

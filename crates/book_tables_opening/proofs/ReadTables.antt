@@ -4,7 +4,7 @@ use Rattle.std.proofs.Common.{IsPermutation}
 use Rattle.book_tables_rows.specs.Lists.{ShowsRows}
 use Rattle.book_tables_rows.specs.Steps.{Looks}
 use Rattle.book_tables_opening.specs.Reading.{ShowsLists, ShowsRest, ShowsTables}
-use Rattle.book_tables_opening.specs.WholeNodes.{ShowsWholeNodes}
+use Rattle.book_tables_opening.specs.WholeNodes.{ShowsTextlessNodes}
 
 -- what is shown after a read was shown before it
 pub rows_before : (old mid : State) (picked : Rows → List Row) (rows : List Row) → IsTrue old.is_open → Looks old mid → ShowsRows mid picked rows → ShowsRows old picked rows
@@ -19,7 +19,7 @@ lists_read old mid entries members looks first second = record { entries_are = f
 pub rest_read : (old mid : State) (gone meta : List Row) → Looks old mid → ShowsRows old gone_shown gone → ShowsRows mid meta_shown meta → ShowsRest old gone meta
 rest_read old mid gone meta looks first second = record { gone_are = first; meta_are = rows_before old mid meta_shown meta first.0 looks second }
 
-pub tables_read : (old first second : State) (nodes entries members gone meta : List Row) → Looks old first → Looks first second → ShowsWholeNodes old nodes → ShowsLists first entries members → ShowsRest second gone meta
+pub tables_read : (old first second : State) (nodes entries members gone meta : List Row) → Looks old first → Looks first second → ShowsTextlessNodes old nodes → ShowsLists first entries members → ShowsRest second gone meta
     → ShowsTables old nodes entries members gone meta
 tables_read old first second nodes entries members gone meta looks then shown lists rest =
     let both = looks_then old first second looks then in

@@ -1,9 +1,9 @@
 -- What holds of the row that a path has, and of the resource that an Office of the rows has there.
-use Rattle.book_tables_opening.proofs.Common.{◌≡◌, ◌≢◌, ◌⊎◌, inl, inr, ℕ, pos, ◌≤◌, nat_eq, true, List, [], length, Option, Some, None, option_map, unwrap_or, refl, sym, ap, subst, ◌∙◌, true≢false, get, AllByRecursion, Value, Int, Row, Has, all_has, IsName, Who, Href, Everyone, Authenticated, Unauthenticated, Owner, Own, Office, Path, IsPath, path_text, parent_of, kind_of, is_same, some_apart, one_text, resource_at, properties_resource, IsMapped, IsMappedGroup, IsOwner, IsKnownForm, node_kind, node_number, node_parent, node_text, number_in, text_in, Rows, is_at, row_at, kind_code, principal_value, resource_of, Gives, found_has, has_text, has_map, is_of_kind, IsKnown, IsBelow, IsContent, IsChangeNumber, IsNodeRow, node_shown, whole_nodes}
-use Rattle.book_limits.specs.declared.TheConstants.{MAX_LABEL_BYTES}
+use Rattle.book_tables_opening.proofs.Common.{◌≡◌, ◌≢◌, ◌⊎◌, inl, inr, ℕ, pos, nat_eq, true, List, [], Option, Some, None, option_map, unwrap_or, refl, sym, ap, subst, ◌∙◌, true≢false, get, AllByRecursion, Value, Int, Row, Has, all_has, IsName, Who, Href, Everyone, Authenticated, Unauthenticated, Owner, Own, Office, Path, IsPath, path_text, parent_of, kind_of, is_same, some_apart, one_text, resource_at, properties_resource, IsMapped, IsMappedGroup, IsOwner, IsKnownForm, node_kind, node_number, node_parent, node_text, number_in, text_in, Rows, is_at, row_at, kind_code, principal_value, resource_of, Gives, found_has, has_text, has_map, is_of_kind, IsKnown, IsBelow, IsContent, IsChangeNumber, IsNodeRow, node_shown, whole_nodes}
 use Rattle.book_lists.specs.Principals.{person_path, group_path}
 use Rattle.book_office_values.specs.declared.paths.Kind.TheVariants as kind
 use Rattle.book_office_values.specs.declared.paths.Path.TheVariants as path
+use Rattle.book_office_values.specs.Texts.{IsLabel}
 use Rattle.book_office.specs.Sound.{IsMappedPerson}
 use Rattle.book_tables_rows.specs.Columns.{node_label, node_owner}
 use Rattle.book_tables_opening.specs.Opening.{HasPrincipal, HasGroup}
@@ -38,7 +38,7 @@ pub record IsRowOf (nodes : List Row) (p : Path) (row : Row) : Type 0 where
   pub parent : IsBelow nodes (parent_of p) (node_parent row)
   pub kind : node_kind row ≡ Int (pos (kind_code (kind_of p)))
   pub owner : IsKnown nodes (text_in (node_owner row))
-  pub label : length (unwrap_or (text_in (node_label row)) []) ≤ MAX_LABEL_BYTES
+  pub label : IsLabel (unwrap_or (text_in (node_label row)) [])
   pub text : IsContent (kind_of p) (text_in (node_text row))
   pub natural : node_number row ≡ Int (pos (number_in (node_number row)))
   pub number : IsChangeNumber (kind_of p) (number_in (node_number row))

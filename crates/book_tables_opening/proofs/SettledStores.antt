@@ -67,7 +67,6 @@ module _ (old mid : State) (gets : MakesAnew old mid) (beside : IsBeside true ol
     office = s.office;
     stood = stood_before s.office s.stood;
     kept = s.kept;
-    readable = s.readable;
     same = s.same ∙ (λ i. record (rows_are i) { reach = (rows_of new.trees).reach });
   }
 

@@ -1,8 +1,8 @@
 -- What an Office of the rows has at a path is sound.
-use Rattle.book_tables_opening.proofs.Common.{◌≡◌, ℕ, ◌≤◌, List, length, Some, option_map, option_and_then, sym, ap, subst, ◌∙◌, true, false, get, AllByRecursion, same_Some, Row, IsShaped, MAX_ENTRIES, IsName, Book, Office, Properties, StoredCard, Kind, Path, IsPath, path_text, kind_of, resource_at, properties_resource, card_resource, card_in, number_of, IsOwner, IsSoundList, AreSoundProperties, Rows, is_at, entries_shown, row_at, resource_of, Gives, found_has, from_map, IsContent, IsChangeNumber, IsNodeRow, IsEntryRow, AreAtMost, list_keys, whole_nodes}
+use Rattle.book_tables_opening.proofs.Common.{◌≡◌, ℕ, List, Some, option_map, option_and_then, sym, ap, subst, ◌∙◌, true, false, get, AllByRecursion, same_Some, Row, IsShaped, MAX_ENTRIES, IsName, Book, Office, Properties, StoredCard, Kind, Path, IsPath, path_text, kind_of, resource_at, properties_resource, card_resource, card_in, number_of, IsOwner, IsSoundList, AreSoundProperties, Rows, is_at, entries_shown, row_at, resource_of, Gives, found_has, from_map, IsContent, IsChangeNumber, IsNodeRow, IsEntryRow, AreAtMost, list_keys, whole_nodes}
 use Rattle.sqlite_trees.specs.declared.store.Shape.TheVariants.{Table as TableShape}
-use Rattle.book_limits.specs.declared.TheConstants.{MAX_LABEL_BYTES, MAX_CARD_BYTES}
 use Rattle.book_office_values.specs.declared.paths.Path.TheVariants as path
+use Rattle.book_office_values.specs.Texts.{IsLabel, IsCardText}
 use Rattle.book_office.specs.Resources.{Resource}
 use Rattle.book_office.specs.Sound.{IsSoundCard}
 use Rattle.book_tables_opening.proofs.RowsOfPaths.{row_of, owner_known}
@@ -11,7 +11,7 @@ use Rattle.book_tables_opening.proofs.ListRows.{sound_list}
 -- what holds of a resource by its path
 pub record IsSoundResource (o : Office) (p : Path) (r : Resource) : Type 0 where
   pub owner : IsOwner o r.owner
-  pub label : length r.label ≤ MAX_LABEL_BYTES
+  pub label : IsLabel r.label
   pub text : IsContent (kind_of p) r.text
   pub number : IsChangeNumber (kind_of p) r.number
   pub protected : IsSoundList o r.protected
@@ -51,4 +51,4 @@ module _ (rows : Rows) (o : Office) (gives : Gives rows o) (shaped : IsShaped Ta
   pub sound_card : (b c : List ℕ) → IsName b → IsName c → (book : Book) (card : StoredCard) → get o.books b ≡ Some book → get book.cards c ≡ Some card → IsSoundCard o card
   sound_card b c named_b named_c book card here at =
       let it = sound_resource (path.Card b c) (named_b, named_c) (card_resource (number_of book c) card) (card_there o b c book card here at) in
-      record { owner = it.owner; label = it.label; own = it.own; text = subst (λ t. length t ≤ MAX_CARD_BYTES) (sym (same_Some _ _ it.text.1)) it.text.2 }
+      record { owner = it.owner; label = it.label; own = it.own; text = subst IsCardText (sym (same_Some _ _ it.text.1)) it.text.2 }

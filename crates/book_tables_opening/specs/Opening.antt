@@ -1,24 +1,27 @@
 -- Which rows are those of a sound Office: conditions on the rows of the five tables, as whole reads show them.
 -- node: number of the row, path, parent, kind, owner, label, text, change number. ace2: node, protected, place, form, principal, invert, deny, mask.
 -- member: group, member. gone: book, name, number. meta: version, epoch.
-use Rattle.std.specs.Prelude.{◌≡◌, ◌≢◌, ◌⊎◌, ℕ, ℤ, pos, ◌≤◌, Bool, false, ◌&&◌, List, [], ◌∷◌, ◌++◌, map, filter, length, codes, Option, Some, None, unwrap_or, IsTrue}
+use Rattle.std.specs.Prelude.{◌≡◌, ◌≢◌, ◌⊎◌, ℕ, ℤ, pos, ◌≤◌, Bool, true, false, ◌&&◌, List, [], ◌∷◌, ◌++◌, map, filter, length, codes, Option, Some, None, unwrap_or, IsTrue}
 use Rattle.std.specs.List.{AllByRecursion, count_by}
 use Rattle.std.specs.Ordering.{int_eq}
 use Rattle.sqlite.specs.declared.types.Value.{Value}
 use Rattle.sqlite.specs.declared.types.Value.TheVariants.{Null, Int, Text}
 use Rattle.sqlite.specs.Edit.{id_in}
 use Rattle.sqlite.specs.Order.{Row}
-use Rattle.book_limits.specs.declared.TheConstants.{MAX_ENTRIES, MAX_MEMBERS, MAX_LABEL_BYTES, MAX_CARD_BYTES, MAX_CARDS, MAX_BOOKS, LAST_NUMBER}
+use Rattle.book_limits.specs.declared.TheConstants.{MAX_ENTRIES, MAX_MEMBERS, MAX_CARDS, MAX_BOOKS, LAST_NUMBER}
 use Rattle.book_lists.specs.Names.{IsName}
 use Rattle.book_office_values.specs.declared.paths.Kind.{Kind}
 use Rattle.book_office_values.specs.declared.paths.Kind.TheVariants as kind
 use Rattle.book_office_values.specs.declared.paths.Path.{Path}
+use Rattle.book_office_values.specs.Texts.{IsLabel, IsCardText}
 use Rattle.book_office_values.specs.Paths.{IsPath, path_text, parent_of, kind_of}
 use Rattle.book_tables_rows.specs.Nodes.{number_in, text_in}
+use Rattle.book_tables_rows.specs.Rows.{Rows}
 use Rattle.book_tables.specs.Rows.{kind_code, flag_in}
-use Rattle.book_tables_opening.specs.Shown.{shown_gone_book, shown_gone_name, shown_gone_number, shown_group, shown_kind, shown_label, shown_member, shown_node, shown_number, shown_owner, shown_parent, shown_path, shown_principal, shown_protected, shown_text}
+use Rattle.book_tables_opening.specs.Shown.{shown_gone_book, shown_gone_name, shown_gone_number, shown_group, shown_id, shown_kind, shown_label, shown_member, shown_node, shown_number, shown_owner, shown_parent, shown_path, shown_principal, shown_protected, shown_text}
 use Rattle.book_tables_opening.specs.Directories.{first_shown_at, shown_with, number_at, is_of_kind}
 use Rattle.book_tables_opening.specs.RowTests.{IsSpelledEntry}
+use Rattle.book_tables_opening.specs.WholeNodes.{text_of_number}
 
 -- ---- principals
 
@@ -49,14 +52,19 @@ IsBelow nodes (Some above) value = (id : ℤ) × (number_at nodes (path_text abo
 abbrev pub HasNumberOf : List Row → List ℕ → Value → Type 0
 HasNumberOf nodes path value = (id : ℤ) × (number_at nodes path ≡ Some id) × (value ≡ Int id)
 
--- a card has a text of at most so many bytes, and no other resource has one
+-- a card has a text, UTF-8 of at most so many bytes, and no other resource has one
 abbrev pub IsContent : Kind → Option (List ℕ) → Type 0
 IsContent kind.Root text = text ≡ None
 IsContent kind.Home text = text ≡ None
 IsContent kind.Person text = text ≡ None
 IsContent kind.Group text = text ≡ None
 IsContent kind.Book text = text ≡ None
-IsContent kind.Card text = (content : List ℕ) × (text ≡ Some content) × (length content ≤ MAX_CARD_BYTES)
+IsContent kind.Card text = (content : List ℕ) × (text ≡ Some content) × IsCardText content
+
+-- a row that is a card's has such a text, and another row has none
+abbrev pub IsTextFor : Bool → Option (List ℕ) → Type 0
+IsTextFor true text = (content : List ℕ) × (text ≡ Some content) × IsCardText content
+IsTextFor false text = text ≡ None
 
 -- books and cards alone have numbers
 abbrev pub IsChangeNumber : Kind → ℕ → Type 0
@@ -74,10 +82,26 @@ pub record IsNodeRow (nodes : List Row) (row : Row) : Type 0 where
   pub parent : IsBelow nodes (parent_of at) (shown_parent row)
   pub kind : shown_kind row ≡ Int (pos (kind_code (kind_of at)))
   pub owner : IsKnown nodes (text_in (shown_owner row))
-  pub label : length (unwrap_or (text_in (shown_label row)) []) ≤ MAX_LABEL_BYTES
+  pub label : IsLabel (unwrap_or (text_in (shown_label row)) [])
   pub text : IsContent (kind_of at) (text_in (shown_text row))
   pub natural : shown_number row ≡ Int (pos (number_in (shown_number row)))
   pub number : IsChangeNumber (kind_of at) (number_in (shown_number row))
+
+-- the same, but for the text
+pub record IsTextlessRow (nodes : List Row) (row : Row) : Type 0 where
+  pub at : Path
+  pub named : IsPath at
+  pub path : shown_path row ≡ Text (path_text at)
+  pub parent : IsBelow nodes (parent_of at) (shown_parent row)
+  pub kind : shown_kind row ≡ Int (pos (kind_code (kind_of at)))
+  pub owner : IsKnown nodes (text_in (shown_owner row))
+  pub label : IsLabel (unwrap_or (text_in (shown_label row)) [])
+  pub natural : shown_number row ≡ Int (pos (number_in (shown_number row)))
+  pub number : IsChangeNumber (kind_of at) (number_in (shown_number row))
+
+-- the node with the row's number has in the tables the text of the row's kind
+abbrev pub HasTextIn : Rows → Row → Type 0
+HasTextIn rows row = IsTextFor (is_of_kind 5 row) (text_of_number rows (id_in (shown_id row)))
 
 -- the value is the text of no path
 abbrev pub HasNoPath : Value → Type 0
@@ -88,11 +112,10 @@ pub record StandsAt (nodes : List Row) (at : Path) (row : Row) : Type 0 where
   pub parent : IsBelow nodes (parent_of at) (shown_parent row)
   pub kind : shown_kind row ≡ Int (pos (kind_code (kind_of at)))
 
--- what a row of a kind says
+-- what a row of a kind says, but for its text
 pub record HasContent (nodes : List Row) (kind : Kind) (row : Row) : Type 0 where
   pub owner : IsKnown nodes (text_in (shown_owner row))
-  pub label : length (unwrap_or (text_in (shown_label row)) []) ≤ MAX_LABEL_BYTES
-  pub text : IsContent kind (text_in (shown_text row))
+  pub label : IsLabel (unwrap_or (text_in (shown_label row)) [])
   pub natural : shown_number row ≡ Int (pos (number_in (shown_number row)))
   pub number : IsChangeNumber kind (number_in (shown_number row))
 
@@ -219,11 +242,27 @@ pub record AreOfficeRows (nodes entries members gone meta : List Row) : Type 0 w
   pub books : length (filter (is_of_kind 4) nodes) ≤ MAX_BOOKS
   pub meta_rows : IsMetaRows meta
 
+-- ---- the same, but for the texts
+
+pub record AreTextlessRows (nodes entries members gone meta : List Row) : Type 0 where
+  pub each_node : AllByRecursion (IsTextlessRow nodes) nodes
+  pub homes : HasHomes nodes
+  pub each_entry : AllByRecursion (IsEntryRow nodes) entries
+  pub lists : AreAtMost MAX_ENTRIES (list_keys entries)
+  pub each_member : AllByRecursion (IsMemberRow nodes) members
+  pub groups : AreAtMost MAX_MEMBERS (group_keys nodes members)
+  pub each_gone : AllByRecursion (IsGoneRow nodes) gone
+  pub within : AllByRecursion (IsWithinBook nodes) (change_keys nodes gone)
+  pub different : AreAtMost 1 (change_keys nodes gone)
+  pub cards : AreAtMost MAX_CARDS (card_keys nodes)
+  pub books : length (filter (is_of_kind 4) nodes) ≤ MAX_BOOKS
+  pub meta_rows : IsMetaRows meta
+
 -- ---- parts of it
 
 -- each row is one of its table
 pub record HaveForm (nodes entries members gone : List Row) : Type 0 where
-  pub each_node : AllByRecursion (IsNodeRow nodes) nodes
+  pub each_node : AllByRecursion (IsTextlessRow nodes) nodes
   pub homes : HasHomes nodes
   pub each_entry : AllByRecursion (IsEntryRow nodes) entries
   pub each_member : AllByRecursion (IsMemberRow nodes) members

@@ -1,7 +1,5 @@
 -- What reads of all tables show, and for what their rows stand.
-use Rattle.std.specs.Prelude.{◌≡◌, ◌⊎◌, ℕ, Bool, true, false, List, [], Option, Some, None, IsTrue}
-use Rattle.std.specs.List.{AllByRecursion}
-use Rattle.std.specs.Str.{IsUtf8}
+use Rattle.std.specs.Prelude.{◌≡◌, ◌↔◌, ◌⊎◌, ℕ, Bool, true, false, List, [], Option, Some, None, IsTrue}
 use Rattle.sqlite.specs.Effect.{Database}
 use Rattle.sqlite.specs.Held.{Held, state}
 use Rattle.sqlite.specs.Order.{Row}
@@ -12,7 +10,6 @@ use Rattle.sqlite_trees.specs.declared.store.Store.{Ghosts}
 use Rattle.book_office_values.specs.declared.offices.Office.{Office}
 use Rattle.book_office.specs.Keeping.{Leftover}
 use Rattle.book_tables_rows.specs.Lists.{ShowsRows, pairs_of}
-use Rattle.book_tables_rows.specs.Nodes.{text_in}
 use Rattle.book_tables_rows.specs.Rows.{IsBook, in_store, rows_of}
 use Rattle.book_tables_rows.specs.Schema.{reach_tree}
 use Rattle.book_tables_rows.specs.Steps.{Stays}
@@ -25,8 +22,7 @@ use Rattle.book_tables.specs.Opened.{StandsAlone}
 use Rattle.book_tables.specs.Stands.{IsKept, LeftBy, Stands}
 use Rattle.book_tables.specs.declared.opening.OpenFault.{OpenFault}
 use Rattle.book_tables.specs.declared.opening.OpenFault.TheVariants.{OtherVersion, NoStore, Memory, Store}
-use Rattle.book_tables_opening.specs.Shown.{shown_label, shown_text}
-use Rattle.book_tables_opening.specs.WholeNodes.{ShowsWholeNodes, whole_nodes}
+use Rattle.book_tables_opening.specs.WholeNodes.{ShowsTextlessNodes}
 use Rattle.book_tables_opening.specs.declared.opening.Standing.{Standing}
 use Rattle.book_tables_opening.specs.declared.opening.Standing.TheVariants.{Whole, Other, Broken}
 
@@ -39,35 +35,19 @@ pub record ShowsRest (s : State) (gone meta : List Row) : Type 0 where
   pub gone_are : ShowsRows s gone_shown gone
   pub meta_are : ShowsRows s meta_shown meta
 
--- it shows the rows of all tables
+-- it shows the rows of all tables, without the texts of the nodes
 pub record ShowsTables (s : State) (nodes entries members gone meta : List Row) : Type 0 where
-  pub nodes_are : ShowsWholeNodes s nodes
+  pub nodes_are : ShowsTextlessNodes s nodes
   pub lists : ShowsLists s entries members
   pub rest : ShowsRest s gone meta
-
--- the text is UTF-8, if there is one
-abbrev pub IsUtf8Text : Option (List ℕ) → Type 0
-IsUtf8Text None = Unit {0}
-IsUtf8Text (Some text) = IsUtf8 text
-
--- label and text of a node can be read
-abbrev pub HasUtf8 : Row → Type 0
-HasUtf8 row = IsUtf8Text (text_in (shown_label row)) × IsUtf8Text (text_in (shown_text row))
 
 -- the tables stand for an Office
 abbrev pub StandsForOne : Database → Type 0
 StandsForOne db = (o : Office) × Stands db o
 
--- all their labels and texts can be read
-abbrev pub AreReadable : Database → Type 0
-AreReadable db = AllByRecursion HasUtf8 (whole_nodes (rows_of db.trees))
-
-abbrev pub IsWhole : Database → Type 0
-IsWhole db = StandsForOne db × AreReadable db
-
--- whether the tables of a connection stand for an Office, where it has them; it is not told of those that can't be read
+-- whether the tables of a connection stand for an Office, where it has them
 abbrev pub TellsStanding : State → Bool → Type 0
-TellsStanding s is = IsTrue s.is_open × (IsBook s.now → (IsTrue is → IsWhole s.now) × (StandsForOne s.now → IsTrue is))
+TellsStanding s is = IsTrue s.is_open × (IsBook s.now → IsTrue is ↔ StandsForOne s.now)
 
 -- the rows of all tables but `reach` are the same
 abbrev pub SameRows : Trees → Trees → Type 0
@@ -82,7 +62,6 @@ pub record Settled (old new : Database) : Type 0 where
   pub office : Office
   pub stood : Stands old office
   pub kept : IsKept new office
-  pub readable : AreReadable new
   pub same : SameRows old.trees new.trees
 
 -- ---- in a transaction
@@ -164,7 +143,6 @@ StandsForNone s = IsTrue s.is_open → ¬ (StandsForOne s.now)
 -- its tables are tested, and left as they are but for `reach`
 pub record IsOpened (trees : Trees) (new : State) : Type 0 where
   pub stands : StandsForItsOffice new
-  pub readable : IsTrue new.is_open → AreReadable new.now
   pub same : IsTrue new.is_open → SameRows trees new.now.trees
 
 -- it shows the trees that were committed, and a stop leaves these, or the same rows of all tables but `reach`, for the same Office

@@ -12,7 +12,8 @@
 //! reads show them. They are met exactly where the rows give an Office that is sound. Then `specs/Directories`, how
 //! rows of nodes are found, and `specs/Reading`, what is told of a store. Of the code, `directories` finds rows by path
 //! and by number, `keys` and `counting` count what has a limit, each `.._tests` has the test of a condition,
-//! `office_tests` joins them, `whole_nodes` and `reading` read the tables, and `opening` has `open`.
+//! `office_tests` joins those that need no text of a card, `whole_nodes` and `reading` read the tables, `text_tests` reads
+//! and tests one text after the other, and `opening` has `open`.
 #![tactic(auto)]
 
 mod counting;

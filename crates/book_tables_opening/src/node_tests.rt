@@ -1,21 +1,21 @@
 //! Whether rows are those of nodes.
 
-ghost use Rattle.std.specs.Prelude.{◌≡◌, ◌↔◌, ◌≤◌, IsTrue, IfOk, IfSome, IfNone, [], length, pos, unwrap_or};
+ghost use Rattle.std.specs.Prelude.{◌≡◌, ◌↔◌, IsTrue, IfOk, IfSome, IfNone, [], pos, unwrap_or};
 ghost use Rattle.std.specs.List.{AllByRecursion};
 ghost use Rattle.sqlite.specs.declared.types.Value.TheVariants.{Null, Int, Text};
 ghost use Rattle.sqlite.specs.Order.{column};
-ghost use Rattle.book_limits.specs.declared.TheConstants.{MAX_LABEL_BYTES};
 ghost use Rattle.book_tables_rows.specs.Nodes.{number_in, text_in};
 ghost use Rattle.book_tables.specs.Rows.{kind_code};
 ghost use Rattle.book_office_values.specs.Paths.{IsPath, SpellsPath, SpellsNone, path_text, parent_of};
-ghost use Rattle.book_tables_opening.specs.Opening.{IsNodeRow, IsBelow, HasNumberOf, HasNoPath, StandsAt, HasContent, IsContent, IsChangeNumber, HasHomes};
-ghost use Rattle.book_tables_opening.specs.Shown.{shown_kind, shown_label, shown_number, shown_parent, shown_path, shown_text};
+ghost use Rattle.book_office_values.specs.Texts.{IsLabel};
+ghost use Rattle.book_tables_opening.specs.Opening.{IsTextlessRow, IsBelow, HasNumberOf, HasNoPath, StandsAt, HasContent, IsChangeNumber, HasHomes};
+ghost use Rattle.book_tables_opening.specs.Shown.{shown_kind, shown_label, shown_number, shown_parent, shown_path};
 
 use crate::directories::{Directory, text_at};
 use crate::keys::int_at;
 use crate::principal_tests::knows;
 use crate::spelling_tests::is_natural;
-use book_limits::{LAST_NUMBER, MAX_CARD_BYTES, MAX_LABEL_BYTES};
+use book_limits::{LAST_NUMBER, MAX_LABEL_BYTES};
 use book_office_values::{Kind, Path, PathFault};
 use sqlite::Row;
 use sqlite::types::ValueRef;
@@ -137,24 +137,20 @@ fn stands_at(
     Ok(has_kind(path.kind(), row))
 }
 
-/// Whether the label has no more bytes than a label may have.
-fn has_label(row: &Row) -> bool
-    ensures { IsTrue result ↔ (length (unwrap_or (text_in (shown_label row.now)) []) ≤ MAX_LABEL_BYTES) }
+/// Whether bytes are a label: UTF-8, of no more bytes than a label may have.
+fn is_label(label: &[u8]) -> bool
+    ensures { IsTrue result ↔ IsLabel label.now }
 {
-    match text_at(row, 5) {
-        Some(label) => label.len() <= MAX_LABEL_BYTES,
-        None => true,
-    }
+    label.len() <= MAX_LABEL_BYTES && std::str::from_utf8(label).is_ok()
 }
 
-/// Whether a card's row has a text of no more bytes than may be, and another row none.
-fn has_text(kind: Kind, row: &Row) -> bool
-    ensures { IsTrue result ↔ IsContent kind (text_in (shown_text row.now)) }
+/// Whether the row's label is one; without a text it is empty.
+fn has_label(row: &Row) -> bool
+    ensures { IsTrue result ↔ IsLabel (unwrap_or (text_in (shown_label row.now)) []) }
 {
-    match (kind, text_at(row, 6)) {
-        (Kind::Card, Some(text)) => text.len() <= MAX_CARD_BYTES,
-        (Kind::Card, None) => false,
-        (_, text) => text.is_none(),
+    match text_at(row, 5) {
+        Some(label) => is_label(label),
+        None => is_label(b""),
     }
 }
 
@@ -186,23 +182,20 @@ fn has_natural(row: &Row) -> bool
     is_natural(row, 7)
 }
 
-/// Whether owner, label, text and change number are those of a kind.
+/// Whether owner, label and change number are those of a kind.
 fn has_content(directory: &Directory, kind: Kind, row: &Row) -> bool
     ensures { IsTrue result ↔ HasContent directory.now kind row.now }
 {
     if !knows(directory, row, 4) || !has_label(row) {
         return false;
     }
-    if !has_text(kind, row) || !has_natural(row) {
-        return false;
-    }
-    has_change_number(kind, row)
+    has_natural(row) && has_change_number(kind, row)
 }
 
 #[tactic(auto, using(crate::proofs::PathRows::node_row, crate::proofs::PathRows::stands, crate::proofs::PathRows::says))]
-/// Whether the row is that of a node. An error is want of memory.
+/// Whether the row is that of a node, but for its text. An error is want of memory.
 fn is_node(alloc: Global, directory: &Directory, row: &Row) -> Result<bool, AllocError>
-    ensures { IfOk result (λ is. IsTrue is ↔ IsNodeRow directory.now row.now) }
+    ensures { IfOk result (λ is. IsTrue is ↔ IsTextlessRow directory.now row.now) }
 {
     let Some(path) = path_at(alloc, row)? else {
         return Ok(false);
@@ -213,11 +206,11 @@ fn is_node(alloc: Global, directory: &Directory, row: &Row) -> Result<bool, Allo
     Ok(has_content(directory, path.kind(), row))
 }
 
-/// Whether each row is that of a node: it stands at a path under the row of the path above, has the path's kind, an
-/// owner that is there, a label and, where it is a card, a text within the limits, and a change number where its kind
+/// Whether each row is that of a node, but for its text: it stands at a path under the row of the path above, has the
+/// path's kind, an owner that is there, a label, which is UTF-8 and within the limit, and a change number where its kind
 /// has one. An error is want of memory.
 pub(crate) fn are_nodes(alloc: Global, directory: &Directory) -> Result<bool, AllocError>
-    ensures { IfOk result (λ are. IsTrue are ↔ AllByRecursion (IsNodeRow directory.now) directory.now) }
+    ensures { IfOk result (λ are. IsTrue are ↔ AllByRecursion (IsTextlessRow directory.now) directory.now) }
 {
     let rows = directory.rows();
     for row in rows {

@@ -1,7 +1,7 @@
-//! Whether rows are those of a sound Office.
+//! Whether rows are those of a sound Office, but for the texts of its cards.
 
 ghost use Rattle.std.specs.Prelude.{◌↔◌, IsTrue, IfOk};
-ghost use Rattle.book_tables_opening.specs.Opening.{HaveForm, AreOfficeRows};
+ghost use Rattle.book_tables_opening.specs.Opening.{HaveForm, AreTextlessRows};
 
 use crate::directories::Directory;
 use crate::entry_tests::are_entry_rows;
@@ -13,7 +13,7 @@ use crate::node_tests::{are_nodes, has_homes};
 use sqlite::Row;
 use std::alloc::{AllocError, Global};
 
-/// Whether each row is one of its table in a sound Office. An error is want of memory.
+/// Whether each row is one of its table in a sound Office, but for the texts of nodes. An error is want of memory.
 fn have_form(
     alloc: Global,
     directory: &Directory,
@@ -39,9 +39,10 @@ fn have_form(
 }
 
 #[tactic(auto, using(crate::proofs::OfficeParts::whole, crate::proofs::OfficeParts::form, crate::proofs::OfficeParts::limits))]
-/// Whether the rows of the five tables, as whole reads show them, are those of a sound Office. It takes a number of
-/// look-ups and comparisons that grows as the number of rows times its logarithm. An error is want of memory.
-pub(crate) fn are_office_rows(
+/// Whether the rows of the five tables, as whole reads show them, are those of a sound Office, but for the texts of
+/// nodes, which are not looked at. It takes a number of look-ups and comparisons that grows as the number of rows times
+/// its logarithm. An error is want of memory.
+pub(crate) fn are_textless_rows(
     alloc: Global,
     directory: &Directory,
     entries: &[Row],
@@ -50,7 +51,7 @@ pub(crate) fn are_office_rows(
     meta: &[Row],
 ) -> Result<bool, AllocError>
     ensures { IfOk result (λ are. IsTrue are
-        ↔ AreOfficeRows directory.now entries.now members.now gone.now meta.now) }
+        ↔ AreTextlessRows directory.now entries.now members.now gone.now meta.now) }
 {
     if !have_form(alloc, directory, entries, members, gone)? {
         return Ok(false);

@@ -1,21 +1,22 @@
 //! Opening the tables of a store that is there.
 
-ghost use Rattle.std.specs.Prelude.{◌≡◌, ◌⊎◌, true, IfOk, IfErr, IfSome, IsSomeAnd, IsTrue, OnErr, OnOk};
+ghost use Rattle.std.specs.Prelude.{◌≡◌, ◌⊎◌, true, IfOk, IfErr, IsTrue, OnErr, OnOk};
 ghost use Rattle.sqlite.specs.Held.{state};
 ghost use Rattle.sqlite.specs.State.{HasCleanDisk, Survives};
 ghost use Rattle.book_tables_rows.specs.Schema.{book_schema};
 ghost use Rattle.book_tables_rows.specs.Steps.{Keeps, Spares, Stays};
 ghost use Rattle.book_tables_schema.specs.OtherReach.{IsBeside};
+ghost use Rattle.book_tables_schema.specs.Reopening.{IfConnection, IfStore, IsConnectionAnd, IsUnharmed};
 ghost use Rattle.book_tables.specs.Opened.{open_fault};
-ghost use Rattle.book_tables_opening.specs.Reading.{AreReadable, MakesAnew, MaySettle, SameRows, TellsOffice, TellsOther, TellsSettled, TellsStanding, IsStanding, StandingSays, FaultSays, IsReopened, IsOpened, IsRefused, IsUnopened, StandsForItsOffice, StandsForNone};
+ghost use Rattle.book_tables_opening.specs.Reading.{MakesAnew, MaySettle, SameRows, TellsOffice, TellsOther, TellsSettled, TellsStanding, IsStanding, StandingSays, FaultSays, IsReopened, IsOpened, IsRefused, IsUnopened, StandsForItsOffice, StandsForNone};
 
 use crate::directories::Directory;
-use crate::office_tests::are_office_rows;
+use crate::office_tests::are_textless_rows;
 use crate::reading::read_tables;
-use crate::text_tests::readable;
+use crate::text_tests::have_own_texts;
 use book_tables::{OpenFault, Tables, settle_reach};
 use book_tables_schema::{
-    drop_reach, has_no_former, is_beside_reach, is_book_schema, make_reach, reopen,
+    Unopened, drop_reach, has_no_former, is_beside_reach, is_book_schema, make_reach, reopen,
     says_other_version,
 };
 use sqlite::{Alter, Connection, Error, ErrorCode, Transaction};
@@ -32,8 +33,9 @@ pub(crate) enum Standing {
     Broken,
 }
 
-/// Whether the rows of the tables are those of a sound Office. Where they are, a label or a text that can't be read is
-/// a failure of the store. Every row is read and tested, in any transaction.
+/// Whether the rows of the tables are those of a sound Office, whose labels and texts are UTF-8. Every row is read and
+/// tested, in any transaction: all of them without the texts of cards, and then one text after the other. So the memory
+/// that it takes grows as the number of rows, and not as the texts.
 pub fn is_office<S: Alter>(
     alloc: Global,
     transaction: &mut Transaction<'_, S>,
@@ -48,7 +50,7 @@ pub fn is_office<S: Alter>(
 {
     let rows = read_tables(transaction)?;
     let directory = Directory::new(alloc, rows.nodes)?;
-    let found = are_office_rows(
+    let told = are_textless_rows(
         alloc,
         &directory,
         &rows.lists.0,
@@ -56,8 +58,10 @@ pub fn is_office<S: Alter>(
         &rows.rest.0,
         &rows.rest.1,
     )?;
-    let told = readable(&directory, found)?;
-    Ok(told)
+    if !told {
+        return Ok(false);
+    }
+    have_own_texts(transaction, directory.rows())
 }
 
 /// Whether `meta` has one row with another version than this one, read in a transaction of its own.
@@ -215,60 +219,61 @@ pub fn open_fault_of(error: Error) -> OpenFault
 fn open_again<S: Alter>(
     alloc: Global,
     mut connection: Connection<S>,
-) -> Result<Tables<S>, (OpenFault, Option<Connection<S>>)>
+) -> Result<Tables<S>, (OpenFault, Unopened<S>)>
     ensures stands { IsReopened (state S.Store connection) → IfOk result (λ t. HasCleanDisk (state S.Store t.connection)
         → HasCleanDisk (state S.Store connection)
         × IsOpened (state S.Store connection).now.trees (state S.Store t.connection)) }
     ensures counted { IfOk result (λ t. t.failures ≡ 0) }
-    ensures refused { IsReopened (state S.Store connection) → IfErr result (λ e. IsRefused e.0 → IsSomeAnd e.1 (λ c.
+    ensures refused { IsReopened (state S.Store connection) → IfErr result (λ e. IsRefused e.0 → IsConnectionAnd e.1 (λ c.
         HasCleanDisk (state S.Store c) → StandsForNone (state S.Store c))) }
-    ensures other { IfErr result (λ e. IsRefused e.0 → IsSomeAnd e.1 (λ c. HasCleanDisk (state S.Store c)
+    ensures other { IfErr result (λ e. IsRefused e.0 → IsConnectionAnd e.1 (λ c. HasCleanDisk (state S.Store c)
         → IsTrue (state S.Store c).is_open → FaultSays S.Store 2 (state S.Store c).now e.0)) }
     ensures kept { IsReopened (state S.Store connection)
-        → IfErr result (λ e. IfSome e.1 (λ c. HasCleanDisk (state S.Store c) → HasCleanDisk (state S.Store connection)
+        → IfErr result (λ e. IfConnection e.1 (λ c. HasCleanDisk (state S.Store c) → HasCleanDisk (state S.Store connection)
         × IsUnopened (state S.Store connection).now.trees (state S.Store c))) }
+    ensures connected { IfErr result (λ e. IfStore e.1 (λ _. ⊥)) }
 {
     match standing_of(alloc, &mut connection) {
         Ok(Standing::Whole) => Ok(Tables::over(connection)),
-        Ok(Standing::Other) => Err((OpenFault::OtherVersion, Some(connection))),
-        Ok(Standing::Broken) => Err((OpenFault::NoStore, Some(connection))),
-        Err(error) => Err((open_fault_of(error), Some(connection))),
+        Ok(Standing::Other) => Err((OpenFault::OtherVersion, Unopened::Connection(connection))),
+        Ok(Standing::Broken) => Err((OpenFault::NoStore, Unopened::Connection(connection))),
+        Err(error) => Err((open_fault_of(error), Unopened::Connection(connection))),
     }
 }
 
 /// Opens the tables of a store that is there, as its last commit left it. They are given where their rows stand for a
-/// sound Office, and a stop just after leaves that one alone; its labels and texts are UTF-8. Where `reach` is missing,
-/// as in a store made before it, has other columns, or does not hold what chains of the direct members lead to, it is
-/// made so in one transaction, in which the rows are tested. Every row is read and tested, which takes a number of comparisons that
-/// grows as the number of rows times its logarithm.
+/// sound Office, and a stop just after leaves that one alone; so its labels and texts are UTF-8. Where `reach` is
+/// missing, as in a store made before it, has other columns, or does not hold what chains of the direct members lead to,
+/// it is made so in one transaction, in which the rows are tested. Every row is read and tested, which takes a number of
+/// comparisons that grows as the number of rows times its logarithm.
 ///
 /// # Errors
 ///
 /// `OtherVersion` where the rows stand for no Office, and `meta` has one row, with another version than 2; `NoStore`
-/// where they stand for no Office else. `Memory` is want of memory, `Store` any other failure of the store, also a
-/// label or a text of a node that is not UTF-8. The connection comes back but where the store could not be opened
-/// again, and shows what was committed; a stop leaves that, or the same Office with `reach` made.
+/// where they stand for no Office else, as where a label or a text is not UTF-8. `Memory` is want of memory, `Store` any
+/// other failure of the store. The connection comes back, and shows what was committed; a stop leaves that, or the same
+/// Office with `reach` made. Where the store could not be opened again, it comes back itself: a stop leaves what was
+/// committed, if the connection was open.
 pub fn open<S: Alter + Drop>(
     alloc: Global,
     connection: Connection<S>,
-) -> Result<Tables<S>, (OpenFault, Option<Connection<S>>)>
+) -> Result<Tables<S>, (OpenFault, Unopened<S>)>
     ensures stands { IfOk result (λ t. HasCleanDisk (state S.Store t.connection)
         → StandsForItsOffice (state S.Store t.connection)) }
-    ensures readable { IfOk result (λ t. HasCleanDisk (state S.Store t.connection)
-        → IsTrue (state S.Store t.connection).is_open → AreReadable (state S.Store t.connection).now) }
     ensures same { IfOk result (λ t. HasCleanDisk (state S.Store t.connection)
         → IsTrue (state S.Store t.connection).is_open
         → SameRows (state S.Store connection).committed.trees (state S.Store t.connection).now.trees) }
     ensures counted { IfOk result (λ t. t.failures ≡ 0) }
-    ensures refused { IfErr result (λ e. IsRefused e.0 → IsSomeAnd e.1 (λ c.
+    ensures refused { IfErr result (λ e. IsRefused e.0 → IsConnectionAnd e.1 (λ c.
         HasCleanDisk (state S.Store c) → StandsForNone (state S.Store c))) }
-    ensures other { IfErr result (λ e. IsRefused e.0 → IsSomeAnd e.1 (λ c. HasCleanDisk (state S.Store c)
+    ensures other { IfErr result (λ e. IsRefused e.0 → IsConnectionAnd e.1 (λ c. HasCleanDisk (state S.Store c)
         → IsTrue (state S.Store c).is_open → FaultSays S.Store 2 (state S.Store c).now e.0)) }
-    ensures kept { IfErr result (λ e. IfSome e.1 (λ c. HasCleanDisk (state S.Store c)
+    ensures kept { IfErr result (λ e. IfConnection e.1 (λ c. HasCleanDisk (state S.Store c)
         → IsUnopened (state S.Store connection).committed.trees (state S.Store c))) }
+    ensures unharmed { IfErr result (λ e. IfStore e.1 (IsUnharmed S.Store (state S.Store connection))) }
 {
     match reopen(alloc, connection) {
         Ok(opened) => open_again(alloc, opened),
-        Err(error) => Err((open_fault_of(error), None)),
+        Err((error, store)) => Err((open_fault_of(error), Unopened::Store(store))),
     }
 }

@@ -6,12 +6,12 @@ ghost use Rattle.sqlite.specs.State.{HasCleanDisk, Survives};
 ghost use Rattle.book_tables_rows.specs.Steps.{Keeps, Spares};
 ghost use Rattle.book_tables_opening.specs.Reading.{ShowsLists, ShowsRest, ShowsTables};
 
-use crate::whole_nodes::whole_node_rows;
+use crate::whole_nodes::textless_node_rows;
 use book_tables_rows::member_rows;
 use book_tables_schema::{all_entry_rows, all_gone_rows, all_meta_rows};
 use sqlite::{Alter, Error, Row, Transaction};
 
-/// The rows of all five tables.
+/// The rows of all five tables, those of nodes without their texts.
 #[derive(Drop)]
 pub(crate) struct StoreRows {
     pub(crate) nodes: Vec<Row>,
@@ -49,7 +49,7 @@ fn read_rest<S: Alter>(transaction: &mut Transaction<'_, S>) -> Result<(Vec<Row>
     Ok((gone, meta))
 }
 
-/// The rows of all five tables: of nodes in order of the numbers of their rows, of the others in some order.
+/// The rows of all five tables: of nodes, without their texts, in order of the numbers of their rows, of the others in some order.
 pub(crate) fn read_tables<S: Alter>(
     transaction: &mut Transaction<'_, S>,
 ) -> Result<StoreRows, Error>
@@ -62,7 +62,7 @@ pub(crate) fn read_tables<S: Alter>(
         → IfOk result (λ rows. ShowsTables (state S.Store transaction.old.conn.now) rows.nodes.items
         rows.lists.0.items rows.lists.1.items rows.rest.0.items rows.rest.1.items) }
 {
-    let nodes = whole_node_rows(transaction)?;
+    let nodes = textless_node_rows(transaction)?;
     let lists = read_lists(transaction)?;
     let rest = read_rest(transaction)?;
     Ok(StoreRows { nodes, lists, rest })

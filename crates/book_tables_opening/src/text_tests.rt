@@ -1,51 +1,95 @@
-//! Whether labels and texts are text.
+//! Whether nodes have the texts of their kinds, read one after the other.
 
 ghost use Rattle.std.specs.Prelude.{◌≡◌, ◌↔◌, IsTrue, IfOk};
 ghost use Rattle.std.specs.List.{AllByRecursion};
-ghost use Rattle.sqlite.specs.Order.{column};
-ghost use Rattle.book_tables_rows.specs.Nodes.{text_in};
-ghost use Rattle.book_tables_opening.specs.Reading.{IsUtf8Text, HasUtf8};
+ghost use Rattle.std.specs.Option.{option_copied};
+ghost use Rattle.sqlite.specs.Held.{state};
+ghost use Rattle.sqlite.specs.State.{HasCleanDisk, Survives};
+ghost use Rattle.book_office_values.specs.Texts.{IsCardText};
+ghost use Rattle.book_tables_rows.specs.Rows.{IsBook, rows_of};
+ghost use Rattle.book_tables_rows.specs.Steps.{Keeps, Spares};
+ghost use Rattle.book_tables_opening.specs.Directories as nodes;
+ghost use Rattle.book_tables_opening.specs.Opening.{HasTextIn, IsTextFor};
+ghost use Rattle.book_tables_opening.specs.WholeNodes as whole;
 
-use crate::directories::{Directory, text_at};
-use sqlite::{Error, ErrorCode, Row};
+use crate::directories::text_at;
+use crate::keys::int_at;
+use crate::principal_tests::is_of_kind;
+use crate::whole_nodes::text_rows;
+use book_limits::MAX_CARD_BYTES;
+use sqlite::{Alter, Error, Row, Transaction};
 
-/// Whether the text in a column, if it has one, is UTF-8.
-fn is_utf8(row: &Row, at: usize) -> bool
-    ensures { IsTrue result ↔ IsUtf8Text (text_in (column row.now at)) }
+/// Whether bytes are the text of a card: UTF-8, of no more bytes than a text may have.
+fn is_card_text(text: &[u8]) -> bool
+    ensures { IsTrue result ↔ IsCardText text.now }
 {
-    match text_at(row, at) {
-        Some(bytes) => std::str::from_utf8(bytes).is_ok(),
-        None => true,
+    text.len() <= MAX_CARD_BYTES && std::str::from_utf8(text).is_ok()
+}
+
+/// The text in the first row that a look-up shows, if it has one.
+fn first_text(found: &[Row]) -> Option<&[u8]>
+    ensures { option_copied result ≡ whole.first_text found.now }
+{
+    match found.first() {
+        Some(row) => text_at(row, 0),
+        None => None,
     }
 }
 
-/// Whether label and text of a node are UTF-8.
-fn has_utf8(row: &Row) -> bool
-    ensures { IsTrue result ↔ HasUtf8 row.now }
+/// Whether a card has the text of a card, and another node none.
+fn is_text_for(is_card: bool, text: Option<&[u8]>) -> bool
+    ensures { IsTrue result ↔ IsTextFor is_card (option_copied text.entry) }
 {
-    is_utf8(row, 5) && is_utf8(row, 6)
+    match (is_card, text) {
+        (true, Some(text)) => is_card_text(text),
+        (true, None) => false,
+        (false, text) => text.is_none(),
+    }
 }
 
-/// Whether labels and texts of all nodes are UTF-8.
-fn have_utf8(rows: &[Row]) -> bool
-    ensures { IsTrue result ↔ AllByRecursion HasUtf8 rows.now }
+/// Whether the text that a look-up shows is that of a node's kind.
+fn shows_own_text(node: &Row, found: &[Row]) -> bool
+    ensures { IsTrue result ↔ IsTextFor (nodes.is_of_kind 5 node.now) (whole.first_text found.now) }
 {
-    for row in rows {
-        if !has_utf8(row) {
-            return false;
+    is_text_for(is_of_kind(node, 5), first_text(found))
+}
+
+/// Whether the node with a row's number has the text of the row's kind: a card UTF-8 of no more bytes than a text may
+/// have, another node none.
+fn has_own_text<S: Alter>(transaction: &mut Transaction<'_, S>, node: &Row) -> Result<bool, Error>
+    ensures same_reference { transaction.new.conn.ghost_name ≡ transaction.old.conn.ghost_name }
+    ensures survives { Survives (state S.Store transaction.old.conn.now) (state S.Store transaction.new.conn.now)
+        (λ _. ⊥) }
+    ensures kept { Keeps (state S.Store transaction.old.conn.now) (state S.Store transaction.new.conn.now) }
+    ensures stays { Spares (state S.Store transaction.old.conn.now) (state S.Store transaction.new.conn.now) result }
+    ensures told { HasCleanDisk (state S.Store transaction.new.conn.now)
+        → IfOk result (λ has. IsBook (state S.Store transaction.old.conn.now).now
+        → IsTrue has ↔ HasTextIn (rows_of (state S.Store transaction.old.conn.now).now.trees) node.now) }
+{
+    let found = text_rows(transaction, int_at(node, 0))?;
+    Ok(shows_own_text(node, &found))
+}
+
+/// Whether the node with each row's number has the text of the row's kind. It takes one look-up for each, and the
+/// memory of one text.
+pub(crate) fn have_own_texts<S: Alter>(
+    transaction: &mut Transaction<'_, S>,
+    nodes: &[Row],
+) -> Result<bool, Error>
+    ensures same_reference { transaction.new.conn.ghost_name ≡ transaction.old.conn.ghost_name }
+    ensures survives { Survives (state S.Store transaction.old.conn.now) (state S.Store transaction.new.conn.now)
+        (λ _. ⊥) }
+    ensures kept { Keeps (state S.Store transaction.old.conn.now) (state S.Store transaction.new.conn.now) }
+    ensures stays { Spares (state S.Store transaction.old.conn.now) (state S.Store transaction.new.conn.now) result }
+    ensures told { HasCleanDisk (state S.Store transaction.new.conn.now)
+        → IfOk result (λ have. IsBook (state S.Store transaction.old.conn.now).now
+        → IsTrue have ↔ AllByRecursion (HasTextIn (rows_of (state S.Store transaction.old.conn.now).now.trees))
+        nodes.now) }
+{
+    for node in nodes {
+        if !has_own_text(transaction, node)? {
+            return Ok(false);
         }
     }
-    true
-}
-
-/// Hands on whether the rows are those of a sound Office. If they are, their labels and texts have to be UTF-8, since
-/// no reply could tell another one: else it is a failure of the store.
-pub(crate) fn readable(directory: &Directory, is_sound: bool) -> Result<bool, Error>
-    ensures same { IfOk result (λ is. is ≡ is_sound) }
-    ensures texts { IfOk result (λ is. IsTrue is → AllByRecursion HasUtf8 directory.now) }
-{
-    if is_sound && !have_utf8(directory.rows()) {
-        return Err(Error::SqliteFailure(ErrorCode::DatabaseCorrupt));
-    }
-    Ok(is_sound)
+    Ok(true)
 }

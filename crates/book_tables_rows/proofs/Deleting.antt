@@ -1,18 +1,16 @@
 -- What the DELETEs of a book's rows leave.
-use Rattle.book_tables_rows.proofs.Common.{and-true, ◌≡◌, inl, inr, ℕ, suc, ℤ, pos, Bool, true, false, ◌&&◌, ◌||◌, List, [], ◌∷◌, ◌++◌, length, map, filter, flat_map, slice_get, Some, Ok, refl, sym, ap, subst, ◌∙◌, arith, if◌then◌else◌, list_any, IsPermutation, IsPermutation-map, Value, Int, Binary, Row, Term, col, Query, IsAnswer, Output, output, overlay, Delete, Edit, edit_of, id_in, Applies, Given, Table, Trees, rowid, understood, State, Executes, ExecutesInside, IsPlain, command_of, one_step, ids_of, taken_by, Has, Enforced, equal, IsShaped, delete_where, ace_node, ace_node_place, gone_book_place, rowid_place, book_schema, node_table, gone_table, rows_of, has, IsBook, AreFree, is_under, Becomes, BecomesIf}
-use Rattle.std.proofs.Common.{◌≢◌, min}
-use Rattle.sqlite.specs.Ops.{is_true}
+use Rattle.book_tables_rows.proofs.Common.{and-true, ◌≡◌, inl, inr, ℕ, ℤ, Bool, List, [], ◌∷◌, map, filter, slice_get, Some, Ok, refl, sym, ap, subst, ◌∙◌, arith, if◌then◌else◌, IsPermutation, IsPermutation-map, Int, Row, Term, col, Query, IsAnswer, overlay, Delete, Edit, edit_of, id_in, Applies, Given, Table, Trees, rowid, understood, State, Executes, ExecutesInside, IsPlain, command_of, one_step, ids_of, taken_by, Has, Enforced, IsShaped, delete_where, ace_node_place, gone_book_place, rowid_place, book_schema, node_table, gone_table, rows_of, has, IsBook, AreFree, is_under, Becomes, BecomesIf}
+use Rattle.std.proofs.Common.{◌≢◌}
 use Rattle.sqlite_rules.specs.Action.{Writes as EditWrites}
 use Rattle.sqlite_trees.specs.declared.store.Shape.TheVariants.{Table as TableShape}
 use Rattle.sqlite_trees.proofs.TreeLemmas.{IsShaped-filter}
 use Rattle.book_tables_rows.specs.Schema.{ace2_table}
 use Rattle.book_tables_rows.specs.Texts as text
 use Rattle.book_tables_rows.specs.Writes as writes
-use Rattle.book_tables_rows.specs.Writes.{is_below}
 use Rattle.book_tables_rows.proofs.NodeDeletes.{quiet_nodes}
-use Rattle.book_tables_rows.proofs.Meanings.{equals, below_query, delete_gone_is, delete_gone_plain, delete_entries_is, delete_entries_plain, delete_entries_below_is, delete_entries_below_plain, delete_children_is, delete_children_plain, delete_node_is, delete_node_plain}
+use Rattle.book_tables_rows.proofs.Meanings.{equals, delete_gone_is, delete_gone_plain, delete_entries_is, delete_entries_plain, delete_children_is, delete_children_plain, delete_node_is, delete_node_plain}
 use Rattle.book_tables_rows.proofs.Shapes.{key, deletes_each}
-use Rattle.book_tables_rows.proofs.Statements.{deletes, passes, shown_by, simple, answers, map-map, matched}
+use Rattle.book_tables_rows.proofs.Statements.{deletes, passes, shown_by, simple, answers, map-map}
 use Rattle.book_tables_rows.proofs.Becoming.{as_book, book_after, gone_changed, entries_changed, nodes_changed, works_gone, works_entries}
 
 -- a DELETE takes out the rows that pass, where no foreign key acts
@@ -65,60 +63,6 @@ becomes_unlisted old new id count h = record {
       let db = old.now.trees in
       let d = deleted old new text.delete_entries (Int id ∷ []) 5 ace2_table refl (inr (inr (inr (inr (inr (inl refl)))))) (λ e. omega (arith, e)) (simple 13 (equals 1 0 ∷ []) (col 1 0 ∷ [])) (has ace_node_place (Int id)) delete_entries_is delete_entries_plain
       (picks_simple (overlay db []) 13 (equals 1 0 ∷ []) (Int id ∷ []) (has ace_node_place (Int id)) (λ r. and-true (has ace_node_place (Int id) r)))
-      (λ ids same next w. one_step book_schema Enforced db next _ (works_entries (taken_by db (edit_of db ace2_table ids Given 0 []))) w) count h.0 book in
-      (d.0, entries_changed db new.now.trees d.1.0 d.1.2 (ap (λ (t : Table). t.tree) d.1.1) ∙ ap (λ e. record (rows_of db) { entries = e }) d.2);
-}
-
--- ---- the entries of the children of a node
-
--- a count of at least one is an element that passes
-counted_any : {X : Type 0} (t : Row → Bool) (f : Row → X) (rows : List Row) → is_true (Int (pos (min 1 (length (flat_map (λ r. if t r then f r ∷ [] else []) rows))))) ≡ list_any t rows
-counted_any t f [] = refl
-counted_any t f (r ∷ rows) = go (t r) (counted_any t f rows)
-  where
-    one : (k : ℕ) → min 1 (suc k) ≡ 1
-    one k = omega arith
-
-    go : (b : Bool) → is_true (Int (pos (min 1 (length (flat_map (λ r. if t r then f r ∷ [] else []) rows))))) ≡ list_any t rows
-        → is_true (Int (pos (min 1 (length ((if b then f r ∷ [] else []) ++ flat_map (λ r. if t r then f r ∷ [] else []) rows))))) ≡ (b || list_any t rows)
-    go true more = ap (λ k. is_true (Int (pos k))) (one (length (flat_map (λ r. if t r then f r ∷ [] else []) rows)))
-    go false more = more
-
-module _ (db : Trees) (id : Value) where
-  -- the child is under the node, and the entry is the child's
-  abbrev pub child_of : Row → Row → Bool
-  child_of entry child = is_under id child && (equal Binary (rowid child) (ace_node entry) && true)
-
-  abbrev pub counted_for : Row → Value
-  counted_for e = Int (pos (min 1 (length (flat_map (λ n. if child_of e n then ((id ∷ []) ∷ e ∷ n ∷ []) ∷ [] else []) (db 0)))))
-
-  abbrev pub env : Row → List Row
-  env e = (id ∷ []) ∷ e ∷ (counted_for e ∷ []) ∷ []
-
-  pub tests : (e : Row) → (is_true (counted_for e) && true) ≡ is_below id (db 0) e
-  tests e = and-true (is_true (counted_for e)) ∙ counted_any (child_of e) (λ n. (id ∷ []) ∷ e ∷ n ∷ []) (db 0) ∙ (λ i. list_any (λ n. is_under id n && and-true (equal Binary (rowid n) (ace_node e)) i) (db 0))
-
-  pub picks_below : (rows : List Row) → IsAnswer below_query db (id ∷ []) rows → IsPermutation (map key (filter (is_below id (db 0)) (db 13))) (ids_of rows)
-  picks_below rows a =
-      let staged : a.staged ≡ map env (filter (λ e. is_true (counted_for e) && true) (db 13)) = a.grouped ∙ matched (λ e. is_true (counted_for e) && true) env (db 13) in
-      let shown : map (λ (o : Output). o.1) a.kept ≡ map (λ e. rowid e ∷ []) (filter (λ e. is_true (counted_for e) && true) (db 13)) =
-      ap (map (λ (o : Output). o.1)) (a.distinct ∙ ap (map (output below_query)) staged)
-      ∙ map-map (λ (o : Output). o.1) (output below_query) (map env (filter (λ e. is_true (counted_for e) && true) (db 13)))
-      ∙ map-map (λ e. (output below_query e).1) env (filter (λ e. is_true (counted_for e) && true) (db 13)) in
-      let same : IsPermutation (map (λ e. rowid e ∷ []) (filter (λ e. is_true (counted_for e) && true) (db 13))) rows =
-      subst (λ xs. IsPermutation xs rows) shown (subst (IsPermutation (map (λ (o : Output). o.1) a.kept)) (sym a.shown) (IsPermutation-map (λ (o : Output). o.1) _ _ a.same)) in
-      subst (λ xs. IsPermutation xs (ids_of rows)) (map-map (λ r. id_in (rowid r)) (λ e. rowid e ∷ []) (filter (λ e. is_true (counted_for e) && true) (db 13)) ∙ (λ i. map key (filter (λ e. tests e i) (db 13))))
-      (IsPermutation-map (λ r. id_in (rowid r)) _ _ same)
-
-pub becomes_unlisted_below : (old new : State) (id : ℤ) (count : ℕ) → ExecutesInside 0 text.delete_entries_below (Int id ∷ []) old new (Ok count) → Becomes old new (writes.delete_entries_below (Int id))
-becomes_unlisted_below old new id count h = record {
-  inside = h.1.mode;
-  was_open = h.1.was_open;
-  is_open = h.1.is_open;
-  rows = λ book.
-      let db = old.now.trees in
-      let d = deleted old new text.delete_entries_below (Int id ∷ []) 5 ace2_table refl (inr (inr (inr (inr (inr (inl refl)))))) (λ e. omega (arith, e)) below_query (is_below (Int id) (db 0)) delete_entries_below_is delete_entries_below_plain
-      (λ rows a. picks_below (overlay db []) (Int id) rows a)
       (λ ids same next w. one_step book_schema Enforced db next _ (works_entries (taken_by db (edit_of db ace2_table ids Given 0 []))) w) count h.0 book in
       (d.0, entries_changed db new.now.trees d.1.0 d.1.2 (ap (λ (t : Table). t.tree) d.1.1) ∙ ap (λ e. record (rows_of db) { entries = e }) d.2);
 }

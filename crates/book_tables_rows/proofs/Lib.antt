@@ -30,6 +30,7 @@ pub mod Counts
 pub mod ListSettings
 pub mod Reaching
 pub mod ChildEntries
+pub mod ChildDeletes
 pub mod WrittenLists
 pub mod EntriesAt
 pub mod PolicyWrites

@@ -209,18 +209,6 @@ pub delete_node_is : command_of (understood book_schema text.delete_node) ≡ De
 unfolding understood everything
 delete_node_is = refl
 
--- the entries of which some child of a node is the node
-abbrev pub below_query : Query
-below_query = record plain_query {
-  from = inner 13 (counted 1 (inner 0 end) (op2 (Compare Eq Binary) (col 2 3) (col 0 0) ∷ op2 (Compare Eq Binary) (col 2 0) (col 1 1) ∷ []) end);
-  filter = col 2 0 ∷ [];
-  project = col 1 0 ∷ [];
-}
-
-pub delete_entries_below_is : command_of (understood book_schema text.delete_entries_below) ≡ Delete 5 (record { lets = []; body = below_query })
-unfolding understood everything
-delete_entries_below_is = refl
-
 -- ---- nothing is returned, and no time is read
 
 pub insert_plain : IsPlain (understood book_schema text.insert_node)
@@ -258,10 +246,6 @@ delete_children_plain = (refl, refl)
 pub delete_node_plain : IsPlain (understood book_schema text.delete_node)
 unfolding understood everything
 delete_node_plain = (refl, refl)
-
-pub delete_entries_below_plain : IsPlain (understood book_schema text.delete_entries_below)
-unfolding understood everything
-delete_entries_below_plain = (refl, refl)
 
 pub find_plain : IsPlain (understood book_schema text.find_node)
 unfolding understood everything

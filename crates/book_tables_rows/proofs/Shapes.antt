@@ -108,7 +108,7 @@ updates_one p f keeps rows shaped (Some r) picked there =
 
 -- ---- DELETE
 
-without_two : (p q : Row → Bool) (rows : List Row) → filter (λ r. not (q r)) (filter (λ r. not (p r)) rows) ≡ filter (λ r. not (p r || q r)) rows
+pub without_two : (p q : Row → Bool) (rows : List Row) → filter (λ r. not (q r)) (filter (λ r. not (p r)) rows) ≡ filter (λ r. not (p r || q r)) rows
 without_two p q [] = refl
 without_two p q (x ∷ xs) = go (p x) (q x) refl refl (without_two p q xs)
   where
@@ -118,7 +118,7 @@ without_two p q (x ∷ xs) = go (p x) (q x) refl refl (without_two p q xs)
     go false true e h more = simp (e, h) more
     go false false e h more = simp (e, h) (ap (λ l. x ∷ l) more)
 
-all_kept : (rows : List Row) → filter (λ r. not false) rows ≡ rows
+pub all_kept : (rows : List Row) → filter (λ r. not false) rows ≡ rows
 all_kept [] = refl
 all_kept (x ∷ xs) = ap (λ l. x ∷ l) (all_kept xs)
 

@@ -1,5 +1,5 @@
 -- The rows of the tables, and tests on their columns.
-use Rattle.std.specs.Prelude.{◌≡◌, ◌⊎◌, ℕ, Bool, List, []}
+use Rattle.std.specs.Prelude.{◌≡◌, ℕ, Bool, List, []}
 use Rattle.sqlite.specs.Collation.TheVariants.{Binary}
 use Rattle.sqlite.specs.declared.types.Value.{Value}
 use Rattle.sqlite.specs.Effect.{Database, IsDatabase}
@@ -10,7 +10,7 @@ use Rattle.sqlite_rules.specs.Lists.{Has}
 use Rattle.sqlite_schema.specs.Rules.{equal}
 use Rattle.sqlite_trees.specs.View.{IsShaped}
 use Rattle.sqlite_trees.specs.declared.store.Shape.TheVariants.{Table as TableShape}
-use Rattle.book_tables_rows.specs.Schema.{book_schema, base_schema, node_tree, ace_tree, ace2_tree, member_tree, gone_tree, meta_tree, reach_tree}
+use Rattle.book_tables_rows.specs.Schema.{book_schema, node_tree, ace_tree, ace2_tree, member_tree, gone_tree, meta_tree, reach_tree}
 
 -- the rows of the tables: the entries are those of `ace2`
 pub record Rows : Type 0 where
@@ -33,13 +33,6 @@ pub record IsBook (db : Database) : Type 0 where
   pub schema : db.schema ≡ book_schema
   pub rules : IsDatabase db
   pub rising : (t : Table) → Has book_schema.tables t → IsShaped TableShape (db.trees t.tree)
-  pub former : db.trees ace_tree ≡ []
-
--- the same with `reach` or without it, as a store made before it is: nothing is said of its rows
-pub record IsBase (db : Database) : Type 0 where
-  pub schema : (db.schema ≡ base_schema) ⊎ (db.schema ≡ book_schema)
-  pub rules : IsDatabase db
-  pub rising : (t : Table) → Has base_schema.tables t → IsShaped TableShape (db.trees t.tree)
   pub former : db.trees ace_tree ≡ []
 
 -- a store with these trees

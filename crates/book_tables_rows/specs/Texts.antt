@@ -74,9 +74,6 @@ delete_gone_name = codes "DELETE FROM gone WHERE book = ?1 AND name = ?2"
 abbrev pub delete_gone : List ℕ
 delete_gone = codes "DELETE FROM gone WHERE book = ?1"
 
-abbrev pub delete_entries_below : List ℕ
-delete_entries_below = codes "DELETE FROM ace2 WHERE EXISTS (SELECT 1 FROM node WHERE parent = ?1 AND id = ace2.node)"
-
 abbrev pub delete_entries : List ℕ
 delete_entries = codes "DELETE FROM ace2 WHERE node = ?1"
 

@@ -83,6 +83,11 @@ delete_gone id rows = record rows { gone = delete_where (has gone_book_place id)
 abbrev pub delete_entries : Value → Rows → Rows
 delete_entries id rows = record rows { entries = delete_where (has ace_node_place id) rows.entries }
 
+-- the entries of each of these nodes
+abbrev pub delete_entries_of : List Value → Rows → Rows
+delete_entries_of [] rows = rows
+delete_entries_of (id ∷ ids) rows = delete_entries_of ids (delete_entries id rows)
+
 -- an entry of a child of the node with a number
 abbrev pub is_below : Value → List Row → Row → Bool
 is_below id nodes entry = list_any (λ child. is_under id child && equal Binary (rowid child) (ace_node entry)) nodes

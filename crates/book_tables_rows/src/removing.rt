@@ -1,21 +1,43 @@
 //! DELETE of a book, in one transaction, and the statements that it is made of.
 
-ghost use Rattle.std.specs.Prelude.{◌≡◌, ◌<◌, ◌^◌, OnOk, OnErr};
+ghost use Rattle.std.specs.Prelude.{◌≡◌, ◌<◌, ◌^◌, IsTrue, OnOk, OnErr, map, ⊤};
 ghost use Rattle.sqlite.specs.declared.types.Value.TheVariants.{Int};
 ghost use Rattle.sqlite.specs.Held.{state};
 ghost use Rattle.sqlite.specs.State.{HasCleanDisk, Survives};
 ghost use Rattle.book_tables_rows.specs.Columns.{rowid_place};
+ghost use Rattle.book_tables_rows.specs.Lists.{listed_node};
 ghost use Rattle.book_tables_rows.specs.Writes as writes;
 ghost use Rattle.book_tables_rows.specs.Writes.{AreFree, HasMeta, is_under};
 ghost use Rattle.book_tables_rows.specs.Rows.{has};
 ghost use Rattle.book_tables_rows.specs.Nodes.{removing_book};
-ghost use Rattle.book_tables_rows.specs.Steps.{Commits, Keeps, MayLeave, Performs, Stays, Writes, WritesIf};
+ghost use Rattle.book_tables_rows.specs.Steps.{Advances, Commits, Keeps, MayLeave, Performs, Stays, Turns, Writes, WritesIf};
 
 use crate::epochs::{read_epoch, set_epoch};
+use crate::lists::child_entry_rows;
 use crate::nodes::{LAST_NUMBER, delete_entries, delete_node, look_up};
-use sqlite::{Alter, Connection, Error, ErrorCode, Transaction, params};
+use sqlite::{Alter, Connection, Error, ErrorCode, Row, Transaction, params};
 
-/// Takes out the entries of the children of the node with a number.
+/// Takes out the entries of each node that these rows begin with the number of.
+fn delete_entries_of<S: Alter>(
+    transaction: &mut Transaction<'_, S>,
+    rows: &[Row],
+) -> Result<(), Error>
+    ensures same_reference { transaction.new.conn.ghost_name ≡ transaction.old.conn.ghost_name }
+    ensures survives { Survives (state S.Store transaction.old.conn.now) (state S.Store transaction.new.conn.now)
+        (λ _. ⊥) }
+    ensures kept { Keeps (state S.Store transaction.old.conn.now) (state S.Store transaction.new.conn.now) }
+    ensures done { Advances (state S.Store transaction.old.conn.now) (state S.Store transaction.new.conn.now) result
+        (writes.delete_entries_of (map listed_node rows.now)) }
+{
+    'rows: for row in rows {
+        let node = row.get(0)?;
+        delete_entries(transaction, node)?;
+    }
+    Ok(())
+}
+
+/// Takes out the entries of the children of the node with a number: these are read, so that no other entry of the store
+/// is looked at.
 pub(crate) fn delete_entries_below<S: Alter>(
     transaction: &mut Transaction<'_, S>,
     node: i64,
@@ -24,14 +46,13 @@ pub(crate) fn delete_entries_below<S: Alter>(
     ensures survives { Survives (state S.Store transaction.old.conn.now) (state S.Store transaction.new.conn.now)
         (λ _. ⊥) }
     ensures kept { Keeps (state S.Store transaction.old.conn.now) (state S.Store transaction.new.conn.now) }
-    ensures done { Writes (state S.Store transaction.old.conn.now) (state S.Store transaction.new.conn.now) result
-        (writes.delete_entries_below (Int node)) }
+    ensures done { HasCleanDisk (state S.Store transaction.new.conn.now)
+        → IsTrue (state S.Store transaction.old.conn.now).in_transaction
+        → OnOk result (Turns (state S.Store transaction.old.conn.now) (state S.Store transaction.new.conn.now) (λ _. ⊤)
+        (writes.delete_entries_below (Int node))) }
 {
-    transaction.execute(
-        "DELETE FROM ace2 WHERE EXISTS (SELECT 1 FROM node WHERE parent = ?1 AND id = ace2.node)",
-        params![node],
-    )?;
-    Ok(())
+    let rows = child_entry_rows(transaction, node)?;
+    delete_entries_of(transaction, &rows)
 }
 
 /// Takes out the removed names of the book with a number.

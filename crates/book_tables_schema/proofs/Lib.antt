@@ -7,3 +7,4 @@ pub mod FormerRows
 pub mod SecondVersion
 pub mod WidenedRows
 pub mod DroppedReach
+pub mod LeftConnections

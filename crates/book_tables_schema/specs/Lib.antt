@@ -5,3 +5,4 @@ pub mod Versions
 pub mod Whole
 pub mod Tabled
 pub mod Renewing
+pub mod Reopening

@@ -32,7 +32,7 @@ pub use founding::{create, is_empty};
 pub use laws::widened_rows_keep_lists;
 pub use layout::is_book_schema;
 pub use reaches::is_beside_reach;
-pub use reopening::reopen;
+pub use reopening::{Unopened, reopen};
 pub use tables::{drop_reach, make_reach, make_second_tables};
 pub use versions::says_other_version;
 pub use whole::{all_entry_rows, all_gone_rows, all_meta_rows, all_node_rows};

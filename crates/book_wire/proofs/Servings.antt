@@ -5,7 +5,7 @@ use Rattle.book_office.specs.Keeping.{Leftover}
 use Rattle.book_office_values.specs.declared.offices.Office.{Office}
 use Rattle.book_machine.proofs.CopiesOfRuns.{synced}
 use Rattle.book_machine.proofs.OfficesOfRuns.{finds_its_offices}
-use Rattle.book_machine.specs.LeadingRuns.{HavePaths}
+use Rattle.book_machine.specs.LeadingRuns.{AreWellFormed}
 use Rattle.book_machine.specs.Runs.{Call, Run, last_office, MayLeave, MayLeaveAfter}
 use Rattle.book_wire.specs.Serving.{Stays, ServesAny, Answered, Runs, StreamsAreSynced, calls_in, calls_answered, replies_in, replies_of}
 
@@ -14,14 +14,14 @@ stays s = record { was_honest = λ h. h; kept = λ h o stands. stands; left = λ
 
 pub runs_none : (old new : Standing) → Stays old new → Runs old new []
 runs_none old new s = record {
-  paths = tt;
+  well_formed = tt;
   was_honest = s.was_honest;
   run = λ h o stands. ([], s.kept h o stands, tt, λ x left. s.left h x left);
 }
 
 pub runs_stay : (old mid new : Standing) (answered : List Answered) → Runs old mid answered → Stays mid new → Runs old new answered
 runs_stay old mid new answered r s = record {
-  paths = r.paths;
+  well_formed = r.well_formed;
   was_honest = λ h. r.was_honest (s.was_honest h);
   run = λ h o stands.
       let so = r.run (s.was_honest h) o stands in
@@ -67,7 +67,7 @@ leave_then before mid o (c ∷ calls) more (r ∷ replies) others [] later x run
 leave_then before mid o (c ∷ calls) more (r ∷ replies) others (a ∷ offices) later x run may left =
     leave_then (MayLeave before o c r) mid a calls more replies others offices later x run.1 may left
 
-both_have : (calls more : List Call) → HavePaths calls → HavePaths more → HavePaths (calls ++ more)
+both_have : (calls more : List Call) → AreWellFormed calls → AreWellFormed more → AreWellFormed (calls ++ more)
 both_have [] more have others = others
 both_have (c ∷ calls) more have others = (have.0, both_have calls more have.1 others)
 
@@ -81,7 +81,7 @@ IsRun old new calls replies =
 pub runs_then : (old mid new : Standing) (answered more : List Answered) → Runs old mid answered → Runs mid new more → Runs old new (answered ++ more)
 unfolding IsRun
 runs_then old mid new answered more r s = record {
-  paths = subst HavePaths (sym (flat_map-append calls_in answered more)) (both_have (calls_answered answered) (calls_answered more) r.paths s.paths);
+  well_formed = subst AreWellFormed (sym (flat_map-append calls_in answered more)) (both_have (calls_answered answered) (calls_answered more) r.well_formed s.well_formed);
   was_honest = λ h. r.was_honest (s.was_honest h);
   run = λ h.
       let P : List Call → Type 0 = λ calls. IsRun old new calls (replies_of (answered ++ more)) in
@@ -103,12 +103,12 @@ runs_then old mid new answered more r s = record {
 pub runs_one : (old new : Standing) (name : Option (List ℕ)) (request : Option Request) (reply : Reply)
     → ServesAny old new name request reply → Runs old new (record { name = name; request = request; reply = reply } ∷ [])
 runs_one old new name None reply s = record {
-  paths = tt;
+  well_formed = tt;
   was_honest = s.was_honest;
   run = λ h o stands. ([], s.kept h o stands, tt, λ x left. s.left h x left);
 }
 runs_one old new name (Some request) reply s = record {
-  paths = (s.1, tt);
+  well_formed = (s.1, tt);
   was_honest = s.0.was_honest;
   run = λ h o stands.
       let next = s.0.served h o stands in
@@ -121,5 +121,5 @@ streams_are_synced standing old new answered runs honest o stands =
       so.0,
       so.1,
       finds_its_offices o (calls_answered answered) (replies_of answered) so.0 so.2,
-      synced (standing old) (calls_answered answered) (replies_of answered) runs.paths,
+      synced (standing old) (calls_answered answered) (replies_of answered) runs.well_formed,
     )

@@ -3,9 +3,9 @@ use Rattle.std.specs.Prelude.{◌≡◌, ℕ, List, [], ◌∷◌, Option, Some,
 use Rattle.std.specs.List.{flat_map}
 use Rattle.book_office.specs.Keeping.{Leftover, Standing}
 use Rattle.book_office_values.specs.declared.offices.Office.{Office}
-use Rattle.book_machine.specs.Asking.{HasPaths}
+use Rattle.book_machine.specs.Asking.{IsWellFormed}
 use Rattle.book_machine.specs.Laws.{FindsItsOffices}
-use Rattle.book_machine.specs.LeadingRuns.{HavePaths}
+use Rattle.book_machine.specs.LeadingRuns.{AreWellFormed}
 use Rattle.book_machine.specs.Promises.{ServePromise}
 use Rattle.book_machine.specs.Runs.{Call, Run, last_office, MayLeaveAfter}
 use Rattle.book_machine.specs.SyncedCopies.{Synced}
@@ -25,9 +25,9 @@ pub record Answered : Type 0 where
   pub request : Option Request
   pub reply : Reply
 
--- the machine served the request, if it was read; the names of its paths are names
+-- the machine served the request, if it was read, and it is well formed
 abbrev pub ServesAny : Standing → Standing → Option (List ℕ) → Option Request → Reply → Type 0
-ServesAny old new name (Some request) reply = ServePromise old new name request reply × HasPaths request
+ServesAny old new name (Some request) reply = ServePromise old new name request reply × IsWellFormed request
 ServesAny old new name None reply = Stays old new
 
 -- the call that the machine was given, and its reply
@@ -54,8 +54,8 @@ replies_of answered = flat_map replies_in answered
 
 -- the replies are those of a run of the machine over the requests that were read; and what a stop may leave, call by call
 pub record Runs (old new : Standing) (answered : List Answered) : Type 0 where
-  -- the names of the paths of all calls are names
-  pub paths : HavePaths (calls_answered answered)
+  -- all calls are well formed
+  pub well_formed : AreWellFormed (calls_answered answered)
   pub was_honest : new.honest → old.honest
   pub run : new.honest → (o : Office) → old.stands o
       → (offices : List Office) × new.stands (last_office o offices) × Run o (calls_answered answered) (replies_of answered) offices

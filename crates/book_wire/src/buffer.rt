@@ -12,6 +12,9 @@ use std::marker::Model;
 /// The longest head and the longest body together. What is less than a whole request is shorter.
 pub(crate) const CAPACITY: usize = MAX_HEAD + MAX_BODY;
 
+/// How many bytes of a whole buffer are made ready first, since few connections bring more.
+const FIRST: usize = 8_192;
+
 /// The unread bytes of a connection.
 #[derive(Drop)]
 pub(crate) struct Buffer {
@@ -45,7 +48,8 @@ impl Buffer {
     pub(crate) fn whole(alloc: Global) -> Result<Buffer, AllocError>
         ensures { IfOk result (λ b. b ≡ []) }
     {
-        let bytes = vec![in alloc; 0u8; CAPACITY]?;
+        let mut bytes = Vec::with_capacity(alloc, CAPACITY)?;
+        bytes.resize(FIRST, 0)?;
         Ok(Buffer {
             bytes,
             start: 0,
@@ -140,7 +144,8 @@ fn grow(bytes: &mut Vec<u8>, end: usize, more: usize) -> Result<(), AllocError>
     if least - end < more {
         return Err(AllocError);
     }
-    bytes.resize(least.max(size.saturating_mul(2)), 0)
+    let twice = size.saturating_mul(2).min(CAPACITY);
+    bytes.resize(least.max(twice), 0)
 }
 
 /// Reads once, behind the first `end` bytes.

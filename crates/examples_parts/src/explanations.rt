@@ -3,7 +3,7 @@
 use crate::checks::check_text;
 use book_lists_explain::{
     ExplainFault, ExplainFaultKind, answers_are_one, answers_exclude_faults, explain,
-    explain_faults_are_one, short_privileges,
+    explain_faults_are_one, short_privileges, texts_have_answers_or_faults,
 };
 use book_rights::{Leaf, LeafSet, Privilege};
 use std::alloc::Global;
@@ -280,4 +280,5 @@ fn laws_are_called() {
     answers_are_one();
     answers_exclude_faults();
     explain_faults_are_one();
+    texts_have_answers_or_faults();
 }

@@ -181,6 +181,13 @@ fn tell_change(rt: &impl Abort, answer: &mut String, change: &Changed) {
     }
 }
 
+fn most_said(rt: &impl Abort, most: &str) -> Option<u32> {
+    match most {
+        "" => None,
+        said => Some(u32::try_from(number(rt, said)).ok().expect(rt, "a count")),
+    }
+}
+
 fn ask_changes<K: Keeper>(
     rt: &impl Abort,
     alloc: Global,
@@ -191,16 +198,30 @@ fn ask_changes<K: Keeper>(
     most: &str,
 ) {
     let book = name(rt, alloc, book);
-    let most = match most {
-        "" => None,
-        said => Some(u32::try_from(number(rt, said)).ok().expect(rt, "a count")),
-    };
-    let changes = keeper.changes_after(alloc, &book, number(rt, after), most);
+    let changes = keeper.changes_after(alloc, &book, number(rt, after), most_said(rt, most));
     let changes = changes.expect(rt, "memory");
     for change in changes.as_slice() {
         tell_change(rt, answer, change);
     }
     drop(changes);
+}
+
+fn ask_cards<K: Keeper>(
+    rt: &impl Abort,
+    alloc: Global,
+    keeper: &mut K,
+    answer: &mut String,
+    book: &str,
+    after: &str,
+    most: &str,
+) {
+    let book = name(rt, alloc, book);
+    let cards = keeper.cards_after(alloc, &book, number(rt, after), most_said(rt, most));
+    let cards = cards.expect(rt, "memory");
+    for change in cards.as_slice() {
+        tell_change(rt, answer, change);
+    }
+    drop(cards);
 }
 
 fn belongs<K: Keeper>(
@@ -237,6 +258,15 @@ pub(crate) fn ask<K: Keeper>(rt: &impl Abort, alloc: Global, keeper: &mut K, lin
         "lists" => ask_lists(rt, alloc, keeper, &mut answer, at),
         "effective" => ask_effective(rt, alloc, keeper, &mut answer, at),
         "changes" => ask_changes(
+            rt,
+            alloc,
+            keeper,
+            &mut answer,
+            at,
+            word(line, 2),
+            word(line, 3),
+        ),
+        "cards" => ask_cards(
             rt,
             alloc,
             keeper,

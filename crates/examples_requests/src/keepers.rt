@@ -63,6 +63,8 @@ const PUTS: &[Step] = &[
     ("node /books/law/bo", "nothing"),
     ("node /books/law", "Book 4 of nobody []"),
     ("changes law 2", "4 bo removed\n"),
+    ("cards law 2", ""),
+    ("cards law 0", "2 ann [] 47 bytes\n"),
     ("put law bo - BO", ""),
     ("node /books/law/bo", "Card 5 of nobody [] 44 bytes"),
     ("changes law 0", "2 ann [] 47 bytes\n5 bo [] 44 bytes\n"),
@@ -152,6 +154,13 @@ const MOVES: &[Step] = &[
         "changes sales 0",
         "1 a.vcf [A] 44 bytes\n3 b.vcf removed\n4 c.vcf [B] 47 bytes\n",
     ),
+    (
+        "cards sales 0",
+        "1 a.vcf [A] 44 bytes\n4 c.vcf [B] 47 bytes\n",
+    ),
+    ("cards sales 0 1", "1 a.vcf [A] 44 bytes\n"),
+    ("cards sales 4", ""),
+    ("cards none 0", ""),
     ("move sales c.vcf law cem", ""),
     ("node /books/law/cem", "Card 2 of /people/bob [B] 47 bytes"),
     (

@@ -6,7 +6,7 @@
 //!   in `moves`;
 //! - a policy to adopt: `adopt NAME`, named in `policies`;
 //! - a question to the keeper: `node PATH`, `children PATH`, `lists PATH`, `effective PATH`, `changes BOOK NUMBER`,
-//!   `epoch`, `failures`, `pairs` or `belongs PERSON PRINCIPAL`;
+//!   `cards BOOK NUMBER` or `cards BOOK NUMBER MOST`, `epoch`, `failures`, `pairs` or `belongs PERSON PRINCIPAL`;
 //! - an edit: `put BOOK CARD OWNER TEXT`, `remove BOOK CARD`, `copy BOOK CARD BOOK CARD OWNER`,
 //!   `move BOOK CARD BOOK CARD`, `add BOOK OWNER` or `take BOOK`, where `-` is no owner; `label PATH LABEL`,
 //!   `list PATH grant WHO NAME ..` or `members GROUP MEMBER ..`, where nothing after the path or the group is the empty
@@ -52,6 +52,7 @@ pub(crate) fn answer<K: Keeper>(
         | "lists"
         | "effective"
         | "changes"
+        | "cards"
         | "epoch"
         | "failures"
         | "pairs"

@@ -112,7 +112,7 @@ fn versions_are_told_apart(rt: HostRuntime) {
 fn a_store_that_is_opened_again_has_its_rows(rt: HostRuntime) {
     let alloc = rt.alloc();
     let connection = store(&rt, alloc);
-    let mut connection = reopen(alloc, connection).expect(&rt, "an open");
+    let mut connection = reopen(alloc, connection).ok().expect(&rt, "an open");
     assert!(rt; is_book_schema(connection.schema()));
     check(
         &rt,

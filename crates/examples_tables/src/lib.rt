@@ -14,6 +14,8 @@ mod checks;
 #[cfg(test)]
 mod closures;
 #[cfg(test)]
+mod columns;
+#[cfg(test)]
 mod edits;
 #[cfg(test)]
 mod found;
@@ -30,8 +32,12 @@ mod new_tables;
 #[cfg(test)]
 mod opened;
 #[cfg(test)]
+mod openings;
+#[cfg(test)]
 mod policies;
 #[cfg(test)]
 mod reaching;
+#[cfg(test)]
+mod reads;
 #[cfg(test)]
 mod row_texts;

@@ -1,8 +1,8 @@
 //! Own lists and members of groups (RFC 3744, sections 8.1 and 4.3).
 
 use crate::checks::{check, check_number};
-use crate::row_texts::{entries_at, entries_of_children, epoch, list, members, store};
-use book_tables_rows::{EntryRow, add_book, set_list, set_members};
+use crate::row_texts::{entries_at, entries_of_children, epoch, list, members, store, whole_rows};
+use book_tables_rows::{EntryRow, add_book, put_card, remove_book, set_list, set_members};
 use sqlite::{Connection, Error, MemStore};
 use std::alloc::Global;
 use std::process::Abort;
@@ -122,6 +122,52 @@ fn entries_of_children_come_by_child_and_place(rt: HostRuntime) {
         entries_of_children(&rt, alloc, &mut connection, "/books"),
         "8 0 3 - 0 1 128; 9 0 2 - 0 0 1; 9 0 0 /people/ann 0 1 64",
     );
+    drop(connection);
+}
+
+fn put(rt: &impl Abort, connection: &mut Connection<MemStore>, book: &str, path: &str, name: &str) {
+    put_card(connection, book, path, name, None, "x").expect(rt, path);
+}
+
+/// Of six entries the one at the book's own path and the three at its cards go, and the others stay.
+#[test]
+fn the_entries_of_a_removed_book_go_with_it(rt: HostRuntime) {
+    let alloc = rt.alloc();
+    let mut connection = store(&rt, alloc);
+    for path in ["/books/law", "/books/sales"] {
+        add_book(&mut connection, "/books", path, None).expect(&rt, path);
+    }
+    put(&rt, &mut connection, "/books/law", "/books/law/a", "a");
+    put(&rt, &mut connection, "/books/law", "/books/law/b", "b");
+    put(&rt, &mut connection, "/books/law", "/books/law/c", "c");
+    put(&rt, &mut connection, "/books/sales", "/books/sales/a", "a");
+    let two = [
+        entry(&rt, alloc, 2, None, false, 1),
+        entry(&rt, alloc, 0, Some("/people/ann"), true, 64),
+    ];
+    let one = [entry(&rt, alloc, 3, None, true, 128)];
+    set(&rt, &mut connection, "/books/law/a", &two);
+    for path in ["/books/law/c", "/books/law", "/books/sales/a", "/people"] {
+        set(&rt, &mut connection, path, &one);
+    }
+    check(
+        &rt,
+        whole_rows(&rt, alloc, &mut connection),
+        "13 nodes, 6 entries, 0 removed, meta 2 5",
+    );
+    remove_book(&mut connection, "/books/law").expect(&rt, "DELETE");
+    check(
+        &rt,
+        whole_rows(&rt, alloc, &mut connection),
+        "9 nodes, 2 entries, 0 removed, meta 2 6",
+    );
+    for path in ["/books/sales/a", "/people"] {
+        check(
+            &rt,
+            list(&rt, alloc, &mut connection, path, false),
+            "3 - 0 1 128",
+        );
+    }
     drop(connection);
 }
 

@@ -64,8 +64,8 @@ fn told_of(alloc: Global, connection: Connection<MemStore>) -> &'static str {
             drop(tables);
             "migrated"
         }
-        Err((fault, connection)) => {
-            drop(connection);
+        Err((fault, left)) => {
+            drop(left);
             name_of(fault)
         }
     }
@@ -88,8 +88,8 @@ fn migrated(
 ) -> (Tables<MemStore>, u64) {
     match migrate(alloc, connection) {
         Ok(migrated) => Some(migrated),
-        Err((_fault, connection)) => {
-            drop(connection);
+        Err((_fault, left)) => {
+            drop(left);
             None
         }
     }
@@ -166,7 +166,7 @@ const TOLD: &[(&str, &str)] = &[
     ("UPDATE node SET kind = 3 WHERE id = 8", "no-store"),
     (
         "UPDATE node SET label = CAST(x'ff' AS TEXT) WHERE id = 8",
-        "store",
+        "no-store",
     ),
     ("DROP INDEX node_owner", "no-store"),
     ("CREATE INDEX gone_book ON gone (book, number)", "no-store"),

@@ -47,8 +47,8 @@ fn name_of(fault: OpenFault) -> &'static str {
 fn told_of(alloc: Global, connection: Connection<MemStore>) -> &'static str {
     match open(alloc, connection).err() {
         None => "opened",
-        Some((fault, connection)) => {
-            drop(connection);
+        Some((fault, left)) => {
+            drop(left);
             name_of(fault)
         }
     }
@@ -93,16 +93,28 @@ const TOLD: &[(&str, &str)] = &[
         "no-store",
     ),
     (
+        "UPDATE node SET text = '' WHERE path = '/groups'",
+        "no-store",
+    ),
+    (
+        "INSERT INTO node (path, parent, kind, owner, label, text, number) SELECT '/groups/staff', id, 3, NULL, '', NULL, 0 FROM node WHERE path = '/groups'",
+        "opened",
+    ),
+    (
+        "INSERT INTO node (path, parent, kind, owner, label, text, number) SELECT '/groups/staff', id, 3, NULL, '', 'x', 0 FROM node WHERE path = '/groups'",
+        "no-store",
+    ),
+    (
         "UPDATE node SET text = NULL WHERE path = '/books/law/b.vcf'",
         "no-store",
     ),
     (
         "UPDATE node SET label = CAST(x'ff' AS TEXT) WHERE path = '/books/law'",
-        "store",
+        "no-store",
     ),
     (
         "UPDATE node SET text = CAST(x'ff' AS TEXT) WHERE path = '/books/law/b.vcf'",
-        "store",
+        "no-store",
     ),
     (
         "UPDATE node SET owner = '/books' WHERE path = '/books/law'",

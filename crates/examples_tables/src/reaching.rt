@@ -8,7 +8,7 @@ use book_lists::{Caller, Circle, Principal};
 use book_office_values::Items;
 use book_tables::{Tables, reached};
 use book_tables_opening::open;
-use book_tables_schema::{is_beside_reach, is_book_schema};
+use book_tables_schema::{Unopened, is_beside_reach, is_book_schema};
 use sqlite::{Connection, MemStore};
 use std::alloc::Global;
 use std::process::Abort;
@@ -142,8 +142,15 @@ fn a_store_of_no_office_gets_no_reach(rt: HostRuntime) {
     let alloc = rt.alloc();
     let mut connection = staffed(&rt, alloc);
     run(&rt, &mut connection, "DROP TABLE reach; DELETE FROM meta");
-    let connection = open(alloc, connection).err().expect(&rt, "a fault").1;
-    let connection = connection.expect(&rt, "the connection");
+    let left = open(alloc, connection).err().expect(&rt, "a fault").1;
+    let connection = match left {
+        Unopened::Connection(connection) => Some(connection),
+        Unopened::Store(store) => {
+            drop(store);
+            None
+        }
+    }
+    .expect(&rt, "the connection");
     assert!(rt; is_beside_reach(connection.schema(), true));
     assert!(rt; !is_book_schema(connection.schema()));
     drop(connection);

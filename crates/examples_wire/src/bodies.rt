@@ -28,6 +28,7 @@ const FOUND: Cases = &[
     ("{\"prop\":[\"acl\",\"owner\",\"acl\"]}", "unread"),
     ("{\"prop\":[\"ACL\"]}", "unread"),
     ("{\"prop\":[\"getetag\"]}", "unread"),
+    ("{\"prop\":[\"acl\",\"getetag\"]}", "unread"),
     ("{\"prop\":[\"acl\",1]}", "unread"),
     ("{\"prop\":\"acl\"}", "unread"),
     ("{\"prop\":{\"acl\":null}}", "unread"),

@@ -13,9 +13,13 @@ mod connections;
 #[cfg(test)]
 mod conversations;
 #[cfg(test)]
+mod fields;
+#[cfg(test)]
 mod hostile;
 #[cfg(test)]
 mod offices;
+#[cfg(test)]
+mod refusals;
 #[cfg(test)]
 mod replies;
 #[cfg(test)]

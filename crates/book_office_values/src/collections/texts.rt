@@ -1,6 +1,7 @@
 //! Texts, which contracts see as their bytes.
 
 ghost use Rattle.std.specs.Prelude.{◌≡◌, length, IfOk};
+ghost use Rattle.std.specs.Str.{IsUtf8};
 ghost use Rattle.std.specs.String.{string_bytes};
 
 use std::alloc::{AllocError, Global};
@@ -127,5 +128,12 @@ impl Text {
         ensures { result ≡ length self.now }
     {
         self.text.len()
+    }
+
+    /// Hands out the rule that each text meets: it is UTF-8.
+    pub fn known(&self)
+        ensures { IsUtf8 self.now }
+    {
+        let _ = &self.text;
     }
 }

@@ -12,7 +12,7 @@ use anyhow::{Context, Result, bail, ensure};
 use book_tables::{OpenFault, Tables};
 use book_tables_migrating::migrate;
 use book_tables_opening::open;
-use book_tables_schema::is_book_schema;
+use book_tables_schema::{Unopened, is_book_schema};
 use sqlite::{Alter, Connection};
 use sqlite_disk::Files;
 use std::alloc::Global;
@@ -76,47 +76,50 @@ fn first_files(alloc: Global, renewal: Renewal) -> Result<Files<Disk>> {
     }
 }
 
-/// Migrates a store, and gives it back, but where it could not be opened again: the store, and whether it is migrated.
-fn migrated_over<S: Alter + Drop>(
-    alloc: Global,
-    store: Connection<S>,
-) -> (Option<Connection<S>>, bool) {
+/// Migrates a store: what is left of it, and whether it is migrated.
+fn migrated_over<S: Alter + Drop>(alloc: Global, store: Connection<S>) -> (Unopened<S>, bool) {
     match migrate(alloc, store) {
-        Ok((tables, _)) => (Some(tables.release()), true),
-        Err((_fault, store)) => (store, false),
+        Ok((tables, _)) => (Unopened::Connection(tables.release()), true),
+        Err((_fault, left)) => (left, false),
     }
 }
 
-/// Opens the tables of a store, and gives it back, but where it could not be opened again: the store, and whether it
-/// has tables.
-fn opened_over<S: Alter + Drop>(
-    alloc: Global,
-    store: Connection<S>,
-) -> (Option<Connection<S>>, bool) {
+/// Opens the tables of a store: what is left of it, and whether it has tables.
+fn opened_over<S: Alter + Drop>(alloc: Global, store: Connection<S>) -> (Unopened<S>, bool) {
     match open(alloc, store) {
-        Ok(tables) => (Some(tables.release()), true),
-        Err((_fault, store)) => (store, false),
+        Ok(tables) => (Unopened::Connection(tables.release()), true),
+        Err((_fault, left)) => (left, false),
     }
 }
 
-/// Renews a store that was opened, and closes it; none where it did not come back.
-fn renewed(alloc: Global, store: Connection<Store>, renewal: Renewal) -> Option<Trial> {
-    let (store, is_done) = match renewal {
+/// The files of a store that is left, closed.
+fn left_files(left: Unopened<Store>) -> Files<Disk> {
+    match left {
+        Unopened::Connection(store) => close(store).0,
+        Unopened::Store(store) => store.close(),
+    }
+}
+
+/// Renews a store that was opened, and closes it.
+fn renewed(alloc: Global, store: Connection<Store>, renewal: Renewal) -> Trial {
+    let (left, is_done) = match renewal {
         Renewal::Migration => migrated_over(alloc, store),
         Renewal::Opening => opened_over(alloc, store),
     };
-    let (files, _) = close(store?);
-    Some(Trial { files, is_done })
+    Trial {
+        files: left_files(left),
+        is_done,
+    }
 }
 
-/// Opens the files, renews them, and closes them; none where they did not come back.
-fn tried(alloc: Global, files: Files<Disk>, renewal: Renewal) -> Option<Trial> {
+/// Opens the files, renews them, and closes them.
+fn tried(alloc: Global, files: Files<Disk>, renewal: Renewal) -> Trial {
     match connect(alloc, files, SEEDS[1]) {
         Ok(store) => renewed(alloc, store, renewal),
-        Err(files) => Some(Trial {
+        Err(files) => Trial {
             files,
             is_done: false,
-        }),
+        },
     }
 }
 
@@ -143,7 +146,7 @@ fn text_migrated<S: Alter + Drop>(alloc: Global, store: Connection<S>) -> Option
 fn told_migrated<S: Alter + Drop>(alloc: Global, store: Connection<S>) -> Option<(Left, String)> {
     match open(alloc, store) {
         Ok(tables) => Some((Left::After, text_of(alloc, tables)?)),
-        Err((OpenFault::OtherVersion, Some(store))) => {
+        Err((OpenFault::OtherVersion, Unopened::Connection(store))) => {
             Some((Left::Before, text_migrated(alloc, store)?))
         }
         Err((_fault, store)) => {
@@ -208,11 +211,7 @@ fn stops_at(
     let mut count = Count::none();
     for calls in 0..MOST_CALLS {
         let files = fused_files(alloc, start, side, calls)?;
-        let Some(mut trial) = tried(alloc, files, renewal) else {
-            // The store was let go with its files: what it left is that of a stop at an earlier call.
-            count.add_stop();
-            continue;
-        };
+        let mut trial = tried(alloc, files, renewal);
         let (is_spent, is_done) = (is_spent(&mut trial.files), trial.is_done);
         let left = left_by(alloc, wanted, trial, renewal)?;
         if !is_spent {

@@ -1,7 +1,5 @@
 use Rattle.std.proofs.Common.{rules}
 use Rattle.std.proofs.lemmas.Bool.{false≢true}
-use Rattle.sqlite.specs.Held.{state}
-use Rattle.book_tables_opening.specs.Reading.{FaultSays}
 use Rattle.book_desk_app.proofs.GivenBack.{unopened}
 use Rattle.book_desk_app.proofs.stores.open_store.Goals as goal
 
@@ -19,6 +17,6 @@ pub returns-in-Err-open-clause-refused : goal.returns-in-Err-open-clause-refused
 returns-in-Err-open-clause-refused g c = (
   c.in-Err-open.fault,
   search rules,
-  unopened (FaultSays g.S.Store 2) (state g.S.Store) c.args.connection c.in-Err-open.fault c.in-Err-open.connection
-      (λ bare. false≢true (c.if-is_empty.ensures.1 bare)) c.in-Err-open.ensures.refused c.in-Err-open.ensures.other c.in-Err-open.ensures.kept,
+  unopened g.S.Store c.args.connection c.in-Err-open.fault c.in-Err-open.left
+      (λ bare. false≢true (c.if-is_empty.ensures.1 bare)) c.in-Err-open.ensures.refused c.in-Err-open.ensures.other c.in-Err-open.ensures.kept c.in-Err-open.ensures.unharmed,
 )

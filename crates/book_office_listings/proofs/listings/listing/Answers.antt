@@ -1,6 +1,6 @@
 use Rattle.book_office_listings.proofs.Common.{◌≡◌, ◌∙◌, sym, ap, subst, asks_members, asks_token}
 use Rattle.book_office_listings.specs.Reading.{AreRead}
-use Rattle.book_office_listings.proofs.ReadListings.{listing_is}
+use Rattle.book_office_listings.proofs.OneGroup.{listing_is}
 use Rattle.book_office_listings.proofs.listings.listing.Goals as goal
 
 pub returns : goal.returns

@@ -1,7 +1,7 @@
 use Rattle.book_tables_opening.proofs.Common.{subst, state}
 use Rattle.std.proofs.lemmas.Result.{IfErr-weaker, IfOk-weaker}
 use Rattle.book_tables_opening.specs.Reading.{IsReopened, IsUnopened, SameRows}
-use Rattle.book_tables_opening.proofs.OpenedTables.{some_weaker}
+use Rattle.book_tables_schema.proofs.LeftConnections.{connection_weaker, store_weaker}
 use Rattle.book_tables_opening.proofs.opening.open.Goals as goal
 
 pub returns-in-Ok-clause-stands : goal.returns-in-Ok-clause-stands
@@ -14,11 +14,6 @@ returns-in-Ok-clause-refused g c =
     let reopened : IsReopened (state g.S.Store c.in-Ok.opened) = λ clean. ((c.in-Ok.ensures.opens clean).0, c.in-Ok.ensures.tabled clean) in
     c.open_again.ensures.refused reopened
 
-pub returns-in-Ok-clause-readable : goal.returns-in-Ok-clause-readable
-returns-in-Ok-clause-readable g c =
-    let reopened : IsReopened (state g.S.Store c.in-Ok.opened) = λ clean. ((c.in-Ok.ensures.opens clean).0, c.in-Ok.ensures.tabled clean) in
-    IfOk-weaker c.open_again.result _ _ (λ t opened clean. (opened clean).1.readable) (c.open_again.ensures.stands reopened)
-
 pub returns-in-Ok-clause-same : goal.returns-in-Ok-clause-same
 returns-in-Ok-clause-same g c =
     let reopened : IsReopened (state g.S.Store c.in-Ok.opened) = λ clean. ((c.in-Ok.ensures.opens clean).0, c.in-Ok.ensures.tabled clean) in
@@ -30,5 +25,9 @@ pub returns-in-Ok-clause-kept : goal.returns-in-Ok-clause-kept
 returns-in-Ok-clause-kept g c =
     let reopened : IsReopened (state g.S.Store c.in-Ok.opened) = λ clean. ((c.in-Ok.ensures.opens clean).0, c.in-Ok.ensures.tabled clean) in
     IfErr-weaker c.open_again.result _ _
-    (λ e kept. some_weaker _ _ e.1 (λ k left clean. let x = left clean in subst (λ trees. IsUnopened trees (state g.S.Store k)) (c.in-Ok.ensures.same x.0) x.1) kept)
+    (λ e kept. connection_weaker _ _ e.1 (λ k left clean. let x = left clean in subst (λ trees. IsUnopened trees (state g.S.Store k)) (c.in-Ok.ensures.same x.0) x.1) kept)
     (c.open_again.ensures.kept reopened)
+
+pub returns-in-Ok-clause-unharmed : goal.returns-in-Ok-clause-unharmed
+returns-in-Ok-clause-unharmed g c =
+    IfErr-weaker c.open_again.result _ _ (λ e none. store_weaker _ _ e.1 (λ s never. absurd never) none) c.open_again.ensures.connected

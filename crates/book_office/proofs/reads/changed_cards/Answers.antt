@@ -1,0 +1,21 @@
+use Rattle.book_office.proofs.Common.{rules, ◌≡◌, List, [], sym, ap, ◌∙◌, option_map, unwrap_or, Some, get}
+use Rattle.std.proofs.Common.{filter, is_some}
+use Rattle.std.proofs.lemmas.Result.{IfOk-weaker}
+use Rattle.book_office_values.specs.Changes.{Change, changes_after}
+use Rattle.book_office_values.specs.declared.offices.Book.{Book}
+use Rattle.book_office.specs.Resources.{changed_in, first_of, is_of_card}
+use Rattle.book_office.specs.declared.nodes.Changed.{Changed}
+use Rattle.book_office.proofs.FirstOf.{first_map, filter_map}
+use Rattle.book_office.proofs.reads.changed_cards.Goals as goal
+
+pub returns-in-Some : goal.returns-in-Some
+returns-in-Some c =
+    let book : Book = c.in-Some.book.now in
+    let most = c.args.at_most in
+    let after = changes_after book.changes.last c.args.number in
+    let there : get c.args.office.now.books c.args.book.now ≡ Some book = search rules in
+    let told : Change → Changed = λ e. record { number = e.0; name = e.1; card = get book.cards e.1 } in
+    IfOk-weaker c.cards_of.result _ _ (λ changes is.
+    is ∙ first_map told most (filter (λ (e : Change). is_some (get book.cards e.1)) after)
+    ∙ ap (first_of most) (sym (filter_map told is_of_card after))
+    ∙ ap (λ found. first_of most (filter is_of_card (unwrap_or (option_map (λ (k : Book). changed_in k (changes_after k.changes.last c.args.number)) found) []))) (sym there)) c.cards_of.ensures
