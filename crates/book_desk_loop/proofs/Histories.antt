@@ -1,6 +1,6 @@
 -- Many connections, a step at a time.
-use Rattle.std.proofs.Common.{zero, suc, ◌≡◌, ℕ, ◌+◌, ◌<◌, ◌⊎◌, ◌==◌, Bool, true, false, if◌then◌else◌, List, [], ◌∷◌, ◌++◌, map, length, get_or, take, drop, Option, Some, None, refl, sym, ap, subst, ◌∙◌, inl, inr, append_assoc, append-nil, length-append, arith, eq-eqb}
-use Rattle.std.proofs.lemmas.List.{map-append, take-append-drop, length-set, get_or-set_same, get_or-set_other, get_or_append_left, get_or_default}
+use Rattle.std.proofs.Common.{zero, suc, ◌≡◌, ℕ, ◌+◌, ◌<◌, ◌≤◌, ◌⊎◌, ◌==◌, Bool, true, false, if◌then◌else◌, List, [], ◌∷◌, ◌++◌, map, length, get_or, take, drop, Option, Some, None, refl, sym, ap, subst, ◌∙◌, inl, inr, append_assoc, append-nil, length-append, arith, eq-eqb}
+use Rattle.std.proofs.lemmas.List.{map-append, take-append-drop, take-append-le, length-set, get_or-set_same, get_or-set_other, get_or_append_left, get_or_default}
 use Rattle.std.proofs.lemmas.List.Concat.{flat_map-append}
 use Rattle.std.proofs.lemmas.Bool.{cases_eq, false≢true}
 use Rattle.std.proofs.lemmas.Bool.Decides.{nat_tests}
@@ -475,6 +475,21 @@ set_again [] k a b = refl
 set_again (x ∷ xs) zero a b = refl
 set_again (x ∷ xs) (suc k) a b = ap (λ t. x ∷ t) (set_again xs k a b)
 
+-- it was sent a part of what waited, and was let go
+pub sends_last : (histories : ℕ → History) (log : List Entry) (opened : ℕ) (places : List (Option Accepted)) (i n : ℕ) (l : Accepted)
+    (left : Option Accepted) → AreServed histories log opened places → Holds places i l → left ≡ None
+    → AreServed (is_sent histories l.number (take n l.connection.unsent)) log opened (slice_set places i left)
+sends_last histories log opened places i n l left s holds gone =
+    let v = l.connection in
+    let rest : View = record { unread = v.unread; unsent = drop n v.unsent; closing = v.closing; stalled = v.stalled } in
+    let w : Accepted = record { number = l.number; connection = rest } in
+    let x = sends histories log opened places i n l w s holds refl refl refl refl in
+    let within : i < length (slice_set places i (Some w)) = omega (arith, holds.0, length-set places i (Some w)) in
+    let P : List (Option Accepted) → Type 0 = λ t. AreServed (is_sent histories l.number (take n v.unsent)) log opened t in
+    let Q : Option Accepted → Type 0 = λ t. AreServed (is_sent histories l.number (take n v.unsent)) log opened (slice_set places i t) in
+    subst Q (sym gone)
+    (subst P (set_again places i (Some w) None) (lets_go (is_sent histories l.number (take n v.unsent)) log opened (slice_set places i (Some w)) i x within))
+
 -- a place that was read
 pub holds_read : (places : List (Option Accepted)) (i : ℕ) (read taken : Option Accepted) (l : Accepted) → i < length places
     → read ≡ get_or places i read → taken ≡ read → taken ≡ Some l → Holds places i l
@@ -519,6 +534,14 @@ sends_none histories log opened places k s =
     let p : History = record { received = (histories k).received; sent = (histories k).sent ++ [] } in
     let e : p ≡ histories k = ap (λ (t : List ℕ). (let q : History = record { received = (histories k).received; sent = t } in q)) (append-nil (histories k).sent) in
     like histories (is_sent histories k []) log opened places (unchanged histories k p e) s
+
+-- ---- a beginning of what waits
+
+pub taken_of : (n : ℕ) (front more all : List ℕ) → all ≡ front ++ more → n ≤ length front → take n front ≡ take n all
+taken_of n front more all e within = sym (ap (λ (t : List ℕ). take n t) e ∙ take-append-le n front more within)
+
+pub within_all : (n : ℕ) (front more all : List ℕ) → all ≡ front ++ more → n ≤ length front → n ≤ length all
+within_all n front more all e within = omega (arith, within, ap (λ (t : List ℕ). length t) e, length-append front more)
 
 -- ---- the number at a place
 

@@ -1,6 +1,6 @@
 //! Many connections of one machine, without their sockets.
 
-ghost use Rattle.std.specs.Prelude.{◌≡◌, ◌⊎◌, ℕ, ◌+◌, ◌≤◌, ◌<◌, true, false, List, [], ◌++◌, length, take, get_or, map, None, IfOk, IfSome, OnOk, OnErr};
+ghost use Rattle.std.specs.Prelude.{◌≡◌, ◌⊎◌, ℕ, ◌+◌, ◌≤◌, ◌<◌, true, false, List, [], ◌++◌, length, take, drop, get_or, map, None, IfOk, IfSome, OnOk, OnErr};
 ghost use Rattle.book_wire.specs.Connection.{fresh};
 ghost use Rattle.book_wire.specs.Serving.{Runs};
 ghost use Rattle.book_desk_loop.specs.ManyConnections.{AllStay, History, Entry, AreServed, TakesBytes, IsAnswered, Holds, OthersStay, answered_in, receives, is_sent};
@@ -12,6 +12,7 @@ use std::alloc::{AllocError, Global};
 use std::mem;
 
 /// With so many bytes of a connection waiting to be sent, no further request of it is answered, and no more is read.
+/// What is left of a long body waits too, also where it is not spelled yet.
 pub const MOST_UNSENT: usize = 8_192;
 
 /// A connection that is there, and its number: how many came before it.
@@ -125,9 +126,10 @@ impl<K: Keeper> Connections<K> {
         }
     }
 
-    /// What waits to be sent to a connection, if it is there.
+    /// The beginning of what waits to be sent to a connection, if it is there: all of it, or at least 8,192 bytes.
     pub fn unsent(&self, place: usize) -> Option<&[u8]>
-        ensures there { IfSome result (λ bytes. (l : Accepted) × Holds self.now.places.items place l × (bytes.now ≡ l.connection.unsent)) }
+        ensures there { IfSome result (λ bytes. (l : Accepted) × Holds self.now.places.items place l × (more : List ℕ)
+            × (l.connection.unsent ≡ bytes.now ++ more) × ((more ≡ []) ⊎ (8192 ≤ length bytes.now))) }
         ensures none { result ≡ None → get_or self.now.places.items place None ≡ None }
     {
         match self.places.get(place) {
@@ -181,23 +183,33 @@ impl<K: Keeper> Connections<K> {
         }
     }
 
-    /// So many bytes were sent to the connection. The memory of one that is idle then is let go.
+    /// So many bytes of `unsent` were sent to the connection. The memory of one that is idle then is let go.
+    ///
+    /// # Errors
+    ///
+    /// Where memory was refused for what comes next of a long body: the connection was let go.
     #[tactic(auto, using(crate::proofs::Places::others_set, crate::proofs::Places::others_twice))]
-    pub fn did_send(&mut self, alloc: Global, place: usize, count: usize)
+    pub fn did_send(&mut self, alloc: Global, place: usize, count: usize) -> Result<(), StreamFault>
         requires { (l : Accepted) × Holds self.old.places.items place l × (count ≤ length l.connection.unsent) }
         ensures machine { self.new.machine ≡ self.old.machine }
         ensures others { OthersStay place self.old.places.items self.new.places.items }
         ensures sent { (l : Accepted) → Holds self.old.places.items place l → (histories : ℕ → History) (log : List Entry)
             → AreServed histories log self.old.opened self.old.places.items
             → AreServed (is_sent histories l.number (take count l.connection.unsent)) log self.new.opened self.new.places.items }
+        ensures left { OnOk result ((l : Accepted) → Holds self.old.places.items place l
+            → (m : Accepted) × Holds self.new.places.items place m × (m.connection.unsent ≡ drop count l.connection.unsent)) }
+        ensures gone { OnErr result (get_or self.new.places.items place None ≡ None) }
     {
         match mem::replace(&mut self.places[place], None) {
-            Some(mut kept) => {
-                kept.connection.did_send(count);
-                kept.connection.shrink(alloc);
-                self.places[place] = Some(kept);
-            }
-            None => {}
+            Some(mut kept) => match kept.connection.did_send(alloc, count) {
+                Ok(()) => {
+                    kept.connection.shrink(alloc);
+                    self.places[place] = Some(kept);
+                    Ok(())
+                }
+                Err(refused) => Err(refused),
+            },
+            None => Ok(()),
         }
     }
 

@@ -75,10 +75,10 @@ pub fn write_once<K: Keeper, W: Write>(
     }
     match writer.write(bytes) {
         Ok(0) => Moved::Failed(StreamFault::Write),
-        Ok(count) => {
-            connections.did_send(alloc, place, count);
-            Moved::Some
-        }
+        Ok(count) => match connections.did_send(alloc, place, count) {
+            Ok(()) => Moved::Some,
+            Err(fault) => Moved::Failed(fault),
+        },
         Err(e) => waits_or_failed(e.kind(), StreamFault::Write),
     }
 }

@@ -1,6 +1,6 @@
--- A listing that is read by the memberships of one group is that of the definition.
+-- A listing that is read by the memberships of the groups of which it tells is that of the definition.
 use Rattle.book_office_listings.proofs.Common.{◌≡◌, ℕ, Bool, true, false, List, [], ◌∷◌, map, refl, sym, ap, ◌∙◌, subst, AllZip, IsStrictlySortedBy, CircleOf, membership_cmp, Office, Path, IsResponse, IsResponseTo, asks_members, listed_paths, effective_at, EffectiveEntry, Children, Extent, Find, Response, Told, Denied, Subject, Whole}
-use Rattle.std.proofs.Common.{◌&&◌, ◌||◌, cond, filter, inl, inr}
+use Rattle.std.proofs.Common.{◌&&◌, ◌||◌, cond, codes, filter, if◌then◌else◌, inl, inr}
 use Rattle.std.proofs.lemmas.List.Kept.{IsStrictlySortedBy-filter}
 use Rattle.std.specs.FinSet.{contains, contains-from_list, contains-retain, items, same_set}
 use Rattle.std.specs.List.{list_any}
@@ -12,7 +12,7 @@ use Rattle.book_lists.specs.Principals.{group_path}
 use Rattle.book_lists.specs.declared.memberships.Membership.{Membership}
 use Rattle.book_office_values.proofs.Members.{Mem}
 use Rattle.book_office_values.specs.declared.paths.Path.TheVariants as path
-use Rattle.book_office.specs.Resources.{node_at}
+use Rattle.book_office.specs.Resources.{children_at, node_at}
 use Rattle.book_office.specs.declared.nodes.Listed.{Listed}
 use Rattle.book_office.specs.declared.nodes.Lists.{Lists as Lists'}
 use Rattle.book_office.specs.declared.nodes.Node.{Node}
@@ -23,8 +23,8 @@ use Rattle.book_office_sync.proofs.Pages.{passed_twice}
 use Rattle.book_office_listings.proofs.FoundListings.{ordered, ordered_pairs, pairs_back}
 use Rattle.book_office_listings.proofs.OneListing.{same_pairs, same_values}
 use Rattle.book_office_listings.proofs.ReadListings.{responses_are}
-use Rattle.book_office_listings.specs.Listings.{AreResponses}
-use Rattle.book_office_listings.specs.Reading.{AreRead, IsWholeRead, children_for, lone_group, pairs_about}
+use Rattle.book_office_listings.specs.Listings.{AreResponses, child_path}
+use Rattle.book_office_listings.specs.Reading.{AreRead, IsWholeRead, children_for, groups_told, pairs_about}
 use Rattle.book_office_listings.specs.Values.{members_in, members_told}
 use Rattle.book_office_listings.specs.declared.messages.Extent.TheVariants.{Resource as Alone}
 
@@ -74,22 +74,40 @@ module _ (group : List ℕ) where
 
 -- ---- each resource of which a listing tells has the same members
 module _ (o : Office) (few all : List Membership) (sorted_few : IsStrictlySortedBy membership_cmp few) (sorted_all : IsStrictlySortedBy membership_cmp all) (all_is : set_of all ≡ o.pairs) where
-  whole_alike : (q : Path) → set_of few ≡ o.pairs → members_told few q ≡ members_told all q
-  whole_alike q is = ap (λ l. members_told l q) (same_pairs few all sorted_few sorted_all (is ∙ sym all_is))
+  abbrev Alike : Path → Type 0
+  Alike q = members_told few q ≡ members_told all q
 
-  told_alike : (p : Path) (extent : Extent) → set_of few ≡ pairs_about o.pairs (lone_group p extent) → (q : Path) → Mem q (listed_paths o p extent) → members_told few q ≡ members_told all q
-  told_alike p Children is q listed = whole_alike q is
-  told_alike path.Root Alone is q listed = whole_alike q is
-  told_alike path.People Alone is q listed = whole_alike q is
-  told_alike path.Groups Alone is q listed = whole_alike q is
-  told_alike path.Books Alone is q listed = whole_alike q is
-  told_alike (path.Person n) Alone is q listed = whole_alike q is
-  told_alike (path.Book b) Alone is q listed = whole_alike q is
-  told_alike (path.Card b c) Alone is q listed = whole_alike q is
-  told_alike (path.Group n) Alone is q listed = elim listed [
-    | inl here ↦ subst (λ r. members_told few r ≡ members_told all r) (sym here) (ap Some (same_members (group_path n) o.pairs few all sorted_few sorted_all is all_is))
-    | inr never ↦ absurd never
-  ]
+  each_alike : (f : List ℕ → Path) (children : List Listed) (q : Path) → ((name : List ℕ) → Alike (f name)) → Mem q (map (λ (child : Listed). f child.name) children) → Alike q
+  each_alike f [] q alike never = absurd never
+  each_alike f (child ∷ children) q alike (inl here) = subst Alike (sym here) (alike child.name)
+  each_alike f (child ∷ children) q alike (inr later) = each_alike f children q alike later
+
+  alone_alike : (p : Path) → Alike p → (q : Path) → Mem q (listed_paths o p Alone) → Alike q
+  alone_alike p own q (inl here) = subst Alike (sym here) own
+  alone_alike p own q (inr never) = absurd never
+
+  listed_alike : (p : Path) (extent : Extent) → Alike p → ((name : List ℕ) → Alike (child_path p name)) → (q : Path) → Mem q (listed_paths o p extent) → Alike q
+  listed_alike p Alone own below q listed = alone_alike p own q listed
+  listed_alike p Children own below q (inl here) = subst Alike (sym here) own
+  listed_alike p Children own below q (inr later) = each_alike (child_path p) (children_at o p) q below later
+
+  home_alike : (books groups : Bool) → Alike (if books then path.Books else (if groups then path.Groups else path.People))
+  home_alike true groups = refl
+  home_alike false true = refl
+  home_alike false false = refl
+
+  told_alike : (p : Path) (extent : Extent) → set_of few ≡ pairs_about o.pairs (groups_told p extent) → (q : Path) → Mem q (listed_paths o p extent) → Alike q
+  told_alike path.Root extent is = listed_alike path.Root extent refl (λ name. home_alike (bytes_eq name (codes "books")) (bytes_eq name (codes "groups")))
+  told_alike path.People extent is = listed_alike path.People extent refl (λ name. refl)
+  told_alike path.Groups Alone is = λ q listed. alone_alike path.Groups refl q listed
+  told_alike path.Groups Children is = λ q listed. ap (λ l. members_told l q) (same_pairs few all sorted_few sorted_all (is ∙ sym all_is))
+  told_alike path.Books extent is = listed_alike path.Books extent refl (λ name. refl)
+  told_alike (path.Person n) extent is = listed_alike (path.Person n) extent refl (λ name. refl)
+  told_alike (path.Group n) extent is =
+      let own = ap Some (same_members (group_path n) o.pairs few all sorted_few sorted_all is all_is) in
+      listed_alike (path.Group n) extent own (λ name. own)
+  told_alike (path.Book b) extent is = listed_alike (path.Book b) extent refl (λ name. refl)
+  told_alike (path.Card b c) extent is = listed_alike (path.Card b c) extent refl (λ name. refl)
 
 -- ---- the responses are those of the definition
 module _ (o : Office) (circle : CircleOf) (find : Find) (w v : Whole) (epochs : w.epoch ≡ v.epoch) where

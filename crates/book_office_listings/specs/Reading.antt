@@ -1,5 +1,6 @@
 -- How a listing is read: the levels of the resource once, and its children once, each with its own lists.
-use Rattle.std.specs.Prelude.{◌≡◌, ℕ, true, List, [], ◌∷◌, Option, Some, None}
+use Rattle.std.specs.Prelude.{◌≡◌, true, List, [], ◌∷◌}
+use Rattle.std.specs.FinSet.{empty}
 use Rattle.std.specs.List.{AllZip}
 use Rattle.std.specs.List.Sorted.{IsStrictlySortedBy}
 use Rattle.book_lists.specs.Circles.{CircleOf}
@@ -15,6 +16,8 @@ use Rattle.book_office.specs.declared.nodes.Listed.{Listed}
 use Rattle.book_office.specs.declared.nodes.Node.{Node}
 use Rattle.book_office_listings.specs.Listings.{IsResponseTo, asks_members, asks_token, child_path}
 use Rattle.book_office_listings.specs.Verdicts.{principal_of}
+use Rattle.book_office_listings.specs.declared.listings.GroupsTold.{GroupsTold}
+use Rattle.book_office_listings.specs.declared.listings.GroupsTold.TheVariants.{NoGroup, OneGroup, AllGroups}
 use Rattle.book_office_listings.specs.declared.messages.Extent.{Extent}
 use Rattle.book_office_listings.specs.declared.messages.Extent.TheVariants.{Resource as Alone, Children}
 use Rattle.book_office_listings.specs.declared.messages.Find.{Find}
@@ -28,31 +31,28 @@ abbrev pub children_for : Office → Path → Extent → List Listed
 children_for o p Alone = []
 children_for o p Children = children_at o p
 
--- the group itself, where the path is a group's
-abbrev pub group_at : Path → Option (List ℕ)
-group_at path.Root = None
-group_at path.People = None
-group_at path.Groups = None
-group_at path.Books = None
-group_at (path.Person n) = None
-group_at (path.Group n) = Some (group_path n)
-group_at (path.Book b) = None
-group_at (path.Card b c) = None
+-- of a resource alone a listing tells the members where it is a group; of the children where these are groups
+abbrev pub groups_told : Path → Extent → GroupsTold
+groups_told path.Root extent = NoGroup
+groups_told path.People extent = NoGroup
+groups_told path.Groups Alone = NoGroup
+groups_told path.Groups Children = AllGroups
+groups_told path.Books extent = NoGroup
+groups_told (path.Person n) extent = NoGroup
+groups_told (path.Group n) extent = OneGroup (group_path n)
+groups_told (path.Book b) extent = NoGroup
+groups_told (path.Card b c) extent = NoGroup
 
--- the one group of which a listing tells, if it tells of one alone
-abbrev pub lone_group : Path → Extent → Option (List ℕ)
-lone_group p Alone = group_at p
-lone_group p Children = None
+-- the direct memberships of these groups
+abbrev pub pairs_about : Memberships → GroupsTold → Memberships
+pairs_about pairs NoGroup = empty
+pairs_about pairs (OneGroup group) = members_of pairs group
+pairs_about pairs AllGroups = pairs
 
--- the direct memberships of one group, or all
-abbrev pub pairs_about : Memberships → Option (List ℕ) → Memberships
-pairs_about pairs None = pairs
-pairs_about pairs (Some group) = members_of pairs group
-
--- what is read of the whole Office, as far as the properties ask it: of the direct memberships those of the one group of which
--- the listing tells, and else all; and the access epoch
+-- what is read of the whole Office, as far as the properties ask it: the direct memberships of the groups of which the listing
+-- tells, and the access epoch
 pub record IsWholeRead (o : Office) (p : Path) (extent : Extent) (asked : List Property) (whole : Whole) : Type 0 where
-  pub memberships : asks_members asked ≡ true → set_of whole.memberships ≡ pairs_about o.pairs (lone_group p extent)
+  pub memberships : asks_members asked ≡ true → set_of whole.memberships ≡ pairs_about o.pairs (groups_told p extent)
   pub in_order : asks_members asked ≡ true → IsStrictlySortedBy membership_cmp whole.memberships
   pub epoch : asks_token asked ≡ true → whole.epoch ≡ o.epoch
 

@@ -10,7 +10,7 @@ ghost use Rattle.book_office.specs.Resources.{node_at};
 ghost use Rattle.book_office_listings.specs.Listings.{AreResponses, IsResponseTo, child_path, home_path};
 ghost use Rattle.book_office_listings.specs.Listings.{asks_members, asks_token, is_members, is_token};
 ghost use Rattle.book_office_listings.specs.Reading.{AreRead, IsChildResponse};
-ghost use Rattle.book_office_listings.specs.Reading.{child_level, child_subject, children_for, group_at, lone_group, node_subject, pairs_about};
+ghost use Rattle.book_office_listings.specs.Reading.{child_level, child_subject, children_for, groups_told, node_subject, pairs_about};
 ghost use Rattle.book_office_listings.specs.Scanning.{IsVerdict};
 ghost use Rattle.book_office_listings.specs.Sifting.{IsSifted};
 ghost use Rattle.book_office_listings.specs.Verdicts.{principal_of};
@@ -305,48 +305,54 @@ fn children_for<K: Keeper>(
     }
 }
 
-/// The group itself, where the path is a group's.
-fn group_at(alloc: Global, path: &Path) -> Result<Option<Principal>, AllocError>
-    ensures { IfOk result (λ group. group ≡ group_at path.now) }
+/// Of which groups a listing tells the members.
+#[derive(Drop)]
+pub(crate) enum GroupsTold {
+    /// Of none.
+    NoGroup,
+    /// Of one.
+    OneGroup(Principal),
+    /// Of all.
+    AllGroups,
+}
+
+/// Of which groups a listing tells the members: of the resource where it is a group, of all where its children are.
+fn groups_told(alloc: Global, path: &Path, extent: Extent) -> Result<GroupsTold, AllocError>
+    ensures { IfOk result (λ groups. groups ≡ groups_told path.now extent) }
 {
-    match path {
-        Path::Group(name) => Ok(Some(Principal::group(alloc, name)?)),
-        Path::Root
-        | Path::People
-        | Path::Groups
-        | Path::Books
-        | Path::Person(_)
-        | Path::Book(_)
-        | Path::Card(_, _) => Ok(None),
+    match (path, extent) {
+        (Path::Group(name), _) => Ok(GroupsTold::OneGroup(Principal::group(alloc, name)?)),
+        (Path::Groups, Extent::Children) => Ok(GroupsTold::AllGroups),
+        (Path::Groups, Extent::Resource) => Ok(GroupsTold::NoGroup),
+        (
+            Path::Root
+            | Path::People
+            | Path::Books
+            | Path::Person(_)
+            | Path::Book(_)
+            | Path::Card(_, _),
+            _,
+        ) => Ok(GroupsTold::NoGroup),
     }
 }
 
-/// The one group of which a listing tells, if it tells of one alone.
-fn lone_group(alloc: Global, path: &Path, extent: Extent) -> Result<Option<Principal>, AllocError>
-    ensures { IfOk result (λ group. group ≡ lone_group path.now extent) }
-{
-    match extent {
-        Extent::Resource => group_at(alloc, path),
-        Extent::Children => Ok(None),
-    }
-}
-
-/// The direct memberships of one group, or all.
+/// The direct memberships of groups, if they are asked for.
 fn pairs_about<K: Keeper>(
     alloc: Global,
     keeper: &mut K,
-    group: &Option<Principal>,
+    groups: &GroupsTold,
 ) -> Result<Pairs, StoreFault>
     ensures { Reads (K.standing keeper.old) (K.standing keeper.new) result
-        (λ o pairs. pairs ≡ pairs_about o.pairs group.now) }
+        (λ o pairs. pairs ≡ pairs_about o.pairs groups.now) }
 {
-    match group {
-        Some(group) => keeper.members(alloc, group),
-        None => keeper.pairs(alloc),
+    match groups {
+        GroupsTold::NoGroup => Ok(Pairs::new(alloc)),
+        GroupsTold::OneGroup(group) => keeper.members(alloc, group),
+        GroupsTold::AllGroups => keeper.pairs(alloc),
     }
 }
 
-/// The direct memberships in order, where they are asked for: of one group where the listing tells of it alone, and else all.
+/// The direct memberships in order of the groups of which a listing tells, where they are asked for.
 fn memberships_for<K: Keeper>(
     alloc: Global,
     keeper: &mut K,
@@ -355,14 +361,14 @@ fn memberships_for<K: Keeper>(
     asked: bool,
 ) -> Result<OrderedPairs, StoreFault>
     ensures { Reads (K.standing keeper.old) (K.standing keeper.new) result
-        (λ o memberships. (asked ≡ true → set_of memberships ≡ pairs_about o.pairs (lone_group path.now extent))
+        (λ o memberships. (asked ≡ true → set_of memberships ≡ pairs_about o.pairs (groups_told path.now extent))
         × (asked ≡ true → IsStrictlySortedBy membership_cmp memberships)) }
 {
     if !asked {
         return Ok(OrderedPairs::none(alloc));
     }
-    let group = lone_group(alloc, path, extent)?;
-    let pairs = pairs_about(alloc, keeper, &group)?;
+    let groups = groups_told(alloc, path, extent)?;
+    let pairs = pairs_about(alloc, keeper, &groups)?;
     Ok(OrderedPairs::from_pairs(&pairs)?)
 }
 
@@ -379,9 +385,10 @@ fn epoch_for<K: Keeper>(keeper: &mut K, asked: bool) -> Result<u64, StoreFault>
 /// told, in the order in which they are asked, and else the denial alone (own profile). `node` is the resource at the
 /// path. An error is want of memory, or a store that failed.
 ///
-/// Beside the lists of the resource it reads the children, the memberships and the epoch at most once each, and nothing
-/// for a child; of the memberships those of one group where it tells of that group alone. Entries above the children that can't apply to the caller are sifted out once: a granted child costs at
-/// most a look at each other entry in force, a denied one a look at each, and more only for what is told of it.
+/// Beside the lists of the resource it reads the children, the memberships of the groups of which it tells, and the
+/// epoch at most once each, and nothing for a child. Entries above the children that can't apply to the caller are
+/// sifted out once: a granted child costs at most a look at each other entry in force, a denied one a look at each, and
+/// more only for what is told of it.
 pub fn listing<K: Keeper>(
     alloc: Global,
     keeper: &mut K,

@@ -15,7 +15,7 @@ use Rattle.book_office_sync.specs.declared.messages.Token.{Token}
 pub record CopySteps : Type 1 where
   pub Call : Type 0
   pub Reply : Type 0
-  -- a call that may come: the names of its paths are names
+  -- a call that may come: its request is well formed
   pub IsCall : Call → Type 0
   pub Serves : Office → Call → Reply → Office → Type 0
   -- the caller of a call, and the principals to which it belongs

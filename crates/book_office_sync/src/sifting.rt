@@ -3,6 +3,7 @@
 ghost use Rattle.std.specs.Prelude.{◌≡◌, ◌++◌, false, OnOk};
 ghost use Rattle.book_lists.specs.Entries.{applies};
 ghost use Rattle.book_lists.specs.declared.entries.Here.{Here as HereModel};
+ghost use Rattle.book_office_sync.specs.Sifting as sifting;
 ghost use Rattle.book_office_sync.specs.Sifting.{AppliesAs};
 
 use book_lists::{Circle, Entry, Here, Who, applies};
@@ -12,7 +13,8 @@ use std::alloc::AllocError;
 /// Whether an entry may apply to the caller at some resource: where its form does not ask of the resource, it is read
 /// at any. Takes no memory.
 pub fn may_apply(entry: &Entry, circle: &Circle) -> bool
-    ensures { result ≡ false → (here : HereModel) → applies entry.now circle.now here ≡ false }
+    ensures told { result ≡ sifting.may_apply entry.now circle.now }
+    ensures nowhere { result ≡ false → (here : HereModel) → applies entry.now circle.now here ≡ false }
 {
     let anywhere = Here {
         owner: None,

@@ -12,12 +12,6 @@ held_more start end n old settled grown whole new came held ordered within is sa
     ∙ ap (λ (t : List ℕ). drop start t ++ came) (kept ∙ ap (take end) same)
     ∙ ap (λ (t : List ℕ). t ++ came) is
 
--- more was put behind what is not sent
-pub unsent_more : (sent : ℕ) (items new unsent more : List ℕ)
-    → sent ≤ length items → new ≡ items ++ more → drop sent items ≡ unsent → drop sent new ≡ unsent ++ more
-unsent_more sent items new unsent more within is same =
-    ap (drop sent) is ∙ drop-append-le sent items more within ∙ ap (λ (t : List ℕ). t ++ more) same
-
 -- and then more
 pub more_then : (old more text mid new : List ℕ) → mid ≡ old ++ more → new ≡ mid ++ text → new ≡ old ++ (more ++ text)
 more_then old more text mid new x y = y ∙ ap (λ (t : List ℕ). t ++ text) x ∙ append_assoc old more text

@@ -1,6 +1,8 @@
 pub mod Common
 pub mod Known
 pub mod Buffers
+pub mod Chunks
+pub mod WholeBodies
 pub mod CommaLists
 pub mod Servings
 pub mod Unspelled

@@ -1,6 +1,6 @@
 -- What of a reply is made before it is written.
-use Rattle.std.specs.Prelude.{◌≡◌, ◌≢◌, ◌⊎◌, ℕ, List, [], ◌++◌, codes, Option, Some, None, Vec}
-use Rattle.std.specs.declared.alloc.Global.{Global}
+use Rattle.std.specs.Prelude.{◌≡◌, ◌≢◌, ◌≤◌, ◌⊎◌, ℕ, Bool, true, false, List, [], ◌++◌, length, drop, codes, Option, Some, None}
+use Rattle.std.specs.List.{concat}
 use Rattle.book_machine.specs.AllowedMethods.{allowed_text}
 use Rattle.book_machine.specs.Refusals.{refused}
 use Rattle.book_machine.specs.declared.allowed_methods.AllowedMethods.{AllowedMethods}
@@ -8,28 +8,39 @@ use Rattle.book_machine.specs.declared.messages.Content.{Content}
 use Rattle.book_machine.specs.declared.messages.Content.TheVariants as content
 use Rattle.book_machine.specs.declared.messages.Reply.{Reply}
 use Rattle.book_machine.specs.declared.refusals.Refusal.TheVariants.{Unavailable}
-use Rattle.book_wire.specs.Spelling.{body_bytes}
+use Rattle.book_wire_json.specs.Pieces.{pieces}
 
 abbrev pub allowed_line : Option AllowedMethods → List ℕ
 allowed_line None = []
 allowed_line (Some methods) = codes "Allow: " ++ (allowed_text methods ++ codes "\r\n")
 
--- the bytes of a body were made
-abbrev pub IsText : List ℕ → Option (Vec ℕ Global) → Type 0
-IsText bytes (Some made) = made.items ≡ bytes
-IsText bytes None = ⊥
+-- what is left of a body from a piece on
+abbrev pub rest_of_body : Content → ℕ → List ℕ
+rest_of_body content next = concat (drop next (pieces content))
 
--- the bytes of a body that is no text in the reply already were made
-abbrev pub IsMade : Content → Option (Vec ℕ Global) → Type 0
-IsMade content.Empty made = Unit {0}
-IsMade (content.Card card) made = Unit {0}
-IsMade (content.Allow methods) made = Unit {0}
-IsMade (content.Listing responses) made = IsText (body_bytes (content.Listing responses)) made
-IsMade (content.Synced report) made = IsText (body_bytes (content.Synced report)) made
-IsMade (content.Members book members) made = IsText (body_bytes (content.Members book members)) made
-IsMade (content.Rulings rulings) made = IsText (body_bytes (content.Rulings rulings)) made
-IsMade (content.Names book names) made = IsText (body_bytes (content.Names book names)) made
-IsMade (content.Refusal refusal) made = IsText (body_bytes (content.Refusal refusal)) made
+-- what is left of a long body, if there is one
+abbrev pub left_of : Option (List ℕ) → List ℕ
+left_of (Some rest) = rest
+left_of None = []
+
+-- The text is the front of a body up to a piece, a chunk where more is left, and the whole body has so many bytes.
+pub record IsChunk (content : Content) (text : List ℕ) (next size : ℕ) : Type 0 where
+  pub bytes : text ++ rest_of_body content next ≡ concat (pieces content)
+  pub counted : size ≡ length (concat (pieces content))
+  pub within : next ≤ length (pieces content)
+  pub enough : (length (pieces content) ≤ next) ⊎ (65536 ≤ length text)
+
+-- the bytes of the body are in the reply, or there are none
+abbrev pub is_there : Content → Bool
+is_there content.Empty = true
+is_there (content.Card text) = true
+is_there (content.Allow methods) = true
+is_there (content.Listing responses) = false
+is_there (content.Synced report) = false
+is_there (content.Members book members) = false
+is_there (content.Rulings rulings) = false
+is_there (content.Names book names) = false
+is_there (content.Refusal refusal) = false
 
 -- the reply that is sent: the machine's, or unavailable in place of one with a content
 abbrev pub IsSent : Reply → Reply → Type 0

@@ -1,13 +1,14 @@
 //! One connection, without its socket (RFC 9112, section 9.3).
 
-ghost use Rattle.std.specs.Prelude.{◌≡◌, ◌≢◌, ℕ, ◌==◌, ◌≤◌, ◌-◌, ◌^◌, min, true, false, List, [], ◌++◌, length, drop, IfOk, IfErr, OnErr, Err};
+ghost use Rattle.std.specs.Prelude.{◌≡◌, ◌≢◌, ◌⊎◌, ℕ, ◌==◌, ◌≤◌, ◌<◌, ◌-◌, ◌^◌, min, true, false, List, [], ◌++◌, length, drop, IfOk, IfErr, OnOk, OnErr, Err};
 ghost use Rattle.std.specs.Io.KnownBytes.{Consumes, IsAtEnd, Keeps};
 ghost use Rattle.book_wire.specs.Connection.{IsFed, closes_after, fresh};
 ghost use Rattle.book_wire.specs.Serving.{Stays};
 ghost use Rattle.book_wire.specs.Turn.{IsPending, IsTurn, StopsWriting};
 
-use crate::buffer::{Buffer, drop_front};
+use crate::buffer::Buffer;
 use crate::head::FieldSpans;
+use crate::outgoing::Outgoing;
 use crate::stream::StreamFault;
 use crate::turns::{Turn, answer_one};
 use book_limits::MAX_FIELDS;
@@ -19,9 +20,6 @@ use matchit::Router;
 use std::alloc::{AllocError, Global};
 use std::io::Read;
 use std::marker::Model;
-
-/// A reply of at most so many bytes, head and body, takes no memory of a connection that was made whole.
-const MAX_JOINED: usize = 66_048;
 
 /// What all connections share: the routes, and memory for the fields of a head.
 #[derive(Drop)]
@@ -58,8 +56,7 @@ impl Wire {
 #[derive(Drop)]
 pub struct Connection {
     buffer: Buffer,
-    made: Vec<u8>,
-    sent: usize,
+    outgoing: Outgoing,
     /// With fewer unread bytes than these no further request is whole.
     wanted: usize,
     closing: bool,
@@ -67,14 +64,13 @@ pub struct Connection {
 }
 
 impl Model for Connection {
-    ghost use Rattle.std.specs.Prelude.{◌≤◌, drop, vec_len};
     ghost use Rattle.book_wire.specs.Connection.{View, MayWait};
 
     ghost Value = { View };
 
-    ghost view = { λ c. record { unread = c.buffer; unsent = drop c.sent c.made.items; closing = c.closing; stalled = c.stalled } };
+    ghost view = { λ c. record { unread = c.buffer; unsent = c.outgoing; closing = c.closing; stalled = c.stalled } };
 
-    ghost invariant = { λ c. (c.sent ≤ vec_len c.made) × MayWait c.buffer c.wanted };
+    ghost invariant = { λ c. MayWait c.buffer c.wanted };
 }
 
 impl Connection {
@@ -84,8 +80,7 @@ impl Connection {
     {
         Connection {
             buffer: Buffer::new(alloc),
-            made: Vec::new(alloc),
-            sent: 0,
+            outgoing: Outgoing::new(alloc),
             wanted: 0,
             closing: false,
             stalled: false,
@@ -98,11 +93,10 @@ impl Connection {
         ensures { IfOk result (λ connection. connection ≡ fresh) }
     {
         let buffer = Buffer::whole(alloc)?;
-        let made = Vec::with_capacity(alloc, MAX_JOINED)?;
+        let outgoing = Outgoing::whole(alloc)?;
         Ok(Connection {
             buffer,
-            made,
-            sent: 0,
+            outgoing,
             wanted: 0,
             closing: false,
             stalled: false,
@@ -116,27 +110,27 @@ impl Connection {
         self.buffer.unread()
     }
 
-    /// What was made and is to be sent.
+    /// The beginning of what is to be sent: all of it, or at least 8,192 bytes.
     pub fn unsent(&self) -> &[u8]
-        ensures { result.now ≡ self.now.unsent }
+        ensures { (more : List ℕ) × (self.now.unsent ≡ result.now ++ more) × ((more ≡ []) ⊎ (8192 ≤ length result.now)) }
     {
-        &self.made[self.sent..]
+        self.outgoing.front()
     }
 
-    /// So many bytes were sent. Of those that were sent, fewer are kept than wait to be sent.
-    pub fn did_send(&mut self, count: usize)
+    /// So many bytes of `unsent` were sent. Of a long body the next pieces are then made.
+    ///
+    /// # Errors
+    ///
+    /// `Write` where memory was refused for these: the connection can't go on.
+    pub fn did_send(&mut self, alloc: Global, count: usize) -> Result<(), StreamFault>
         requires { count ≤ length self.old.unsent }
-        ensures unsent { self.new.unsent ≡ drop count self.old.unsent }
+        ensures unsent { OnOk result (self.new.unsent ≡ drop count self.old.unsent) }
+        ensures fault { IfErr result (λ e. e ≡ StreamFault.Write) }
         ensures unread { self.new.unread ≡ self.old.unread }
         ensures closing { self.new.closing ≡ self.old.closing }
         ensures stalled { self.new.stalled ≡ self.old.stalled }
     {
-        self.sent += count;
-        // At most as many bytes are moved as are dropped.
-        if self.sent >= self.made.len() - self.sent {
-            drop_front(&mut self.made, self.sent);
-            self.sent = 0;
-        }
+        self.outgoing.did_send(alloc, count)
     }
 
     /// Whether it closes once all is sent, and takes no more bytes.
@@ -166,10 +160,7 @@ impl Connection {
         ensures { self.new ≡ self.old }
     {
         self.buffer.shrink(alloc);
-        if self.sent == self.made.len() {
-            self.made = Vec::new(alloc);
-            self.sent = 0;
-        }
+        self.outgoing.shrink(alloc);
     }
 
     /// Reads once, and says how many bytes came. None come only at the end of the input.
@@ -199,7 +190,8 @@ impl Connection {
         machine: &mut Machine<K>,
         wire: &mut Wire,
     ) -> Result<Turn, StreamFault>
-        requires { self.old.closing ≡ false }
+        requires open { self.old.closing ≡ false }
+        requires few { length self.old.unsent < 8192 }
         ensures ok { IfOk result (λ turn. (written : List ℕ) × (self.new.unsent ≡ self.old.unsent ++ written)
             × IsTurn (K.standing machine.old.keeper) self.old.unread written turn (K.standing machine.new.keeper) self.new.unread
             × (self.new.closing ≡ closes_after turn)) }
@@ -215,7 +207,7 @@ impl Connection {
             alloc,
             machine,
             &wire.router,
-            &mut self.made,
+            &mut self.outgoing,
             &mut wire.headers,
             &mut self.buffer,
         ) {
@@ -236,7 +228,8 @@ impl Connection {
         wire: &mut Wire,
         most: usize,
     ) -> Result<u64, StreamFault>
-        requires { self.old.closing ≡ false }
+        requires open { self.old.closing ≡ false }
+        requires few { most ≤ 8192 }
         ensures ok { IfOk result (λ answered. (more : List ℕ) × (count : ℕ) × (answered ≡ min count (2 ^ 64 - 1))
             × (self.new.unsent ≡ self.old.unsent ++ more)
             × IsFed (K.standing machine.old.keeper) self.old.unread more count (K.standing machine.new.keeper) self.new) }
@@ -282,7 +275,8 @@ impl Connection {
         bytes: &[u8],
         most: usize,
     ) -> Result<u64, StreamFault>
-        requires { self.old.closing ≡ false }
+        requires open { self.old.closing ≡ false }
+        requires few { most ≤ 8192 }
         ensures ok { IfOk result (λ answered. (more : List ℕ) × (count : ℕ) × (answered ≡ min count (2 ^ 64 - 1))
             × (self.new.unsent ≡ self.old.unsent ++ more)
             × IsFed (K.standing machine.old.keeper) (self.old.unread ++ bytes.now) more count (K.standing machine.new.keeper) self.new) }

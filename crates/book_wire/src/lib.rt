@@ -7,15 +7,17 @@
 //! for one connection of many, a piece at a time.
 //!
 //! Read `stream` first, with `connection`, which is one connection without its socket, and `turns`, which answers one
-//! request; then `head` and `members`, `requests`, and `reply`; and `buffer` and `output`, which have the bytes; and
-//! `laws`.
+//! request; then `head` and `members`, `requests`, and `reply`; `bodies` and `outgoing`, which make a long body while it is
+//! sent; `buffer` and `output`, which have the bytes; and `laws`.
 #![tactic(auto)]
 
+mod bodies;
 mod buffer;
 mod connection;
 mod head;
 mod laws;
 mod members;
+mod outgoing;
 mod output;
 mod reply;
 mod requests;

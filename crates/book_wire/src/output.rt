@@ -22,19 +22,3 @@ pub(crate) fn put<W: Write>(writer: &mut W, text: &[u8]) -> Result<(), StreamFau
     }
     Ok(())
 }
-
-/// Writes two texts, one after the other.
-pub(crate) fn put_both<W: Write>(
-    writer: &mut W,
-    first: &[u8],
-    second: &[u8],
-) -> Result<(), StreamFault>
-    ensures ok { OnOk result (Appends (W.contents writer.old) (W.contents writer.new) (first.now ++ second.now)) }
-    ensures err { IfErr result (λ e. (e ≡ StreamFault.Write) × ((front left : List ℕ) × (first.now ++ second.now ≡ front ++ left)
-        × Appends (W.contents writer.old) (W.contents writer.new) front)) }
-{
-    match put(writer, first) {
-        Ok(()) => put(writer, second),
-        Err(fault) => Err(fault),
-    }
-}

@@ -1,31 +1,24 @@
 //! The bytes of replies (RFC 9112, section 4).
 
-ghost use Rattle.std.specs.Prelude.{◌≡◌, ◌≢◌, ℕ, ◌+◌, ◌≤◌, Bool, true, List, ◌++◌, [], length, IfOk, OnOk, OnErr, IfErr, IfSome};
-ghost use Rattle.std.specs.Io.KnownBytes.{Appends};
+ghost use Rattle.std.specs.Prelude.{◌≡◌, ◌≢◌, ℕ, ◌+◌, ◌≤◌, ◌<◌, true, false, List, ◌++◌, [], length, IfOk, OnOk, OnErr, IfErr};
 ghost use Rattle.arrayvec.specs.ArrayString.{array_string_len};
 ghost use Rattle.book_machine.specs.AllowedMethods.{allowed_text};
 ghost use Rattle.book_machine.specs.Refusals as machine;
 ghost use Rattle.book_machine.specs.declared.messages.Content.TheVariants as contents;
 ghost use Rattle.book_machine.specs.declared.messages.Reply.{Reply as ReplyOf};
 ghost use Rattle.book_machine.specs.declared.refusals.Refusal.TheVariants.{Unavailable};
-ghost use Rattle.book_wire.specs.Sending.{IsMade, IsSent, allowed_line};
+ghost use Rattle.book_wire.specs.Sending.{IsChunk, IsSent, allowed_line, is_there};
 ghost use Rattle.book_wire.specs.Spelling.{allow_line, body_bytes, close_line, head_text, json_line, length_line, refusal_text, refused_allow, sent_text, spelling, type_line, wire_body, wire_status};
 
+use crate::bodies::{Chunk, LongBody, MAX_REPLY_HEAD, first_chunk};
 use crate::head::WireRefusal;
-use crate::output::put_both;
+use crate::outgoing::Outgoing;
 use crate::stream::StreamFault;
 use arrayvec::ArrayString;
 use book_machine::{AllowedMethods, Content, Refusal, Reply};
-use book_wire_json::{
-    listing_body, members_body, names_body, refusal_body, report_body, rulings_body,
-};
 use book_wire_targets::phrase;
 use itoa::Buffer;
 use std::alloc::{AllocError, Global};
-use std::io::Write;
-
-/// More than the longest head of a reply.
-const MAX_REPLY_HEAD: usize = 512;
 
 type ReplyHead = ArrayString<MAX_REPLY_HEAD>;
 
@@ -169,65 +162,36 @@ fn push_head(
     text.push_str("\r\n");
 }
 
-/// The bytes of a body that is made for the reply; none where the reply has its text already, or no body. An error is
-/// want of memory.
-fn made_body(alloc: Global, content: &Content) -> Result<Option<Vec<u8>>, AllocError>
-    ensures made { IfOk result (λ made. IsMade content.now made) }
-    ensures telling { OnErr result (content.now ≢ contents.Empty) }
+/// Whether the bytes of the body are in the reply already, or there are none.
+fn is_there(content: &Content) -> bool
+    ensures { result ≡ is_there content.now }
 {
     match content {
-        Content::Listing(responses) => match listing_body(alloc, responses.as_slice()) {
-            Ok(bytes) => Ok(Some(bytes)),
-            Err(error) => Err(error),
-        },
-        Content::Synced(report) => match report_body(alloc, report) {
-            Ok(bytes) => Ok(Some(bytes)),
-            Err(error) => Err(error),
-        },
-        Content::Members(book, members) => match members_body(alloc, book, members) {
-            Ok(bytes) => Ok(Some(bytes)),
-            Err(error) => Err(error),
-        },
-        Content::Rulings(rulings) => match rulings_body(alloc, rulings.as_slice()) {
-            Ok(bytes) => Ok(Some(bytes)),
-            Err(error) => Err(error),
-        },
-        Content::Names(book, names) => match names_body(alloc, book, names.as_slice()) {
-            Ok(bytes) => Ok(Some(bytes)),
-            Err(error) => Err(error),
-        },
-        Content::Refusal(refusal) => match refusal_body(alloc, refusal) {
-            Ok(bytes) => Ok(Some(bytes)),
-            Err(error) => Err(error),
-        },
-        Content::Empty | Content::Card(_) | Content::Allow(_) => Ok(None),
-    }
-}
-
-/// The bytes of a body that was made.
-fn bytes_made(made: &Option<Vec<u8>>) -> &[u8]
-    ensures { IfSome made.now (λ bytes. result.now ≡ bytes.items) }
-{
-    match made {
-        Some(bytes) => bytes.as_slice(),
-        None => &[],
-    }
-}
-
-/// The body of a reply, whose bytes were made before.
-fn bytes_of<'r>(content: &'r Content, made: &'r Option<Vec<u8>>) -> &'r [u8]
-    requires { IsMade content.now made.now }
-    ensures { result.now ≡ body_bytes content.now }
-{
-    match content {
-        Content::Card(text) => text.as_str().as_bytes(),
+        Content::Empty | Content::Card(_) | Content::Allow(_) => true,
         Content::Listing(_)
         | Content::Synced(_)
         | Content::Members(_, _)
         | Content::Rulings(_)
         | Content::Names(_, _)
-        | Content::Refusal(_) => bytes_made(made),
-        Content::Empty | Content::Allow(_) => &[],
+        | Content::Refusal(_) => false,
+    }
+}
+
+/// The bytes of a body that are in the reply already.
+fn bytes_there(content: &Content) -> &[u8]
+    requires { is_there content.now ≡ true }
+    ensures { result.now ≡ body_bytes content.now }
+{
+    match content {
+        Content::Card(text) => text.as_str().as_bytes(),
+        Content::Empty
+        | Content::Allow(_)
+        | Content::Listing(_)
+        | Content::Synced(_)
+        | Content::Members(_, _)
+        | Content::Rulings(_)
+        | Content::Names(_, _)
+        | Content::Refusal(_) => &[],
     }
 }
 
@@ -238,22 +202,15 @@ fn sent_body(body: &[u8], bare: bool) -> &[u8]
     if bare { &[] } else { body }
 }
 
-/// Writes a reply. The bytes of its body are made before.
+/// Adds a reply whose body is in it already, or that has none. An error is want of memory, and adds nothing.
 #[tactic(auto, unfolding(crate::specs::Spelling::spelling))]
-fn write_reply<W: Write>(
-    writer: &mut W,
-    reply: &Reply,
-    made: &Option<Vec<u8>>,
-    bare: bool,
-    closes: bool,
-) -> Result<(), StreamFault>
-    requires { IsMade reply.now.content made.now }
-    ensures ok { OnOk result (Appends (W.contents writer.old) (W.contents writer.new) (spelling reply.now bare closes)) }
-    ensures err { IfErr result (λ e. (e ≡ StreamFault.Write) × ((front left : List ℕ)
-        × (spelling reply.now bare closes ≡ front ++ left)
-        × Appends (W.contents writer.old) (W.contents writer.new) front)) }
+fn put_there(out: &mut Outgoing, reply: &Reply, bare: bool, closes: bool) -> Result<(), AllocError>
+    requires few { length out.old < 8192 }
+    requires there { is_there reply.now.content ≡ true }
+    ensures ok { OnOk result (out.new ≡ out.old ++ spelling reply.now bare closes) }
+    ensures err { OnErr result (out.new ≡ out.old) }
 {
-    let body = bytes_of(&reply.content, made);
+    let body = bytes_there(&reply.content);
     let mut text = ArrayString::new();
     push_head(
         &mut text,
@@ -263,7 +220,62 @@ fn write_reply<W: Write>(
         body.len(),
         closes,
     );
-    put_both(writer, text.as_bytes(), sent_body(body, bare))
+    out.put(text.as_bytes(), sent_body(body, bare))
+}
+
+/// Adds a reply whose first chunk was made. What is left of the body is made while it is sent, in memory that is taken
+/// here. An error is want of memory, and adds nothing.
+#[tactic(auto, unfolding(crate::specs::Spelling::spelling))]
+fn put_chunk(
+    out: &mut Outgoing,
+    reply: Reply,
+    chunk: Chunk,
+    bare: bool,
+    closes: bool,
+) -> Result<(), AllocError>
+    requires few { length out.old < 8192 }
+    requires made { is_there reply.content ≡ false }
+    requires chunk { IsChunk reply.content chunk.text.items chunk.next chunk.size }
+    ensures ok { OnOk result (out.new ≡ out.old ++ spelling reply bare closes) }
+    ensures err { OnErr result (out.new ≡ out.old) }
+{
+    let Reply { status, content } = reply;
+    let mut text = ArrayString::new();
+    push_head(
+        &mut text,
+        status,
+        allowed(&content),
+        type_line_of(&content, bare),
+        chunk.size,
+        closes,
+    );
+    if bare {
+        return out.put(text.as_bytes(), &[]);
+    }
+    out.reserve(chunk.room())?;
+    let left = LongBody::rest(content, chunk.next, chunk.memory);
+    out.put_long(text.as_bytes(), chunk.text.as_slice(), left)
+}
+
+/// Adds a reply. An error is want of memory, and adds nothing.
+fn put_reply(
+    alloc: Global,
+    out: &mut Outgoing,
+    reply: Reply,
+    bare: bool,
+    closes: bool,
+) -> Result<(), AllocError>
+    requires { length out.old < 8192 }
+    ensures ok { OnOk result (out.new ≡ out.old ++ spelling reply bare closes) }
+    ensures err { OnErr result (out.new ≡ out.old) }
+{
+    if is_there(&reply.content) {
+        return put_there(out, &reply, bare, closes);
+    }
+    match first_chunk(alloc, &reply.content) {
+        Ok(chunk) => put_chunk(out, reply, chunk, bare, closes),
+        Err(error) => Err(error),
+    }
 }
 
 /// The body of the refusal that comes where memory is refused. Takes no memory.
@@ -274,23 +286,33 @@ fn unavailable_text() -> &'static [u8]
     b"{\"error\":\"unavailable\"}"
 }
 
-/// Writes that memory was refused or the store failed. Takes no memory.
+/// Adds that memory was refused or the store failed. An error is want of memory, and adds nothing.
 #[tactic(auto, unfolding(crate::specs::Spelling::spelling, serde_json::proofs::OnLiterals::serde_json_on_literals))]
-pub(crate) fn write_unavailable<W: Write>(
-    writer: &mut W,
-    bare: bool,
-    closes: bool,
-) -> Result<(), StreamFault>
-    ensures ok { OnOk result (Appends (W.contents writer.old) (W.contents writer.new)
-        (spelling (machine.refused Unavailable) bare closes)) }
-    ensures err { IfErr result (λ e. (e ≡ StreamFault.Write) × ((front left : List ℕ)
-        × (spelling (machine.refused Unavailable) bare closes ≡ front ++ left)
-        × Appends (W.contents writer.old) (W.contents writer.new) front)) }
+fn put_unavailable(out: &mut Outgoing, bare: bool, closes: bool) -> Result<(), AllocError>
+    requires { length out.old < 8192 }
+    ensures ok { OnOk result (out.new ≡ out.old ++ spelling (machine.refused Unavailable) bare closes) }
+    ensures err { OnErr result (out.new ≡ out.old) }
 {
     let body = unavailable_text();
     let mut text = ArrayString::new();
     push_head(&mut text, 503, None, json_line_of(bare), body.len(), closes);
-    put_both(writer, text.as_bytes(), sent_body(body, bare))
+    out.put(text.as_bytes(), sent_body(body, bare))
+}
+
+/// Adds that memory was refused or the store failed, or nothing where there is no memory for that.
+pub(crate) fn send_unavailable(
+    out: &mut Outgoing,
+    bare: bool,
+    closes: bool,
+) -> Result<(), StreamFault>
+    requires { length out.old < 8192 }
+    ensures ok { OnOk result (out.new ≡ out.old ++ spelling (machine.refused Unavailable) bare closes) }
+    ensures err { IfErr result (λ e. (e ≡ StreamFault.Write) × (out.new ≡ out.old)) }
+{
+    match put_unavailable(out, bare, closes) {
+        Ok(()) => Ok(()),
+        Err(_) => Err(StreamFault::Write),
+    }
 }
 
 /// The status (RFC 9110, section 15; RFC 6585, section 5).
@@ -317,16 +339,12 @@ fn text_of(refusal: WireRefusal) -> &'static [u8]
     }
 }
 
-/// Writes a refusal in place of a reply, which closes the connection.
+/// Adds a refusal in place of a reply, which closes the connection. An error is want of memory, and adds nothing.
 #[tactic(auto, unfolding(crate::specs::Spelling::refusal_text))]
-pub(crate) fn refuse<W: Write>(
-    writer: &mut W,
-    refusal: WireRefusal,
-    bare: bool,
-) -> Result<(), StreamFault>
-    ensures ok { OnOk result (Appends (W.contents writer.old) (W.contents writer.new) (refusal_text refusal bare)) }
-    ensures err { IfErr result (λ e. (e ≡ StreamFault.Write) × ((front left : List ℕ)
-        × (refusal_text refusal bare ≡ front ++ left) × Appends (W.contents writer.old) (W.contents writer.new) front)) }
+fn put_refusal(out: &mut Outgoing, refusal: WireRefusal, bare: bool) -> Result<(), AllocError>
+    requires { length out.old < 8192 }
+    ensures ok { OnOk result (out.new ≡ out.old ++ refusal_text refusal bare) }
+    ensures err { OnErr result (out.new ≡ out.old) }
 {
     let body = text_of(refusal);
     let mut text = ArrayString::new();
@@ -338,7 +356,23 @@ pub(crate) fn refuse<W: Write>(
         body.len(),
         true,
     );
-    put_both(writer, text.as_bytes(), sent_body(body, bare))
+    out.put(text.as_bytes(), sent_body(body, bare))
+}
+
+/// Adds a refusal in place of a reply, which closes the connection, or nothing where there is no memory for that.
+pub(crate) fn refuse(
+    out: &mut Outgoing,
+    refusal: WireRefusal,
+    bare: bool,
+) -> Result<(), StreamFault>
+    requires { length out.old < 8192 }
+    ensures ok { OnOk result (out.new ≡ out.old ++ refusal_text refusal bare) }
+    ensures err { IfErr result (λ e. (e ≡ StreamFault.Write) × (out.new ≡ out.old)) }
+{
+    match put_refusal(out, refusal, bare) {
+        Ok(()) => Ok(()),
+        Err(_) => Err(StreamFault::Write),
+    }
 }
 
 /// Whether a reply has a content; a reply to an edit has none.
@@ -358,48 +392,28 @@ fn has_content(content: &Content) -> bool
     }
 }
 
-/// The text of a body that is made for the reply, and room for the bytes of the reply. An error is want of memory.
-fn prepare(
-    alloc: Global,
-    made: &mut Vec<u8>,
-    content: &Content,
-) -> Result<Option<Vec<u8>>, AllocError>
-    ensures kept { made.new.items ≡ made.old.items }
-    ensures text { IfOk result (λ text. IsMade content.now text) }
-    ensures telling { OnErr result (content.now ≢ contents.Empty) }
-{
-    let text = match made_body(alloc, content) {
-        Ok(text) => text,
-        Err(error) => return Err(error),
-    };
-    if !has_content(content) {
-        return Ok(text);
-    }
-    let size = bytes_of(content, &text).len();
-    match made.reserve(size.saturating_add(MAX_REPLY_HEAD)) {
-        Ok(()) => Ok(text),
-        Err(error) => Err(error),
-    }
-}
-
-/// Makes the bytes of a reply that the machine gave, or, where there is no memory for them, of one that it is
-/// unavailable. A reply to an edit has no body.
+/// Adds a reply that the machine gave, or, where there is no memory for it, one that it is unavailable. A reply to an
+/// edit has no body, and nothing is told in its place.
 pub(crate) fn send(
     alloc: Global,
-    made: &mut Vec<u8>,
-    reply: &Reply,
+    out: &mut Outgoing,
+    reply: Reply,
     bare: bool,
     closes: bool,
 ) -> Result<(), StreamFault>
-    ensures ok { OnOk result ((sent : ReplyOf) × IsSent reply.now sent
-        × (made.new.items ≡ made.old.items ++ spelling sent bare closes)) }
-    ensures err { IfErr result (λ e. (e ≡ StreamFault.Write) × ((sent : ReplyOf) × (front left : List ℕ)
-        × IsSent reply.now sent
-        × (spelling sent bare closes ≡ front ++ left)
-        × (made.new.items ≡ made.old.items ++ front))) }
+    requires { length out.old < 8192 }
+    ensures ok { OnOk result ((sent : ReplyOf) × IsSent reply sent
+        × (out.new ≡ out.old ++ spelling sent bare closes)) }
+    ensures err { IfErr result (λ e. (e ≡ StreamFault.Write) × ((sent : ReplyOf) × IsSent reply sent × (out.new ≡ out.old))) }
 {
-    match prepare(alloc, made, &reply.content) {
-        Ok(text) => write_reply(made, reply, &text, bare, closes),
-        Err(_) => write_unavailable(made, bare, closes),
+    let telling = has_content(&reply.content);
+    match put_reply(alloc, out, reply, bare, closes) {
+        Ok(()) => Ok(()),
+        Err(_) => {
+            if telling {
+                return send_unavailable(out, bare, closes);
+            }
+            Err(StreamFault::Write)
+        }
     }
 }

@@ -48,8 +48,12 @@ pub enum StreamFault {
     Write,
 }
 
-/// Sends all that is to be sent.
-fn send_all<W: Write>(connection: &mut Connection, writer: &mut W) -> Result<(), StreamFault>
+/// Sends all that is to be sent, the front of it first.
+fn send_all<W: Write>(
+    alloc: Global,
+    connection: &mut Connection,
+    writer: &mut W,
+) -> Result<(), StreamFault>
     ensures ok { OnOk result (Appends (W.contents writer.old) (W.contents writer.new) connection.old.unsent × (connection.new.unsent ≡ [])) }
     ensures err { IfErr result (λ e. (e ≡ StreamFault.Write) × ((front left : List ℕ) × (connection.old.unsent ≡ front ++ left)
         × Appends (W.contents writer.old) (W.contents writer.new) front)) }
@@ -57,14 +61,19 @@ fn send_all<W: Write>(connection: &mut Connection, writer: &mut W) -> Result<(),
     ensures closing { connection.new.closing ≡ connection.old.closing }
     ensures stalled { connection.new.stalled ≡ connection.old.stalled }
 {
-    let unsent = connection.unsent();
-    let count = unsent.len();
-    match put(writer, unsent) {
-        Ok(()) => {
-            connection.did_send(count);
-            Ok(())
+    loop {
+        let unsent = connection.unsent();
+        let count = unsent.len();
+        if count == 0 {
+            return Ok(());
         }
-        Err(fault) => Err(fault),
+        match put(writer, unsent) {
+            Ok(()) => match connection.did_send(alloc, count) {
+                Ok(()) => {}
+                Err(fault) => return Err(fault),
+            },
+            Err(fault) => return Err(fault),
+        }
     }
 }
 
@@ -94,18 +103,18 @@ fn answer_all<K: Keeper, W: Write>(
         match connection.answer_next(alloc, machine, wire) {
             Ok(turn) => match turn {
                 Turn::Wait(_) => return Ok(requests),
-                Turn::Answered => match send_all(connection, writer) {
+                Turn::Answered => match send_all(alloc, connection, writer) {
                     Ok(()) => requests = requests.saturating_add(1),
                     Err(fault) => return Err(fault),
                 },
                 Turn::Last => {
-                    return match send_all(connection, writer) {
+                    return match send_all(alloc, connection, writer) {
                         Ok(()) => Ok(requests.saturating_add(1)),
                         Err(fault) => Err(fault),
                     };
                 }
                 Turn::Refused => {
-                    return match send_all(connection, writer) {
+                    return match send_all(alloc, connection, writer) {
                         Ok(()) => Ok(requests),
                         Err(fault) => Err(fault),
                     };
@@ -132,8 +141,9 @@ fn end_at(unread: &[u8]) -> Ended
 /// it was read is answered unavailable, and so is one whose reply can't be made for want of memory. The buffers and the
 /// router are made before the first byte is read.
 ///
-/// No clause says when it writes: it answers each whole request, and sends the reply by one write, before the next one is
-/// answered, and before it reads on.
+/// No clause says when it writes: it answers each whole request, and sends the reply, before the next one is answered, and
+/// before it reads on. A reply of at most 64 KB is sent by one write. A longer one of several items is sent by several,
+/// and no more of it is made at once than 64 KB and one item; all memory for it is taken before its first byte is sent.
 ///
 /// # Errors
 ///

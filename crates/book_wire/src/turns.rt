@@ -1,6 +1,6 @@
 //! One whole request, and its reply.
 
-ghost use Rattle.std.specs.Prelude.{◌≡◌, ℕ, Option, Some, List, ◌++◌, IfOk, IfErr, OnOk, OnErr};
+ghost use Rattle.std.specs.Prelude.{◌≡◌, ℕ, Option, Some, ◌<◌, List, ◌++◌, length, IfOk, IfErr, OnOk, OnErr};
 ghost use Rattle.book_machine.specs.declared.messages.Reply.{Reply as ReplyOf};
 ghost use Rattle.book_machine.specs.declared.messages.Request.{Request as RequestOf};
 ghost use Rattle.book_wire_targets.specs.Targets.{HasHomes};
@@ -15,7 +15,8 @@ ghost use Rattle.book_wire.specs.Turn.{IsTurn, IsPending};
 
 use crate::buffer::Buffer;
 use crate::head::{AskedByHead, FieldSpans, Reading, read_head};
-use crate::reply::{refuse, send, write_unavailable};
+use crate::outgoing::Outgoing;
+use crate::reply::{refuse, send, send_unavailable};
 use crate::requests::{caller_name, request_of};
 use crate::stream::StreamFault;
 use book_machine::{Machine, Request, refusals_change_nothing};
@@ -91,21 +92,21 @@ fn telling_changes_nothing()
 fn reply_to<K: Keeper>(
     alloc: Global,
     machine: &mut Machine<K>,
-    made: &mut Vec<u8>,
+    out: &mut Outgoing,
     asked: AskedByHead<'_>,
     request: &Request,
 ) -> Result<(), StreamFault>
+    requires { length out.old < 8192 }
     ensures ok { OnOk result ((reply : ReplyOf)
         × ServesAny (K.standing machine.old.keeper) (K.standing machine.new.keeper) (caller_name (asked_view asked.entry).caller) (Some request.now) reply
-        × (made.new.items ≡ made.old.items ++ spelling reply (is_head_method asked.entry.method) asked.entry.closes)) }
-    ensures err { IfErr result (λ e. (e ≡ StreamFault.Write) × ((reply : ReplyOf) × (front left : List ℕ)
+        × (out.new ≡ out.old ++ spelling reply (is_head_method asked.entry.method) asked.entry.closes)) }
+    ensures err { IfErr result (λ e. (e ≡ StreamFault.Write) × ((reply : ReplyOf)
         × ServesAny (K.standing machine.old.keeper) (K.standing machine.new.keeper) (caller_name (asked_view asked.entry).caller) (Some request.now) reply
-        × (spelling reply (is_head_method asked.entry.method) asked.entry.closes ≡ front ++ left)
-        × (made.new.items ≡ made.old.items ++ front))) }
+        × (out.new ≡ out.old))) }
 {
     telling_changes_nothing();
     let reply = machine.serve(alloc, caller_name(asked.caller), request);
-    send(alloc, made, &reply, is_bare(asked.method), asked.closes)
+    send(alloc, out, reply, is_bare(asked.method), asked.closes)
 }
 
 /// Serves the request that a head and a body spell, and makes the reply: unavailable where memory is refused before
@@ -114,24 +115,24 @@ fn answer<K: Keeper>(
     alloc: Global,
     machine: &mut Machine<K>,
     router: &Router<Home>,
-    made: &mut Vec<u8>,
+    out: &mut Outgoing,
     asked: AskedByHead<'_>,
     body: &[u8],
 ) -> Result<(), StreamFault>
-    requires { HasHomes router.now }
+    requires homes { HasHomes router.now }
+    requires few { length out.old < 8192 }
     ensures ok { OnOk result ((request : Option RequestOf) × (reply : ReplyOf)
         × IsAskedBy (asked_view asked.entry) body.now request reply
         × ServesAny (K.standing machine.old.keeper) (K.standing machine.new.keeper) (caller_name (asked_view asked.entry).caller) request reply
-        × (made.new.items ≡ made.old.items ++ spelling reply (is_head_method asked.entry.method) asked.entry.closes)) }
-    ensures err { IfErr result (λ e. (e ≡ StreamFault.Write) × ((request : Option RequestOf) × (reply : ReplyOf) × (front left : List ℕ)
+        × (out.new ≡ out.old ++ spelling reply (is_head_method asked.entry.method) asked.entry.closes)) }
+    ensures err { IfErr result (λ e. (e ≡ StreamFault.Write) × ((request : Option RequestOf) × (reply : ReplyOf)
         × IsAskedBy (asked_view asked.entry) body.now request reply
         × ServesAny (K.standing machine.old.keeper) (K.standing machine.new.keeper) (caller_name (asked_view asked.entry).caller) request reply
-        × (spelling reply (is_head_method asked.entry.method) asked.entry.closes ≡ front ++ left)
-        × (made.new.items ≡ made.old.items ++ front))) }
+        × (out.new ≡ out.old))) }
 {
     match request_of(alloc, router, &asked, body) {
-        Ok(request) => reply_to(alloc, machine, made, asked, &request),
-        Err(_) => write_unavailable(made, is_bare(asked.method), asked.closes),
+        Ok(request) => reply_to(alloc, machine, out, asked, &request),
+        Err(_) => send_unavailable(out, is_bare(asked.method), asked.closes),
     }
 }
 
@@ -140,22 +141,22 @@ pub(crate) fn answer_one<K: Keeper>(
     alloc: Global,
     machine: &mut Machine<K>,
     router: &Router<Home>,
-    made: &mut Vec<u8>,
+    out: &mut Outgoing,
     headers: &mut FieldSpans,
     buffer: &mut Buffer,
 ) -> Result<Turn, StreamFault>
-    requires { HasHomes router.now }
-    ensures ok { IfOk result (λ turn. (written : List ℕ) × (made.new.items ≡ made.old.items ++ written)
+    requires homes { HasHomes router.now }
+    requires few { length out.old < 8192 }
+    ensures ok { IfOk result (λ turn. (written : List ℕ) × (out.new ≡ out.old ++ written)
         × IsTurn (K.standing machine.old.keeper) buffer.old written turn (K.standing machine.new.keeper) buffer.new) }
-    ensures err { IfErr result (λ e. (e ≡ StreamFault.Write) × ((pending front left : List ℕ)
-        × IsPending (K.standing machine.old.keeper) buffer.old pending (K.standing machine.new.keeper)
-        × (pending ≡ front ++ left) × (made.new.items ≡ made.old.items ++ front))) }
+    ensures err { IfErr result (λ e. (e ≡ StreamFault.Write) × ((pending : List ℕ)
+        × IsPending (K.standing machine.old.keeper) buffer.old pending (K.standing machine.new.keeper) × (out.new ≡ out.old))) }
     ensures kept { OnErr result (buffer.new ≡ buffer.old) }
 {
     let unread = buffer.unread();
     match read_head(unread, headers) {
         Reading::Partial => Ok(Turn::Wait(unread.len() + 1)),
-        Reading::Refused(refusal, bare) => match refuse(made, refusal, bare) {
+        Reading::Refused(refusal, bare) => match refuse(out, refusal, bare) {
             Ok(()) => Ok(Turn::Refused),
             Err(fault) => Err(fault),
         },
@@ -165,7 +166,7 @@ pub(crate) fn answer_one<K: Keeper>(
             }
             let whole = head + asked.length;
             let closes = asked.closes;
-            match answer(alloc, machine, router, made, asked, &unread[head..whole]) {
+            match answer(alloc, machine, router, out, asked, &unread[head..whole]) {
                 Ok(()) => {
                     buffer.consume(whole);
                     Ok(if closes { Turn::Last } else { Turn::Answered })

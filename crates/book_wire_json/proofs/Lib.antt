@@ -5,3 +5,4 @@ pub mod Limits
 pub mod EntryLists
 pub mod Written
 pub mod Ordered
+pub mod Joined

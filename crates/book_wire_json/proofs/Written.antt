@@ -25,10 +25,6 @@ added_one old ts a = added_append old ts (a ∷ [])
 pub added_three : (old ts : List Token) (a b c : Token) → ((added old ts ++ a ∷ []) ++ b ∷ []) ++ c ∷ [] ≡ added old (ts ++ a ∷ b ∷ c ∷ [])
 added_three old ts a b c = added_append old ts (a ∷ b ∷ c ∷ [])
 
-pub added_between : (old ts us : List Token) (a b c : Token)
-    → added ((added old ts ++ a ∷ []) ++ b ∷ []) us ++ c ∷ [] ≡ added old (ts ++ a ∷ b ∷ (us ++ c ∷ []))
-added_between old ts us a b c = added_one ((added old ts ++ a ∷ []) ++ b ∷ []) us c ∙ added_append old ts (a ∷ b ∷ (us ++ c ∷ []))
-
 -- values that are told and then the end of an array are the tokens of its items
 told_items : (old : List Token) (ds : List Data) → told old ds ++ end_array ∷ [] ≡ old ++ items_tokens (items_outline (items_of ds))
 told_items old [] = refl
@@ -41,11 +37,6 @@ told_items old (d ∷ ds) =
 pub array_told : (old : List Token) (ds : List Data) → told (old ++ begin_array ∷ []) ds ++ end_array ∷ [] ≡ added old (data_tokens (array (items_of ds)))
 array_told old ds =
     told_items (old ++ begin_array ∷ []) ds ∙ sym (added_after (old ++ begin_array ∷ []) (items_tokens (items_outline (items_of ds))))
-
--- values that are told in two parts are told in one
-pub told_append : (old : List Token) (ds es : List Data) → told (told old ds) es ≡ told old (ds ++ es)
-told_append old [] es = refl
-told_append old (d ∷ ds) es = told_append (added old (data_tokens d)) ds es
 
 -- members that are told and then the end of an object are the tokens of its members
 told_all_members : (old : List Token) (ms : List (List ℕ × Data)) → told_members old ms ++ end_object ∷ [] ≡ old ++ members_tokens (members_outline (members_of ms))
@@ -70,3 +61,21 @@ members_append old (m ∷ ms) ns = members_append (added (old ++ key m.0 ∷ [])
 -- the text of a value that is told alone
 pub value_written : (old : List Token) (d : Data) → old ≡ [] → print (added old (data_tokens d)) ≡ compact_text d
 value_written old d h = ap (λ s. print (added s (data_tokens d))) h ∙ ap print (added_after [] (data_tokens d)) ∙ print-outline d
+
+-- members that are told in seven parts are told in one
+pub seven_told : (old : List Token) (a b c d e f g : List (List ℕ × Data))
+    → told_members (told_members (told_members (told_members (told_members (told_members (told_members old a) b) c) d) e) f) g
+    ≡ told_members old (a ++ (b ++ (c ++ (d ++ (e ++ (f ++ (g ++ [])))))))
+seven_told old a b c d e f g =
+    let one = told_members old a in
+    let two = told_members one b in
+    let three = told_members two c in
+    let four = told_members three d in
+    let five = told_members four e in
+    members_append five f g
+    ∙ members_append four e (f ++ g)
+    ∙ members_append three d (e ++ (f ++ g))
+    ∙ members_append two c (d ++ (e ++ (f ++ g)))
+    ∙ members_append one b (c ++ (d ++ (e ++ (f ++ g))))
+    ∙ members_append old a (b ++ (c ++ (d ++ (e ++ (f ++ g)))))
+    ∙ ap (λ r. told_members old (a ++ (b ++ (c ++ (d ++ (e ++ (f ++ r))))))) (sym (append-nil g))

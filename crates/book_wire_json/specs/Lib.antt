@@ -15,3 +15,4 @@ pub mod Members
 pub mod Names
 pub mod SyncReports
 pub mod Rulings
+pub mod Pieces

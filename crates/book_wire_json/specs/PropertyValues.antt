@@ -14,6 +14,7 @@ use Rattle.book_office_values.specs.declared.paths.Path.{Path}
 use Rattle.book_office_sync.specs.Tokens.{token_text}
 use Rattle.book_office_sync.specs.declared.messages.Token.{Token}
 use Rattle.book_wire_json.specs.Writing.{members_of}
+use Rattle.book_wire_json.specs.declared.property_values.LastValues.{LastValues}
 use Rattle.book_office_listings.specs.declared.messages.AclEntry.{AclEntry}
 use Rattle.book_office_listings.specs.declared.messages.PropertyValue.{PropertyValue}
 use Rattle.book_office_listings.specs.declared.messages.PropertyValue.TheVariants as value
@@ -119,6 +120,22 @@ with_properties members (v ∷ vs) = with_properties (put (property_name v) (pro
 abbrev pub prop_data : List PropertyValue → Data
 prop_data values = object (with_properties no_members values)
 
--- a value under its name
-abbrev pub named_value : (Bor (List ℕ) × Bor PropertyValue) → List ℕ × Data
-named_value e = (e.0.now, property_data e.1.now)
+-- ---- for private clauses: the last value of each property, in the byte order of the names
+
+abbrev pub Slot : Type 0
+Slot = List ℕ × Option (Bor PropertyValue)
+
+abbrev pub slots : LastValues → List Slot
+slots last =
+    (codes "acl", last.acl) ∷ (codes "current-user-privilege-set", last.privileges) ∷ (codes "displayname", last.label)
+    ∷ (codes "group-member-set", last.members) ∷ (codes "owner", last.owner) ∷ (codes "resourcetype", last.kind)
+    ∷ (codes "sync-token", last.token) ∷ []
+
+-- a member, where there is a value
+abbrev pub member_if : List ℕ → Option (Bor PropertyValue) → List (List ℕ × Data)
+member_if name None = []
+member_if name (Some v) = (name, property_data v.now) ∷ []
+
+abbrev pub present : List Slot → List (List ℕ × Data)
+present [] = []
+present (s ∷ rest) = member_if s.0 s.1 ++ present rest

@@ -4,13 +4,14 @@
 //!
 //! It stands on `book_machine`, which says what is asked and answered, and on `serde_json`, whose `read` says which
 //! value a text is, and whose `compact_text` says which text a value has. The crate above uses that `body_of` gives the
-//! body that the bytes are, by the method of the request, and that `refusal_body`, `listing_body`, `report_body`,
-//! `members_body`, `names_body` and `rulings_body` give the one text of what is answered.
+//! body that the bytes are, by the method of the request, and that `push_piece` gives the pieces of a body that is
+//! answered, of which `piece_count` says how many there are: one after the other they are the one text of what is
+//! answered. No long body is made whole: a piece is what stands before the items, one item, or what stands behind them.
 //!
 //! For requests read `bodies` first; then `forms`, `principals` and `privileges`, which have what the forms share; then
-//! `properties`, `patches`, `entries` and `reports`. For replies read `writing` first, which writes a text as it goes, and
-//! `denials`; then `property_values`, `listings` and `rulings`, which stand on it; then `sync_reports`, `members`, `names`
-//! and `refusals`.
+//! `properties`, `patches`, `entries` and `reports`. For replies read `pieces` first; then `writing`, which writes a
+//! text as it goes, `spelling` and `denials`; then `property_values`, `listings` and `rulings`, which stand on it; then
+//! `sync_reports`, `members`, `names` and `refusals`.
 #![tactic(auto)]
 
 mod bodies;
@@ -21,6 +22,7 @@ mod listings;
 mod members;
 mod names;
 mod patches;
+mod pieces;
 mod principals;
 mod privileges;
 mod properties;
@@ -28,13 +30,9 @@ mod property_values;
 mod refusals;
 mod reports;
 mod rulings;
+mod spelling;
 mod sync_reports;
 mod writing;
 
 pub use bodies::body_of;
-pub use listings::listing_body;
-pub use members::members_body;
-pub use names::names_body;
-pub use refusals::refusal_body;
-pub use rulings::rulings_body;
-pub use sync_reports::report_body;
+pub use pieces::{PieceMemory, piece_count, push_piece};

@@ -1,8 +1,8 @@
 //! The properties of a resource.
 
-ghost use Rattle.std.specs.Prelude.{◌≡◌, IfOk, OnOk, map};
+ghost use Rattle.std.specs.Prelude.{◌≡◌, [], map};
 ghost use Rattle.serde_json.specs.Data.{no_members, put, string};
-ghost use Rattle.book_wire_json.specs.PropertyValues.{acl_data, acl_entry_data, action_key, form_key, form_text, inherited_member, kind_name, named_value, paths_data, paths_or_null, privilege_data, privileges_data, prop_data, property_data, property_name, protected_member, text_or_null, token_or_null, with_properties};
+ghost use Rattle.book_wire_json.specs.PropertyValues.{acl_data, acl_entry_data, action_key, form_key, form_text, inherited_member, kind_name, member_if, paths_data, paths_or_null, present, privilege_data, privileges_data, prop_data, property_data, property_name, protected_member, slots, text_or_null, token_or_null, with_properties};
 ghost use Rattle.book_wire_json.specs.Writing.{Tells, TellsEach, TellsMembers, members_of};
 
 use crate::writing::JsonText;
@@ -11,8 +11,7 @@ use book_office_listings::{AclEntry, PropertyValue};
 use book_office_sync::Token;
 use book_office_values::{Items, Kind, Path};
 use book_rights::Privilege;
-use std::alloc::{AllocError, Global};
-use std::collections::BTreeMap;
+use std::alloc::AllocError;
 
 /// The text of a principal form (RFC 3744, section 5.5.1).
 fn form_text(who: &Who) -> &str
@@ -75,16 +74,11 @@ fn write_privileges(out: &mut JsonText, privileges: &[Privilege]) -> Result<(), 
 }
 
 /// Writes where an entry stands that is inherited (RFC 3744, section 5.5.4). An error is want of memory.
-fn write_inherited(
-    alloc: Global,
-    out: &mut JsonText,
-    inherited: &Option<Path>,
-) -> Result<(), AllocError>
+fn write_inherited(out: &mut JsonText, inherited: &Option<Path>) -> Result<(), AllocError>
     ensures { TellsMembers result out.old out.new (inherited_member inherited.now) }
 {
     if let Some(from) = inherited {
-        let from = from.text(alloc)?;
-        out.string_member("inherited", from.as_str())?;
+        out.path_member("inherited", from)?;
     }
     Ok(())
 }
@@ -101,39 +95,35 @@ fn write_protected(out: &mut JsonText, protected: bool) -> Result<(), AllocError
 }
 
 /// Writes an entry of the property `acl` (RFC 3744, section 5.5). An error is want of memory.
-fn write_acl_entry(alloc: Global, out: &mut JsonText, entry: &AclEntry) -> Result<(), AllocError>
+fn write_acl_entry(out: &mut JsonText, entry: &AclEntry) -> Result<(), AllocError>
     ensures { Tells result out.old out.new (acl_entry_data entry.now) }
 {
     out.begin_object()?;
     out.key(action_key(entry.deny))?;
     write_privileges(out, entry.privileges.as_slice())?;
-    write_inherited(alloc, out, &entry.inherited)?;
+    write_inherited(out, &entry.inherited)?;
     out.string_member(form_key(entry.invert), form_text(&entry.who))?;
     write_protected(out, entry.protected)?;
     out.end_object()
 }
 
 /// Writes each entry of the effective list. An error is want of memory.
-fn write_each_entry(
-    alloc: Global,
-    out: &mut JsonText,
-    entries: &[AclEntry],
-) -> Result<(), AllocError>
+fn write_each_entry(out: &mut JsonText, entries: &[AclEntry]) -> Result<(), AllocError>
     ensures { TellsEach result out.old out.new (map acl_entry_data entries.now) }
 {
     for entry in entries {
-        write_acl_entry(alloc, out, entry)?;
+        write_acl_entry(out, entry)?;
     }
     Ok(())
 }
 
 /// Writes the effective list (RFC 3744, section 5.5). An error is want of memory.
 #[tactic(auto, using(crate::proofs::Written::array_told))]
-fn write_acl(alloc: Global, out: &mut JsonText, entries: &[AclEntry]) -> Result<(), AllocError>
+fn write_acl(out: &mut JsonText, entries: &[AclEntry]) -> Result<(), AllocError>
     ensures { Tells result out.old out.new (acl_data entries.now) }
 {
     out.begin_array()?;
-    write_each_entry(alloc, out, entries)?;
+    write_each_entry(out, entries)?;
     out.end_array()
 }
 
@@ -178,14 +168,11 @@ fn write_members(out: &mut JsonText, members: &Option<Items<Principal>>) -> Resu
 }
 
 /// Writes a token (RFC 6578, section 4); null where the resource is no book. An error is want of memory.
-fn write_token(alloc: Global, out: &mut JsonText, token: &Option<Token>) -> Result<(), AllocError>
+fn write_token(out: &mut JsonText, token: &Option<Token>) -> Result<(), AllocError>
     ensures { Tells result out.old out.new (token_or_null token.now) }
 {
     match token {
-        Some(token) => {
-            let text = token.text(alloc)?;
-            out.string(text.as_str())
-        }
+        Some(token) => out.token(token),
         None => out.null(),
     }
 }
@@ -206,74 +193,142 @@ fn property_name(value: &PropertyValue) -> &'static str
 }
 
 /// Writes the value of a property. An error is want of memory.
-fn write_value(alloc: Global, out: &mut JsonText, value: &PropertyValue) -> Result<(), AllocError>
+fn write_value(out: &mut JsonText, value: &PropertyValue) -> Result<(), AllocError>
     ensures { Tells result out.old out.new (property_data value.now) }
 {
     match value {
         PropertyValue::DisplayName(label) => out.string(label.as_str()),
         PropertyValue::ResourceType(kind) => out.string(kind_name(*kind)),
         PropertyValue::Owner(owner) => write_owner(out, owner),
-        PropertyValue::Acl(entries) => write_acl(alloc, out, entries.as_slice()),
+        PropertyValue::Acl(entries) => write_acl(out, entries.as_slice()),
         PropertyValue::CurrentUserPrivilegeSet(privileges) => {
             write_privileges(out, privileges.as_slice())
         }
         PropertyValue::GroupMemberSet(members) => write_members(out, members),
-        PropertyValue::SyncToken(token) => write_token(alloc, out, token),
+        PropertyValue::SyncToken(token) => write_token(out, token),
     }
 }
 
-/// Puts a value under its name. An error is want of memory.
-fn put_named<'v>(
-    named: &mut BTreeMap<&'static str, &'v PropertyValue>,
-    value: &'v PropertyValue,
-) -> Result<(), AllocError>
-    ensures { OnOk result (members_of (map named_value named.new.entries)
-        ≡ put (property_name value.now) (property_data value.now) (members_of (map named_value named.old.entries))) }
-{
-    named.insert(property_name(value), value)?;
-    Ok(())
+/// The last value of each property, in the byte order of the names.
+#[derive(Clone, Copy)]
+struct LastValues<'v> {
+    acl: Option<&'v PropertyValue>,
+    privileges: Option<&'v PropertyValue>,
+    label: Option<&'v PropertyValue>,
+    members: Option<&'v PropertyValue>,
+    owner: Option<&'v PropertyValue>,
+    kind: Option<&'v PropertyValue>,
+    token: Option<&'v PropertyValue>,
 }
 
-/// The values by their names, in byte order. An error is want of memory.
-fn named_values<'v>(
-    alloc: Global,
-    values: &'v [PropertyValue],
-) -> Result<BTreeMap<&'static str, &'v PropertyValue>, AllocError>
-    ensures { IfOk result (λ named. members_of (map named_value named.entries) ≡ with_properties no_members values.now) }
+/// No values.
+fn no_values<'v>() -> LastValues<'v>
+    ensures { present (slots result) ≡ [] }
 {
-    let mut named = BTreeMap::new(alloc);
+    LastValues {
+        acl: None,
+        privileges: None,
+        label: None,
+        members: None,
+        owner: None,
+        kind: None,
+        token: None,
+    }
+}
+
+/// The values, and this one in the place of its property.
+fn with_value<'v>(last: LastValues<'v>, value: &'v PropertyValue) -> LastValues<'v>
+    ensures { members_of (present (slots result))
+        ≡ put (property_name value.now) (property_data value.now) (members_of (present (slots last.entry))) }
+{
+    match value {
+        PropertyValue::Acl(_) => LastValues {
+            acl: Some(value),
+            ..last
+        },
+        PropertyValue::CurrentUserPrivilegeSet(_) => LastValues {
+            privileges: Some(value),
+            ..last
+        },
+        PropertyValue::DisplayName(_) => LastValues {
+            label: Some(value),
+            ..last
+        },
+        PropertyValue::GroupMemberSet(_) => LastValues {
+            members: Some(value),
+            ..last
+        },
+        PropertyValue::Owner(_) => LastValues {
+            owner: Some(value),
+            ..last
+        },
+        PropertyValue::ResourceType(_) => LastValues {
+            kind: Some(value),
+            ..last
+        },
+        PropertyValue::SyncToken(_) => LastValues {
+            token: Some(value),
+            ..last
+        },
+    }
+}
+
+/// Puts a value in the place of its property.
+fn put_value<'v>(last: &mut LastValues<'v>, value: &'v PropertyValue)
+    ensures { members_of (present (slots last.new))
+        ≡ put (property_name value.now) (property_data value.now) (members_of (present (slots last.old))) }
+{
+    *last = with_value(*last, value);
+}
+
+/// The last value of each property among these.
+fn last_values<'v>(values: &'v [PropertyValue]) -> LastValues<'v>
+    ensures { members_of (present (slots result)) ≡ with_properties no_members values.now }
+{
+    let mut last = no_values();
     for value in values {
-        put_named(&mut named, value)?;
+        put_value(&mut last, value);
     }
-    Ok(named)
+    last
+}
+
+/// Writes a value under its name, where there is one. An error is want of memory.
+fn write_slot(
+    out: &mut JsonText,
+    name: &str,
+    slot: Option<&PropertyValue>,
+) -> Result<(), AllocError>
+    ensures { TellsMembers result out.old out.new (member_if name.now slot.entry) }
+{
+    match slot {
+        Some(value) => {
+            out.key(name)?;
+            write_value(out, value)
+        }
+        None => Ok(()),
+    }
 }
 
 /// Writes each value under its name. An error is want of memory.
-fn write_each_value<'v>(
-    alloc: Global,
-    out: &mut JsonText,
-    named: &BTreeMap<&'static str, &'v PropertyValue>,
-) -> Result<(), AllocError>
-    ensures { TellsMembers result out.old out.new (map named_value named.now.entries) }
+fn write_slots<'v>(out: &mut JsonText, last: LastValues<'v>) -> Result<(), AllocError>
+    ensures { TellsMembers result out.old out.new (present (slots last.entry)) }
 {
-    for (name, value) in named.iter() {
-        out.key(name)?;
-        write_value(alloc, out, value)?;
-    }
-    Ok(())
+    write_slot(out, "acl", last.acl)?;
+    write_slot(out, "current-user-privilege-set", last.privileges)?;
+    write_slot(out, "displayname", last.label)?;
+    write_slot(out, "group-member-set", last.members)?;
+    write_slot(out, "owner", last.owner)?;
+    write_slot(out, "resourcetype", last.kind)?;
+    write_slot(out, "sync-token", last.token)
 }
 
 /// Writes the properties by their names. An error is want of memory.
 #[tactic(auto, using(crate::proofs::Written::object_told))]
-pub(crate) fn write_prop(
-    alloc: Global,
-    out: &mut JsonText,
-    values: &[PropertyValue],
-) -> Result<(), AllocError>
+pub(crate) fn write_prop(out: &mut JsonText, values: &[PropertyValue]) -> Result<(), AllocError>
     ensures { Tells result out.old out.new (prop_data values.now) }
 {
-    let named = named_values(alloc, values)?;
+    let last = last_values(values);
     out.begin_object()?;
-    write_each_value(alloc, out, &named)?;
+    write_slots(out, last)?;
     out.end_object()
 }

@@ -1,7 +1,5 @@
 //! The bodies of refusals.
 
-ghost use Rattle.std.specs.Prelude.{◌≡◌, IfOk};
-ghost use Rattle.serde_json.specs.Written.{compact_text};
 ghost use Rattle.book_wire_json.specs.Refusals.{named, faulty_card, denial_data, refusal_data};
 ghost use Rattle.book_wire_json.specs.Writing.{Tells};
 
@@ -31,21 +29,24 @@ fn write_faulty_card(out: &mut JsonText, fault: &str, line: u64) -> Result<(), A
 }
 
 /// Writes a denial (RFC 3744, section 7.1.1). An error is want of memory.
-fn write_denial(alloc: Global, out: &mut JsonText, denial: &Denial) -> Result<(), AllocError>
+fn write_denial(out: &mut JsonText, denial: &Denial) -> Result<(), AllocError>
     ensures { Tells result out.old out.new (denial_data denial.now) }
 {
-    let resource = denial.resource.text(alloc)?;
     out.begin_object()?;
     out.key("entry")?;
-    write_entry(alloc, out, &denial.entry)?;
+    write_entry(out, &denial.entry)?;
     out.string_member("error", "need-privileges")?;
     out.string_member("privilege", denial.privilege.name())?;
-    out.string_member("resource", resource.as_str())?;
+    out.path_member("resource", &denial.resource)?;
     out.end_object()
 }
 
 /// Writes what a refusal says. An error is want of memory.
-fn write_refusal(alloc: Global, out: &mut JsonText, refusal: &Refusal) -> Result<(), AllocError>
+pub(crate) fn write_refusal(
+    alloc: Global,
+    out: &mut JsonText,
+    refusal: &Refusal,
+) -> Result<(), AllocError>
     ensures { Tells result out.old out.new (refusal_data refusal.now) }
 {
     match refusal {
@@ -54,7 +55,7 @@ fn write_refusal(alloc: Global, out: &mut JsonText, refusal: &Refusal) -> Result
             let name = format!(in alloc; "{kind}")?;
             write_faulty_card(out, name.as_str(), fault.line as u64)
         }
-        Refusal::NeedPrivileges(denial) => write_denial(alloc, out, denial.denial()),
+        Refusal::NeedPrivileges(denial) => write_denial(out, denial.denial()),
         Refusal::BadRequest
         | Refusal::UnknownCaller
         | Refusal::NoProtectedAceConflict
@@ -71,14 +72,4 @@ fn write_refusal(alloc: Global, out: &mut JsonText, refusal: &Refusal) -> Result
         | Refusal::Full
         | Refusal::Unavailable => write_named(out, refusal.name()),
     }
-}
-
-/// The body of a refusal (RFC 3744, section 7.1.1; own profile): compact JSON, the keys in byte order. An error is
-/// want of memory.
-pub fn refusal_body(alloc: Global, refusal: &Refusal) -> Result<Vec<u8>, AllocError>
-    ensures { IfOk result (λ bytes. bytes.items ≡ compact_text (refusal_data refusal.now)) }
-{
-    let mut out = JsonText::new(alloc);
-    write_refusal(alloc, &mut out, refusal)?;
-    Ok(out.into_bytes())
 }

@@ -3,10 +3,16 @@
 ghost use Rattle.std.specs.Prelude.{◌≡◌, ◌++◌, ◌∷◌, [], OnOk, decimal};
 ghost use Rattle.json.specs.Print.{print};
 ghost use Rattle.json.specs.Token.{begin_array, begin_object, boolean, end_array, end_object, key, null, number, string};
+ghost use Rattle.book_office_sync.specs.Tokens.{token_text};
+ghost use Rattle.book_office_values.specs.Paths.{book_path, card_path, path_text};
 ghost use Rattle.book_wire_json.specs.Writing.{added};
 
+use crate::spelling::{set_book, set_card, set_path, set_token};
+use book_lists::Name;
+use book_office_sync::Token;
+use book_office_values::Path;
 use json::Writer;
-use std::alloc::{AllocError, Global};
+use std::alloc::AllocError;
 use std::marker::Model;
 
 /// A text of compact JSON (RFC 8259), as far as it is written. A contract sees its tokens; their nesting is the caller's.
@@ -14,6 +20,7 @@ use std::marker::Model;
 #[derive(Drop)]
 pub(crate) struct JsonText {
     writer: Writer,
+    spelled: String,
 }
 
 impl Model for JsonText {
@@ -30,20 +37,23 @@ impl Model for JsonText {
 }
 
 impl JsonText {
-    /// An empty text.
-    pub(crate) fn new(alloc: Global) -> JsonText
+    /// An empty text, whose bytes will stand in this memory. Its paths and tokens are spelled in the string before.
+    pub(crate) fn over(bytes: Vec<u8>, spelled: String) -> JsonText
+        requires { bytes.items ≡ [] }
         ensures { result ≡ [] }
     {
         JsonText {
-            writer: Writer::new(Vec::new(alloc)),
+            writer: Writer::new(bytes),
+            spelled,
         }
     }
 
-    /// The bytes of the text.
-    pub(crate) fn into_bytes(self) -> Vec<u8>
-        ensures { result.items ≡ print self }
+    /// The bytes of the text, and the string in which paths and tokens were spelled.
+    pub(crate) fn into_parts(self) -> (Vec<u8>, String)
+        ensures { result.0.items ≡ print self }
     {
-        self.writer.into_inner()
+        let JsonText { writer, spelled } = self;
+        (writer.into_inner(), spelled)
     }
 
     pub(crate) fn begin_object(&mut self) -> Result<(), AllocError>
@@ -98,6 +108,67 @@ impl JsonText {
         ensures { OnOk result (self.new ≡ self.old ++ null ∷ []) }
     {
         self.writer.null()
+    }
+
+    /// A string that is a path.
+    pub(crate) fn path(&mut self, path: &Path) -> Result<(), AllocError>
+        ensures { OnOk result (self.new ≡ self.old ++ string (path_text path.now) ∷ []) }
+    {
+        set_path(&mut self.spelled, path)?;
+        self.writer.string(self.spelled.as_str())
+    }
+
+    /// A string that is the path of a book.
+    pub(crate) fn book(&mut self, book: &Name) -> Result<(), AllocError>
+        ensures { OnOk result (self.new ≡ self.old ++ string (book_path book.now) ∷ []) }
+    {
+        set_book(&mut self.spelled, book)?;
+        self.writer.string(self.spelled.as_str())
+    }
+
+    /// A string that is the path of a card of a book.
+    pub(crate) fn card(&mut self, book: &Name, card: &Name) -> Result<(), AllocError>
+        ensures { OnOk result (self.new ≡ self.old ++ string (card_path book.now card.now) ∷ []) }
+    {
+        set_card(&mut self.spelled, book, card)?;
+        self.writer.string(self.spelled.as_str())
+    }
+
+    /// A string that is a token.
+    pub(crate) fn token(&mut self, token: &Token) -> Result<(), AllocError>
+        ensures { OnOk result (self.new ≡ self.old ++ string (token_text token.now) ∷ []) }
+    {
+        set_token(&mut self.spelled, token)?;
+        self.writer.string(self.spelled.as_str())
+    }
+
+    /// A member of an object that is a path.
+    pub(crate) fn path_member(&mut self, name: &str, path: &Path) -> Result<(), AllocError>
+        ensures { OnOk result (self.new ≡ added self.old (key name.now ∷ string (path_text path.now) ∷ [])) }
+    {
+        self.key(name)?;
+        self.path(path)
+    }
+
+    /// A member of an object that is the path of a book.
+    pub(crate) fn book_member(&mut self, name: &str, book: &Name) -> Result<(), AllocError>
+        ensures { OnOk result (self.new ≡ added self.old (key name.now ∷ string (book_path book.now) ∷ [])) }
+    {
+        self.key(name)?;
+        self.book(book)
+    }
+
+    /// A member of an object that is the path of a card of a book.
+    pub(crate) fn card_member(
+        &mut self,
+        name: &str,
+        book: &Name,
+        card: &Name,
+    ) -> Result<(), AllocError>
+        ensures { OnOk result (self.new ≡ added self.old (key name.now ∷ string (card_path book.now card.now) ∷ [])) }
+    {
+        self.key(name)?;
+        self.card(book, card)
     }
 
     /// A member of an object that is a string.

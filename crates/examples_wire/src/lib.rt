@@ -17,6 +17,8 @@ mod fields;
 #[cfg(test)]
 mod hostile;
 #[cfg(test)]
+mod long;
+#[cfg(test)]
 mod offices;
 #[cfg(test)]
 mod refusals;

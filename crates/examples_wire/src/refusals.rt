@@ -1,12 +1,12 @@
 //! Refusals as their bodies tell them, each by its name.
 
-use book_machine::Refusal;
-use book_wire_json::refusal_body;
+use crate::texts::body_bytes;
+use book_machine::{Content, Refusal};
 use std::alloc::Global;
 use std::process::Abort;
 
-fn check(rt: &impl Abort, alloc: Global, refusal: &Refusal, wanted: &str) {
-    let text = refusal_body(alloc, refusal).expect(rt, "memory");
+fn check(rt: &impl Abort, alloc: Global, refusal: Refusal, wanted: &str) {
+    let text = body_bytes(rt, alloc, &Content::Refusal(refusal));
     assert_eq!(rt; text.as_slice(), wanted.as_bytes());
 }
 
@@ -46,8 +46,7 @@ fn refusals_are_told_by_their_names(rt: HostRuntime) {
         (Refusal::Full, "{\"error\":\"full\"}"),
         (Refusal::Unavailable, "{\"error\":\"unavailable\"}"),
     ];
-    for (refusal, wanted) in &refusals {
+    for (refusal, wanted) in refusals {
         check(&rt, alloc, refusal, wanted);
     }
-    drop(refusals);
 }

@@ -1,10 +1,10 @@
 //! Bodies that no request of the examples has as its reply.
 
+use crate::texts::body_bytes;
 use book_lists::Name;
-use book_machine::NamedCard;
+use book_machine::{Content, NamedCard};
 use book_office_sync::{Item, Report, Token};
 use book_office_values::Items;
-use book_wire_json::{listing_body, names_body, report_body};
 use std::alloc::Global;
 use std::process::Abort;
 
@@ -37,10 +37,12 @@ fn cut_report(rt: &impl Abort, alloc: Global) -> Report {
 #[test]
 fn nothing_is_listed_and_changes_remain(rt: HostRuntime) {
     let alloc = rt.alloc();
-    let text = listing_body(alloc, &[]).expect(&rt, "memory");
+    let listing = Content::Listing(Items::new(alloc));
+    let text = body_bytes(&rt, alloc, &listing);
+    drop(listing);
     assert_eq!(rt; text.as_slice(), "{\"responses\":[]}".as_bytes());
-    let report = cut_report(&rt, alloc);
-    let text = report_body(alloc, &report).expect(&rt, "memory");
+    let report = Content::Synced(cut_report(&rt, alloc));
+    let text = body_bytes(&rt, alloc, &report);
     drop(report);
     assert_eq!(rt;
         text.as_slice(),
@@ -49,8 +51,8 @@ fn nothing_is_listed_and_changes_remain(rt: HostRuntime) {
 }
 
 /// A card of which no name is told, since its text is none.
-fn unnamed(rt: &impl Abort, alloc: Global) -> Vec<NamedCard> {
-    let mut names = Vec::new(alloc);
+fn unnamed(rt: &impl Abort, alloc: Global) -> Items<NamedCard> {
+    let mut names = Items::new(alloc);
     let card = NamedCard {
         name: name(rt, alloc, "x.vcf"),
         formatted: None,
@@ -62,11 +64,12 @@ fn unnamed(rt: &impl Abort, alloc: Global) -> Vec<NamedCard> {
 #[test]
 fn no_name_is_null(rt: HostRuntime) {
     let alloc = rt.alloc();
-    let book = name(&rt, alloc, "sales");
-    let text = names_body(alloc, &book, &[]).expect(&rt, "memory");
+    let names = Content::Names(name(&rt, alloc, "sales"), Items::new(alloc));
+    let text = body_bytes(&rt, alloc, &names);
+    drop(names);
     assert_eq!(rt; text.as_slice(), "{\"names\":[]}".as_bytes());
-    let names = unnamed(&rt, alloc);
-    let text = names_body(alloc, &book, names.as_slice()).expect(&rt, "memory");
+    let names = Content::Names(name(&rt, alloc, "sales"), unnamed(&rt, alloc));
+    let text = body_bytes(&rt, alloc, &names);
     drop(names);
     assert_eq!(rt;
         text.as_slice(),

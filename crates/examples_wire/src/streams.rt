@@ -109,6 +109,21 @@ pub(crate) fn check_answer(
     check_end(rt, alloc, answer, Ok(served), changes);
 }
 
+/// A write fails within the text, behind so many bytes, and the book of sales has so many changes.
+pub(crate) fn check_cut_off(
+    rt: &impl Abort,
+    alloc: Global,
+    answer: &Outcome,
+    text: &str,
+    behind: usize,
+    changes: u64,
+) {
+    assert!(rt; text.starts_with(answer.text.as_str()));
+    let length = answer.text.len();
+    assert!(rt; behind < length && length < text.len());
+    check_end(rt, alloc, answer, Err(StreamFault::Write), changes);
+}
+
 fn check(rt: &impl Abort, alloc: Global, row: &Row<'_>, cutting: Cutting) {
     let (input, output, requests, ended, changes) = *row;
     let answer = answered(rt, alloc, POLICY, input.as_bytes(), cutting);

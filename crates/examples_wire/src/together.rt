@@ -98,7 +98,8 @@ fn check_told(
     let unsent = connections.unsent(place).expect(rt, "a connection");
     assert_eq!(rt; unsent, text.as_bytes());
     let count = unsent.len();
-    connections.did_send(rt.alloc(), place, count);
+    let sent = connections.did_send(rt.alloc(), place, count);
+    sent.ok().expect(rt, "memory");
 }
 
 /// Each client's bytes in two pieces, the second ones after the first ones of all.

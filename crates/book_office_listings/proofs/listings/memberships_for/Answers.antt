@@ -9,7 +9,7 @@ returns g c =
     record {
       was_honest = first.was_honest;
       value = λ h o stands. (
-        λ asked. list.pairs ∙ first.value h o stands ∙ ap (pairs_about o.pairs) c.in_ok-group.ensures,
+        λ asked. list.pairs ∙ first.value h o stands ∙ ap (pairs_about o.pairs) c.in_ok-groups.ensures,
         λ asked. list.in_order,
       );
       kept = first.kept;

@@ -19,5 +19,5 @@ loop-entry-preserved c = λ before start.
       | else-may_apply w ↦
           let none : c.if-may_apply.kept.items ≡ kept = search rules in
           subst (AppliesAs circle (before ++ take (i + 1) list)) (sym none)
-          (dropped_one circle list i entry (omega arith) c.entry-item.is before kept so_far (c.may_apply.ensures w.if-may_apply.false))
+          (dropped_one circle list i entry (omega arith) c.entry-item.is before kept so_far (c.may_apply.ensures.nowhere w.if-may_apply.false))
     ]

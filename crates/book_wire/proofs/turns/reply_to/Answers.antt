@@ -10,15 +10,12 @@ returns-clause-ok g c =
 
 pub returns-clause-err : goal.returns-clause-err
 returns-clause-err g c =
-    rw (← c.is_bare.ensures) (IfErr-weaker c.send.result _ _
+    IfErr-weaker c.send.result _ _
     (λ e x. (
       x.0,
       (
         x.1.0,
-        x.1.1,
+        (sent_serves c.telling_changes_nothing.ensures _ _ _ _ c.serve-reply.result x.1.0 (rw (← c.caller_name.ensures) c.serve-reply.ensures.served) x.1.1, c.serve-reply.ensures.well_formed),
         x.1.2,
-        (sent_serves c.telling_changes_nothing.ensures _ _ _ _ c.serve-reply.result x.1.0 (rw (← c.caller_name.ensures) c.serve-reply.ensures.served) x.1.3, c.serve-reply.ensures.well_formed),
-        x.1.4,
-        x.1.5,
       ),
-    )) c.send.ensures.err)
+    )) c.send.ensures.err

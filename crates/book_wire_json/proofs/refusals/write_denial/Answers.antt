@@ -19,8 +19,7 @@ returns c =
     let rest : List Token = key (codes "privilege") ∷ string privilege ∷ key (codes "resource") ∷ string resource ∷ end_object ∷ [] in
     on_ok_weaker c.end_object.result (λ last. last
     ∙ ap (λ s. s ++ end_object ∷ [])
-    (c.in_ok-string_member-3.ensures
-    ∙ ap (λ t. added c.string_member-2.new.self (key (codes "resource") ∷ string t ∷ [])) (c.as_str.ensures.value ∙ c.in_ok-resource.ensures)
+    (c.in_ok-path_member.ensures
     ∙ ap (λ s. added s (key (codes "resource") ∷ string resource ∷ []))
     (c.in_ok-string_member-2.ensures
     ∙ ap (λ t. added c.string_member.new.self (key (codes "privilege") ∷ string t ∷ [])) c.name.ensures

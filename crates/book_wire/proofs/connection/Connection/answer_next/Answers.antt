@@ -1,9 +1,7 @@
-use Rattle.book_wire.proofs.Common.{◌≡◌, ◌≤◌, ℕ, List, [], length, drop, refl, sym, ap, ◌∙◌, subst, append-nil, arith}
-use Rattle.std.proofs.Common.{length-append}
+use Rattle.book_wire.proofs.Common.{◌≡◌, ℕ, List, [], ◌++◌, length, refl, sym, ap, ◌∙◌, subst, append-nil, arith}
 use Rattle.book_wire.specs.Connection.{View, MayWait}
 use Rattle.book_wire.specs.Stream.{IsPartial, WaitsFor}
 use Rattle.book_wire.specs.Turn.{IsPending, IsTurn}
-use Rattle.book_wire.proofs.Buffers.{unsent_more}
 use Rattle.book_wire.proofs.Servings.{stays}
 use Rattle.book_wire.proofs.Streams.{waits_still, may_wait_after}
 use Rattle.book_wire.proofs.connection.Connection.answer_next.Goals as goal
@@ -11,33 +9,30 @@ use Rattle.book_wire.proofs.connection.Connection.answer_next.Goals as goal
 pub returns-then-unread-self-clause-ok : goal.returns-then-unread-self-clause-ok
 returns-then-unread-self-clause-ok g c =
     let same : c.self.inside.buffer ≡ c.args.self.now.unread = ap (λ (v : View). v.unread) c.self.view_is in
-    let still = waits_still c.self.inside.buffer c.self.inside.wanted c.self.invariant.1 (omega (arith, c.if-unread-self.true, ap length c.unread.ensures.value)) in
+    let still = waits_still c.self.inside.buffer c.self.inside.wanted c.self.invariant (omega (arith, c.if-unread-self.true, ap length c.unread.ensures.value)) in
     let P : List ℕ → Type 0 = λ t. IsPartial t × WaitsFor t c.self.inside.wanted in
     let here = subst P same still in
-    ([], sym (append-nil _), (here.0, here.1, refl, stays _, refl), c.requires)
+    ([], sym (append-nil _), (here.0, here.1, refl, stays _, refl), c.requires.open)
 
 pub returns-clause-ok : goal.returns-clause-ok
 returns-clause-ok g c =
     let t = c.in-Ok.ensures.ok in
     let same : c.self.inside.buffer ≡ c.args.self.now.unread = ap (λ (v : View). v.unread) c.self.view_is in
-    let unsent : drop c.self.inside.sent c.self.inside.made.items ≡ c.args.self.now.unsent = ap (λ (v : View). v.unsent) c.self.view_is in
-    let within : c.self.inside.sent ≤ length c.self.inside.made.items = omega (arith, c.self.invariant.0, c.self.inside.made.ok.0) in
+    let unsent : c.self.inside.outgoing ≡ c.args.self.now.unsent = ap (λ (v : View). v.unsent) c.self.view_is in
     let P : List ℕ → Type 0 = λ u. IsTurn (g.K.Keeper.standing c.args.machine.now.keeper) u t.0 c.in-Ok.turn (g.K.Keeper.standing c.answer_one.new.machine.keeper) c.answer_one.new.buffer in
-    (t.0, unsent_more c.self.inside.sent c.self.inside.made.items _ _ t.0 within t.1 unsent, subst P same t.2, c.closes-self-inside.ensures)
+    (t.0, t.1 ∙ ap (λ (u : List ℕ). u ++ t.0) unsent, subst P same t.2, c.closes-self-inside.ensures)
 
 pub returns-in-Err-clause-err : goal.returns-in-Err-clause-err
 returns-in-Err-clause-err g c =
     let e = c.in-Err.ensures.err in
     let x = e.1 in
     let same : c.self.inside.buffer ≡ c.args.self.now.unread = ap (λ (v : View). v.unread) c.self.view_is in
-    let unsent : drop c.self.inside.sent c.self.inside.made.items ≡ c.args.self.now.unsent = ap (λ (v : View). v.unsent) c.self.view_is in
-    let within : c.self.inside.sent ≤ length c.self.inside.made.items = omega (arith, c.self.invariant.0, c.self.inside.made.ok.0) in
+    let unsent : c.self.inside.outgoing ≡ c.args.self.now.unsent = ap (λ (v : View). v.unsent) c.self.view_is in
     let P : List ℕ → Type 0 = λ u. IsPending (g.K.Keeper.standing c.args.machine.now.keeper) u x.0 (g.K.Keeper.standing c.answer_one.new.machine.keeper) in
-    (e.0, (x.0, x.1, x.2, subst P same x.3, x.4, unsent_more c.self.inside.sent c.self.inside.made.items _ _ x.1 within x.5 unsent))
+    (e.0, (x.0, [], x.0, subst P same x.1, refl, x.2 ∙ unsent ∙ sym (append-nil _)))
 
 pub invariant_of-self-2 : goal.invariant_of-self-2
 invariant_of-self-2 g c =
     let t = c.in-Ok.ensures.ok in
     let P : ℕ → Type 0 = λ w. MayWait c.answer_one.new.buffer w in
-    let grew = ap length t.1 in
-    (omega (arith, c.self.invariant.0, c.self.inside.made.ok.0, c.answer_one.new.made.ok.0, grew, length-append c.self.inside.made.items t.0), subst P (sym c.wanted-self-inside.ensures) (may_wait_after _ _ _ _ _ _ t.2))
+    subst P (sym c.wanted-self-inside.ensures) (may_wait_after _ _ _ _ _ _ t.2)

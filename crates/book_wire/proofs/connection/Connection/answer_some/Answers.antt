@@ -15,7 +15,7 @@ loop-alloc-init g c =
       omega arith,
       ap (λ (v : View). v.unsent) c.self.view_is ∙ sym (append-nil _),
       subst P (sym same) (SoFar-none s u),
-      ap (λ (v : View). v.closing) c.self.view_is ∙ c.requires,
+      ap (λ (v : View). v.closing) c.self.view_is ∙ c.requires.open,
       refl,
     )
 
