@@ -1,5 +1,5 @@
 -- What is left of a body, from one piece to the next.
-use Rattle.book_wire.proofs.Common.{◌≡◌, ℕ, ◌+◌, ◌<◌, ◌≤◌, List, [], ◌++◌, length, drop, ap, sym, ◌∙◌, append_assoc}
+use Rattle.book_wire.proofs.Common.{◌≡◌, ℕ, ◌+◌, ◌<◌, ◌≤◌, List, [], ◌++◌, length, ap, sym, ◌∙◌, append_assoc}
 use Rattle.std.proofs.Common.{get_or, length-append}
 use Rattle.std.specs.List.{concat}
 use Rattle.std.proofs.lemmas.List.{drop_more, drop_all}

@@ -1,5 +1,5 @@
 -- Streams, an exchange at a time.
-use Rattle.book_wire.proofs.Common.{◌≡◌, ◌≢◌, ℕ, ◌+◌, ◌<◌, ◌≤◌, Bool, true, false, List, [], ◌∷◌, ◌++◌, map, length, Option, Some, None, refl, sym, ap, subst, ◌∙◌, inl, inr, append_assoc, append-nil, arith, Consumes, print_request, name_and_value, Standing, WireRefusal, Exchange, SoFar, Refuses, reply_text, Takes, Asked}
+use Rattle.book_wire.proofs.Common.{◌≡◌, ◌≢◌, ℕ, ◌+◌, ◌<◌, ◌≤◌, Bool, true, false, List, [], ◌∷◌, ◌++◌, map, length, Option, Some, None, refl, sym, ap, subst, ◌∙◌, inl, inr, append_assoc, append-nil, arith, Consumes, print_request, Standing, WireRefusal, Exchange, SoFar, Refuses, reply_text, Takes, Asked}
 use Rattle.std.proofs.Common.{◌⊎◌, length-append}
 use Rattle.std.proofs.lemmas.List.{map-append, nil_from_length}
 use Rattle.std.proofs.lemmas.List.Concat.{flat_map-append}

@@ -177,21 +177,6 @@ fn write_token(out: &mut JsonText, token: &Option<Token>) -> Result<(), AllocErr
     }
 }
 
-/// The name of the property that a value is of.
-fn property_name(value: &PropertyValue) -> &'static str
-    ensures { result.now ≡ property_name value.now }
-{
-    match value {
-        PropertyValue::DisplayName(_) => "displayname",
-        PropertyValue::ResourceType(_) => "resourcetype",
-        PropertyValue::Owner(_) => "owner",
-        PropertyValue::Acl(_) => "acl",
-        PropertyValue::CurrentUserPrivilegeSet(_) => "current-user-privilege-set",
-        PropertyValue::GroupMemberSet(_) => "group-member-set",
-        PropertyValue::SyncToken(_) => "sync-token",
-    }
-}
-
 /// Writes the value of a property. An error is want of memory.
 fn write_value(out: &mut JsonText, value: &PropertyValue) -> Result<(), AllocError>
     ensures { Tells result out.old out.new (property_data value.now) }
