@@ -10,11 +10,10 @@ use Rattle.book_office_members.specs.declared.members.Members.{Members}
 use Rattle.book_office_members.specs.Members.{AreMembersAt}
 use Rattle.book_office_members.specs.Names.{AreNamesAt, name_told}
 use Rattle.book_office_members.specs.declared.names.NamedCard.{NamedCard}
-use Rattle.book_office_values.specs.Changes.{Change, changes_after}
+use Rattle.book_office_values.specs.Changes.{Change, changes_after, first_of}
 use Rattle.book_office_values.specs.declared.collections.changes.Numbers.{Numbers}
 use Rattle.book_office_values.specs.declared.paths.Path.TheVariants as path
 use Rattle.book_office.specs.OwnLists.{entries_in_force}
-use Rattle.book_office.specs.Resources.{first_of}
 use Rattle.book_office_listings.specs.Rulings.{AreRulings}
 use Rattle.book_office_sync.specs.Granted.{text_at, text_in}
 use Rattle.book_office_sync.specs.Copies.{grants, grants_read, here_of_card, can_read, shown, seen_in, seen, found_of, last_number, is_cut, start_of, sync_of, sync}

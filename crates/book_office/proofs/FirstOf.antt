@@ -1,7 +1,7 @@
 -- The first so many items of a list.
 use Rattle.book_office.proofs.Common.{◌≡◌, List, [], ◌∷◌, map, Option, Some, None, refl, ap}
 use Rattle.std.proofs.Common.{ℕ, zero, suc, Bool, true, false, cond, take, filter}
-use Rattle.book_office.specs.Resources.{first_of}
+use Rattle.book_office_values.specs.Changes.{first_of}
 
 take_map : {A B : Type 0} (f : A → B) (n : ℕ) (xs : List A) → map f (take n xs) ≡ take n (map f xs)
 take_map f zero xs = refl

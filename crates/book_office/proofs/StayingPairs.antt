@@ -1,5 +1,5 @@
 -- Edits that leave the direct members of all groups.
-use Rattle.book_office.proofs.Common.{◌≡◌, ◌∙◌, ℕ, true, false, List, refl, ap, Properties}
+use Rattle.book_office.proofs.Common.{◌≡◌, ◌∙◌, ℕ, false, List, refl, ap, Properties}
 use Rattle.std.specs.Prelude.{Result, Ok, Err, OnOk, OnErr}
 use Rattle.std.proofs.lemmas.Bool.{true≢false}
 use Rattle.book_lists.specs.declared.entries.Entry.{Entry}

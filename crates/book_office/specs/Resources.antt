@@ -1,5 +1,5 @@
 -- What an Office has at a path.
-use Rattle.std.specs.Prelude.{ℕ, Bool, List, [], ◌∷◌, map, filter, take, codes, is_some, Option, Some, None, option_map, option_and_then, unwrap_or}
+use Rattle.std.specs.Prelude.{ℕ, Bool, List, [], ◌∷◌, map, filter, codes, is_some, Option, Some, None, option_map, option_and_then, unwrap_or}
 use Rattle.std.specs.FinMap.{get, len, entries}
 use Rattle.book_lists.specs.declared.entries.Entry.{Entry}
 use Rattle.book_office.specs.declared.nodes.Changed.{Changed}
@@ -150,8 +150,3 @@ is_of_card change = is_some change.card
 -- of the last changes of a book above a number, those of names that have a card, in order of number
 abbrev pub cards_after : Office → List ℕ → ℕ → List Changed
 cards_after o b n = filter is_of_card (changed_after o b n)
-
--- the first so many items; all of them where no number is given
-abbrev pub first_of : {A : Type 0} → Option ℕ → List A → List A
-first_of None items = items
-first_of (Some most) items = take most items

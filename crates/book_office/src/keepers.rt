@@ -6,7 +6,8 @@ ghost use Rattle.book_lists.specs.Memberships.{members_of};
 ghost use Rattle.book_office.specs.declared.keepers.StoreFault.TheVariants.{Memory};
 ghost use Rattle.book_office_adopting.specs.Adopting.{adoption_of};
 ghost use Rattle.book_office.specs.Keeping.{Standing, Reads, Edits};
-ghost use Rattle.book_office.specs.Resources.{node_at, children_at, count_at, changed_after, cards_after, is_of_card, first_of, unnumbered};
+ghost use Rattle.book_office_values.specs.Changes.{first_of};
+ghost use Rattle.book_office.specs.Resources.{node_at, children_at, count_at, changed_after, cards_after, is_of_card, unnumbered};
 ghost use Rattle.book_office.specs.Levels.{level_at, lists_at};
 ghost use Rattle.book_office.specs.InForce.{AreUnlessGranted};
 

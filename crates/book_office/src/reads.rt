@@ -4,9 +4,9 @@ ghost use Rattle.std.specs.Prelude.{◌≡◌, [], filter, IfOk, is_some, option
 ghost use Rattle.std.specs.FinMap.{entries, get};
 ghost use Rattle.std.specs.Option.{option_copied};
 ghost use Rattle.book_lists.specs.Names.{IsName};
-ghost use Rattle.book_office_values.specs.Changes.{Change, changes_after};
+ghost use Rattle.book_office_values.specs.Changes.{Change, changes_after, first_of};
 ghost use Rattle.book_office.specs.Levels.{level_at, lists_at, own_at, protected_at};
-ghost use Rattle.book_office.specs.Resources.{cards_after, changed_after, changed_in, first_of, book_resource, card_at, card_in, card_resource, children_at, count_at, as_listed, listed_books, listed_cards, listed_home, listed_homes, listed_principals, node_at, node_of, number_of, properties_at, properties_resource, unnumbered};
+ghost use Rattle.book_office.specs.Resources.{cards_after, changed_after, changed_in, book_resource, card_at, card_in, card_resource, children_at, count_at, as_listed, listed_books, listed_cards, listed_home, listed_homes, listed_principals, node_at, node_of, number_of, properties_at, properties_resource, unnumbered};
 ghost use Rattle.book_office_values.specs.declared.paths.Kind.TheVariants as kind;
 
 use crate::nodes::{Changed, Level, Listed, Lists, Node};
@@ -321,17 +321,6 @@ fn changed_name(book: &Book, number: u64, name: Name) -> Result<Changed, AllocEr
     Ok(Changed { number, name, card })
 }
 
-/// The first so many items; all of them where no most is given.
-fn first_of(items: Items<(u64, Name)>, at_most: Option<u32>) -> Items<(u64, Name)>
-    ensures { result ≡ first_of at_most items }
-{
-    let mut first = items.into_vec();
-    if let Some(most) = at_most {
-        first.truncate(most as usize);
-    }
-    Items::from_vec(first)
-}
-
 /// Changes, each with the card that has the name.
 fn with_cards(
     alloc: Global,
@@ -348,8 +337,8 @@ fn with_cards(
     Ok(Items::from_vec(told))
 }
 
-/// The last changes of a book above a number, in order of number, and at most so many. Names are looked at up to the
-/// last one, cards are copied of those that are told.
+/// The last changes of a book above a number, in order of number, and at most so many: a step for each that is told.
+/// Cards are copied of those that are told.
 fn changes_of(
     alloc: Global,
     book: &Book,
@@ -358,11 +347,11 @@ fn changes_of(
 ) -> Result<Items<Changed>, AllocError>
     ensures { IfOk result (λ changes. changes ≡ changed_in book.now (first_of at_most (changes_after book.now.changes.last number))) }
 {
-    let after = first_of(book.changes.after(alloc, number)?, at_most);
+    let after = book.changes.after(alloc, number, at_most)?;
     with_cards(alloc, book, after)
 }
 
-/// Of these changes those of names that have a card. The names of all cards are looked at, and no removed name; cards are
+/// Of these changes those of names that have a card, at the cost that `Book::card_changes_after` states. Cards are
 /// copied of those that are told.
 fn cards_of(
     alloc: Global,
@@ -373,7 +362,7 @@ fn cards_of(
     ensures { IfOk result (λ changes. changes ≡ changed_in book.now (first_of at_most
         (filter (λ (c : Change). is_some (get book.now.cards c.1)) (changes_after book.now.changes.last number)))) }
 {
-    let after = first_of(book.card_changes_after(alloc, number)?, at_most);
+    let after = book.card_changes_after(alloc, number, at_most)?;
     with_cards(alloc, book, after)
 }
 

@@ -8,7 +8,8 @@ ghost use Rattle.book_lists.specs.Memberships.{members_of};
 ghost use Rattle.book_lists.specs.Principals.{person_path};
 ghost use Rattle.book_lists.specs.declared.circles.Caller.TheVariants.{Known};
 ghost use Rattle.book_office.specs.Levels.{level_at, lists_at};
-ghost use Rattle.book_office.specs.Resources.{cards_after, changed_after, first_of, children_at, count_at, node_at};
+ghost use Rattle.book_office_values.specs.Changes.{first_of};
+ghost use Rattle.book_office.specs.Resources.{cards_after, changed_after, children_at, count_at, node_at};
 ghost use Rattle.book_office_values.specs.declared.offices.Office.{Office as OfficeOf};
 ghost use Rattle.book_office_values.specs.declared.paths.Path.TheVariants as paths;
 

@@ -7,7 +7,8 @@ ghost use Rattle.book_lists.specs.Memberships.{members_of};
 ghost use Rattle.book_office_adopting.specs.Adopting.{adoption_of};
 ghost use Rattle.book_office.specs.Keeping.{one_more};
 ghost use Rattle.book_office.specs.Levels.{level_at, lists_at};
-ghost use Rattle.book_office.specs.Resources.{cards_after, changed_after, first_of, children_at, count_at, node_at};
+ghost use Rattle.book_office_values.specs.Changes.{first_of};
+ghost use Rattle.book_office.specs.Resources.{cards_after, changed_after, children_at, count_at, node_at};
 ghost use Rattle.book_office.specs.declared.keepers.StoreFault.TheVariants.{Store};
 
 use book_lists::{Caller, Circle, Name, Pairs, Principal};

@@ -1,6 +1,6 @@
 -- The pairs of one group lie side by side where pairs are in order, between two partition points.
 use Rattle.book_office_listings.proofs.Common.{◌≡◌, ◌∙◌, ℕ, ◌<◌, Bool, true, false, List, [], ◌∷◌, length, take, refl, sym, ap, subst, arith, membership_cmp}
-use Rattle.std.proofs.Common.{zero, suc, ◌≤◌, cond, filter, drop, get_or}
+use Rattle.std.proofs.Common.{zero, suc, ◌≤◌, filter, drop, get_or}
 use Rattle.std.specs.List.{AllByRecursion, AllWithin}
 use Rattle.std.specs.List.Sorted.{IsPartitionPoint, IsPartitionedBy, IsStrictlySortedBy}
 use Rattle.std.specs.Ordering.{is_eq, is_le, is_lt, ordering_then}

@@ -19,7 +19,7 @@ use Rattle.book_office.specs.declared.nodes.Node.{Node}
 use Rattle.std.proofs.lemmas.Bool.{and_parts}
 use Rattle.std.proofs.Common.{Some}
 use Rattle.book_office.specs.Levels.{lists_at}
-use Rattle.book_office_sync.proofs.Pages.{passed_twice}
+use Rattle.book_office_sync.proofs.Filters.{passed_twice}
 use Rattle.book_office_listings.proofs.FoundListings.{ordered, ordered_pairs, pairs_back}
 use Rattle.book_office_listings.proofs.OneListing.{same_pairs, same_values}
 use Rattle.book_office_listings.proofs.ReadListings.{responses_are}

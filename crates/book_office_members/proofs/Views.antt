@@ -1,19 +1,14 @@
 -- Views and their cards.
-use Rattle.book_office_members.proofs.Common.{◌≡◌, ℕ, cond, List, [], ◌∷◌, map, length, Option, Some, None, refl, sym, ap, ◌∙◌, subst, insert, empty, NamesTo, card_named, CardRef, patch, Seen, AreCardsOf}
-use Rattle.std.proofs.Common.{false, option_map, option_and_then}
+use Rattle.book_office_members.proofs.Common.{◌≡◌, ℕ, cond, List, [], ◌∷◌, ◌++◌, length, Option, Some, None, refl, sym, ap, ◌∙◌, subst, insert, empty, NamesTo, card_named, CardRef, Seen, AreCardsOf}
+use Rattle.std.proofs.Common.{option_map}
 use Rattle.std.specs.Cmp.Lexicographic.{nat_list_cmp_total}
-use Rattle.std.specs.FinMap.{get, remove, entries, same_map, get-empty, len-entries, len-empty}
-use Rattle.book_lists.specs.Circles.{CircleOf}
+use Rattle.std.specs.FinMap.{get, remove, same_map, get-empty}
 use Rattle.book_lists.specs.Names.{name_cmp}
 use Rattle.book_office_values.proofs.NameMapLaws.{names_apart, same, by_same, put_at, removed_at}
-use Rattle.book_office_values.specs.declared.offices.Book.{Book}
-use Rattle.book_office_values.specs.declared.offices.Office.{Office}
 use Rattle.book_office_members.proofs.Determined.{determined}
 use Rattle.book_office_members.specs.Steps.{AreMembersOf}
 use Rattle.book_office_members.specs.declared.members.Members.{Members}
-use Rattle.book_office_sync.specs.Copies.{BringsCopies, seen, seen_in, sync, sync_of, report}
-use Rattle.book_office_sync.specs.declared.messages.Report.{Report}
-use Rattle.book_office_members.specs.Members.{card_of, AreMembersIn, AreMembersAt, in_order, EqualViewsHaveEqualMembers}
+use Rattle.book_office_members.specs.Members.{card_of, AreMembersIn, in_order, EqualViewsHaveEqualMembers}
 
 abbrev tell : List ℕ → Option Seen → Option CardRef
 tell name s = option_map (λ (s : Seen). card_of name s.text) s
@@ -37,41 +32,13 @@ card_removed copy cards new name are gone q =
 pub no_cards : AreCardsOf empty empty
 no_cards q = get-empty name_cmp q ∙ ap (tell q) (sym (get-empty name_cmp q))
 
--- ---- what is read
--- without a book nothing is seen
-no_book : (o : Office) (circle : CircleOf) (b : List ℕ) → None ≡ sync o circle b None None → (name : List ℕ) → seen o circle b name ≡ None
-no_book o circle b none name = at (get o.books b) none
-  where
-    at : (found : Option Book) → None ≡ option_and_then (sync_of o circle b None None) found → option_and_then (seen_in o circle b name) found ≡ None
-    at None e = refl
-    at (Some x) e = absurd (let clash : None ≡ Some (report o circle b x None None) = e in cc)
+pub none_left : {A : Type 0} (xs : List A) → length xs ≡ 0 → xs ≡ []
+none_left [] e = refl
+none_left (x ∷ xs) e = absurd cc
 
-pub none_told : (o : Office) (circle : CircleOf) (b name : List ℕ) (members : Members) → None ≡ sync o circle b None None
-    → members ≡ record { lines = []; reached = [] } → AreMembersAt o circle b name members
-none_told o circle b name members none is = (
-  empty,
-  (λ q. get-empty name_cmp q ∙ sym (no_book o circle b none q)),
-  (empty, no_cards, subst (λ (cards : List (List ℕ × CardRef)). AreMembersOf (map (λ e. e.1) cards) (card_named (map (λ e. e.1) cards) name) members) (sym nothing) is),
-)
-  where
-    none_in : (es : List (List ℕ × CardRef)) → length es ≡ 0 → es ≡ []
-    none_in [] e = refl
-    none_in (x ∷ xs) e = absurd cc
-
-    nothing : entries (empty {K = List ℕ} {X = CardRef} {R = name_cmp}) ≡ []
-    nothing = none_in _ (sym (len-entries (empty {K = List ℕ} {X = CardRef} {R = name_cmp})) ∙ len-empty name_cmp CardRef)
-
--- an initial report that tells all
-whole : (o : Office) (circle : CircleOf) (b : List ℕ) (r : Report) → Some r ≡ sync o circle b None None → r.truncated ≡ false
-whole o circle b r told = at (get o.books b) told
-  where
-    at : (found : Option Book) → Some r ≡ option_and_then (sync_of o circle b None None) found → r.truncated ≡ false
-    at None e = absurd cc
-    at (Some x) e = let is : r ≡ report o circle b x None None = cc in ap (λ (r : Report). r.truncated) is
-
-pub members_read : (o : Office) (circle : CircleOf) (b name : List ℕ) (r : Report) (members : Members) → Some r ≡ sync o circle b None None
-    → BringsCopies o circle b None r → AreMembersIn (patch empty r.items) name members → AreMembersAt o circle b name members
-members_read o circle b name r members told brings are = (patch empty r.items, brings.1 (whole o circle b r told), are)
+pub parts_joined : {A : Type 0} (xs ys zs : List A) → (xs ++ ys) ++ zs ≡ xs ++ (ys ++ zs)
+parts_joined [] ys zs = refl
+parts_joined (x ∷ xs) ys zs = ap (λ l. x ∷ l) (parts_joined xs ys zs)
 
 -- ---- equal views
 same_cards : (v : NamesTo Seen) (x y : NamesTo CardRef) → AreCardsOf v x → AreCardsOf v y → x ≡ y

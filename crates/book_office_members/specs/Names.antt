@@ -33,5 +33,5 @@ abbrev pub NamesExist : Type 0
 NamesExist = (o : Office) (circle : CircleOf) (b : List ℕ) → (names : List NamedCard) × AreNamesAt o circle b names
 
 -- ---- how they are read
-abbrev pub named_card : List ℕ × List ℕ → NamedCard
-named_card e = record { name = e.0; formatted = name_told e.1 }
+abbrev pub named_card : List ℕ × Option (List ℕ) → NamedCard
+named_card e = record { name = e.0; formatted = e.1 }

@@ -1,7 +1,7 @@
-//! The cards that a report tells, each with its UID and its members.
+//! The cards that items tell, each with its UID and its members.
 
 ghost use Rattle.std.specs.Prelude.{◌≡◌, ℕ, List, IfOk, OnOk, map};
-ghost use Rattle.std.specs.FinMap.{empty, entries};
+ghost use Rattle.std.specs.FinMap.{entries};
 ghost use Rattle.book_cards.specs.CardText.{members_in, uid_in};
 ghost use Rattle.book_office_values.specs.Names.{NamesTo};
 ghost use Rattle.book_office_sync.specs.Copies.{patch, patched};
@@ -76,15 +76,18 @@ fn apply_item(alloc: Global, cards: &mut NameMap<CardRef>, item: Item) -> Result
     Ok(())
 }
 
-/// The cards that the items tell, by name. Each text is read once, and then let go.
-pub(crate) fn cards_told(alloc: Global, items: Items<Item>) -> Result<NameMap<CardRef>, AllocError>
-    ensures { IfOk result (AreCardsOf (patch empty items)) }
+/// Takes over what items tell. Each text is read once, and then let go.
+pub(crate) fn apply_items(
+    alloc: Global,
+    cards: &mut NameMap<CardRef>,
+    items: Items<Item>,
+) -> Result<(), AllocError>
+    ensures { OnOk result ((copy : NamesTo Seen) → AreCardsOf copy cards.old → AreCardsOf (patch copy items) cards.new) }
 {
-    let mut cards = NameMap::new(alloc);
     for item in items.into_vec() {
-        apply_item(alloc, &mut cards, item)?;
+        apply_item(alloc, cards, item)?;
     }
-    Ok(cards)
+    Ok(())
 }
 
 /// The cards, in byte order of their names.

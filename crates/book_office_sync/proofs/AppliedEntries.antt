@@ -70,8 +70,8 @@ module _ (circle : CircleOf) (levels : List Level) (above : Above) (is : IsAbove
   text_same leaf None = refl
   text_same leaf (Some card) = λ i. if granted_same (here_of_card card) card.own leaf i then Some card.text else None
 
-  pub texts_same : (leaf : Leaf) (cs : List Changed) (texts : NamesTo (List ℕ)) → put_texts above circle leaf cs texts ≡ put_texts (above_of levels) circle leaf cs texts
-  texts_same leaf [] texts = refl
-  texts_same leaf (c ∷ cs) texts =
-      texts_same leaf cs (put_text texts c.name (text_of above circle leaf c.card))
-      ∙ ap (λ t. put_texts (above_of levels) circle leaf cs (put_text texts c.name t)) (text_same leaf c.card)
+  pub texts_same : {V : Type 0} (kept : List ℕ → V) (leaf : Leaf) (cs : List Changed) (told : NamesTo V) → put_texts kept above circle leaf cs told ≡ put_texts kept (above_of levels) circle leaf cs told
+  texts_same kept leaf [] told = refl
+  texts_same kept leaf (c ∷ cs) told =
+      texts_same kept leaf cs (put_text kept told c.name (text_of above circle leaf c.card))
+      ∙ ap (λ t. put_texts kept (above_of levels) circle leaf cs (put_text kept told c.name t)) (text_same leaf c.card)

@@ -1,7 +1,7 @@
 -- A report cut from items that are enough is that of all items.
 use Rattle.book_office_sync.proofs.Common.{◌≡◌, ◌⊎◌, ℕ, ◌<◌, ◌≤◌, inl, inr, zero, suc, List, [], ◌∷◌, ◌++◌, map, length, drop, true, Option, Some, None, refl, sym, ap, ◌∙◌, subst, arith, nat_lt, if◌then◌else◌, nat_tests, Change, Item, Token}
 use Rattle.std.proofs.Common.{◌+◌, take}
-use Rattle.book_office.specs.Resources.{first_of}
+use Rattle.book_office_values.specs.Changes.{first_of}
 use Rattle.book_office.proofs.FirstOf.{first_map}
 use Rattle.book_office_sync.specs.Copies.{is_cut, last_number}
 use Rattle.book_office_sync.specs.Limits.{IsEnough, AreEnough, last_told, told_report}
@@ -35,31 +35,10 @@ pub none_after : {A : Type 0} (xs : List A) → xs ++ [] ≡ xs
 none_after [] = refl
 none_after (x ∷ xs) = ap (λ l. x ∷ l) (none_after xs)
 
-short_or_full : {A : Type 0} (n : ℕ) (xs : List A) → (n < length (take (suc n) xs)) ⊎ (drop (suc n) xs ≡ [])
-short_or_full n [] = inr refl
-short_or_full zero (x ∷ xs) = inl (omega arith)
-short_or_full (suc n) (x ∷ xs) = elim (short_or_full n xs) [ inl h ↦ inl (omega (arith, h)) | inr none ↦ inr none ]
-
 above : (a b : ℕ) → a < b → nat_lt a b ≡ true
 above a b h = grind (arith, nat_tests)
 
 -- ---- enough items
--- one more than so many, where there are so many, and else all
-pub first_enough : {A : Type 0} (f : A → Item) (most : ℕ) (cs : List A) → IsEnough most (map f cs) (map f (first_of (Some (suc most)) cs))
-first_enough f most cs = record {
-  rest = map f (drop (suc most) cs);
-  parts = ap (map f) (take_parts (suc most) cs) ∙ map_parts f (take (suc most) cs) (drop (suc most) cs);
-  enough = elim (short_or_full most cs) [
-    | inl h ↦ inl (subst (λ n. most < n) (sym (length_map f (take (suc most) cs))) h)
-    | inr none ↦ inr (ap (map f) none)
-  ];
-}
-
-pub enough_of_first : {A : Type 0} (f : A → Item) (most : ℕ) (cs : List A) (items : List Item) → items ≡ map f (first_of (Some (most + 1)) cs) → IsEnough most (map f cs) items
-enough_of_first f most cs items e =
-    let more : most + 1 ≡ suc most = omega arith in
-    subst (IsEnough most (map f cs)) (sym (e ∙ ap (λ n. map f (take n cs)) more)) (first_enough f most cs)
-
 same_first : (most : ℕ) (all items : List Item) → IsEnough most all items → take most items ≡ take most all
 same_first most all items e = go e.enough
   where

@@ -9,8 +9,10 @@ pub mod AppliedEntries
 pub mod ReadingLaws
 pub mod CutReports
 pub mod ReadReports
-pub mod Pages
+pub mod PagedChanges
+pub mod PagedReports
 pub mod ReplicaCopies
 pub mod TokenTexts
 pub mod BringingCopies
+pub mod ViewCopies
 pub mod GrantedTexts

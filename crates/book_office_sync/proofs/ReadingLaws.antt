@@ -1,5 +1,5 @@
 -- The items that are read, and those of the definition.
-use Rattle.book_office_sync.proofs.Common.{◌≡◌, ℕ, Bool, true, false, List, [], ◌∷◌, ◌++◌, map, Option, Some, None, option_map, unwrap_or, refl, sym, ap, ◌∙◌, if◌then◌else◌, get, CircleOf, Change, changes_after, Book, StoredCard, Office, Level, number_of, found_of, item_of, shown, first_bearing, Item}
+use Rattle.book_office_sync.proofs.Common.{◌≡◌, ℕ, Bool, true, false, List, [], ◌∷◌, ◌++◌, map, Option, Some, None, option_map, unwrap_or, refl, sym, ap, ◌∙◌, if◌then◌else◌, get, CircleOf, Change, Book, StoredCard, Office, Level, number_of, found_of, item_of, shown, first_bearing}
 use Rattle.std.proofs.Common.{not}
 use Rattle.std.specs.List.{flat_map}
 use Rattle.book_rights.specs.declared.privileges.Leaf.{Leaf}
@@ -8,17 +8,12 @@ use Rattle.book_lists.specs.declared.entries.Entry.{Entry}
 use Rattle.book_lists.specs.declared.entries.Here.{Here}
 use Rattle.book_office_values.specs.declared.paths.Path.{Path}
 use Rattle.book_office_values.specs.declared.paths.Path.TheVariants as path
-use Rattle.book_office.specs.declared.nodes.Changed.{Changed}
 use Rattle.book_office.specs.declared.nodes.EffectiveEntry.{EffectiveEntry}
 use Rattle.book_office.specs.Levels.{standing_at, protected_entries, own_entries, effective_of, lists_at}
-use Rattle.book_office.specs.declared.nodes.Lists.{Lists as Lists'}
-use Rattle.book_office.proofs.FirstOf.{first_map}
-use Rattle.book_office.specs.Resources.{Resource, book_resource, changed_after, changed_in, first_of}
+use Rattle.book_office.specs.Resources.{Resource, book_resource, changed_in}
 use Rattle.book_office_sync.specs.Copies.{grants, grants_read, here_of_card}
 use Rattle.book_office_sync.specs.Reading.{above_of, entries_under, is_granted, found_in, item_in}
 use Rattle.book_office_sync.specs.declared.reports.Above.{Above}
-use Rattle.book_office_sync.specs.Sifting.{IsAboveOf}
-use Rattle.book_office_sync.proofs.AppliedEntries.{item_same}
 use Rattle.book_office_sync.proofs.CopiesKept.{seen_by, above, in_force, seen_at}
 
 -- one list after another: the first that has an entry which applies and holds the leaf
@@ -104,15 +99,3 @@ module _ (o : Office) (circle : CircleOf) (b : List ℕ) (x : Book) (at : get o.
   items_are (c ∷ cs) =
       let found = found_is c.1 (number_of x c.1) (get x.cards c.1) ∙ ap (option_map found_of) (sym (seen_at o circle b c.1 x at)) in
       λ i. record { name = c.1; number = c.0; found = found i } ∷ items_are cs i
-
--- what was read is what the definition says
-pub items_read : (o : Office) (circle : CircleOf) (b : List ℕ) (n : ℕ) (most : Option ℕ) (lists : Lists') (changes : List Changed) (a : Above) (items : List Item)
-    → lists ≡ lists_at o (path.Book b) → changes ≡ first_of most (changed_after o b n) → IsAboveOf circle lists.levels a → items ≡ map (item_in a circle) changes
-    → (x : Book) → get o.books b ≡ Some x → items ≡ map (item_of o circle b) (first_of most (changes_after x.changes.last n))
-items_read o circle b n most lists changes a items l k above_is e x at =
-    let first = first_of most (changes_after x.changes.last n) in
-    e ∙ ap (λ f. map f changes) (item_same circle lists.levels a above_is)
-    ∙ (λ i. map (item_in (above_of (l i).levels) circle)
-    ((k ∙ ap (λ found. first_of most (unwrap_or (option_map (λ (book : Book). changed_in book (changes_after book.changes.last n)) found) [])) at
-    ∙ sym (first_map (λ (c : Change). record { number = c.0; name = c.1; card = get x.cards c.1 }) most (changes_after x.changes.last n))) i))
-    ∙ items_are o circle b x at first

@@ -3,7 +3,7 @@ use Rattle.book_office_sync.proofs.Common.{◌≡◌, ℕ, ◌<◌, ◌≤◌, �
 use Rattle.std.proofs.Common.{take}
 use Rattle.std.specs.FinMap.{empty, get-empty}
 use Rattle.book_lists.specs.Names.{name_cmp}
-use Rattle.book_office.specs.Resources.{first_of}
+use Rattle.book_office_values.specs.Changes.{first_of}
 use Rattle.book_office.specs.Sound.{IsSoundBook}
 use Rattle.book_office_sync.specs.Copies.{can_read, seen_in, last_number, reported, Begins, IsView, Follows}
 use Rattle.book_office_sync.proofs.Filters.{mem_filter, filter_mem}

@@ -1,6 +1,6 @@
 -- Texts of numbers and of tokens.
 use Rattle.book_office_sync.proofs.Common.{◌≡◌, ℕ, ◌<◌, ◌≤◌, ◌&&◌, ◌==◌, zero, suc, Bool, true, false, List, [], ◌∷◌, ◌++◌, length, drop, refl, sym, ap, ◌∙◌, subst, arith, nat_lt, Option, Some, None, nat_tests, Token}
-use Rattle.std.proofs.Common.{◌≢◌, ◌^◌, ◌||◌, get_or, slice_index, codes, Result, Ok, Err, OkIff, IfSome, IsSomeAnd, IfOk}
+use Rattle.std.proofs.Common.{◌≢◌, ◌^◌, ◌||◌, get_or, slice_index, codes, Result, Ok, Err, OkIff, IfSome, IsSomeAnd}
 use Rattle.std.specs.Prelude.{decimal}
 use Rattle.std.specs.Str.Parse.{AllDigits, digits_value, ParsesUnsigned}
 use Rattle.std.proofs.lemmas.List.{append_assoc}
@@ -97,14 +97,6 @@ pub text_of_parts : (text rest numbers book epoch number : List ℕ) → text �
     → text ≡ codes "data:," ++ (book ++ codes "/" ++ epoch ++ codes "/" ++ number)
 text_of_parts text rest numbers book epoch number e f g =
     e ∙ ap (λ r. codes "data:," ++ r) (f ∙ ap (λ r. book ++ 47 ∷ r) g ∙ sym (grouped book epoch number))
-
-pub text_written : {A E : Type 0} (bytes : A → List ℕ) (r : Result A E) (token : Token) (book : List ℕ) → book ≡ token.book
-    → IfOk r (λ text. bytes text ≡ codes "data:," ++ (book ++ (codes "/" ++ (decimal token.epoch ++ (codes "/" ++ decimal token.number)))))
-    → IfOk r (λ text. bytes text ≡ token_text token)
-text_written bytes (Err error) token book is written = tt
-text_written bytes (Ok text) token book is written =
-    written ∙ ap (λ b. codes "data:," ++ (b ++ 47 ∷ (decimal token.epoch ++ 47 ∷ decimal token.number))) is
-    ∙ ap (λ r. codes "data:," ++ r) (sym (grouped token.book (decimal token.epoch) (decimal token.number)))
 
 -- the first slash of a text ends its first part
 same_parts : (front back other_front other_back : List ℕ) → ((i : ℕ) → i < length front → get_or front i 0 ≢ 47) → ((i : ℕ) → i < length other_front → get_or other_front i 0 ≢ 47)

@@ -8,7 +8,7 @@ use Rattle.book_lists.specs.Circles.{CircleOf}
 use Rattle.book_lists.specs.Decisions.{bears}
 use Rattle.book_lists.specs.declared.entries.Entry.{Entry}
 use Rattle.book_lists.specs.declared.entries.Here.{Here}
-use Rattle.book_office_values.specs.Changes.{Change, changes_after}
+use Rattle.book_office_values.specs.Changes.{Change, changes_after, first_of}
 use Rattle.book_office_values.specs.Names.{NamesTo}
 use Rattle.book_office_values.specs.declared.offices.Book.{Book}
 use Rattle.book_office_values.specs.declared.offices.StoredCard.{StoredCard}
@@ -16,7 +16,7 @@ use Rattle.book_office_values.specs.declared.offices.Office.{Office}
 use Rattle.book_office_values.specs.declared.paths.Path.TheVariants as path
 use Rattle.book_office.specs.OwnLists.{entries_in_force}
 use Rattle.book_limits.specs.declared.TheConstants.{MAX_CARDS}
-use Rattle.book_office.specs.Resources.{first_of, number_of}
+use Rattle.book_office.specs.Resources.{number_of}
 use Rattle.book_office_sync.specs.declared.messages.Found.{Found}
 use Rattle.book_office_sync.specs.declared.messages.Item.{Item}
 use Rattle.book_office_sync.specs.declared.messages.Report.{Report}

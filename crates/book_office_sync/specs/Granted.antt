@@ -1,4 +1,4 @@
--- The texts of a book's cards on which one leaf is granted.
+-- The texts of a book's cards on which one leaf is granted, and what is kept of them.
 use Rattle.std.specs.Prelude.{ℕ, List, [], ◌∷◌, Option, Some, None, option_and_then, if◌then◌else◌}
 use Rattle.std.specs.FinMap.{get, insert}
 use Rattle.book_rights.specs.declared.privileges.Leaf.{Leaf}
@@ -25,10 +25,10 @@ text_at o circle b leaf c = option_and_then (text_in o circle b c leaf) (get o.b
 abbrev pub text_of : Above → CircleOf → Leaf → Option StoredCard → Option (List ℕ)
 text_of above circle leaf card = option_and_then (λ (k : StoredCard). if is_granted above circle (here_of_card k) k.own leaf then Some k.text else None) card
 
-abbrev pub put_text : NamesTo (List ℕ) → List ℕ → Option (List ℕ) → NamesTo (List ℕ)
-put_text texts name None = texts
-put_text texts name (Some text) = insert texts name text
+abbrev pub put_text : {V : Type 0} → (List ℕ → V) → NamesTo V → List ℕ → Option (List ℕ) → NamesTo V
+put_text kept told name None = told
+put_text kept told name (Some text) = insert told name (kept text)
 
-abbrev pub put_texts : Above → CircleOf → Leaf → List Changed → NamesTo (List ℕ) → NamesTo (List ℕ)
-put_texts above circle leaf [] texts = texts
-put_texts above circle leaf (c ∷ cs) texts = put_texts above circle leaf cs (put_text texts c.name (text_of above circle leaf c.card))
+abbrev pub put_texts : {V : Type 0} → (List ℕ → V) → Above → CircleOf → Leaf → List Changed → NamesTo V → NamesTo V
+put_texts kept above circle leaf [] told = told
+put_texts kept above circle leaf (c ∷ cs) told = put_texts kept above circle leaf cs (put_text kept told c.name (text_of above circle leaf c.card))

@@ -1,16 +1,26 @@
-//! The texts of a book's cards on which one leaf is granted.
+//! The texts of a book's cards on which one leaf is granted, and what is kept of them.
 
-ghost use Rattle.std.specs.Prelude.{◌≡◌, ℕ, List, IfOk, OnOk};
+ghost use Rattle.std.specs.Prelude.{◌≡◌, ℕ, List, IfOk, OnOk, option_map};
 ghost use Rattle.std.specs.FinMap.{get, empty};
 ghost use Rattle.book_office.specs.Keeping.{Reads};
 ghost use Rattle.book_office_sync.specs.Granted.{text_at, text_of, put_text, put_texts};
 
+use crate::pages::{PAGE, Page, read_page};
 use crate::reports::{Above, is_granted, join_levels};
 use book_lists::{Circle, Here, Name};
 use book_office::{Changed, Items, Keeper, Path, StoreFault};
 use book_office_values::{NameMap, StoredCard, Text};
 use book_rights::Leaf;
 use std::alloc::{AllocError, Global};
+
+/// What is kept of a card's text, once the text is let go.
+pub trait FromText: Drop {
+    ghost from_text_gives: { List ℕ → Self };
+
+    /// What is kept of the text. An error is want of memory.
+    fn from_text(alloc: Global, text: &str) -> Result<Self, AllocError>
+        ensures { IfOk result (λ kept. kept ≡ from_text_gives text.now) };
+}
 
 /// The card's text, where there is a card and the leaf is granted at it. The text is handed on.
 fn text_of(above: &Above, circle: &Circle, leaf: Leaf, card: Option<StoredCard>) -> Option<Text>
@@ -36,50 +46,66 @@ fn text_of(above: &Above, circle: &Circle, leaf: Leaf, card: Option<StoredCard>)
     }
 }
 
-/// Puts the text in, if there is one.
-fn put_text(texts: &mut NameMap<Text>, name: Name, text: Option<Text>) -> Result<(), AllocError>
-    ensures { OnOk result (texts.new ≡ put_text texts.old name text) }
+/// Puts in what is kept of the text, if there is one. The text is let go.
+fn put_text<T: FromText>(
+    alloc: Global,
+    told: &mut NameMap<T>,
+    name: Name,
+    text: Option<Text>,
+) -> Result<(), AllocError>
+    ensures { OnOk result (told.new ≡ put_text T.FromText.from_text_gives told.old name text) }
 {
     if let Some(text) = text {
-        let _before = texts.insert(name, text)?;
+        let kept = T::from_text(alloc, text.as_str())?;
+        let _before = told.insert(name, kept)?;
     }
     Ok(())
 }
 
-/// The texts of the changes' cards.
-fn texts_in(
+/// Puts in what is kept of the texts of the changes' cards. The changes are let go.
+fn put_texts<T: FromText>(
     alloc: Global,
+    told: &mut NameMap<T>,
     above: &Above,
     circle: &Circle,
     leaf: Leaf,
     changes: Items<Changed>,
-) -> Result<NameMap<Text>, AllocError>
-    ensures { IfOk result (λ texts. texts ≡ put_texts above.now circle.now leaf changes empty) }
+) -> Result<(), AllocError>
+    ensures { OnOk result (told.new ≡ put_texts T.FromText.from_text_gives above.now circle.now leaf changes told.old) }
 {
-    let mut texts = NameMap::new(alloc);
     for change in changes.into_vec() {
         let Changed { name, card, .. } = change;
         let text = text_of(above, circle, leaf, card);
-        put_text(&mut texts, name, text)?;
+        put_text(alloc, told, name, text)?;
     }
-    Ok(texts)
+    Ok(())
 }
 
-/// The texts of the cards of a book on which the leaf is granted, by name; none where there is no such book. The lists
-/// above the cards are read once, and then all cards at once. An error is want of memory or a failure of the store.
-pub fn texts_granted<K: Keeper>(
+/// What is kept of the texts of the cards of a book on which the leaf is granted, by name; nothing where there is no
+/// such book. The lists above the cards are read once, and then the cards in pages of at most 500; no more than a page
+/// of texts is held at a time. An error is want of memory or a failure of the store.
+pub fn texts_granted<K: Keeper, T: FromText>(
     alloc: Global,
     keeper: &mut K,
     circle: &Circle,
     book: &Name,
     leaf: Leaf,
-) -> Result<NameMap<Text>, StoreFault>
+) -> Result<NameMap<T>, StoreFault>
     ensures { Reads (K.standing keeper.old) (K.standing keeper.new) result
-        (λ o texts. (c : List ℕ) → get texts c ≡ text_at o circle.now book.now leaf c) }
+        (λ o told. (c : List ℕ) → get told c ≡ option_map T.FromText.from_text_gives (text_at o circle.now book.now leaf c)) }
 {
     let path = Path::Book(book.clone()?);
     let lists = keeper.lists(alloc, &path)?;
-    let cards = keeper.cards_after(alloc, book, 0, None)?;
     let above = join_levels(alloc, lists, circle)?;
-    Ok(texts_in(alloc, &above, circle, leaf, cards)?)
+    let mut told = NameMap::new(alloc);
+    let mut after = 0;
+    'pages: for _page in 0..u64::MAX {
+        let Page { changes, next } = read_page(alloc, keeper, book, None, after, PAGE)?;
+        put_texts(alloc, &mut told, &above, circle, leaf, changes)?;
+        let Some(number) = next else {
+            return Ok(told);
+        };
+        after = number;
+    }
+    Ok(told)
 }

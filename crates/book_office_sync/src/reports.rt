@@ -1,21 +1,18 @@
 //! Sync reports over a keeper.
 
-ghost use Rattle.std.specs.Prelude.{◌≡◌, ◌++◌, ◌∷◌, ◌+◌, ◌<◌, ◌^◌, [], Some, None, IfOk, IfSome, OnOk, map, option_map};
+ghost use Rattle.std.specs.Prelude.{◌≡◌, ◌++◌, ◌<◌, Some, IfOk, IfSome, OnOk, map, option_map};
 ghost use Rattle.std.specs.FinMap.{get};
 ghost use Rattle.std.specs.Option.{option_copied};
-ghost use Rattle.book_office_values.specs.Changes.{changes_after};
 ghost use Rattle.book_office_values.specs.declared.offices.Book.{Book};
-ghost use Rattle.book_office_values.specs.declared.paths.Path.TheVariants as path;
 ghost use Rattle.book_office.specs.Keeping.{Reads};
-ghost use Rattle.book_office.specs.Levels.{lists_at};
-ghost use Rattle.book_office.specs.Resources.{first_of};
-ghost use Rattle.book_office_sync.specs.Copies.{item_of, reported, start_of, sync, BringsCopies, IsLimit};
-ghost use Rattle.book_office_sync.specs.Limits.{AreEnough, IsEnough, IsNextPage, found_items, last_changed, last_of_page, last_told, told_report};
+ghost use Rattle.book_office_sync.specs.Copies.{is_cut, item_of, reported, start_of, sync, BringsCopies, IsLimit};
+ghost use Rattle.book_office_sync.specs.Limits.{AreEnough, last_told, told_items, told_report};
 ghost use Rattle.book_office_sync.specs.Reading.{first_bearing, found_in, is_granted, is_readable, item_in};
 ghost use Rattle.book_office_sync.specs.Reading.{names_place};
 ghost use Rattle.book_office_sync.specs.Sifting.{IsAboveOf};
 
 use crate::messages::{Found, Item, Report, Token};
+use crate::pages::{PAGE, Page, read_page};
 use crate::sifting::keep;
 use book_lists::{Circle, Entry, Here, Name, applies};
 use book_office::{Changed, Items, Keeper, Level, Lists, Path, StoreFault};
@@ -23,8 +20,8 @@ use book_office_values::StoredCard;
 use book_rights::Leaf;
 use std::alloc::{AllocError, Global};
 
-/// How many cards an initial report with a limit reads at once.
-const PAGE: u32 = 100;
+/// How many cards an initial report reads at once at least.
+const FEWEST: u32 = 100;
 
 /// The lists above the cards of a book without the entries that can't apply to the caller: the protected entries of the
 /// book and of what is above it, and the own entries likewise. They are read once for all its cards.
@@ -136,154 +133,52 @@ fn item_in(above: &Above, circle: &Circle, change: Changed) -> Item
     }
 }
 
-/// What a report says of changes.
-fn items_in(
-    alloc: Global,
-    above: &Above,
-    circle: &Circle,
-    changes: Items<Changed>,
-) -> Result<Items<Item>, AllocError>
-    ensures { IfOk result (λ items. items ≡ map (item_in above.now circle.now) changes) }
-{
-    let changes = changes.into_vec();
-    let mut items = Vec::with_capacity(alloc, changes.len())?;
-    for change in changes {
-        items.push(item_in(above, circle, change))?;
-    }
-    Ok(Items::from_vec(items))
-}
-
-/// The items of a report on a book after a number, and the first so many of them where a most is given: the lists above
-/// its cards are read once, and then all changes at once, each with its card.
-fn items_after<K: Keeper>(
-    alloc: Global,
-    keeper: &mut K,
-    circle: &Circle,
-    book: &Name,
-    number: u64,
-    at_most: Option<u32>,
-) -> Result<Items<Item>, StoreFault>
-    ensures { Reads (K.standing keeper.old) (K.standing keeper.new) result
-        (λ o items. (x : Book) → get o.books book.now ≡ Some x
-        → items ≡ map (item_of o circle.now book.now) (first_of at_most (changes_after x.changes.last number))) }
-{
-    let path = Path::Book(book.clone()?);
-    let lists = keeper.lists(alloc, &path)?;
-    let changes = keeper.changes_after(alloc, book, number, at_most)?;
-    let above = join_levels(alloc, lists, circle)?;
-    Ok(items_in(alloc, &above, circle, changes)?)
-}
-
-/// Adds the items of the changes whose cards are there and may be read.
-fn push_found(
+/// Adds what a report says of changes: without a token of those alone whose cards are there and may be read.
+pub(crate) fn push_told(
     items: &mut Vec<Item>,
     above: &Above,
     circle: &Circle,
+    token: Option<&Token>,
     changes: Items<Changed>,
 ) -> Result<(), AllocError>
-    ensures { OnOk result (items.new.items ≡ items.old.items ++ found_items above.now circle.now changes) }
+    ensures { OnOk result (items.new.items ≡ items.old.items ++ told_items above.now circle.now (option_copied token.entry) changes) }
 {
     for change in changes.into_vec() {
         let item = item_in(above, circle, change);
-        if item.found.is_some() {
+        if token.is_some() || item.found.is_some() {
             items.push(item)?;
         }
     }
     Ok(())
 }
 
-/// The number of the last change, and else the one before them.
-fn last_changed(before: u64, changes: &[Changed]) -> u64
-    ensures { result ≡ last_changed before changes.now }
+/// How many changes are read at once for a report: one more than its limit, but no more than a page; without a token,
+/// where what may not be read is passed over, no fewer than `FEWEST`.
+fn page_size(token: Option<&Token>, limit: Option<u32>) -> u32
+    requires { IsLimit limit }
+    ensures { 0 < result }
 {
-    let mut number = before;
-    for change in changes {
-        number = change.number;
+    let Some(most) = limit else {
+        return PAGE;
+    };
+    let wanted = most + 1;
+    if wanted > PAGE {
+        return PAGE;
     }
-    number
-}
-
-/// The number of the last of a page of changes, after which more may stand; none where the page is not full.
-fn last_of_page(page: u32, before: u64, changes: &[Changed]) -> Option<u64>
-    ensures { result ≡ last_of_page page before changes.now }
-{
-    if changes.len() < page as usize {
-        return None;
+    if token.is_none() && wanted < FEWEST {
+        return FEWEST;
     }
-    Some(last_changed(before, changes))
+    wanted
 }
 
-/// One page more of a book's cards, in order of their last changes: adds the items of those that may be read, and answers the
-/// number of the last of these changes; none where no card stands after it.
-fn next_page<K: Keeper>(
-    alloc: Global,
-    keeper: &mut K,
-    circle: &Circle,
-    book: &Name,
-    above: &Above,
-    after: u64,
-    items: &mut Vec<Item>,
-) -> Result<Option<u64>, StoreFault>
-    ensures { Reads (K.standing keeper.old) (K.standing keeper.new) result
-        (λ o next. (x : Book) → get o.books book.now ≡ Some x → IsAboveOf circle.now (lists_at o (path.Book book.now)).levels above.now
-        → IsNextPage o circle.now book.now x after items.old.items items.new.items next) }
+/// Whether items remain when a report is cut to the limit.
+fn is_cut(limit: Option<u32>, items: &[Item]) -> bool
+    ensures { result ≡ is_cut limit items.now }
 {
-    let cards = keeper.cards_after(alloc, book, after, Some(PAGE))?;
-    let next = last_of_page(PAGE, after, cards.as_slice());
-    push_found(items, above, circle, cards)?;
-    Ok(next)
-}
-
-/// The items of the cards of a book that may be read, in order of number, up to more than so many: they are looked for
-/// page by page, so that no more than a page of other cards is held.
-fn readable_items<K: Keeper>(
-    alloc: Global,
-    keeper: &mut K,
-    circle: &Circle,
-    book: &Name,
-    most: u32,
-) -> Result<Items<Item>, StoreFault>
-    ensures { Reads (K.standing keeper.old) (K.standing keeper.new) result
-        (λ o items. (x : Book) → get o.books book.now ≡ Some x
-        → IsEnough most (map (item_of o circle.now book.now) (reported o circle.now book.now x None)) items) }
-{
-    let path = Path::Book(book.clone()?);
-    let lists = keeper.lists(alloc, &path)?;
-    let above = join_levels(alloc, lists, circle)?;
-    let mut items = Vec::new(alloc);
-    let mut after = 0;
-    'pages: for _page in 0..u64::MAX {
-        let next = next_page(alloc, keeper, circle, book, &above, after, &mut items)?;
-        let Some(number) = next else {
-            return Ok(Items::from_vec(items));
-        };
-        if items.len() > most as usize {
-            return Ok(Items::from_vec(items));
-        }
-        after = number;
+    match limit {
+        Some(most) => items.len() > most as usize,
+        None => false,
     }
-    Ok(Items::from_vec(items))
-}
-
-/// The items of all cards of a book that may be read, in order of number: the lists above the cards are read once, and then
-/// all cards at once.
-fn all_readable<K: Keeper>(
-    alloc: Global,
-    keeper: &mut K,
-    circle: &Circle,
-    book: &Name,
-) -> Result<Items<Item>, StoreFault>
-    ensures { Reads (K.standing keeper.old) (K.standing keeper.new) result
-        (λ o items. (x : Book) → get o.books book.now ≡ Some x
-        → items ≡ map (item_of o circle.now book.now) (reported o circle.now book.now x None)) }
-{
-    let path = Path::Book(book.clone()?);
-    let lists = keeper.lists(alloc, &path)?;
-    let cards = keeper.cards_after(alloc, book, 0, None)?;
-    let above = join_levels(alloc, lists, circle)?;
-    let mut items = Vec::new(alloc);
-    push_found(&mut items, &above, circle, cards)?;
-    Ok(Items::from_vec(items))
 }
 
 /// The number of the last change of a book, if there is such a book.
@@ -322,45 +217,8 @@ fn start_of(token: Option<&Token>) -> u64
     }
 }
 
-/// All items of a report on a book.
-fn all_items<K: Keeper>(
-    alloc: Global,
-    keeper: &mut K,
-    circle: &Circle,
-    book: &Name,
-    token: Option<&Token>,
-) -> Result<Items<Item>, StoreFault>
-    ensures { Reads (K.standing keeper.old) (K.standing keeper.new) result
-        (λ o items. (x : Book) → get o.books book.now ≡ Some x
-        → items ≡ map (item_of o circle.now book.now) (reported o circle.now book.now x (option_copied token.entry))) }
-{
-    match token {
-        Some(token) => items_after(alloc, keeper, circle, book, token.number, None),
-        None => all_readable(alloc, keeper, circle, book),
-    }
-}
-
-/// The items of a report on a book, up to more than so many.
-fn enough_items<K: Keeper>(
-    alloc: Global,
-    keeper: &mut K,
-    circle: &Circle,
-    book: &Name,
-    token: Option<&Token>,
-    most: u32,
-) -> Result<Items<Item>, StoreFault>
-    requires { most + 1 < 2 ^ 32 }
-    ensures { Reads (K.standing keeper.old) (K.standing keeper.new) result
-        (λ o items. (x : Book) → get o.books book.now ≡ Some x
-        → IsEnough most (map (item_of o circle.now book.now) (reported o circle.now book.now x (option_copied token.entry))) items) }
-{
-    match token {
-        Some(token) => items_after(alloc, keeper, circle, book, token.number, Some(most + 1)),
-        None => readable_items(alloc, keeper, circle, book, most),
-    }
-}
-
-/// The items of a report on a book: all of them, or up to more than a limit.
+/// The items of a report on a book: all of them, or up to more than a limit. The lists above its cards are read once,
+/// and then its changes page by page, each with its card.
 fn report_items<K: Keeper>(
     alloc: Global,
     keeper: &mut K,
@@ -374,10 +232,24 @@ fn report_items<K: Keeper>(
         (λ o items. (x : Book) → get o.books book.now ≡ Some x
         → AreEnough limit (map (item_of o circle.now book.now) (reported o circle.now book.now x (option_copied token.entry))) items) }
 {
-    match limit {
-        Some(most) => enough_items(alloc, keeper, circle, book, token, most),
-        None => all_items(alloc, keeper, circle, book, token),
+    let path = Path::Book(book.clone()?);
+    let lists = keeper.lists(alloc, &path)?;
+    let above = join_levels(alloc, lists, circle)?;
+    let size = page_size(token, limit);
+    let mut items = Vec::new(alloc);
+    let mut after = start_of(token);
+    'pages: for _page in 0..u64::MAX {
+        let Page { changes, next } = read_page(alloc, keeper, book, token, after, size)?;
+        push_told(&mut items, &above, circle, token, changes)?;
+        let Some(number) = next else {
+            return Ok(Items::from_vec(items));
+        };
+        if is_cut(limit, &items) {
+            return Ok(Items::from_vec(items));
+        }
+        after = number;
     }
+    Ok(Items::from_vec(items))
 }
 
 /// The number of the last item, and else the one given.
@@ -456,10 +328,10 @@ fn read_report<K: Keeper>(
 /// present one, or a number that the book has not reached (RFC 6578, section 3.2, precondition valid-sync-token). An
 /// error is want of memory or a failure of the store.
 ///
-/// It makes four calls of the keeper, whatever the size of the book, decides once for each change, and changes nothing. An
-/// initial report asks for cards alone, and for no removed name. With a limit a report reads one change more than that; but
-/// an initial one, which leaves out what may not be read, makes a call for each 100 cards that it passes. The circle is that
-/// of the caller.
+/// It reads the book's place and the lists above its cards, and then its changes in pages of at most 500, with a limit
+/// of no more than one above it, decides once for each, and changes nothing: beside what the report tells, a page is
+/// held. An initial report reads cards alone, at least 100 at once, and no removed name. The circle is that of the
+/// caller.
 pub fn sync_report<K: Keeper>(
     alloc: Global,
     keeper: &mut K,

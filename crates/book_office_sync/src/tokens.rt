@@ -1,7 +1,7 @@
 //! Sync tokens as texts.
 
 ghost use Rattle.std.specs.Prelude.{◌≡◌, ◌≢◌, ◌≤◌, ◌<◌, ◌++◌, ◌∷◌, ◌||◌, ◌&&◌, ◌==◌, ℕ, nat_lt, List, length};
-ghost use Rattle.std.specs.Prelude.{slice_index, codes, decimal, string_bytes, IfOk, IfSome, IfNone, IsSomeAnd};
+ghost use Rattle.std.specs.Prelude.{slice_index, codes, decimal, string_bytes, IfOk, IfSome, IfNone, IsSomeAnd, OnOk};
 ghost use Rattle.book_lists.specs.Names.{IsName};
 ghost use Rattle.book_limits.specs.declared.TheConstants.{LAST_NUMBER};
 ghost use Rattle.book_office_sync.specs.Tokens.{IsToken, IsNoToken, token_text};
@@ -90,13 +90,22 @@ impl Token {
         }))
     }
 
-    /// The text of the token. An error is want of memory.
-    pub fn text(&self, alloc: Global) -> Result<String, AllocError>
-        ensures { IfOk result (λ text. string_bytes text ≡ token_text self.now) }
+    /// Adds the text of the token. An error is want of memory, which is not asked for where the string has the room.
+    pub fn push_text(&self, text: &mut String) -> Result<(), AllocError>
+        ensures { OnOk result (string_bytes text.new ≡ string_bytes text.old ++ token_text self.now) }
     {
         let book = self.book.text();
         let epoch = self.epoch;
         let number = self.number;
-        format!(in alloc; "data:,{book}/{epoch}/{number}")
+        write!(text, "data:,{book}/{epoch}/{number}")
+    }
+
+    /// The text of the token. An error is want of memory.
+    pub fn text(&self, alloc: Global) -> Result<String, AllocError>
+        ensures { IfOk result (λ text. string_bytes text ≡ token_text self.now) }
+    {
+        let mut text = String::new(alloc);
+        self.push_text(&mut text)?;
+        Ok(text)
     }
 }

@@ -1,6 +1,7 @@
 pub mod Common
 pub mod Above
 pub mod Entered
+pub mod FirstOf
 pub mod Indexes
 pub mod CardChanges
 pub mod Labels

@@ -1,5 +1,5 @@
 -- The last change of each name of a book, and the changes of a book in order of number.
-use Rattle.std.specs.Prelude.{◌≡◌, ℕ, ◌+◌, ◌-◌, ◌≤◌, List, Option, Some, None, map, filter, nat_lt}
+use Rattle.std.specs.Prelude.{◌≡◌, ℕ, ◌+◌, ◌-◌, ◌≤◌, Bool, false, cond, List, Option, Some, None, map, filter, take, nat_lt, nat_le}
 use Rattle.std.specs.Ordering.{nat_cmp}
 use Rattle.std.specs.FinMap.{FinMap, get, insert, remove, entries, from_entries}
 use Rattle.book_office_values.specs.Names.{NamesTo, changed_at}
@@ -62,3 +62,18 @@ left c name before = record { number = c.number - 1; last = put_back c.last name
 abbrev pub with_number : NumberedNames → Option ℕ → List ℕ → NumberedNames
 with_number names None name = names
 with_number names (Some n) name = insert names n name
+
+-- the first so many items; all of them where no number is given
+abbrev pub first_of : {A : Type 0} → Option ℕ → List A → List A
+first_of None items = items
+first_of (Some most) items = take most items
+
+-- a list of so many items has as many as it is to have
+abbrev pub is_full : Option ℕ → ℕ → Bool
+is_full None n = false
+is_full (Some most) n = nat_le most n
+
+-- a number above another one, if there is one
+abbrev pub above : ℕ → Option ℕ → Option ℕ
+above n None = None
+above n (Some m) = cond (nat_lt n m) (Some m) None

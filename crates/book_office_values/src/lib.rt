@@ -16,4 +16,4 @@ mod paths;
 pub use collections::{Changes, Items, NameMap, Numbers, Text, TextMap};
 pub use laws::{levels_go_up, texts_spell_one_path};
 pub use offices::{Book, Office, Properties, StoredCard};
-pub use paths::{Kind, Path, PathFault};
+pub use paths::{Kind, Path, PathFault, push_book_path, push_card_path};

@@ -2,7 +2,7 @@
 
 ghost use Rattle.std.specs.Prelude.{◌≡◌, filter, is_some, IfOk, OnOk};
 ghost use Rattle.std.specs.FinMap.{get};
-ghost use Rattle.book_office_values.specs.Changes.{Change, changes_after, with_number};
+ghost use Rattle.book_office_values.specs.Changes.{Change, above, changes_after, first_of, with_number};
 ghost use Rattle.book_office_values.specs.Fresh.{empty_properties};
 
 use crate::collections::{Changes, Items, NameMap, NumberMap, Text};
@@ -62,24 +62,60 @@ pub struct Book {
 }
 
 impl Book {
-    /// The last changes above a number of the names that have a card, in order of number: each number with its name. An error
-    /// is want of memory.
+    /// The last changes above a number of the names that have a card, in order of number: each number with its name.
+    /// They are the first so many, and all where no most is given. An error is want of memory.
     ///
-    /// It goes through the names of the cards. Removed names are not looked at.
+    /// Where the names that were ever there are at most 8 times the cards, it looks at each later change up to the
+    /// last that it answers, so that all pages of a report together look at each change once. Else it goes through the
+    /// names of the cards, and looks at no removed name.
     pub fn card_changes_after(
         &self,
         alloc: Global,
         number: u64,
+        at_most: Option<u32>,
     ) -> Result<Items<(u64, Name)>, AllocError>
-        ensures { IfOk result (λ changes. changes ≡ filter (λ (c : Change). is_some (get self.now.cards c.1))
-            (changes_after self.now.changes.last number)) }
+        ensures { IfOk result (λ changes. changes ≡ first_of at_most
+            (filter (λ (c : Change). is_some (get self.now.cards c.1)) (changes_after self.now.changes.last number))) }
+    {
+        if self.are_few_removed() {
+            self.changes
+                .after_among(alloc, number, at_most, &self.cards)
+        } else {
+            self.changes_by_card(alloc, number, at_most)
+        }
+    }
+
+    /// Whether the names that were ever there are at most 8 times the cards.
+    fn are_few_removed(&self) -> bool {
+        self.changes.len() <= self.cards.len().saturating_mul(8)
+    }
+
+    /// The same by the names of the cards: each is looked up, and those that changed later are put in order of number.
+    fn changes_by_card(
+        &self,
+        alloc: Global,
+        number: u64,
+        at_most: Option<u32>,
+    ) -> Result<Items<(u64, Name)>, AllocError>
+        ensures { IfOk result (λ changes. changes ≡ first_of at_most
+            (filter (λ (c : Change). is_some (get self.now.cards c.1)) (changes_after self.now.changes.last number))) }
     {
         self.changes.known();
         let mut names = NumberMap::new(alloc);
         for (name, _card) in self.cards.iter() {
-            enter(&mut names, self.changes.get(name), name)?;
+            enter(&mut names, above(number, self.changes.get(name)), name)?;
         }
-        names.after(alloc, number)
+        names.after(alloc, number, at_most)
+    }
+}
+
+/// A number, if there is one above the first.
+fn above(first: u64, number: Option<u64>) -> Option<u64>
+    ensures { result ≡ above first number }
+{
+    match number {
+        Some(number) if number > first => Some(number),
+        _ => None,
     }
 }
 

@@ -1,10 +1,10 @@
 //! Paths of resources.
 
-ghost use Rattle.std.specs.Prelude.{◌≡◌, ◌≢◌, ◌<◌, ◌++◌, ℕ, List, IfOk, IfErr, IfSome, IfNone, IsSomeAnd, codes, length, string_bytes};
+ghost use Rattle.std.specs.Prelude.{◌≡◌, ◌≢◌, ◌<◌, ◌++◌, ℕ, List, IfOk, IfErr, IfSome, IfNone, IsSomeAnd, OnOk, codes, length, string_bytes};
 ghost use Rattle.book_lists.specs.Names.{IsName};
 ghost use Rattle.book_lists.specs.Principals.{Spells, EndsPlain};
 ghost use Rattle.book_office_values.specs.declared.paths.PathFault.TheVariants.{BadPath};
-ghost use Rattle.book_office_values.specs.Paths.{IsPath, SpellsPath, SpellsNone, path_text, parent_of, kind_of, levels};
+ghost use Rattle.book_office_values.specs.Paths.{IsPath, SpellsPath, SpellsNone, book_path, card_path, path_text, parent_of, kind_of, levels};
 
 use crate::collections::Items;
 use book_lists::Name;
@@ -155,6 +155,31 @@ fn in_books(alloc: Global, rest: &str) -> Result<Path, PathFault>
     }
 }
 
+/// Adds two texts at the end of a string.
+fn push_both(text: &mut String, first: &str, last: &str) -> Result<(), AllocError>
+    ensures { OnOk result (string_bytes text.new ≡ string_bytes text.old ++ first.now ++ last.now) }
+{
+    text.push_str(first)?;
+    text.push_str(last)
+}
+
+/// Adds the path of the book with a name at the end of a string. Takes no memory where the string has the room. An
+/// error is want of memory.
+pub fn push_book_path(text: &mut String, book: &Name) -> Result<(), AllocError>
+    ensures { OnOk result (string_bytes text.new ≡ string_bytes text.old ++ book_path book.now) }
+{
+    push_both(text, "/books/", book.text())
+}
+
+/// Adds the path of the card with a name in a book at the end of a string. Takes no memory where the string has the
+/// room. An error is want of memory.
+pub fn push_card_path(text: &mut String, book: &Name, card: &Name) -> Result<(), AllocError>
+    ensures { OnOk result (string_bytes text.new ≡ string_bytes text.old ++ card_path book.now card.now) }
+{
+    push_book_path(text, book)?;
+    push_both(text, "/", card.text())
+}
+
 impl Path {
     /// The path that the text spells: `/`, `/people`, `/groups`, `/books`, `/people/NAME`, `/groups/NAME`, `/books/BOOK`
     /// or `/books/BOOK/CARD`; one slash at the end of a path of one or two names is dropped.
@@ -185,28 +210,25 @@ impl Path {
     pub fn text(&self, alloc: Global) -> Result<String, AllocError>
         ensures { IfOk result (λ text. string_bytes text ≡ path_text self.now) }
     {
+        let mut text = String::new(alloc);
+        self.push_text(&mut text)?;
+        Ok(text)
+    }
+
+    /// Adds the text of the path at the end of a string. Takes no memory where the string has the room. An error is
+    /// want of memory.
+    pub fn push_text(&self, text: &mut String) -> Result<(), AllocError>
+        ensures { OnOk result (string_bytes text.new ≡ string_bytes text.old ++ path_text self.now) }
+    {
         match self {
-            Path::Root => String::from_str(alloc, "/"),
-            Path::People => String::from_str(alloc, "/people"),
-            Path::Groups => String::from_str(alloc, "/groups"),
-            Path::Books => String::from_str(alloc, "/books"),
-            Path::Person(name) => {
-                let name = name.text();
-                format!(in alloc; "/people/{name}")
-            }
-            Path::Group(name) => {
-                let name = name.text();
-                format!(in alloc; "/groups/{name}")
-            }
-            Path::Book(name) => {
-                let name = name.text();
-                format!(in alloc; "/books/{name}")
-            }
-            Path::Card(book, name) => {
-                let book = book.text();
-                let name = name.text();
-                format!(in alloc; "/books/{book}/{name}")
-            }
+            Path::Root => text.push_str("/"),
+            Path::People => text.push_str("/people"),
+            Path::Groups => text.push_str("/groups"),
+            Path::Books => text.push_str("/books"),
+            Path::Person(name) => push_both(text, "/people/", name.text()),
+            Path::Group(name) => push_both(text, "/groups/", name.text()),
+            Path::Book(book) => push_book_path(text, book),
+            Path::Card(book, card) => push_card_path(text, book, card),
         }
     }
 

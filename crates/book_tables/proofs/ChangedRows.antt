@@ -1,5 +1,5 @@
 -- The changes that rows tell are those of the Office that they give.
-use Rattle.book_tables.proofs.Common.{◌≡◌, inl, inr, ℕ, ℤ, pos, ◌<ℤ◌, ◌<◌, ◌≤◌, Bool, true, false, ◌&&◌, List, [], ◌∷◌, ◌++◌, map, filter, find, codes, Some, None, option_map, option_and_then, unwrap_or, refl, sym, ap, subst, ◌∙◌, arith, Ordering, Less, Equal, Greater, is_gt, int_cmp, true≢false, and_parts, ints, get, same_Some, Value, Int, Text, id_in, Row, column, rowid, Has, all_has, has_filtered, has_kept, value_cmp-Int, LAST_NUMBER, IsName, Book, StoredCard, Office, Path, changes_after, book_path, parent_of, is_same, same_itself, some_apart, by_option, where_some, Changed, Resource, resource_at, card_resource, card_in, number_of, unless_mapped, changed_in, IsSound, IsSoundBook, gone_book_place, gone_name_place, gone_number, node_label, node_number, node_path, number_in, text_in, Rows, has, is_at, is_under, is_gone, PassesOnce, row_at, resource_of, removed_from, IsNodeAt, IsRemoved, Gives, card_shown, removed_shown}
+use Rattle.book_tables.proofs.Common.{◌≡◌, inl, inr, ℕ, pos, ◌<ℤ◌, ◌<◌, ◌≤◌, Bool, true, false, ◌&&◌, List, [], ◌∷◌, ◌++◌, map, filter, find, codes, Some, None, option_map, option_and_then, unwrap_or, refl, sym, ap, subst, ◌∙◌, arith, Ordering, Less, Equal, Greater, is_gt, int_cmp, true≢false, and_parts, ints, get, same_Some, Value, Int, Text, id_in, Row, column, rowid, Has, all_has, has_filtered, has_kept, value_cmp-Int, LAST_NUMBER, IsName, Book, StoredCard, Office, Path, changes_after, book_path, parent_of, is_same, same_itself, some_apart, by_option, where_some, Changed, Resource, resource_at, card_resource, card_in, number_of, unless_mapped, changed_in, IsSound, IsSoundBook, gone_book_place, gone_name_place, gone_number, node_label, node_number, node_path, number_in, text_in, Rows, has, is_at, is_under, is_gone, PassesOnce, row_at, resource_of, removed_from, IsNodeAt, IsRemoved, Gives, card_shown, removed_shown}
 use Rattle.std.proofs.Common.{nat_lt}
 use Rattle.std.proofs.lemmas.Bool.{and_from}
 use Rattle.std.proofs.lemmas.Bool.Decides.{nat_tests}

@@ -1,16 +1,17 @@
 -- Changes that an open connection shows, in order of their numbers, are those of the Office for which it stands.
-use Rattle.book_tables.proofs.Common.{◌≡◌, inl, inr, ℕ, ◌<◌, ◌≤◌, true, true≢false, IsAscending, has_filtered, has_kept, List, [], ◌∷◌, ◌++◌, map, filter, take, length, false, codes, Option, Some, None, Int, pos, option_map, unwrap_or, refl, sym, ap, subst, ◌∙◌, arith, id_in, IsPermutation, get, Has, Row, State, column, rowid, LAST_NUMBER, IsName, Book, Office, changes_after, book_path, some_apart, Changed, book_resource, changed_in, card_shown, removed_shown, Rows, rows_of, ShowsChanges, number_in, row_at, resource_of, StandsFor, value_cmp-Int}
+use Rattle.book_tables.proofs.Common.{◌≡◌, inl, inr, ℕ, ◌<◌, ◌≤◌, true, true≢false, IsAscending, has_filtered, has_kept, List, [], ◌++◌, map, filter, take, length, false, codes, Option, Some, None, Int, pos, option_map, unwrap_or, refl, sym, ap, subst, ◌∙◌, arith, id_in, IsPermutation, get, Has, Row, State, column, rowid, LAST_NUMBER, IsName, Book, Office, changes_after, book_path, some_apart, Changed, book_resource, changed_in, card_shown, removed_shown, Rows, rows_of, ShowsChanges, number_in, row_at, resource_of, StandsFor, value_cmp-Int}
 use Rattle.book_tables.specs.Stands.{IsKept}
 use Rattle.std.proofs.Common.{◌⊎◌, min, is_gt}
 use Rattle.std.proofs.lemmas.List.Sorted.{IsPermutation-sym, IsPermutation-trans, IsPermutation-map, IsPermutation-append}
 use Rattle.book_office_values.specs.declared.paths.Path.TheVariants as path
-use Rattle.book_office.specs.Resources.{changed_after, cards_after, first_of, is_of_card}
+use Rattle.book_office_values.specs.Changes.{first_of}
+use Rattle.book_office.specs.Resources.{changed_after, cards_after, is_of_card}
 use Rattle.std.proofs.lemmas.List.{append-nil}
 use Rattle.sqlite_keyed.proofs.ListLemmas.{ascending-filter}
 use Rattle.sqlite.specs.Order.{value_cmp}
 use Rattle.sqlite_rules.proofs.ListLemmas.{has_either, has_left, has_right}
 use Rattle.book_tables_rows.specs.Lists as lists
-use Rattle.book_tables_rows.specs.Lists.{AreFirst, changed_number_place, removed_number_place}
+use Rattle.book_tables_rows.specs.Lists.{changed_number_place, removed_number_place}
 use Rattle.book_tables.specs.LastChanges.{AreCardChangesAt, AreCardChangesOf, ShowsCardChanges, AreChangesAt, AreChangesOf, DoRise}
 use Rattle.book_tables.proofs.Acting.{nodes_of}
 use Rattle.book_tables.proofs.BookChanges.{IsEarlier, not_both, changes_rise}
@@ -18,7 +19,6 @@ use Rattle.book_tables.proofs.ChangedRows.{changes_of, rows_tell, tell_rows, car
 use Rattle.book_tables.proofs.FirstChanges.{before, first_same, first_or_many, has_first, of_cards, of_names}
 use Rattle.book_tables.proofs.GoneOnce.{gone_once}
 use Rattle.book_tables.proofs.SameLists.{same_members, has_permuted, has_map, has_mapped}
-use Rattle.book_tables.proofs.ToldRows.{first_has}
 
 -- numbers in a column that do not fall are numbers that do not
 ranked_by : (place : ℕ) (s t : Row) → column s place ≡ Int (pos (number_in (column s place))) → column t place ≡ Int (pos (number_in (column t place)))

@@ -1,4 +1,4 @@
--- The entries of one list among those of its node, or of all children, are the entries of the list: a sorted list, sifted, is the sifted list, sorted.
+-- The entries of one list among those of its node, or of many nodes, are the entries of the list: a sorted list, sifted, is the sifted list, sorted.
 use Rattle.book_tables.proofs.Common.{◌≡◌, inl, ℕ, ℤ, Bool, true, false, cond, ◌&&◌, List, [], ◌∷◌, map, filter, drop, None, refl, sym, ap, subst, ◌∙◌, true≢false, arith, Ordering, Less, Equal, Greater, is_gt, int_cmp, IsTotalOrder, AllByRecursion, and_parts, tied_itself, ints, Value, Null, Int, Text, id_in, Database, IsDatabase, Row, value_cmp, rowid, IsAscending, value_cmp_total, value_cmp-Int, Has, all_has, all_from, has_filtered, sort_by, map-map, ascending-map, ace_node_place, ace_protected_place, rowid_place, by_path, Rows, rows_of, has, IsBook, book_schema, by_place, flag, is_entry, is_under, key_is, int_itself, child_shown, card_shown, entry_shown, entry_of, list_in, DoNotFall, card_among, child_among, list_among}
 use Rattle.std.specs.Prelude.{◌≤ℤ◌, int_lt}
 use Rattle.std.specs.Ordering.{ordering_reverse, ordering_then}
@@ -16,12 +16,12 @@ use Rattle.sqlite_keyed.proofs.ListLemmas.{all_weaker, all-filter, filter-map}
 use Rattle.sqlite_trees.proofs.ListLemmas.{filter_same}
 use Rattle.sqlite_catalog.proofs.ListFacts.{filter_within}
 use Rattle.book_tables_rows.specs.Columns.{ace_node, ace_place, ace_protected}
-use Rattle.book_tables_rows.specs.Lists.{by_list, listed_columns, child_entries, children_of, listed_entry_place}
+use Rattle.book_tables_rows.specs.Lists.{by_list, changed_id, listed_columns, child_entries, children_of, listed_entries, listed_entry_place}
 use Rattle.book_tables_rows.specs.Schema.{node_table, ace2_table, ace_columns}
-use Rattle.book_tables_rows.specs.Writes.{is_below}
+use Rattle.book_tables_rows.specs.Writes.{is_of_some}
 use Rattle.book_tables_rows.proofs.Typing.{typed_at, past_first}
 use Rattle.book_tables.specs.Children.{listed_shown}
-use Rattle.book_tables.specs.LastChanges.{AreCardsOf, changed_shown}
+use Rattle.book_tables.specs.LastChanges.{changed_shown}
 use Rattle.book_tables.specs.Shares.{is_listed, is_of, list_of, node_in}
 use Rattle.book_tables.proofs.ChildRows.{ascending_within, by_path_total}
 use Rattle.book_tables.proofs.ChildrenTold.{columns, map_within}
@@ -217,47 +217,49 @@ module _ (db : Database) (book : IsBook db) where
         ∙ both_tests (has ace_node_place (Int number)) (has ace_protected_place (flag protected)) rows.entries)
         ∙ in_place)
 
-  module _ (id : ℤ) where
-    abbrev below : List Row
-    below = filter (is_below (Int id) rows.nodes) rows.entries
+  -- ---- the entries of the nodes that pass a test
+
+  module _ (passes : Row → Bool) where
+    abbrev theirs : List Row
+    theirs = filter (is_of_some passes rows.nodes) rows.entries
 
     abbrev sorted : List Row
-    sorted = sort_by by_list below
+    sorted = sort_by by_list theirs
 
     in_table : (row : Row) → Has sorted row → Has rows.entries row
-    in_table row h = (has_filtered (is_below (Int id) rows.nodes) rows.entries row (has_sorted by_list by_list_total below row h)).0
+    in_table row h = (has_filtered (is_of_some passes rows.nodes) rows.entries row (has_sorted by_list by_list_total theirs row h)).0
 
     not_above : (a b : Row) → IsNumbered a → IsNumbered b → is_gt (by_list a b) ≡ false → id_in (ace_node a) ≤ℤ id_in (ace_node b)
     not_above a b na nb h =
         let first : is_gt (value_cmp (ace_node a) (ace_node b)) ≡ false = first_at_most (value_cmp (ace_node a) (ace_node b)) (ordering_then (value_cmp (ace_protected a) (ace_protected b)) (value_cmp (ace_place a) (ace_place b))) h in
         at_most_numbers (id_in (ace_node a)) (id_in (ace_node b)) (sym (ap is_gt ((λ i. value_cmp (na.node i) (nb.node i)) ∙ value_cmp-Int (id_in (ace_node a)) (id_in (ace_node b)))) ∙ first)
 
-    pub do_not_fall : DoNotFall (child_entries id rows)
+    pub do_not_fall : DoNotFall (listed_entries passes rows)
     do_not_fall =
         ascending-map (λ a b. node_in a ≤ℤ node_in b) listed_columns sorted
         (ascending_within (AtMost by_list by_list_total) (λ a b. id_in (ace_node a) ≤ℤ id_in (ace_node b)) sorted
-        (λ a b in_a in_b h. not_above a b (numbered a (in_table a in_a)) (numbered b (in_table b in_b)) h) (up_sorted by_list by_list_total below))
+        (λ a b in_a in_b h. not_above a b (numbered a (in_table a in_a)) (numbered b (in_table b in_b)) h) (up_sorted by_list by_list_total theirs))
 
-    -- ---- the lists of one child
+    -- ---- the lists of one of these nodes
 
-    module _ (child : Row) (there : Has rows.nodes child) (under : is_under (Int id) child ≡ true) (protected : Bool) where
+    module _ (node : Row) (there : Has rows.nodes node) (is_one : passes node ≡ true) (protected : Bool) where
       abbrev number : ℤ
-      number = id_in (rowid child)
+      number = id_in (rowid node)
 
-      number_is : rowid child ≡ Int number
-      number_is = key_is child (all_has _ rows.nodes child (book.rising node_table (inl refl)).1 there)
+      number_is : rowid node ≡ Int number
+      number_is = key_is node (all_has _ rows.nodes node (book.rising node_table (inl refl)).1 there)
 
-      its_below : (row : Row) → Has rows.entries row → its number protected row ≡ true → is_below (Int id) rows.nodes row ≡ true
-      its_below row in_entries passes =
-          some_from _ rows.nodes child there
-          (ap (λ b. b && has rowid_place (ace_node row) child) under ∙ ap (λ v. has rowid_place v child) (tells number protected row (numbered row in_entries) passes).0 ∙ has_int 0 child number number number_is ∙ int_itself number)
+      its_among : (row : Row) → Has rows.entries row → its number protected row ≡ true → is_of_some passes rows.nodes row ≡ true
+      its_among row in_entries is_its =
+          some_from _ rows.nodes node there
+          (ap (λ b. b && has rowid_place (ace_node row) node) is_one ∙ ap (λ v. has rowid_place v node) (tells number protected row (numbered row in_entries) is_its).0 ∙ has_int 0 node number number number_is ∙ int_itself number)
 
       sifted : filter (its number protected) sorted ≡ sort_by by_place (filter (its number protected) rows.entries)
       sifted =
-          sifted_sorted by_list by_list_total (its number protected) below ∙ ap (sort_by by_list) (filter_within (its number protected) (is_below (Int id) rows.nodes) rows.entries its_below)
+          sifted_sorted by_list by_list_total (its number protected) theirs ∙ ap (sort_by by_list) (filter_within (its number protected) (is_of_some passes rows.nodes) rows.entries its_among)
           ∙ in_place number protected
 
-      pub share_is : list_of (child_entries id rows) number protected ≡ list_in rows.entries (Int number) protected
+      pub share_is : list_of (listed_entries passes rows) number protected ≡ list_in rows.entries (Int number) protected
       share_is =
           ap (λ shown. list_among protected shown) (filter-map (is_of number) listed_columns sorted)
           ∙ ap (map (entry_shown listed_entry_place)) (filter-map (is_listed protected) listed_columns (filter (λ r. is_of number (listed_columns r)) sorted))
@@ -265,21 +267,22 @@ module _ (db : Database) (book : IsBook db) where
           ∙ ap (map entry_of) (both_tests (λ r. is_of number (listed_columns r)) (λ r. is_listed protected (listed_columns r)) sorted
           ∙ filter_same (λ r. is_of number (listed_columns r) && is_listed protected (listed_columns r)) (its number protected) sorted (all_from _ sorted (λ r h. tested number protected r (numbered r (in_table r h)))) ∙ sifted)
 
-    -- children with the lists that are told of all of them are the children with their lists
-    pub shares_are : (front : List ℕ) → map (child_among (child_entries id rows) front) (children_of id rows) ≡ map (child_shown rows front) (children_of id rows)
-    shares_are front =
-        let under = filter (is_under (Int id)) rows.nodes in
-        map-map (child_among (child_entries id rows) front) columns (sort_by by_path under)
-        ∙ map_within (λ x. child_among (child_entries id rows) front (columns x)) (λ x. child_shown rows front (columns x)) (sort_by by_path under) (λ x h.
-        let found = has_filtered (is_under (Int id)) rows.nodes x (has_sorted by_path by_path_total under x h) in
-        λ i. listed_shown front (share_is x found.0 found.1 true i) (share_is x found.0 found.1 false i) (columns x))
-        ∙ sym (map-map (child_shown rows front) columns (sort_by by_path under))
-
-    -- and so are changed cards
-    pub cards_are : (front : List ℕ) (shown : List Row) → AreCardsOf rows id shown → map (card_among (child_entries id rows) front) shown ≡ map (card_shown rows front) shown
+    -- changed cards that are such nodes, with the lists that are told of all of these, are the cards with their lists
+    pub cards_are : (front : List ℕ) (shown : List Row) → AllByRecursion (λ row. (card : Row) × Has rows.nodes card × (passes card ≡ true) × (changed_id row ≡ rowid card)) shown
+        → map (card_among (listed_entries passes rows) front) shown ≡ map (card_shown rows front) shown
     cards_are front [] cards = refl
     cards_are front (row ∷ shown) cards =
         let number : node_in row ≡ id_in (rowid cards.0.0) = ap id_in cards.0.3 in
-        let own : list_of (child_entries id rows) (node_in row) false ≡ list_in rows.entries (Int (node_in row)) false =
-        ap (λ k. list_of (child_entries id rows) k false) number ∙ share_is cards.0.0 cards.0.1 cards.0.2 false ∙ ap (λ k. list_in rows.entries (Int k) false) (sym number) in
+        let own : list_of (listed_entries passes rows) (node_in row) false ≡ list_in rows.entries (Int (node_in row)) false =
+        ap (λ k. list_of (listed_entries passes rows) k false) number ∙ share_is cards.0.0 cards.0.1 cards.0.2 false ∙ ap (λ k. list_in rows.entries (Int k) false) (sym number) in
         λ i. changed_shown front (own i) row ∷ cards_are front shown cards.1 i
+
+  -- children with the lists that are told of all of them are the children with their lists
+  pub shares_are : (id : ℤ) (front : List ℕ) → map (child_among (child_entries id rows) front) (children_of id rows) ≡ map (child_shown rows front) (children_of id rows)
+  shares_are id front =
+      let under = filter (is_under (Int id)) rows.nodes in
+      map-map (child_among (child_entries id rows) front) columns (sort_by by_path under)
+      ∙ map_within (λ x. child_among (child_entries id rows) front (columns x)) (λ x. child_shown rows front (columns x)) (sort_by by_path under) (λ x h.
+      let found = has_filtered (is_under (Int id)) rows.nodes x (has_sorted by_path by_path_total under x h) in
+      λ i. listed_shown front (share_is (is_under (Int id)) x found.0 found.1 true i) (share_is (is_under (Int id)) x found.0 found.1 false i) (columns x))
+      ∙ sym (map-map (child_shown rows front) columns (sort_by by_path under))

@@ -76,7 +76,7 @@ pub use Rattle.book_tables_rows.proofs.Once.{PassesOnce}
 pub use Rattle.book_tables_rows.proofs.Shapes.{key_is, key, keyed, next_is}
 pub use Rattle.book_tables_rows.specs.Adopting.{Place, Joined, listed_row, placed_row, in_turn, joined}
 pub use Rattle.book_tables_rows.specs.Columns.{ace_node_place, gone_book_place, gone_number, node_path, gone_name_place, node_number, node_parent, rowid_place, ace_protected_place, gone_book, node_label}
-pub use Rattle.book_tables_rows.specs.Lists.{by_path, entry_place}
+pub use Rattle.book_tables_rows.specs.Lists.{by_path}
 pub use Rattle.book_tables_rows.specs.Nodes.{number_in, text_in, said}
 pub use Rattle.book_tables_rows.specs.Rows.{Rows, has, rows_of, IsBook, in_store}
 pub use Rattle.book_tables_rows.specs.Schema.{book_schema}

@@ -1,10 +1,10 @@
 -- The first changes among the first of cards and the first of removed names are the first of all changes.
-use Rattle.book_tables.proofs.Common.{◌≡◌, inl, inr, ℕ, suc, ◌<◌, ◌≤◌, Bool, true, false, cond, List, [], ◌∷◌, ◌++◌, map, filter, take, drop, length, refl, sym, ap, subst, ◌∙◌, arith, true≢false, AllByRecursion, IsPermutation, IsAscending, Has, all_has, all_from, Changed}
+use Rattle.book_tables.proofs.Common.{◌≡◌, inl, inr, ℕ, suc, ◌<◌, ◌≤◌, Bool, true, false, cond, List, [], ◌∷◌, ◌++◌, map, filter, take, drop, length, refl, sym, ap, subst, ◌∙◌, arith, AllByRecursion, IsPermutation, IsAscending, Has, all_has, all_from, Changed}
 use Rattle.std.proofs.Common.{◌⊎◌, nat_lt, zero}
 use Rattle.std.proofs.lemmas.Bool.Decides.{nat_tests}
 use Rattle.std.proofs.lemmas.List.Sorted.{length_permutation, IsPermutation-sym}
 use Rattle.sqlite_keyed.proofs.ListLemmas.{filter_all, IsPermutation-filter}
-use Rattle.sqlite_rules.proofs.ListLemmas.{has_left, has_right, has_either}
+use Rattle.sqlite_rules.proofs.ListLemmas.{has_left, has_right}
 use Rattle.book_tables.proofs.BookChanges.{IsEarlier}
 use Rattle.book_tables.proofs.SameLists.{has_map, has_mapped, has_permuted}
 

@@ -1,7 +1,6 @@
 -- Rows of the members of one group tell its pairs.
-use Rattle.book_tables.proofs.Common.{◌≡◌, ◌≢◌, ℕ, Bool, true, false, false_from_ne_true, ◌&&◌, List, [], ◌∷◌, codes, map, find, filter, is_some, None, refl, sym, ap, ◌∙◌, and_parts, true≢false, list_any, Text, Row, State, Membership, Memberships, memberships_total, memberships_exact, by_names, bytes_eq, Office, rows_of, has, is_member, StandsFor}
+use Rattle.book_tables.proofs.Common.{◌≡◌, ◌≢◌, ℕ, Bool, true, false, false_from_ne_true, ◌&&◌, List, [], ◌∷◌, codes, find, filter, is_some, None, refl, sym, ap, ◌∙◌, and_parts, true≢false, Text, Row, State, Membership, Memberships, memberships_total, memberships_exact, by_names, bytes_eq, Office, rows_of, has, is_member, StandsFor}
 use mathlib.Core.Bool.{and-true, and-false}
-use Rattle.std.proofs.Common.{IsPermutation}
 use Rattle.std.specs.FinSet as set
 use Rattle.std.specs.FinSet.{same_set}
 use Rattle.std.proofs.lemmas.List.Sorted.{list_any-IsPermutation}

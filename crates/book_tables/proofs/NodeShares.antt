@@ -37,7 +37,7 @@ module _ {X : Type 0} where
   all_dropped P (x ∷ xs) zero all = (all 0 x (omega arith) (omega arith), all_dropped P xs zero (λ k d l h. all (suc k) d (omega arith) (omega arith)))
   all_dropped P (x ∷ xs) (suc n) all = all_dropped P xs n (λ k d l h. all (suc k) d (omega arith) (omega arith))
 
-  all_first : (P : X → Type 0) (xs : List X) (n : ℕ) → AllByRecursion P xs → AllByRecursion P (take n xs)
+  pub all_first : (P : X → Type 0) (xs : List X) (n : ℕ) → AllByRecursion P xs → AllByRecursion P (take n xs)
   all_first P xs zero all = tt
   all_first P [] (suc n) all = tt
   all_first P (x ∷ xs) (suc n) all = (all.0, all_first P xs n all.1)

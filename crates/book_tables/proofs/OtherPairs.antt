@@ -1,5 +1,5 @@
 -- Pairs that are not among others, one after another.
-use Rattle.book_tables.proofs.Common.{◌≡◌, ℕ, ◌+◌, ◌<◌, Bool, true, false, not, ◌&&◌, ◌||◌, List, [], ◌∷◌, ◌++◌, take, length, get_or, refl, sym, ap, ◌∙◌, true≢false, list_any, eq_by_cmp, bytes_eq, Memberships, membership_cmp, Membership, memberships_exact, same_membership}
+use Rattle.book_tables.proofs.Common.{◌≡◌, ℕ, ◌+◌, ◌<◌, Bool, true, false, not, ◌&&◌, ◌||◌, List, [], ◌∷◌, ◌++◌, take, length, get_or, refl, sym, ap, ◌∙◌, list_any, eq_by_cmp, bytes_eq, Memberships, membership_cmp, Membership, memberships_exact, same_membership}
 use mathlib.Core.Bool.{or-false}
 use Rattle.std.specs.FinSet as set
 use Rattle.std.proofs.lemmas.List.Folds.{list_any-append, list_any_more}

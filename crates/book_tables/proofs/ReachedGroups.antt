@@ -1,10 +1,9 @@
 -- The groups that rows of `reach` tell, and the circle that they make.
-use Rattle.book_tables.proofs.Common.{◌≡◌, ◌≢◌, ◌⊎◌, inl, inr, ℕ, ◌+◌, ◌<◌, Bool, true, false, ◌&&◌, ◌||◌, List, [], ◌∷◌, ◌++◌, map, filter, find, take, length, codes, get_or, is_some, Option, Some, None, refl, sym, ap, subst, ◌∙◌, true≢false, and_parts, false_from_ne_true, list_any, bytes_eq, get, where_some, Text, Row, column, State, Membership, Office, IsName, group_path, rows_of, has, IsBook, StandsFor}
+use Rattle.book_tables.proofs.Common.{◌≡◌, ◌≢◌, inl, inr, ℕ, ◌+◌, ◌<◌, Bool, true, false, ◌||◌, List, [], ◌∷◌, ◌++◌, map, filter, take, length, codes, get_or, Option, Some, None, refl, sym, ap, subst, ◌∙◌, true≢false, false_from_ne_true, list_any, bytes_eq, get, where_some, Text, Row, State, Office, IsName, group_path, rows_of, has, StandsFor}
 use mathlib.Core.Bool.{or-false}
 use Rattle.std.proofs.Common.{◌↔◌, IfSome, IfNone}
 use Rattle.std.proofs.lemmas.Bool.{false≢true}
 use Rattle.std.proofs.lemmas.Bool.{or_cases, or_left, or_right}
-use Rattle.std.proofs.lemmas.Cmp.{nat_list_eq_equiv}
 use Rattle.std.proofs.lemmas.List.{append_cancel_left}
 use Rattle.std.proofs.lemmas.List.Folds.{list_any-append, list_any_more}
 use Rattle.std.proofs.lemmas.List.Sorted.{list_any-IsPermutation}
@@ -23,10 +22,8 @@ use Rattle.book_office.specs.Sound.{IsMappedGroup, IsSound}
 use Rattle.book_tables_rows.specs.Columns.{reach_group}
 use Rattle.book_tables_rows.specs.Lists.{ShowsRows}
 use Rattle.book_tables_rows.specs.Reach.{reached_of}
-use Rattle.book_tables_rows.specs.Writes.{is_pair}
-use Rattle.book_tables.specs.Reach.{AreGroupsTold, HoldsReach, IsCircleByRows, ShowsCircle, has_pair, reached_group, tells_group}
+use Rattle.book_tables.specs.Reach.{AreGroupsTold, IsCircleByRows, ShowsCircle, has_pair, reached_group, tells_group}
 use Rattle.book_tables.proofs.Looking.{has_text}
-use Rattle.book_tables.proofs.PairsTold.{any_found, any_mapped}
 
 -- ---- the path of a group
 

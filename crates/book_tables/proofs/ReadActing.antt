@@ -1,5 +1,5 @@
 -- An edit that rests on what was read before it.
-use Rattle.book_tables.proofs.Common.{◌≡◌, inl, inr, ℕ, Result, Ok, Err, arith, sym, ap, subst, ◌∙◌, IsTrue, Database, Trees, State, HasCleanDisk, Survives, Office, apply, StoreFault, Leftover, Standing, Reads, whole, failures_after_fault, IsSound, Rows, in_store, Commits, MayLeave, Stays, standing_of, Gives, Stands, StandsFor, LeftOf}
+use Rattle.book_tables.proofs.Common.{◌≡◌, inl, inr, ℕ, Result, Ok, Err, arith, sym, ap, subst, ◌∙◌, IsTrue, Database, Trees, State, HasCleanDisk, Survives, Office, apply, StoreFault, Leftover, Standing, Reads, whole, failures_after_fault, IsSound, Rows, Commits, MayLeave, Stays, standing_of, Gives, StandsFor, LeftOf}
 use Rattle.std.proofs.Common.{OnOk, OnErr, IsErrAnd}
 use Rattle.book_office.specs.declared.edits.Edit.{Edit}
 use Rattle.book_office.specs.Keeping.{Edits, failures_after}

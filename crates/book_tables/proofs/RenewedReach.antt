@@ -1,11 +1,10 @@
 -- The rows of `reach` after a renewal: they hold what chains of the new pairs lead to.
-use Rattle.book_tables.proofs.Common.{◌≡◌, ◌≢◌, ◌⊎◌, inl, inr, ℕ, ◌+◌, Bool, true, false, not, cond, ◌&&◌, ◌||◌, List, [], ◌∷◌, ◌++◌, find, Option, Some, None, is_some, refl, sym, ap, subst, ◌∙◌, and_parts, false_from_ne_true, find-append, option_or, list_any, bytes_eq, Int, Text, next_rowid, Row, delete_where, all_weaker, Memberships, Membership, Office, by_names, Rows, has, IsNode, IsEntry, IsRemoved, Gives}
+use Rattle.book_tables.proofs.Common.{◌≡◌, ◌≢◌, ℕ, ◌+◌, Bool, true, false, not, cond, ◌&&◌, ◌||◌, List, [], ◌∷◌, ◌++◌, find, Option, Some, None, is_some, refl, sym, ap, subst, ◌∙◌, and_parts, false_from_ne_true, find-append, option_or, bytes_eq, Text, next_rowid, Row, delete_where, all_weaker, Memberships, Membership, Office, by_names, Rows, has, IsNode, IsEntry, IsRemoved, Gives}
 use mathlib.Core.Bool.{and-true, and-false}
 use Rattle.std.proofs.Common.{◌↔◌}
 use Rattle.std.proofs.lemmas.Bool.{false≢true}
 use Rattle.std.proofs.lemmas.Map.Text.{is_eq-slice_cmp}
 use Rattle.std.specs.FinSet as set
-use Rattle.book_lists.specs.Memberships.{Chain, IsReachOf}
 use Rattle.book_lists.proofs.Pairing.{same_path, path_itself}
 use Rattle.book_tables_rows.specs.Columns.{reach_group_place, reach_member_place}
 use Rattle.book_tables_rows.specs.Writes as writes

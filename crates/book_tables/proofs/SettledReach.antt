@@ -1,12 +1,11 @@
 -- The rows of `reach` that are settled: what was read of them, and what was written.
-use Rattle.book_tables.proofs.Common.{◌≡◌, ℕ, Bool, true, false, not, ◌&&◌, ◌||◌, List, [], ◌∷◌, map, find, is_some, refl, sym, ap, subst, ◌∙◌, list_any, Row, State, delete_where, memberships_total, memberships_exact, Memberships, Membership, Rows, rows_of, IsBook}
+use Rattle.book_tables.proofs.Common.{◌≡◌, ℕ, Bool, true, false, not, ◌&&◌, ◌||◌, List, [], ◌∷◌, is_some, refl, sym, ap, subst, ◌∙◌, list_any, Row, State, delete_where, memberships_total, memberships_exact, Memberships, Membership, rows_of, IsBook}
 use mathlib.Core.Bool.{or-false}
-use Rattle.std.proofs.Common.{◌↔◌}
 use Rattle.std.specs.Prelude.{⊤}
 use Rattle.std.specs.FinSet as set
 use Rattle.std.specs.FinSet.{same_set}
 use Rattle.std.proofs.lemmas.List.Sorted.{list_any-IsPermutation}
-use Rattle.book_lists.specs.Memberships.{Chain, IsReachOf}
+use Rattle.book_lists.specs.Memberships.{IsReachOf}
 use Rattle.book_tables_rows.specs.Columns.{reach_group, reach_member}
 use Rattle.book_tables_rows.specs.Lists.{ShowsRows, pairs_of}
 use Rattle.book_tables_rows.specs.Reach.{reach_shown}

@@ -1,12 +1,11 @@
 -- The last changes of a book, as rows tell them.
-use Rattle.std.specs.Prelude.{◌≡◌, ℕ, ℤ, Bool, ◌<◌, true, false, List, [], ◌++◌, map, drop, length, codes, Option, Some, None, unwrap_or, IsTrue, IsPermutation}
-use Rattle.std.specs.List.{AllByRecursion}
+use Rattle.std.specs.Prelude.{◌≡◌, ℕ, ℤ, ◌<◌, ◌-◌, false, List, [], ◌++◌, map, drop, length, slice_get, codes, Option, Some, None, option_map, unwrap_or, IsTrue, IsPermutation}
+use Rattle.sqlite.specs.declared.types.Value.{Value}
 use Rattle.sqlite.specs.declared.types.Value.TheVariants.{Int}
 use Rattle.sqlite.specs.Edit.{id_in}
 use Rattle.sqlite.specs.Order.{Row}
 use Rattle.sqlite.specs.State.{State}
 use Rattle.sqlite.specs.Tree.{rowid}
-use Rattle.sqlite_rules.specs.Lists.{Has}
 use Rattle.sqlite_trees.specs.Tree.{IsAscending}
 use Rattle.book_lists.specs.declared.entries.Entry.{Entry}
 use Rattle.book_office.specs.declared.nodes.Changed.{Changed}
@@ -14,7 +13,6 @@ use Rattle.book_tables_rows.specs.Lists as lists
 use Rattle.book_tables_rows.specs.Lists.{AreFirst, changed_id, changed_label, changed_number, changed_number_place, changed_owner, changed_path, changed_text, removed_name, removed_number, removed_number_place}
 use Rattle.book_tables_rows.specs.Nodes.{number_in, text_in}
 use Rattle.book_tables_rows.specs.Rows.{Rows, rows_of, IsBook}
-use Rattle.book_tables_rows.specs.Writes.{is_under}
 use Rattle.book_tables.specs.Rows.{row_at, list_in}
 
 -- the change of a card with this own list: what is shown of its row is number, path, owner, label, text and change number, and its name stands behind what its path begins with
@@ -36,21 +34,14 @@ card_shown rows front row = changed_shown front (own_shown rows row) row
 abbrev pub removed_shown : Row → Changed
 removed_shown row = record { number = number_in (removed_number row); name = unwrap_or (text_in (removed_name row)) []; card = None }
 
--- an open connection shows the protected or the own list of the node with a number
-abbrev pub ShowsEntries : State → ℤ → Bool → List Entry → Type 0
-ShowsEntries s id protected list = IsTrue s.is_open × (IsBook s.now → list ≡ list_in (rows_of s.now.trees).entries (Int id) protected)
+-- the change number of the last of such rows
+abbrev pub last_number : List Row → Option Value
+last_number rows = option_map changed_number (slice_get rows (length rows - 1))
 
--- it shows the change of a card, from what was shown of its row
-abbrev pub ShowsCard : State → List ℕ → Row → Changed → Type 0
-ShowsCard s front row changed = IsBook s.now → changed ≡ card_shown (rows_of s.now.trees) front row
-
--- each of these rows is shown of a card of the book with a number
-abbrev pub AreCardsOf : Rows → ℤ → List Row → Type 0
-AreCardsOf rows book = AllByRecursion (λ shown. (card : Row) × Has rows.nodes card × (is_under (Int book) card ≡ true) × (changed_id shown ≡ rowid card))
-
--- it shows the changes of those cards, with their lists
-abbrev pub ShowsCards : State → ℤ → List ℕ → List Row → List Changed → Type 0
-ShowsCards s book front rows changes = IsBook s.now → AreCardsOf (rows_of s.now.trees) book rows → changes ≡ map (card_shown (rows_of s.now.trees) front) rows
+-- an open connection shows the changes of these cards, with their lists, where they are the first so many cards of the book with a number that are changed after another, however many
+abbrev pub ShowsCards : State → ℤ → ℕ → List ℕ → List Row → List Changed → Type 0
+ShowsCards s book number front rows changes =
+    IsBook s.now → (at_most : Option ℕ) → AreFirst at_most changed_number_place (lists.changed_rows book number (rows_of s.now.trees)) rows → changes ≡ map (card_shown (rows_of s.now.trees) front) rows
 
 -- the changes of the book whose row this is, from the first so many of its cards and the first so many of its removed names
 -- above a number, in some order

@@ -4,7 +4,8 @@ ghost use Rattle.std.specs.Prelude.{◌≡◌, ◌<◌, ◌^◌, IfOk};
 ghost use Rattle.sqlite.specs.Held.{state};
 ghost use Rattle.sqlite.specs.State.{HasCleanDisk, Survives};
 ghost use Rattle.book_office.specs.Keeping.{Reads};
-ghost use Rattle.book_office.specs.Resources.{cards_after, first_of};
+ghost use Rattle.book_office_values.specs.Changes.{first_of};
+ghost use Rattle.book_office.specs.Resources.{cards_after};
 ghost use Rattle.book_tables_rows.specs.Steps.{Keeps, Spares, Stays};
 ghost use Rattle.book_tables.specs.Keeps.{standing_of};
 ghost use Rattle.book_tables.specs.LastChanges.{ShowsCardChanges, DoRise};
@@ -43,15 +44,7 @@ fn cards_at<S: Alter>(
     };
     let front = format!(in alloc; "{path}/")?;
     let cards = changed_rows(transaction, book.id, number, at_most)?;
-    cards_of(
-        alloc,
-        transaction,
-        book.id,
-        book.number,
-        front.as_str(),
-        &cards,
-        at_most,
-    )
+    cards_of(alloc, transaction, book.id, number, front.as_str(), &cards)
 }
 
 /// The same, in a transaction of its own.
@@ -99,8 +92,8 @@ fn shown_cards<S: Alter>(
 impl<S: Alter> Tables<S> {
     /// Of the last changes of a book above a number, those of names that have a card, in order of number; none where there
     /// is no such book. Where a most is given, these are the first so many: so many cards are read in order of their
-    /// numbers, and the own list of each. No removed name is looked at. `Memory` is want of memory, `Store` any other
-    /// failure of the store.
+    /// numbers, and their lists by one look-up. No removed name is looked at. `Memory` is want of memory, `Store` any
+    /// other failure of the store.
     pub fn cards_after(
         &mut self,
         alloc: Global,

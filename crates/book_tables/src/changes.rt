@@ -1,18 +1,18 @@
 //! The last changes of a book, each with the card that has the name.
 
-ghost use Rattle.std.specs.Prelude.{◌≡◌, ◌<◌, ◌^◌, ◌++◌, IfOk, OnOk, IsPermutation, drop, length, map, min};
+ghost use Rattle.std.specs.Prelude.{◌≡◌, ◌<◌, ◌≤◌, ◌^◌, ◌++◌, IfOk, IfSome, OnOk, IsPermutation, drop, length, map, min, option_map, pos};
 ghost use Rattle.book_limits.specs.declared.TheConstants.{LAST_NUMBER};
 ghost use Rattle.sqlite.specs.Held.{state};
 ghost use Rattle.sqlite.specs.State.{HasCleanDisk, Survives};
+ghost use Rattle.sqlite.specs.declared.types.Value.TheVariants.{Int};
 ghost use Rattle.book_office.specs.Keeping.{Reads};
-ghost use Rattle.book_office.specs.Resources.{changed_after, first_of};
-ghost use Rattle.book_tables_rows.specs.Rows.{rows_of, IsBook};
+ghost use Rattle.book_office_values.specs.Changes.{first_of};
+ghost use Rattle.book_office.specs.Resources.{changed_after};
 ghost use Rattle.book_tables_rows.specs.Steps.{Keeps, Spares, Stays};
 ghost use Rattle.book_tables.specs.Keeps.{standing_of};
-ghost use Rattle.book_tables.specs.LastChanges.{ShowsEntries, ShowsCard, ShowsCards, ShowsChanges, changed_shown, card_shown, removed_shown, DoRise};
+ghost use Rattle.book_tables.specs.LastChanges.{ShowsCards, ShowsChanges, changed_shown, last_number, removed_shown, DoRise};
 ghost use Rattle.book_tables.specs.Shares.{DoNotFall, card_among};
 
-use crate::entries::entries_of;
 use crate::faults::fault_of;
 use crate::reading::owner_of;
 use crate::shares::{entries_of_node, list_told};
@@ -21,14 +21,9 @@ use book_limits::LAST_NUMBER;
 use book_lists::{Entry, Name};
 use book_office::{Changed, StoreFault};
 use book_office_values::{Items, StoredCard, Text};
-use book_tables_rows::{changed_rows, child_entry_rows, entry_rows, gone_rows, look_up};
+use book_tables_rows::{changed_entry_rows, changed_rows, gone_rows, look_up};
 use sqlite::{Alter, Connection, Error, ErrorCode, Row, Transaction};
 use std::alloc::Global;
-
-/// Above this many cards the lists are looked up at once: a book has at most ten times as many.
-const MANY_CARDS: u64 = 1_000;
-/// Where these are more than one in so many changes of the book, too.
-const FEW_OF: u64 = 8;
 
 /// The name that a text is; an error where it is none.
 fn name_of(alloc: Global, text: &str) -> Result<Name, Error>
@@ -85,69 +80,7 @@ fn removed_of(alloc: Global, row: &Row) -> Result<Changed, Error>
     })
 }
 
-/// The protected or the own list of the node with a number.
-fn list_of<S: Alter>(
-    alloc: Global,
-    transaction: &mut Transaction<'_, S>,
-    node: i64,
-    protected: bool,
-) -> Result<Items<Entry>, Error>
-    ensures same_reference { transaction.new.conn.ghost_name ≡ transaction.old.conn.ghost_name }
-    ensures survives { Survives (state S.Store transaction.old.conn.now) (state S.Store transaction.new.conn.now)
-        (λ _. ⊥) }
-    ensures kept { Keeps (state S.Store transaction.old.conn.now) (state S.Store transaction.new.conn.now) }
-    ensures stays { Spares (state S.Store transaction.old.conn.now) (state S.Store transaction.new.conn.now) result }
-    ensures shown { HasCleanDisk (state S.Store transaction.new.conn.now)
-        → IfOk result (λ list. ShowsEntries (state S.Store transaction.old.conn.now) node protected list) }
-{
-    let rows = entry_rows(transaction, node, protected)?;
-    entries_of(alloc, &rows)
-}
-
-/// The change of a card, with its own list.
-fn changed_card<S: Alter>(
-    alloc: Global,
-    transaction: &mut Transaction<'_, S>,
-    front: &str,
-    row: &Row,
-) -> Result<Changed, Error>
-    ensures same_reference { transaction.new.conn.ghost_name ≡ transaction.old.conn.ghost_name }
-    ensures survives { Survives (state S.Store transaction.old.conn.now) (state S.Store transaction.new.conn.now)
-        (λ _. ⊥) }
-    ensures kept { Keeps (state S.Store transaction.old.conn.now) (state S.Store transaction.new.conn.now) }
-    ensures stays { Spares (state S.Store transaction.old.conn.now) (state S.Store transaction.new.conn.now) result }
-    ensures shown { HasCleanDisk (state S.Store transaction.new.conn.now)
-        → IfOk result (λ changed. ShowsCard (state S.Store transaction.old.conn.now) front.now row.now changed) }
-{
-    let id = row.get(0)?;
-    let own = list_of(alloc, transaction, id, false)?;
-    changed_of(alloc, front, row, own)
-}
-
-/// The changes of cards, one look-up of an own list for each.
-fn changed_cards<S: Alter>(
-    alloc: Global,
-    transaction: &mut Transaction<'_, S>,
-    front: &str,
-    rows: &[Row],
-) -> Result<Vec<Changed>, Error>
-    ensures same_reference { transaction.new.conn.ghost_name ≡ transaction.old.conn.ghost_name }
-    ensures survives { Survives (state S.Store transaction.old.conn.now) (state S.Store transaction.new.conn.now)
-        (λ _. ⊥) }
-    ensures kept { Keeps (state S.Store transaction.old.conn.now) (state S.Store transaction.new.conn.now) }
-    ensures stays { Spares (state S.Store transaction.old.conn.now) (state S.Store transaction.new.conn.now) result }
-    ensures shown { HasCleanDisk (state S.Store transaction.new.conn.now)
-        → IfOk result (λ changes. IsBook (state S.Store transaction.old.conn.now).now → changes.items
-        ≡ map (card_shown (rows_of (state S.Store transaction.old.conn.now).now.trees) front.now) rows.now) }
-{
-    let mut changes = Vec::with_capacity(alloc, rows.len())?;
-    'cards: for row in rows {
-        changes.push(changed_card(alloc, transaction, front, row)?)?;
-    }
-    Ok(changes)
-}
-
-/// The change of a card, with its own list among the entries of all cards of the book in order of the card's number.
+/// The change of a card, with its own list among the entries of several cards in order of the card's number.
 fn card_joined(alloc: Global, front: &str, row: &Row, entries: &[Row]) -> Result<Changed, Error>
     ensures { IfOk result (λ changed. DoNotFall entries.now → changed ≡ card_among entries.now front.now row.now) }
 {
@@ -173,36 +106,25 @@ fn cards_joined(
     Ok(changes)
 }
 
-/// The changes of cards of the book with a number, with one look-up of the lists of all its cards.
-fn many_cards<S: Alter>(
-    alloc: Global,
-    transaction: &mut Transaction<'_, S>,
-    book: i64,
-    front: &str,
-    rows: &[Row],
-) -> Result<Vec<Changed>, Error>
-    ensures same_reference { transaction.new.conn.ghost_name ≡ transaction.old.conn.ghost_name }
-    ensures survives { Survives (state S.Store transaction.old.conn.now) (state S.Store transaction.new.conn.now)
-        (λ _. ⊥) }
-    ensures kept { Keeps (state S.Store transaction.old.conn.now) (state S.Store transaction.new.conn.now) }
-    ensures stays { Spares (state S.Store transaction.old.conn.now) (state S.Store transaction.new.conn.now) result }
-    ensures shown { HasCleanDisk (state S.Store transaction.new.conn.now)
-        → IfOk result (λ changes. ShowsCards (state S.Store transaction.old.conn.now) book front.now rows.now changes.items) }
+/// The change number of the last of some cards that are changed, in order of change number; none where there are none.
+/// An error where it is above the last one that there is.
+fn last_of(rows: &[Row]) -> Result<Option<u64>, Error>
+    ensures told { IfOk result (λ last. option_map (λ number. Int (pos number)) last ≡ last_number rows.now) }
+    ensures range { IfOk result (λ last. IfSome last (λ number. number ≤ LAST_NUMBER)) }
 {
-    let entries = child_entry_rows(transaction, book)?;
-    cards_joined(alloc, front, rows, &entries)
+    let Some(row) = rows.last() else {
+        return Ok(None);
+    };
+    let number = row.get(5)?;
+    if number > LAST_NUMBER {
+        return Err(Error::SqliteFailure(ErrorCode::DatabaseCorrupt));
+    }
+    Ok(Some(number))
 }
 
-/// Whether the lists of so many cards are looked up at once, which looks at the entries of every card of the book. A book
-/// has at most as many cards as its change number, so this looks at no more than ten cards for each that is told. Where a
-/// most is given, the lists are looked up one by one.
-fn are_many(told: usize, number: u64, at_most: Option<u32>) -> bool {
-    let told = told as u64;
-    at_most.is_none() && (told > MANY_CARDS || told > number / FEW_OF)
-}
-
-/// The changes of cards of the book with a number and a change number: the lists of few are looked up one by one, those
-/// of many at once.
+/// The changes of the first so many cards of the book with a number that are changed after another, whose rows these are
+/// in order of change number. One look-up has the lists of all of them: those of the cards that are changed after that
+/// number, and no later than the last of these.
 pub(crate) fn cards_of<S: Alter>(
     alloc: Global,
     transaction: &mut Transaction<'_, S>,
@@ -210,21 +132,22 @@ pub(crate) fn cards_of<S: Alter>(
     number: u64,
     front: &str,
     rows: &[Row],
-    at_most: Option<u32>,
 ) -> Result<Vec<Changed>, Error>
+    requires { number < 2 ^ 53 }
     ensures same_reference { transaction.new.conn.ghost_name ≡ transaction.old.conn.ghost_name }
     ensures survives { Survives (state S.Store transaction.old.conn.now) (state S.Store transaction.new.conn.now)
         (λ _. ⊥) }
     ensures kept { Keeps (state S.Store transaction.old.conn.now) (state S.Store transaction.new.conn.now) }
     ensures stays { Spares (state S.Store transaction.old.conn.now) (state S.Store transaction.new.conn.now) result }
     ensures shown { HasCleanDisk (state S.Store transaction.new.conn.now)
-        → IfOk result (λ changes. ShowsCards (state S.Store transaction.old.conn.now) book front.now rows.now changes.items) }
+        → IfOk result (λ changes. ShowsCards (state S.Store transaction.old.conn.now) book number front.now rows.now
+        changes.items) }
 {
-    if are_many(rows.len(), number, at_most) {
-        many_cards(alloc, transaction, book, front, rows)
-    } else {
-        changed_cards(alloc, transaction, front, rows)
-    }
+    let Some(last) = last_of(rows)? else {
+        return Ok(Vec::new(alloc));
+    };
+    let entries = changed_entry_rows(transaction, book, number, last)?;
+    cards_joined(alloc, front, rows, &entries)
 }
 
 /// Adds the changes of removed names.
@@ -261,15 +184,7 @@ fn changes_at<S: Alter>(
     let front = format!(in alloc; "{path}/")?;
     let cards = changed_rows(transaction, book.id, number, at_most)?;
     let names = gone_rows(transaction, book.id, number, at_most)?;
-    let mut changes = cards_of(
-        alloc,
-        transaction,
-        book.id,
-        book.number,
-        front.as_str(),
-        &cards,
-        at_most,
-    )?;
+    let mut changes = cards_of(alloc, transaction, book.id, number, front.as_str(), &cards)?;
     push_removed(alloc, &mut changes, &names)?;
     Ok(changes)
 }
@@ -349,11 +264,10 @@ pub(crate) fn up_to_last(number: u64) -> u64
 
 impl<S: Alter> Tables<S> {
     /// The last changes of a book above a number, in order of number, each with the card that has the name; none where
-    /// there is no such book. The own lists of few cards are looked up one by one, those of many at once. `Memory` is
-    /// want of memory, `Store` any other failure of the store.
+    /// there is no such book. `Memory` is want of memory, `Store` any other failure of the store.
     ///
     /// Where a most is given, these are the first so many changes. It reads up to so many cards and so many removed names
-    /// in order of their numbers, and the own list of each such card, whatever else stands in the book.
+    /// in order of their numbers, and the lists of those cards by one look-up, whatever else stands in the book.
     pub fn changes_after(
         &mut self,
         alloc: Global,

@@ -1,16 +1,14 @@
 //! The entries that rows of `ace` spell.
 
-ghost use Rattle.std.specs.Prelude.{◌≡◌, ◌<◌, ◌^◌, IfOk, map, option_map, pos, string_bytes};
+ghost use Rattle.std.specs.Prelude.{◌≡◌, ◌<◌, ◌^◌, IfOk, option_map, pos, string_bytes};
 ghost use Rattle.sqlite.specs.declared.types.Value.TheVariants.{Int};
 ghost use Rattle.book_rights.specs.Leaves.{mask_of};
-ghost use Rattle.book_tables_rows.specs.Lists.{entry_place};
 ghost use Rattle.book_tables_rows.specs.Writes.{flag, or_null};
 ghost use Rattle.book_tables.specs.Listing.{entry_columns_at, entry_shown};
 ghost use Rattle.book_tables.specs.Rows.{entry_values, form_code, principal_value};
 
 use crate::reading::principal_of;
 use book_lists::{Entry, Who};
-use book_office_values::Items;
 use book_rights::LeafSet;
 use sqlite::{Error, ErrorCode, Row};
 use std::alloc::Global;
@@ -71,16 +69,4 @@ pub(crate) fn entry_at(alloc: Global, row: &Row, place: usize) -> Result<Entry, 
         deny: flag_of(deny)?,
         set: set_of(mask)?,
     })
-}
-
-/// The entries of the rows of a list, in their order: form, principal, invert, deny and mask of each; an error where
-/// one spells none.
-pub(crate) fn entries_of(alloc: Global, rows: &[Row]) -> Result<Items<Entry>, Error>
-    ensures { IfOk result (λ list. list ≡ map (entry_shown entry_place) rows.now) }
-{
-    let mut list = Vec::with_capacity(alloc, rows.len())?;
-    for row in rows {
-        list.push(entry_at(alloc, row, 0)?)?;
-    }
-    Ok(Items::from_vec(list))
 }

@@ -1,5 +1,5 @@
 -- What the steps of a migration leave of a connection.
-use Rattle.std.proofs.Common.{◌≡◌, inl, inr, ℕ, true, false, [], length, Option, Some, None, Result, Ok, Err, IfErr, refl, sym, ap, subst, ◌∙◌, IsTrue, arith}
+use Rattle.std.proofs.Common.{◌≡◌, inl, inr, ℕ, true, false, [], length, Result, Ok, Err, IfErr, refl, sym, ap, subst, ◌∙◌, IsTrue, arith}
 use Rattle.sqlite.specs.Effect.{Database}
 use Rattle.sqlite.specs.State.{State, HasCleanDisk, Opens, Shows, Survives}
 use Rattle.book_office_values.specs.declared.offices.Office.{Office}

@@ -1,5 +1,5 @@
 -- Tables whose rows are those of a sound Office stand for it, and those of others for none.
-use Rattle.book_tables_opening.proofs.Common.{◌≡◌, inl, inr, Bool, true, false, List, [], Option, Some, None, IsTrue, refl, sym, ap, subst, ◌∙◌, arith, Database, Row, State, HasCleanDisk, pairs_of, rows_of, IsBook, book_schema, entries_shown, gone_shown, meta_shown, AllByRecursion, AreOfficeRows, whole_nodes}
+use Rattle.book_tables_opening.proofs.Common.{◌≡◌, inl, inr, Bool, true, false, List, [], Some, None, IsTrue, refl, sym, ap, subst, ◌∙◌, arith, Database, Row, State, HasCleanDisk, pairs_of, rows_of, IsBook, book_schema, entries_shown, gone_shown, meta_shown, AllByRecursion, AreOfficeRows, whole_nodes}
 use Rattle.std.proofs.Common.{◌↔◌, ◌⊎◌}
 use Rattle.std.proofs.lemmas.Bool.{true≢false}
 use Rattle.std.proofs.lemmas.List.Sorted.{IsPermutation-sym}
@@ -15,11 +15,11 @@ use Rattle.book_tables_schema.specs.OtherReach.{IsBeside}
 use Rattle.book_tables_schema.specs.Tabled.{IsTabled, book_of}
 use Rattle.book_tables.specs.Reach.{AreDirect, HoldsReach, IsSettled, Settles}
 use Rattle.book_tables.specs.Reach as reaching
-use Rattle.book_tables.specs.Stands.{Gives, IsKept, LeftBy, LeftOf, Stands}
+use Rattle.book_tables.specs.Stands.{Gives, IsKept, LeftBy, Stands}
 use Rattle.book_tables.proofs.OneOffice.{base_of, kept_stands, one_office, only_left}
 use Rattle.book_tables.proofs.RenewedReach.{gives_with_reach}
 use Rattle.book_tables_opening.specs.Opening.{AreTextlessRows, HasTextIn}
-use Rattle.book_tables_opening.specs.Reading.{Commits, IsOpened, IsReopened, IsUnopened, LeavesReach, MaySettle, RowsRise, SameRows, Settled, ShowsTables, StandsForItsOffice, StandsForOne, StandsForNone, TellsOffice, TellsSettled, TellsStanding, WritesReach}
+use Rattle.book_tables_opening.specs.Reading.{Commits, IsOpened, IsUnopened, LeavesReach, MaySettle, RowsRise, SameRows, Settled, ShowsTables, StandsForOne, StandsForNone, TellsOffice, TellsSettled, TellsStanding, WritesReach}
 use Rattle.book_tables_opening.proofs.AnyOrder.{any_order}
 use Rattle.book_tables_opening.proofs.GivenRows.{given_rows}
 use Rattle.book_tables_opening.proofs.NodeTexts.{texts_own, texts_there}

@@ -1,10 +1,10 @@
 -- Stores that get `reach`, or whose `reach` is written anew, in one transaction.
-use Rattle.book_tables_opening.proofs.Common.{◌≡◌, inl, inr, Bool, true, false, [], Some, None, IsTrue, refl, sym, ap, subst, ◌∙◌, arith, Database, State, HasCleanDisk, rows_of, book_schema}
+use Rattle.book_tables_opening.proofs.Common.{◌≡◌, Bool, true, false, [], Some, None, IsTrue, refl, sym, ap, subst, ◌∙◌, arith, Database, State, HasCleanDisk, rows_of, book_schema}
 use Rattle.sqlite.specs.State.{Shows, Survives}
 use Rattle.sqlite.specs.Tree.{Trees}
 use Rattle.sqlite.proofs.StateLemmas.{survives_then}
 use Rattle.book_office_values.specs.declared.offices.Office.{Office}
-use Rattle.book_tables_rows.specs.Rows.{Rows, in_store}
+use Rattle.book_tables_rows.specs.Rows.{in_store}
 use Rattle.book_tables_rows.specs.Schema.{ace_tree}
 use Rattle.book_tables_schema.specs.Founding.{GetsReach}
 use Rattle.book_tables_schema.specs.Layout.{tables_of}

@@ -3,7 +3,7 @@ use Rattle.book_tables_rows.proofs.Common.{◌≡◌, ℕ, false, pos, List, [],
 use Rattle.std.proofs.Common.{negsuc, codes}
 use Rattle.sqlite.specs.Term.{op2}
 use Rattle.sqlite_sql.specs.declared.ops.BinaryOp.TheVariants.{Compare}
-use Rattle.sqlite_sql.specs.declared.ops.CompareOp.TheVariants.{Eq, Gt}
+use Rattle.sqlite_sql.specs.declared.ops.CompareOp.TheVariants.{Eq, Gt, Le}
 use Rattle.sqlite_value.specs.Keys.{ascending}
 use Rattle.sqlite.specs.Query.{counted}
 use Rattle.sqlite.specs.Command.TheVariants.{CreateTable, CreateIndex, Select}
@@ -122,6 +122,13 @@ plain_query = record {
 abbrev pub equals : ℕ → ℕ → Term
 equals place parameter = op2 (Compare Eq Binary) (col 1 place) (col 0 parameter)
 
+-- it is above one, or at most one
+abbrev pub above : ℕ → ℕ → Term
+above place parameter = op2 (Compare Gt Binary) (col 1 place) (col 0 parameter)
+
+abbrev pub at_most : ℕ → ℕ → Term
+at_most place parameter = op2 (Compare Le Binary) (col 1 place) (col 0 parameter)
+
 abbrev pub find_query : Query
 find_query = record plain_query {
   filter = equals 2 0 ∷ [];
@@ -132,19 +139,6 @@ pub find_is : command_of (understood book_schema text.find_node)
     ≡ Select (record { lets = []; body = find_query }) (codes "id" ∷ codes "kind" ∷ codes "owner" ∷ codes "label" ∷ codes "text" ∷ codes "number" ∷ [])
 unfolding understood everything
 find_is = refl
-
-abbrev pub entries_query : Query
-entries_query = record plain_query {
-  from = inner 13 end;
-  filter = equals 1 0 ∷ equals 2 1 ∷ [];
-  project = col 1 4 ∷ col 1 5 ∷ col 1 6 ∷ col 1 7 ∷ col 1 8 ∷ [];
-  order = (col 1 3, ascending Binary) ∷ [];
-}
-
-pub entries_is : command_of (understood book_schema text.list_entries)
-    ≡ Select (record { lets = []; body = entries_query }) (codes "form" ∷ codes "principal" ∷ codes "invert" ∷ codes "deny" ∷ codes "mask" ∷ [])
-unfolding understood everything
-entries_is = refl
 
 -- ---- what is written
 
@@ -251,17 +245,9 @@ pub find_plain : IsPlain (understood book_schema text.find_node)
 unfolding understood everything
 find_plain = (refl, refl)
 
-pub entries_plain : IsPlain (understood book_schema text.list_entries)
-unfolding understood everything
-entries_plain = (refl, refl)
-
 pub find_unlisted : reads_listing book_schema text.find_node ≡ false
 unfolding understood everything
 find_unlisted = refl
-
-pub entries_unlisted : reads_listing book_schema text.list_entries ≡ false
-unfolding understood everything
-entries_unlisted = refl
 
 -- ---- the texts that make the tables, each where it runs
 
@@ -337,11 +323,11 @@ joined_query terms = record plain_query {
 }
 
 -- the entries of which some child of a node is the node
-abbrev pub child_entries_query : Query
-child_entries_query = joined_query (equals 3 0 ∷ op2 (Compare Eq Binary) (col 1 0) (col 2 1) ∷ [])
+abbrev pub child_entries_terms : List Term
+child_entries_terms = equals 3 0 ∷ op2 (Compare Eq Binary) (col 1 0) (col 2 1) ∷ []
 
 pub list_child_entries_is : command_of (understood book_schema text.list_child_entries)
-    ≡ Select (record { lets = []; body = child_entries_query }) (codes "node" ∷ codes "protected" ∷ codes "form" ∷ codes "principal" ∷ codes "invert" ∷ codes "deny" ∷ codes "mask" ∷ [])
+    ≡ Select (record { lets = []; body = joined_query child_entries_terms }) (codes "node" ∷ codes "protected" ∷ codes "form" ∷ codes "principal" ∷ codes "invert" ∷ codes "deny" ∷ codes "mask" ∷ [])
 unfolding understood everything
 list_child_entries_is = refl
 
@@ -352,6 +338,23 @@ list_child_entries_plain = (refl, refl)
 pub list_child_entries_unlisted : reads_listing book_schema text.list_child_entries ≡ false
 unfolding understood everything
 list_child_entries_unlisted = refl
+
+-- the entries of which some child with a change number in a range is the node
+abbrev pub changed_entries_terms : List Term
+changed_entries_terms = equals 3 0 ∷ above 8 1 ∷ at_most 8 2 ∷ op2 (Compare Eq Binary) (col 1 0) (col 2 1) ∷ []
+
+pub list_changed_entries_is : command_of (understood book_schema text.list_changed_entries)
+    ≡ Select (record { lets = []; body = joined_query changed_entries_terms }) (codes "node" ∷ codes "protected" ∷ codes "form" ∷ codes "principal" ∷ codes "invert" ∷ codes "deny" ∷ codes "mask" ∷ [])
+unfolding understood everything
+list_changed_entries_is = refl
+
+pub list_changed_entries_plain : IsPlain (understood book_schema text.list_changed_entries)
+unfolding understood everything
+list_changed_entries_plain = (refl, refl)
+
+pub list_changed_entries_unlisted : reads_listing book_schema text.list_changed_entries ≡ false
+unfolding understood everything
+list_changed_entries_unlisted = refl
 
 -- the entries of which the node at a path is the node
 abbrev pub entries_at_query : Query
@@ -513,9 +516,6 @@ unfolding understood everything
 move_plain = (refl, refl)
 
 -- ---- the other reads
-
-abbrev pub above : ℕ → ℕ → Term
-above place parameter = op2 (Compare Gt Binary) (col 1 place) (col 0 parameter)
 
 abbrev pub changed_columns : List Term
 changed_columns = col 1 0 ∷ col 1 2 ∷ col 1 5 ∷ col 1 6 ∷ col 1 7 ∷ col 1 8 ∷ []

@@ -5,7 +5,7 @@ use Rattle.std.specs.declared.cmp.Ordering.{Ordering}
 use Rattle.sqlite.specs.Collation.TheVariants.{Binary}
 use Rattle.sqlite.specs.Ops.{binary, is_true}
 use Rattle.sqlite_sql.specs.declared.ops.BinaryOp.TheVariants.{Compare}
-use Rattle.sqlite_sql.specs.declared.ops.CompareOp.TheVariants.{Gt}
+use Rattle.sqlite_sql.specs.declared.ops.CompareOp.TheVariants.{Gt, Le}
 use Rattle.sqlite.specs.Query.{limited}
 use Rattle.sqlite_keyed.specs.Lists.{sort_by}
 use Rattle.sqlite_trees.specs.Tree.{IsAscending}
@@ -17,16 +17,13 @@ use Rattle.sqlite.specs.Tree.{rowid}
 use Rattle.book_tables_rows.specs.Columns.{ace_deny, ace_form, ace_invert, ace_mask, ace_node, ace_node_place, ace_place, ace_principal, ace_protected, gone_book_place, gone_name, gone_number, gone_number_place, member_group, member_member, node_kind, node_label, node_number, node_number_place, node_owner, node_path, node_text}
 use Rattle.book_tables_rows.specs.Rows.{Rows, rows_of, has, IsBook}
 use Rattle.book_tables_rows.specs.Nodes.{number_in}
-use Rattle.book_tables_rows.specs.Writes.{Said, is_at, is_under, is_below, is_entry, entries_of, or_null, flag, write_list, write_both}
+use Rattle.book_tables_rows.specs.Writes.{Said, is_at, is_under, is_of_some, is_entry, entries_of, or_null, flag, write_list, write_both}
 
 -- form, principal, invert, deny and mask of an entry
 abbrev pub entry_columns : Row → Row
 entry_columns row = ace_form row ∷ ace_principal row ∷ ace_invert row ∷ ace_deny row ∷ ace_mask row ∷ []
 
--- the place where they begin in such a row, and they by their names
-abbrev pub entry_place : ℕ
-entry_place = 0
-
+-- each of them by its name
 abbrev pub entry_form : Row → Value
 entry_form entry = column entry 0
 
@@ -41,10 +38,6 @@ entry_deny entry = column entry 3
 
 abbrev pub entry_mask : Row → Value
 entry_mask entry = column entry 4
-
--- an open connection shows the entries of a list, in order of their places
-abbrev pub ShowsList : State → ℤ → Bool → List Row → Type 0
-ShowsList s id protected rows = IsTrue s.is_open × (IsBook s.now → rows ≡ map entry_columns (entries_of (rows_of s.now.trees).entries (Int id) protected))
 
 -- an open connection shows these rows, in some order
 abbrev pub ShowsRows : State → (Rows → List Row) → List Row → Type 0
@@ -69,6 +62,10 @@ ShowsFirst s at_most place picked shown = IsTrue s.is_open × (IsBook s.now → 
 -- a row's number in a column is above another, as SQL compares values
 abbrev pub is_above : ℕ → ℕ → Row → Bool
 is_above place number row = is_true (binary (Compare Gt Binary) (column row place) (Int (pos number)))
+
+-- it is at most another
+abbrev pub is_at_most : ℕ → ℕ → Row → Bool
+is_at_most place number row = is_true (binary (Compare Le Binary) (column row place) (Int (pos number)))
 
 -- group and member of each pair
 abbrev pub pairs_of : Rows → List Row
@@ -172,13 +169,29 @@ listed_protected listed = column listed 1
 abbrev pub listed_entry_place : ℕ
 listed_entry_place = 2
 
--- the entries of all children of a node, the own list of each before its protected one, in order of their places
+-- the entries of the nodes that pass a test, in order of the node's number, the own list of each before its protected one, in order of their places
+abbrev pub listed_entries : (Row → Bool) → Rows → List Row
+listed_entries passes rows = map listed_columns (sort_by by_list (filter (is_of_some passes rows.nodes) rows.entries))
+
+-- those of all children of a node
 abbrev pub child_entries : ℤ → Rows → List Row
-child_entries id rows = map listed_columns (sort_by by_list (filter (is_below (Int id) rows.nodes) rows.entries))
+child_entries id rows = listed_entries (is_under (Int id)) rows
 
 -- an open connection shows the entries of the children of a node
 abbrev pub ShowsChildEntries : State → ℤ → List Row → Type 0
 ShowsChildEntries s id shown = IsTrue s.is_open × (IsBook s.now → shown ≡ child_entries id (rows_of s.now.trees))
+
+-- a child of a node whose change number is above one and at most another
+abbrev pub is_changed_between : ℤ → ℕ → ℕ → Row → Bool
+is_changed_between book number last row = is_under (Int book) row && (is_above node_number_place number row && is_at_most node_number_place last row)
+
+-- the entries of those children
+abbrev pub changed_entries : ℤ → ℕ → ℕ → Rows → List Row
+changed_entries book number last rows = listed_entries (is_changed_between book number last) rows
+
+-- an open connection shows them
+abbrev pub ShowsChangedEntries : State → ℤ → ℕ → ℕ → List Row → Type 0
+ShowsChangedEntries s book number last shown = IsTrue s.is_open × (IsBook s.now → shown ≡ changed_entries book number last (rows_of s.now.trees))
 
 -- the entries of the node at a path, its own list before its protected one, in order of their places; none where no row has the path
 abbrev pub entries_at : List ℕ → Rows → List Row

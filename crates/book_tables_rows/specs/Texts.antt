@@ -50,9 +50,6 @@ index_reach = codes "CREATE INDEX reach_grp ON reach (grp)"
 abbrev pub find_node : List ℕ
 find_node = codes "SELECT id, kind, owner, label, text, number FROM node WHERE path = ?1"
 
-abbrev pub list_entries : List ℕ
-list_entries = codes "SELECT form, principal, invert, deny, mask FROM ace2 WHERE node = ?1 AND protected = ?2 ORDER BY place"
-
 -- the entries of the node at a path
 abbrev pub list_entries_at : List ℕ
 list_entries_at = codes "SELECT ace2.node, protected, form, principal, invert, deny, mask FROM node, ace2 WHERE path = ?1 AND ace2.node = node.id ORDER BY ace2.node, protected, place"
@@ -151,6 +148,10 @@ count_children = codes "SELECT (SELECT count(*) FROM node AS child WHERE child.p
 -- the entries of all children of a node
 abbrev pub list_child_entries : List ℕ
 list_child_entries = codes "SELECT ace2.node, protected, form, principal, invert, deny, mask FROM node, ace2 WHERE parent = ?1 AND node.id = ace2.node ORDER BY ace2.node, protected, place"
+
+-- those of the children of a node whose change numbers are above one and at most another
+abbrev pub list_changed_entries : List ℕ
+list_changed_entries = codes "SELECT ace2.node, protected, form, principal, invert, deny, mask FROM node, ace2 WHERE parent = ?1 AND number > ?2 AND number <= ?3 AND node.id = ace2.node ORDER BY ace2.node, protected, place"
 
 abbrev pub list_children : List ℕ
 list_children = codes "SELECT id, path, kind, owner, label, number FROM node WHERE parent = ?1 ORDER BY path"

@@ -88,9 +88,13 @@ abbrev pub delete_entries_of : List Value → Rows → Rows
 delete_entries_of [] rows = rows
 delete_entries_of (id ∷ ids) rows = delete_entries_of ids (delete_entries id rows)
 
+-- an entry of some node that passes a test
+abbrev pub is_of_some : (Row → Bool) → List Row → Row → Bool
+is_of_some passes nodes entry = list_any (λ node. passes node && equal Binary (rowid node) (ace_node entry)) nodes
+
 -- an entry of a child of the node with a number
 abbrev pub is_below : Value → List Row → Row → Bool
-is_below id nodes entry = list_any (λ child. is_under id child && equal Binary (rowid child) (ace_node entry)) nodes
+is_below id nodes entry = is_of_some (is_under id) nodes entry
 
 abbrev pub delete_entries_below : Value → Rows → Rows
 delete_entries_below id rows = record rows { entries = delete_where (is_below id rows.nodes) rows.entries }

@@ -34,7 +34,8 @@ pub use counting::count_children;
 pub use epochs::read_epoch;
 pub use labels::{label_card, label_node};
 pub use lists::{
-    changed_rows, child_entry_rows, child_rows, entry_rows, entry_rows_at, gone_rows, member_rows,
+    changed_entry_rows, changed_rows, child_entry_rows, child_rows, entry_rows_at, gone_rows,
+    member_rows,
 };
 pub use moving::move_card;
 pub use nodes::{FoundNode, insert_node, look_up};

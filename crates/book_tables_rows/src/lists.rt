@@ -3,31 +3,10 @@
 ghost use Rattle.std.specs.Prelude.{◌≡◌, ◌<◌, ◌^◌, IfOk};
 ghost use Rattle.sqlite.specs.Held.{state};
 ghost use Rattle.sqlite.specs.State.{HasCleanDisk, Survives};
-ghost use Rattle.book_tables_rows.specs.Lists.{ShowsList, ShowsRows, ShowsChildren, ShowsChildEntries, ShowsEntriesAt, ShowsFirst, changed_number_place, removed_number_place, pairs_of, gone_after, changed_rows, limit_of};
+ghost use Rattle.book_tables_rows.specs.Lists.{ShowsRows, ShowsChildren, ShowsChildEntries, ShowsChangedEntries, ShowsEntriesAt, ShowsFirst, changed_number_place, removed_number_place, pairs_of, gone_after, changed_rows, limit_of};
 ghost use Rattle.book_tables_rows.specs.Steps.{Keeps, Spares};
 
 use sqlite::{Alter, Error, Row, Transaction, params};
-
-/// The rows of the protected or the own list of the node with a number, in order of their places: form, principal,
-/// invert, deny and mask of each entry.
-pub fn entry_rows<S: Alter>(
-    transaction: &mut Transaction<'_, S>,
-    node: i64,
-    protected: bool,
-) -> Result<Vec<Row>, Error>
-    ensures same_reference { transaction.new.conn.ghost_name ≡ transaction.old.conn.ghost_name }
-    ensures survives { Survives (state S.Store transaction.old.conn.now) (state S.Store transaction.new.conn.now)
-        (λ _. ⊥) }
-    ensures kept { Keeps (state S.Store transaction.old.conn.now) (state S.Store transaction.new.conn.now) }
-    ensures stays { Spares (state S.Store transaction.old.conn.now) (state S.Store transaction.new.conn.now) result }
-    ensures shown { HasCleanDisk (state S.Store transaction.new.conn.now)
-        → IfOk result (λ rows. ShowsList (state S.Store transaction.old.conn.now) node protected rows.items) }
-{
-    transaction.query_all(
-        "SELECT form, principal, invert, deny, mask FROM ace2 WHERE node = ?1 AND protected = ?2 ORDER BY place",
-        params![node, protected],
-    )
-}
 
 /// The entries of the node at a path, its own list before its protected one, in order of their places; none where no
 /// row has the path: the node's number, whether the list is the protected one, form, principal, invert, deny and mask
@@ -88,6 +67,33 @@ pub fn child_entry_rows<S: Alter>(
     transaction.query_all(
         "SELECT ace2.node, protected, form, principal, invert, deny, mask FROM node, ace2 WHERE parent = ?1 AND node.id = ace2.node ORDER BY ace2.node, protected, place",
         params![node],
+    )
+}
+
+/// The entries of the children of the node with a number whose change numbers are above one number and at most another,
+/// in the order and with the columns of `child_entry_rows`. An index has the children in order of change number, and one
+/// the entries in order of the child, so the look-up rests on those children and their entries, whatever else stands
+/// below the node.
+pub fn changed_entry_rows<S: Alter>(
+    transaction: &mut Transaction<'_, S>,
+    node: i64,
+    number: u64,
+    last: u64,
+) -> Result<Vec<Row>, Error>
+    requires above { number < 2 ^ 53 }
+    requires at_most { last < 2 ^ 53 }
+    ensures same_reference { transaction.new.conn.ghost_name ≡ transaction.old.conn.ghost_name }
+    ensures survives { Survives (state S.Store transaction.old.conn.now) (state S.Store transaction.new.conn.now)
+        (λ _. ⊥) }
+    ensures kept { Keeps (state S.Store transaction.old.conn.now) (state S.Store transaction.new.conn.now) }
+    ensures stays { Spares (state S.Store transaction.old.conn.now) (state S.Store transaction.new.conn.now) result }
+    ensures shown { HasCleanDisk (state S.Store transaction.new.conn.now)
+        → IfOk result (λ rows. ShowsChangedEntries (state S.Store transaction.old.conn.now) node number last
+        rows.items) }
+{
+    transaction.query_all(
+        "SELECT ace2.node, protected, form, principal, invert, deny, mask FROM node, ace2 WHERE parent = ?1 AND number > ?2 AND number <= ?3 AND node.id = ace2.node ORDER BY ace2.node, protected, place",
+        params![node, number as i64, last as i64],
     )
 }
 

@@ -4,7 +4,7 @@ ghost use Rattle.std.specs.Prelude.{◌≡◌, IfOk};
 
 use crate::checks::{check_fact, check_text};
 use book_lists::Name;
-use book_office_values::{Changes, Items, NameMap, Text};
+use book_office_values::{Book, Changes, Items, NameMap, Properties, StoredCard, Text};
 use std::alloc::{AllocError, Global};
 use std::process::Abort;
 
@@ -77,20 +77,28 @@ fn maps_are_ordered_by_name(rt: HostRuntime) {
     check_value(&rt, alloc, &map, "a", None);
 }
 
-/// The changes after a number: each number, and its name.
-fn told_after(rt: &impl Abort, alloc: Global, changes: &Changes, number: u64) -> String {
+/// Changes as a text: each number, and its name.
+fn told(rt: &impl Abort, alloc: Global, changes: &Items<(u64, Name)>) -> String {
     let mut answer = String::new(alloc);
-    let after = changes.after(alloc, number).expect(rt, "memory");
-    for (number, name) in after.as_slice() {
+    for (number, name) in changes.as_slice() {
         let name = name.text();
         write!(answer, "{number} {name} ").expect(rt, "memory");
     }
     answer
 }
 
-fn check_told(rt: &impl Abort, alloc: Global, changes: &Changes, number: u64, wanted: &str) {
-    let told = told_after(rt, alloc, changes, number);
-    check_text(rt, told.as_str(), wanted, "changes");
+/// What is asked for: the changes after a number, and at most so many.
+type Asked = (u64, Option<u32>);
+
+fn check_told(rt: &impl Abort, alloc: Global, changes: &Changes, asked: Asked, wanted: &str) {
+    let after = changes.after(alloc, asked.0, asked.1).expect(rt, "memory");
+    check_text(rt, told(rt, alloc, &after).as_str(), wanted, "changes");
+}
+
+fn check_cards(rt: &impl Abort, alloc: Global, book: &Book, asked: Asked, wanted: &str) {
+    let after = book.card_changes_after(alloc, asked.0, asked.1);
+    let after = after.expect(rt, "memory");
+    check_text(rt, told(rt, alloc, &after).as_str(), wanted, "cards");
 }
 
 fn check_number(
@@ -123,7 +131,64 @@ fn changes_are_numbered_from_1(rt: HostRuntime) {
     check_number(&rt, alloc, &changes, "a", Some(2));
     check_number(&rt, alloc, &changes, "d", None);
     for (number, wanted) in [(0, "2 a 3 c 4 b "), (2, "3 c 4 b "), (4, "")] {
-        check_told(&rt, alloc, &changes, number, wanted);
+        check_told(&rt, alloc, &changes, (number, None), wanted);
+    }
+    for (most, wanted) in [(0, ""), (1, "3 c "), (2, "3 c 4 b "), (3, "3 c 4 b ")] {
+        check_told(&rt, alloc, &changes, (2, Some(most)), wanted);
+    }
+}
+
+/// A card that has nothing.
+fn blank_card(alloc: Global) -> StoredCard {
+    StoredCard {
+        owner: None,
+        label: Text::from_string(String::new(alloc)),
+        own: Items::new(alloc),
+        text: Text::from_string(String::new(alloc)),
+    }
+}
+
+/// A book in which each of the names changed once, in this order, and these have a card.
+fn book_of(rt: &impl Abort, alloc: Global, names: &[&str], cards: &[&str]) -> Book {
+    let mut book = Book {
+        properties: Properties::empty(alloc, None),
+        cards: NameMap::new(alloc),
+        changes: Changes::new(alloc),
+    };
+    touch(rt, alloc, &mut book.changes, names);
+    for name in cards {
+        let name = named(rt, alloc, name);
+        book.cards
+            .insert(name, blank_card(alloc))
+            .expect(rt, "memory");
+    }
+    book
+}
+
+/// Checks the answers about a book whose cards q, c and a changed by the numbers 2, 5 and 7.
+fn check_cards_of(rt: &impl Abort, alloc: Global, book: &Book) {
+    for (number, wanted) in [(0, "2 q 5 c 7 a "), (2, "5 c 7 a "), (6, "7 a "), (7, "")] {
+        check_cards(rt, alloc, book, (number, None), wanted);
+    }
+    for (most, wanted) in [(0, ""), (1, "5 c "), (2, "5 c 7 a "), (3, "5 c 7 a ")] {
+        check_cards(rt, alloc, book, (2, Some(most)), wanted);
+    }
+}
+
+const NAMES: [&str; 25] = [
+    "r1", "q", "r3", "r4", "c", "r6", "a", "r8", "r9", "r10", "r11", "r12", "r13", "r14", "r15",
+    "r16", "r17", "r18", "r19", "r20", "r21", "r22", "r23", "r24", "r25",
+];
+
+/// Removed names are passed over and not counted, where the names that were ever there are at most 8 times the cards,
+/// and where they are more.
+#[test]
+fn cards_are_told_beside_removed_names(rt: HostRuntime) {
+    let alloc = rt.alloc();
+    for len in [7, 24, 25] {
+        let names = NAMES.as_slice().get(..len).expect(&rt, "so many");
+        let book = book_of(&rt, alloc, names, ["c", "q", "a"].as_slice());
+        check_cards_of(&rt, alloc, &book);
     }
 }
 
@@ -143,6 +208,6 @@ fn changes_are_made_together(rt: HostRuntime) {
     let mut changes = Changes::new(alloc);
     let mut others = Changes::new(alloc);
     touch_together(&rt, alloc, &mut changes, &mut others);
-    check_told(&rt, alloc, &changes, 0, "2 a 3 b ");
-    check_told(&rt, alloc, &others, 0, "1 a ");
+    check_told(&rt, alloc, &changes, (0, None), "2 a 3 b ");
+    check_told(&rt, alloc, &others, (0, None), "1 a ");
 }

@@ -2,9 +2,17 @@
 
 use crate::checks::{check_fact, check_text};
 use crate::lists::{LONGEST, TOO_LONG};
-use book_office_values::{Kind, Path, PathFault, levels_go_up, texts_spell_one_path};
+use book_lists::Name;
+use book_office_values::{
+    Kind, Path, PathFault, levels_go_up, push_book_path, push_card_path, texts_spell_one_path,
+};
 use std::alloc::Global;
 use std::process::Abort;
+
+fn named(rt: &impl Abort, alloc: Global, text: &str) -> Name {
+    let name = Name::parse(alloc, text).expect(rt, "memory");
+    name.expect(rt, "a name")
+}
 
 fn at(rt: &impl Abort, alloc: Global, text: &str) -> Path {
     Path::parse(alloc, text).ok().expect(rt, "a path")
@@ -137,4 +145,30 @@ fn levels_lead_to_the_root(rt: HostRuntime) {
         let told = path.text(alloc).expect(&rt, "memory");
         check_text(&rt, told.as_str(), text, "a level");
     }
+}
+
+/// A path is added after what a string holds.
+#[test]
+fn paths_are_added_to_a_string(rt: HostRuntime) {
+    let alloc = rt.alloc();
+    let book = named(&rt, alloc, "sales");
+    let card = named(&rt, alloc, "b.vcf");
+    let mut text = String::from_str(alloc, "of ").expect(&rt, "memory");
+    push_book_path(&mut text, &book).expect(&rt, "memory");
+    check_text(&rt, text.as_str(), "of /books/sales", "a book");
+    push_card_path(&mut text, &book, &card).expect(&rt, "memory");
+    check_text(
+        &rt,
+        text.as_str(),
+        "of /books/sales/books/sales/b.vcf",
+        "a card",
+    );
+    let person = at(&rt, alloc, "/people/ann");
+    person.push_text(&mut text).expect(&rt, "memory");
+    check_text(
+        &rt,
+        text.as_str(),
+        "of /books/sales/books/sales/b.vcf/people/ann",
+        "a person",
+    );
 }

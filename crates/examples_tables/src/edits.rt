@@ -1,7 +1,8 @@
 //! The edits, each as one transaction.
 
 use crate::checks::{check, check_number};
-use crate::new_tables::{check_epoch, found, name, own_list, path, principal, tables, text};
+use crate::new_tables::{check_epoch, found, name, path, principal, tables, text};
+use crate::row_texts::entries_at;
 use book_lists::{Entry, Who};
 use book_office::StoreFault;
 use book_office_values::Items;
@@ -104,8 +105,8 @@ fn own_lists_are_written_in_order(rt: HostRuntime) {
     let mut connection = tables.release();
     check(
         &rt,
-        own_list(&rt, alloc, &mut connection, "/books"),
-        "5 - 1 1 65;1 - 0 0 65;2 - 0 1 65;3 - 1 0 65;4 - 0 0 65;",
+        entries_at(&rt, alloc, &mut connection, "/books"),
+        "4 0 5 - 1 1 65; 4 0 1 - 0 0 65; 4 0 2 - 0 1 65; 4 0 3 - 1 0 65; 4 0 4 - 0 0 65",
     );
     drop(connection);
 }

@@ -1,7 +1,9 @@
 //! Own lists and members of groups (RFC 3744, sections 8.1 and 4.3).
 
 use crate::checks::{check, check_number};
-use crate::row_texts::{entries_at, entries_of_children, epoch, list, members, store, whole_rows};
+use crate::row_texts::{
+    entries_at, entries_of_changed, entries_of_children, epoch, members, store, whole_rows,
+};
 use book_tables_rows::{EntryRow, add_book, put_card, remove_book, set_list, set_members};
 use sqlite::{Connection, Error, MemStore};
 use std::alloc::Global;
@@ -42,12 +44,6 @@ fn own_lists_are_written_in_order(rt: HostRuntime) {
         entry(&rt, alloc, 0, Some("/groups/staff"), false, 30),
     ];
     set(&rt, &mut connection, "/books", &list_of_three);
-    check(
-        &rt,
-        list(&rt, alloc, &mut connection, "/books", false),
-        "0 /people/bob 0 1 255; 1 - 0 0 1; 0 /groups/staff 0 0 30",
-    );
-    check(&rt, list(&rt, alloc, &mut connection, "/books", true), "");
     check_number(&rt, epoch(&rt, &mut connection), 1);
     check(
         &rt,
@@ -63,8 +59,8 @@ fn own_lists_are_written_in_order(rt: HostRuntime) {
     set(&rt, &mut connection, "/books", &list_of_one);
     check(
         &rt,
-        list(&rt, alloc, &mut connection, "/books", false),
-        "4 - 0 0 255",
+        entries_at(&rt, alloc, &mut connection, "/books"),
+        "4 0 4 - 0 0 255",
     );
     check_number(&rt, epoch(&rt, &mut connection), 2);
     drop(connection);
@@ -84,8 +80,8 @@ fn a_list_with_an_unknown_principal_changes_nothing(rt: HostRuntime) {
     assert!(rt; set_list(&mut connection, "/books", &unknown).is_err());
     check(
         &rt,
-        list(&rt, alloc, &mut connection, "/books", false),
-        "1 - 0 0 1",
+        entries_at(&rt, alloc, &mut connection, "/books"),
+        "4 0 1 - 0 0 1",
     );
     check_number(&rt, epoch(&rt, &mut connection), 1);
     let none = Err(Error::QueryReturnedNoRows);
@@ -129,6 +125,57 @@ fn put(rt: &impl Abort, connection: &mut Connection<MemStore>, book: &str, path:
     put_card(connection, book, path, name, None, "x").expect(rt, path);
 }
 
+/// The cards of law have the numbers 1 to 4, those of sales 1 and 2; b's protected list and the second entry of its own
+/// one are written first.
+const OF_CARDS: &str =
+    "INSERT INTO ace2 VALUES (11, 1, 0, 5, NULL, 0, 0, 511), (11, 0, 1, 2, NULL, 1, 0, 2), (11, 0, 0, 0, '/people/ann', 0, 1, 64), (10, 0, 0, 1, NULL, 0, 0, 1), (12, 0, 0, 3, NULL, 0, 1, 128), (13, 0, 0, 4, NULL, 0, 0, 4), (15, 0, 0, 5, NULL, 0, 0, 8), (8, 0, 0, 1, NULL, 0, 0, 16)";
+
+/// The entries of the cards with a number above one and at most another come by card and place. Those of the book itself
+/// and of the other book do not. A card that is put again has a new number, and keeps its place.
+#[test]
+fn entries_of_changed_cards_are_those_of_a_range(rt: HostRuntime) {
+    let alloc = rt.alloc();
+    let mut connection = store(&rt, alloc);
+    for path in ["/books/law", "/books/sales"] {
+        add_book(&mut connection, "/books", path, None).expect(&rt, path);
+    }
+    for (book, path, name) in [
+        ("/books/law", "/books/law/a", "a"),
+        ("/books/law", "/books/law/b", "b"),
+        ("/books/law", "/books/law/c", "c"),
+        ("/books/law", "/books/law/d", "d"),
+        ("/books/sales", "/books/sales/a", "a"),
+        ("/books/sales", "/books/sales/b", "b"),
+    ] {
+        put(&rt, &mut connection, book, path, name);
+    }
+    connection.execute_batch(OF_CARDS).expect(&rt, "entries");
+    for (after, last, wanted) in [
+        (0, 1, "10 0 1 - 0 0 1"),
+        (
+            1,
+            3,
+            "11 0 0 /people/ann 0 1 64; 11 0 2 - 1 0 2; 11 1 5 - 0 0 511; 12 0 3 - 0 1 128",
+        ),
+        (3, 3, ""),
+        (3, 9, "13 0 4 - 0 0 4"),
+        (4, 9, ""),
+    ] {
+        let told = entries_of_changed(&rt, alloc, &mut connection, "/books/law", after, last);
+        check(&rt, told, wanted);
+    }
+    put(&rt, &mut connection, "/books/law", "/books/law/a", "a");
+    for (book, after, last, wanted) in [
+        ("/books/law", 0, 1, ""),
+        ("/books/law", 3, 5, "10 0 1 - 0 0 1; 13 0 4 - 0 0 4"),
+        ("/books/sales", 0, 9, "15 0 5 - 0 0 8"),
+    ] {
+        let told = entries_of_changed(&rt, alloc, &mut connection, book, after, last);
+        check(&rt, told, wanted);
+    }
+    drop(connection);
+}
+
 /// Of six entries the one at the book's own path and the three at its cards go, and the others stay.
 #[test]
 fn the_entries_of_a_removed_book_go_with_it(rt: HostRuntime) {
@@ -161,12 +208,11 @@ fn the_entries_of_a_removed_book_go_with_it(rt: HostRuntime) {
         whole_rows(&rt, alloc, &mut connection),
         "9 nodes, 2 entries, 0 removed, meta 2 6",
     );
-    for path in ["/books/sales/a", "/people"] {
-        check(
-            &rt,
-            list(&rt, alloc, &mut connection, path, false),
-            "3 - 0 1 128",
-        );
+    for (path, wanted) in [
+        ("/books/sales/a", "13 0 3 - 0 1 128"),
+        ("/people", "2 0 3 - 0 1 128"),
+    ] {
+        check(&rt, entries_at(&rt, alloc, &mut connection, path), wanted);
     }
     drop(connection);
 }

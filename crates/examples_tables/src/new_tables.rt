@@ -3,8 +3,7 @@
 use book_lists::{Name, Principal};
 use book_office_values::{Path, Text};
 use book_tables::Tables;
-use book_tables_rows::{entry_rows, look_up};
-use sqlite::{Connection, MemStore, Row};
+use sqlite::{Connection, MemStore};
 use std::alloc::Global;
 use std::process::Abort;
 
@@ -49,33 +48,4 @@ pub(crate) fn found(
     };
     let text = node.text.as_ref().map_or("-", |text| text.as_str());
     format!(in alloc; "{:?} {text} {}", node.label.as_str(), node.number).expect(rt, "memory")
-}
-
-fn push_row(rt: &impl Abort, alloc: Global, all: &mut String, row: &Row) {
-    let principal: Option<String> = row.get(1).expect(rt, "a principal");
-    let principal = principal.as_ref().map_or("-", |path| path.as_str());
-    let form: i64 = row.get(0).expect(rt, "a form");
-    let invert: i64 = row.get(2).expect(rt, "invert");
-    let deny: i64 = row.get(3).expect(rt, "deny");
-    let mask: i64 = row.get(4).expect(rt, "a mask");
-    let text = format!(in alloc; "{form} {principal} {invert} {deny} {mask};").expect(rt, "memory");
-    all.push_str(text.as_str()).expect(rt, "memory");
-}
-
-/// Form, principal, invert, deny and mask of each row of an own list.
-pub(crate) fn own_list(
-    rt: &impl Abort,
-    alloc: Global,
-    connection: &mut Connection<MemStore>,
-    at: &str,
-) -> String {
-    assert!(rt; connection.is_autocommit());
-    let mut transaction = connection.transaction();
-    let node = look_up(&mut transaction, at).expect(rt, at).expect(rt, at);
-    let rows = entry_rows(&mut transaction, node.id, false).expect(rt, at);
-    let mut all = String::new(alloc);
-    for row in &rows {
-        push_row(rt, alloc, &mut all, row);
-    }
-    all
 }

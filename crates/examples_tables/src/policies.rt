@@ -1,7 +1,7 @@
 //! Adopting a policy (own profile): nodes, lists and members in one transaction.
 
 use crate::checks::{check, check_number};
-use crate::row_texts::{children, entries_at, epoch, list, members, store};
+use crate::row_texts::{children, entries_at, epoch, members, store};
 use book_tables_rows::{EntryRow, GroupRow, ListsRow, PlaceRow, adopt_rows};
 use sqlite::Error;
 use std::alloc::Global;
@@ -77,16 +77,6 @@ fn a_policy_is_adopted(rt: HostRuntime) {
         &rt,
         children(&rt, alloc, &mut connection, "/books"),
         "9 /books/law 4 /people/eve Law 0",
-    );
-    check(
-        &rt,
-        list(&rt, alloc, &mut connection, "/books/law", true),
-        "4 - 0 0 255",
-    );
-    check(
-        &rt,
-        list(&rt, alloc, &mut connection, "/books/law", false),
-        "3 - 0 1 1",
     );
     check(
         &rt,

@@ -1,8 +1,8 @@
 //! A store in memory, and its rows as texts.
 
 use book_tables_rows::{
-    changed_rows, child_entry_rows, child_rows, entry_rows, entry_rows_at, gone_rows, insert_node,
-    look_up, member_rows, reach_rows, read_epoch,
+    changed_entry_rows, changed_rows, child_entry_rows, child_rows, entry_rows_at, gone_rows,
+    insert_node, look_up, member_rows, reach_rows, read_epoch,
 };
 use book_tables_schema::{all_entry_rows, all_gone_rows, all_meta_rows, all_node_rows, create};
 use sqlite::{Connection, MemStore, Row};
@@ -136,19 +136,21 @@ pub(crate) fn entries_at(
     told(rt, alloc, &rows, "nnntnnn")
 }
 
-/// Form, principal, invert, deny and mask of each entry of a list.
-pub(crate) fn list(
+/// The same of each entry of a card of a book that is changed after a number, and no later than another.
+pub(crate) fn entries_of_changed(
     rt: &impl Abort,
     alloc: Global,
     connection: &mut Connection<MemStore>,
     path: &str,
-    protected: bool,
+    after: u64,
+    last: u64,
 ) -> String {
     let id = number(rt, connection, path);
     assert!(rt; connection.is_autocommit());
+    assert!(rt; after < 1000 && last < 1000);
     let mut transaction = connection.transaction();
-    let rows = entry_rows(&mut transaction, id, protected).expect(rt, path);
-    told(rt, alloc, &rows, "ntnnn")
+    let rows = changed_entry_rows(&mut transaction, id, after, last).expect(rt, path);
+    told(rt, alloc, &rows, "nnntnnn")
 }
 
 /// Path and change number of each card of a book that is changed after a number.

@@ -31,6 +31,10 @@ const LISTING: &str =
 const REPORT: &str =
     "REPORT /books/sales HTTP/1.1\r\nx-office-caller: ann\r\nContent-Length: 44\r\n\r\n{\"report\":\"sync-collection\",\"sync-token\":\"\"}";
 
+/// A report after the first 100 changes.
+const LATER: &str =
+    "REPORT /books/sales HTTP/1.1\r\nx-office-caller: ann\r\nContent-Length: 61\r\n\r\n{\"report\":\"sync-collection\",\"sync-token\":\"data:,sales/1/100\"}";
+
 fn push(rt: &impl Abort, text: &mut String, more: &str) {
     text.push_str(more).expect(rt, "memory");
 }
@@ -78,13 +82,13 @@ fn listing(rt: &impl Abort, alloc: Global) -> String {
     text
 }
 
-/// The report of all cards.
-fn report(rt: &impl Abort, alloc: Global) -> String {
+/// The report of the cards from a number on.
+fn report(rt: &impl Abort, alloc: Global, first: usize) -> String {
     let mut text = String::new(alloc);
     push(rt, &mut text, "{\"responses\":[");
-    for number in FIRST..END {
-        let comma = if number > FIRST { "," } else { "" };
-        let change = number - 999;
+    for number in first..END {
+        let comma = if number > first { "," } else { "" };
+        let change = number.saturating_sub(999);
         let item = format!(in alloc;
             "{comma}{{\"displayname\":\"\",\"href\":\"{CARD}{number}.vcf\",\"number\":{change},\"status\":200,\"text\":\"BEGIN:VCARD\\r\\nVERSION:4.0\\r\\nFN:Bo\\r\\nEND:VCARD\\r\\n\"}}"
         );
@@ -105,11 +109,17 @@ fn push_reply(rt: &impl Abort, alloc: Global, text: &mut String, body: &str) {
     push(rt, text, body);
 }
 
-/// What is sent to who asks for a listing, a report and a card that is not there.
+/// What is sent to who asks for a listing, two reports and a card that is not there.
 fn wanted(rt: &impl Abort, alloc: Global) -> String {
     let mut text = created(rt, alloc);
     push_reply(rt, alloc, &mut text, listing(rt, alloc).as_str());
-    push_reply(rt, alloc, &mut text, report(rt, alloc).as_str());
+    push_reply(rt, alloc, &mut text, report(rt, alloc, FIRST).as_str());
+    push_reply(
+        rt,
+        alloc,
+        &mut text,
+        report(rt, alloc, FIRST + 100).as_str(),
+    );
     push(rt, &mut text, NOT_FOUND);
     text
 }
@@ -119,12 +129,12 @@ fn wanted(rt: &impl Abort, alloc: Global) -> String {
 fn long_bodies_are_whole(rt: HostRuntime) {
     let alloc = rt.alloc();
     let mut input = new_cards(&rt, alloc);
-    for asked in [LISTING, REPORT, NONE] {
+    for asked in [LISTING, REPORT, LATER, NONE] {
         push(&rt, &mut input, asked);
     }
     let wanted = wanted(&rt, alloc);
     let served = Served {
-        requests: 1_003,
+        requests: 1_004,
         ended: Ended::Clean,
     };
     for write in [7, 8_191, 1_000_000] {

@@ -1,8 +1,8 @@
 //! The last change of each name of a book, found by name and in order of number.
 
-ghost use Rattle.std.specs.Prelude.{◌≡◌, ◌+◌, ◌^◌, ◌<◌, None, IfOk, OnOk, OnErr};
-ghost use Rattle.std.specs.FinMap.{empty, get, insert, remove};
-ghost use Rattle.book_office_values.specs.Changes.{touched, changes_after, left, put_back, AreNumbers};
+ghost use Rattle.std.specs.Prelude.{◌≡◌, ◌+◌, ◌^◌, ◌<◌, None, filter, is_some, IfOk, OnOk, OnErr};
+ghost use Rattle.std.specs.FinMap.{empty, get, insert, len, remove};
+ghost use Rattle.book_office_values.specs.Changes.{Change, touched, changes_after, first_of, left, put_back, AreNumbers};
 
 use crate::collections::items::Items;
 use crate::collections::name_maps::NameMap;
@@ -141,14 +141,42 @@ impl Changes {
         let _ = &self.numbers;
     }
 
-    /// The last changes that have a number above the one given, in order of number: each number with its name.
-    /// An error is want of memory.
+    /// How many names were ever there, those that were removed too. Takes no memory.
+    pub(crate) fn len(&self) -> usize
+        ensures { result ≡ len self.now.last }
+    {
+        self.numbers.last.len()
+    }
+
+    /// The last changes that have a number above the one given, in order of number: each number with its name. They
+    /// are the first so many, and all where no most is given. An error is want of memory.
     ///
     /// It takes a look-up, and then a step for each change that it answers.
-    pub fn after(&self, alloc: Global, number: u64) -> Result<Items<(u64, Name)>, AllocError>
-        ensures { IfOk result (λ changes. changes ≡ changes_after self.now.last number) }
+    pub fn after(
+        &self,
+        alloc: Global,
+        number: u64,
+        at_most: Option<u32>,
+    ) -> Result<Items<(u64, Name)>, AllocError>
+        ensures { IfOk result (λ changes. changes ≡ first_of at_most (changes_after self.now.last number)) }
     {
-        self.names.after(alloc, number)
+        self.names.after(alloc, number, at_most)
+    }
+
+    /// The first so many of these changes whose names a map has. An error is want of memory.
+    ///
+    /// It takes a look-up, and then one for each change up to the last that it answers.
+    pub(crate) fn after_among<V>(
+        &self,
+        alloc: Global,
+        number: u64,
+        at_most: Option<u32>,
+        names: &NameMap<V>,
+    ) -> Result<Items<(u64, Name)>, AllocError>
+        ensures { IfOk result (λ changes. changes ≡ first_of at_most
+            (filter (λ (c : Change). is_some (get names.now c.1)) (changes_after self.now.last number))) }
+    {
+        self.names.after_among(alloc, number, at_most, names)
     }
 }
 

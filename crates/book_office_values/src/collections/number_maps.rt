@@ -1,13 +1,16 @@
 //! Names by the numbers of their last changes, in order of number, which contracts see as a finite map.
 
-ghost use Rattle.std.specs.Prelude.{◌≡◌, OnOk, OnErr, IfOk, filter, nat_lt};
+ghost use Rattle.std.specs.Prelude.{◌≡◌, ℕ, List, OnOk, OnErr, IfOk, filter, is_some, nat_lt};
 ghost use Rattle.std.specs.FinMap as map;
-ghost use Rattle.book_office_values.specs.Changes.{without};
+ghost use Rattle.std.specs.Map.Iter.{ShowsInOrder, deref_pair};
+ghost use Rattle.book_office_values.specs.Changes.{first_of, is_full, without};
 
 use crate::collections::items::Items;
+use crate::collections::name_maps::NameMap;
 use book_lists::Name;
 use std::alloc::{AllocError, Global};
 use std::collections::BTreeMap;
+use std::collections::btree_map::Range;
 use std::marker::Model;
 use std::ops::Bound;
 
@@ -61,14 +64,65 @@ impl NumberMap {
         }
     }
 
-    /// The entries above a number, in order: as many steps as there are such entries, and a look-up.
-    pub(crate) fn after(&self, alloc: Global, number: u64) -> Result<Items<(u64, Name)>, AllocError>
-        ensures { IfOk result (λ after. after ≡ filter (λ c. nat_lt number c.0) (map.entries self.now)) }
+    /// The entries above a number, in order: a look-up, and a step for each that is asked for. Takes no memory.
+    fn range_after(&self, number: u64) -> Range<'_, u64, Name>
+        ensures entries { result ≡ filter (λ c. nat_lt number c.0) (map.entries self.now) }
+        ensures runs { ShowsInOrder (deref_pair {K = ℕ} {X = List ℕ}) }
+    {
+        self.tree.range((Bound::Excluded(number), Bound::Unbounded))
+    }
+
+    /// The entries above a number, in order, and at most so many: a look-up, and a step for each entry that it answers.
+    pub(crate) fn after(
+        &self,
+        alloc: Global,
+        number: u64,
+        at_most: Option<u32>,
+    ) -> Result<Items<(u64, Name)>, AllocError>
+        ensures { IfOk result (λ after. after ≡ first_of at_most
+            (filter (λ c. nat_lt number c.0) (map.entries self.now))) }
     {
         let mut after = Items::new(alloc);
-        for (above, name) in self.tree.range((Bound::Excluded(number), Bound::Unbounded)) {
+        for (above, name) in self.range_after(number) {
+            if is_full(after.len(), at_most) {
+                break;
+            }
             after.push((*above, name.clone()?))?;
         }
         Ok(after)
+    }
+
+    /// Of the entries above a number those of names that a map has, in order, and at most so many: a look-up, and then
+    /// one for each entry up to the last that it answers.
+    pub(crate) fn after_among<V>(
+        &self,
+        alloc: Global,
+        number: u64,
+        at_most: Option<u32>,
+        names: &NameMap<V>,
+    ) -> Result<Items<(u64, Name)>, AllocError>
+        ensures { IfOk result (λ after. after ≡ first_of at_most (filter (λ c. is_some (map.get names.now c.1))
+            (filter (λ c. nat_lt number c.0) (map.entries self.now)))) }
+    {
+        let mut after = Items::new(alloc);
+        for (above, name) in self.range_after(number) {
+            if is_full(after.len(), at_most) {
+                break;
+            }
+            if names.get(name).is_some() {
+                after.push((*above, name.clone()?))?;
+            }
+        }
+        Ok(after)
+    }
+}
+
+/// Whether a list has as many items as it is to have.
+fn is_full(len: usize, at_most: Option<u32>) -> bool
+    ensures { result ≡ is_full at_most len }
+{
+    match at_most {
+        Some(most) => len >= most as usize,
+        None => false,
     }
 }

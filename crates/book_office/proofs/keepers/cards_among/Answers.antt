@@ -1,7 +1,6 @@
 use Rattle.book_office.proofs.Common.{rules, ap, ◌∙◌}
-use Rattle.std.proofs.Common.{filter, is_some}
+use Rattle.std.proofs.Common.{filter}
 use Rattle.std.proofs.lemmas.List.Elements.{filter_from_retain}
-use Rattle.book_office.specs.declared.nodes.Changed.{Changed}
 use Rattle.book_office.specs.Resources.{is_of_card}
 use Rattle.book_office.proofs.keepers.cards_among.Goals as goal
 

@@ -1,8 +1,8 @@
 use Rattle.book_office.proofs.Common.{rules, ◌≡◌, [], sym, ap, ◌∙◌, option_map, unwrap_or, Some, get}
 use Rattle.std.proofs.lemmas.Result.{IfOk-weaker}
-use Rattle.book_office_values.specs.Changes.{Change, changes_after}
+use Rattle.book_office_values.specs.Changes.{Change, changes_after, first_of}
 use Rattle.book_office_values.specs.declared.offices.Book.{Book}
-use Rattle.book_office.specs.Resources.{changed_in, first_of}
+use Rattle.book_office.specs.Resources.{changed_in}
 use Rattle.book_office.specs.declared.nodes.Changed.{Changed}
 use Rattle.book_office.proofs.FirstOf.{first_map}
 use Rattle.book_office.proofs.reads.changed.Goals as goal

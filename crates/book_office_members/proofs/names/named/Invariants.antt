@@ -7,5 +7,5 @@ abbrev pub invariant-loop-name : goal.invariant-loop-name
 invariant-loop-name l = record {
   next : (goal.iterator-loop-name).can_next l.name-iterator;
   finite : (goal.iterator-loop-name).is_finite l.name-iterator;
-  parts : l.names.items ++ map named_card l.name-iterator ≡ map named_card l.initial.name-iterator;
+  parts : l.cards.items ++ map named_card l.name-iterator ≡ map named_card l.initial.name-iterator;
 }

@@ -23,7 +23,7 @@ returns-clause-shown g c clean =
     let front_is : c.as_str.result.now ≡ c.args.path.now ++ codes "/" = search rules in
     IfOk-weaker c.cards_of.result _ _ (λ changes shown. all_cards_changed old first second c.args.path.now c.as_str.result.now c.args.number c.args.at_most c.in-Some.book c.in_ok-book.field-0 c.in-Some.is (c.in_ok-book.ensures.found clean_first)
     (c.in_ok-book.ensures.stays clean_first) (c.in_ok-cards.ensures.stays clean_second) c.in_ok-cards.cards.items (rw id at (c.in_ok-cards.ensures.shown clean_second)) front_is changes.items
-    (subst (λ l. ShowsCards second c.in-Some.book.id c.as_str.result.now l changes.items) c.deref.ensures.value shown)) (rw id at (c.cards_of.ensures.shown clean))
+    (subst (λ l. ShowsCards second c.in-Some.book.id c.args.number c.as_str.result.now l changes.items) c.deref.ensures.value shown)) (rw id at (c.cards_of.ensures.shown clean))
 
 pub returns-clause-survives : goal.returns-clause-survives
 returns-clause-survives g c =

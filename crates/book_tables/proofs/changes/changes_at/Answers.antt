@@ -26,11 +26,20 @@ returns-clause-shown g c clean =
     all_changed old first second third c.args.path.now c.as_str.result.now c.args.number c.args.at_most c.in-Some.book c.in_ok-book.field-0 c.in-Some.is (c.in_ok-book.ensures.found clean_first)
     (c.in_ok-book.ensures.stays clean_first) (c.in_ok-cards.ensures.stays clean_second) (c.in_ok-names.ensures.stays clean_third) c.in_ok-cards.cards.items c.in_ok-names.names.items
     (rw id at (c.in_ok-cards.ensures.shown clean_second)) (rw id at (c.in_ok-names.ensures.shown clean_third)) front_is c.in_ok-changes.changes.items c.push_removed.new.changes.items
-    (subst (λ l. ShowsCards third c.in-Some.book.id c.as_str.result.now l c.in_ok-changes.changes.items) c.deref.ensures.value (rw id at (c.in_ok-changes.ensures.shown clean)))
+    (subst (λ l. ShowsCards third c.in-Some.book.id c.args.number c.as_str.result.now l c.in_ok-changes.changes.items) c.deref.ensures.value (rw id at (c.in_ok-changes.ensures.shown clean)))
     (c.in_ok-push_removed.ensures ∙ ap (λ l. c.in_ok-changes.changes.items ++ map removed_shown l) c.deref-2.ensures.value)
 
 pub returns-clause-survives : goal.returns-clause-survives
 returns-clause-survives g c =
+    let old = state g.S.Store c.args.transaction.now.conn.now in
+    let first = state g.S.Store c.look_up.new.transaction.conn.now in
+    let second = state g.S.Store c.changed_rows.new.transaction.conn.now in
+    let third = state g.S.Store c.gone_rows.new.transaction.conn.now in
+    let new = state g.S.Store c.cards_of.new.transaction.conn.now in
+    unseen_then old first new c.look_up.ensures.survives (unseen_then first second new c.changed_rows.ensures.survives (unseen_then second third new c.gone_rows.ensures.survives c.cards_of.ensures.survives))
+
+pub returns-in_err-push_removed-clause-survives : goal.returns-in_err-push_removed-clause-survives
+returns-in_err-push_removed-clause-survives g c =
     let old = state g.S.Store c.args.transaction.now.conn.now in
     let first = state g.S.Store c.look_up.new.transaction.conn.now in
     let second = state g.S.Store c.changed_rows.new.transaction.conn.now in

@@ -1,6 +1,5 @@
-use Rattle.book_tables.proofs.Common.{◌≡◌, rules, ap, sym, subst, state, IfOk-weaker, ◌∙◌}
+use Rattle.book_tables.proofs.Common.{◌≡◌, rules, ap, sym, subst, state, ◌∙◌}
 use Rattle.book_lists.specs.Callers.{circle_with}
-use Rattle.book_lists.specs.Circles.{CircleOf}
 use Rattle.book_lists.specs.declared.circles.Caller.TheVariants.{Known}
 use Rattle.book_tables_rows.specs.Lists.{ShowsRows}
 use Rattle.book_tables_rows.specs.Reach.{reached_of}

@@ -1,4 +1,4 @@
-use Rattle.book_tables.proofs.Common.{◌≡◌, ◌&&◌, false, not, ap, ◌∙◌, IfOk-weaker, Memberships, membership_cmp}
+use Rattle.book_tables.proofs.Common.{◌&&◌, not, ap, ◌∙◌, IfOk-weaker, Memberships, membership_cmp}
 use mathlib.Core.Bool.{and-true}
 use Rattle.std.specs.FinSet as set
 use Rattle.std.specs.FinSet.{contains-empty}

@@ -1,4 +1,4 @@
-use Rattle.book_tables.proofs.Common.{◌≡◌, ◌&&◌, not, map, rules, ap, sym, ◌∙◌, list_any, eq_by_cmp, IfOk-weaker, Memberships, Membership, membership_cmp, memberships_total}
+use Rattle.book_tables.proofs.Common.{◌≡◌, ◌&&◌, not, rules, ap, sym, ◌∙◌, list_any, eq_by_cmp, IfOk-weaker, Memberships, Membership, membership_cmp, memberships_total}
 use Rattle.std.specs.FinSet as set
 use Rattle.std.specs.FinSet.{contains-from_list}
 use Rattle.book_lists.specs.Memberships.{set_of}

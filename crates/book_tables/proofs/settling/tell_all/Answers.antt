@@ -1,7 +1,6 @@
-use Rattle.book_tables.proofs.Common.{◌≡◌, sym, subst, ◌∙◌, list_any, Membership, Memberships}
+use Rattle.book_tables.proofs.Common.{sym, subst, ◌∙◌, Memberships}
 use Rattle.std.proofs.Common.{IfSome}
 use Rattle.std.specs.FinSet as set
-use Rattle.book_tables.specs.Listing.{tells_member}
 use Rattle.book_tables.proofs.PairsTold.{AreTold}
 use Rattle.book_tables.proofs.settling.tell_all.Goals as goal
 

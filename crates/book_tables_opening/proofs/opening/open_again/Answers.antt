@@ -1,4 +1,4 @@
-use Rattle.book_tables_opening.proofs.Common.{◌≡◌, arith, sym, subst, state, HasCleanDisk}
+use Rattle.book_tables_opening.proofs.Common.{arith, sym, subst, state, HasCleanDisk}
 use Rattle.book_tables_opening.specs.Reading.{IsOpened, IsStanding, StandingSays}
 use Rattle.book_tables_opening.proofs.OpenedTables as tables
 use Rattle.book_tables_opening.proofs.opening.open_again.Goals as goal

@@ -1,4 +1,4 @@
-use Rattle.book_tables_opening.proofs.Common.{◌≡◌, true, false, sym, subst, ◌∙◌, arith, state, HasCleanDisk}
+use Rattle.book_tables_opening.proofs.Common.{true, false, subst, arith, state, HasCleanDisk}
 use Rattle.book_tables_opening.specs.Reading.{TellsSettled}
 use Rattle.book_tables_opening.proofs.OpenedTables as tables
 use Rattle.book_tables_opening.proofs.SaidVersions.{told_still}

@@ -1,8 +1,7 @@
-use Rattle.book_office_cache.proofs.Common.{◌≡◌, Ok, rules, Reads, Standing, Office}
+use Rattle.book_office_cache.proofs.Common.{◌≡◌, Standing, Office}
 use Rattle.book_lists.specs.Callers.{IsCircle}
 use Rattle.book_lists.specs.Circles.{CircleOf}
 use Rattle.book_lists.specs.Principals.{person_path}
-use Rattle.book_lists.specs.declared.circles.Caller.{Caller}
 use Rattle.book_lists.specs.declared.circles.Caller.TheVariants.{Known}
 use Rattle.book_office_cache.proofs.Readings.{read_kept}
 use Rattle.book_office_cache.proofs.cached.Cached.person_circle.Goals as goal

@@ -1,7 +1,5 @@
 use Rattle.book_office_cache.proofs.Common.{◌≡◌, rules}
-use Rattle.std.proofs.Common.{sym, subst}
 use Rattle.book_lists.specs.Callers.{IsCircle}
-use Rattle.book_lists.specs.Circles.{CircleOf}
 use Rattle.book_lists.specs.Principals.{person_path}
 use Rattle.book_lists.specs.declared.circles.Caller.TheVariants.{Known}
 use Rattle.book_office_cache.proofs.Kept.{circle_remembered}

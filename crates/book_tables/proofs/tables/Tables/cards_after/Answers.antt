@@ -1,6 +1,7 @@
 use Rattle.book_tables.proofs.Common.{rules, ◌≡◌, ◌∙◌, List, state, HasCleanDisk, LAST_NUMBER, Office, book_path, Changed}
 use Rattle.std.proofs.Common.{min}
-use Rattle.book_office.specs.Resources.{cards_after, first_of}
+use Rattle.book_office_values.specs.Changes.{first_of}
+use Rattle.book_office.specs.Resources.{cards_after}
 use Rattle.book_tables.specs.LastChanges.{ShowsCardChanges}
 use Rattle.book_tables.proofs.Told.{read_made, read_failed}
 use Rattle.book_tables.proofs.ChangesTold.{cards_told_are}

@@ -1,6 +1,7 @@
 use Rattle.book_tables.proofs.Common.{rules, ◌≡◌, ◌∙◌, List, state, HasCleanDisk, LAST_NUMBER, Office, book_path, Changed, ShowsChanges}
 use Rattle.std.proofs.Common.{min}
-use Rattle.book_office.specs.Resources.{changed_after, first_of}
+use Rattle.book_office_values.specs.Changes.{first_of}
+use Rattle.book_office.specs.Resources.{changed_after}
 use Rattle.book_tables.proofs.Told.{read_made, read_failed}
 use Rattle.book_tables.proofs.ChangesTold.{changes_told_are}
 use Rattle.book_tables.proofs.tables.Tables.changes_after.Goals as goal

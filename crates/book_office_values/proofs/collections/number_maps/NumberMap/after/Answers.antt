@@ -1,15 +1,15 @@
-use Rattle.book_office_values.proofs.Common.{rules, List, sym, ap, ◌∙◌, filter, nat_lt, nat_cmp_total, nat_cmp-IsAntisymmetric}
-use Rattle.std.specs.FinMap as map
-use Rattle.book_office_values.specs.Changes.{Change}
-use Rattle.book_office_values.proofs.TreeMaps.{entries_tree}
-use Rattle.book_office_values.proofs.Above.{above_entries}
+use Rattle.book_office_values.proofs.Common.{sym, ap, ◌∙◌}
+use Rattle.book_office_values.specs.Changes.{is_full}
+use Rattle.book_office_values.proofs.FirstOf.{told_all, told_full}
+use Rattle.book_office_values.proofs.collections.number_maps.NumberMap.after.Goals.{in-None, in-Some+then-is_full}
 use Rattle.book_office_values.proofs.collections.number_maps.NumberMap.after.Goals as goal
 
 pub returns : goal.returns
 returns c =
-    let above : List Change → List Change = λ es. filter (λ e. nat_lt c.args.number e.0) es in
-    let whole = c.into_iter-above-iterator.ensures.into_iter_gives ∙ c.range-above-items.ensures.between tt
-    ∙ above_entries c.args.number c.self.inside.tree.entries
-    ∙ ap above (sym (entries_tree nat_cmp_total nat_cmp-IsAntisymmetric c.self.inside.tree.entries c.self.invariant))
-    ∙ ap (λ m. above (map.entries m)) c.self.view_is in
-    search (rules, whole)
+    let told = c.loop-above.after in
+    let most = c.args.at_most in
+    let parts = c.loop-above.invariant.parts ∙ c.into_iter-above-iterator.ensures.into_iter_gives ∙ c.range_after-above-items.ensures.entries in
+    elim c.match-next.branch [
+      | in-None w ↦ told_all most told _ _ c.loop-above.invariant.within w.in-None.ensures.steps.0 parts
+      | in-Some+then-is_full w ↦ told_full most told _ _ c.loop-above.invariant.within (ap (is_full most) (sym w.len.ensures) ∙ sym w.is_full.ensures ∙ w.if-is_full.true) parts
+    ]
