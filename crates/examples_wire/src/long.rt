@@ -140,6 +140,10 @@ fn long_bodies_are_whole(rt: HostRuntime) {
     for write in [7, 8_191, 1_000_000] {
         let cutting = Cutting { write, ..WHOLE };
         let answer = answered(&rt, alloc, POLICY, input.as_bytes(), cutting);
+        assert!(&rt;
+            answer.text.as_str() == wanted.as_str(),
+            "writes of {write}"
+        );
         check_answer(&rt, alloc, &answer, wanted.as_str(), served, 1_000);
     }
     // A write for the reply to each card, and 100 of the listing, of at most 1,000 bytes.
