@@ -1,5 +1,5 @@
 -- The properties that the rules of a card name (RFC 6350, section 6), and where they stand in a list of lines.
-use Rattle.std.specs.Prelude.{ℕ, ◌+◌, Bool, true, false, List, [], ◌∷◌, if◌then◌else◌, Option, Some, None, unwrap_or, codes}
+use Rattle.std.specs.Prelude.{ℕ, ◌+◌, Bool, nat_eq, List, [], ◌∷◌, if◌then◌else◌, Option, Some, None, unwrap_or, codes}
 use Rattle.std.specs.Option.{option_map_or, option_or}
 use Rattle.std.specs.List.{list_any, filter_map}
 use Rattle.std.specs.Str.{str_eq_ignore_ascii_case}
@@ -20,48 +20,35 @@ property_of name =
     else if str_eq_ignore_ascii_case name (codes "MEMBER") then Member
     else Other
 
-abbrev pub is_version : Property → Bool
-is_version Version = true
-is_version _ = false
-
-abbrev pub is_formatted_name : Property → Bool
-is_formatted_name FormattedName = true
-is_formatted_name _ = false
-
-abbrev pub is_uid : Property → Bool
-is_uid Uid = true
-is_uid _ = false
-
-abbrev pub is_kind : Property → Bool
-is_kind Kind = true
-is_kind _ = false
-
-abbrev pub is_member : Property → Bool
-is_member Member = true
-is_member _ = false
-
-abbrev pub is_begin : Property → Bool
-is_begin Begin = true
-is_begin _ = false
-
-abbrev pub is_end : Property → Bool
-is_end End = true
-is_end _ = false
-
-abbrev pub is_other : Property → Bool
-is_other Other = true
-is_other _ = false
+-- the properties by number
+abbrev pub property_number : Property → ℕ
+property_number Begin = 0
+property_number End = 1
+property_number Version = 2
+property_number FormattedName = 3
+property_number Uid = 4
+property_number Kind = 5
+property_number Member = 6
+property_number Other = 7
 
 -- whether a line has the property that is looked for
 abbrev pub is_property : Property → Property → Bool
-is_property Begin = is_begin
-is_property End = is_end
-is_property Version = is_version
-is_property FormattedName = is_formatted_name
-is_property Uid = is_uid
-is_property Kind = is_kind
-is_property Member = is_member
-is_property Other = is_other
+is_property wanted found = nat_eq (property_number found) (property_number wanted)
+
+abbrev pub is_version : Property → Bool
+is_version = is_property Version
+
+abbrev pub is_formatted_name : Property → Bool
+is_formatted_name = is_property FormattedName
+
+abbrev pub is_uid : Property → Bool
+is_uid = is_property Uid
+
+abbrev pub is_kind : Property → Bool
+is_kind = is_property Kind
+
+abbrev pub is_member : Property → Bool
+is_member = is_property Member
 
 -- the property of a line
 abbrev pub property_at : List ℕ → Property

@@ -13,6 +13,7 @@ pub mod PathEnds
 pub mod OneOutcome
 pub mod Fronts
 pub mod Widened
+pub mod WidenedNeeds
 pub mod Reaching
 pub mod ReachedCircles
 pub mod Climbing

@@ -12,10 +12,10 @@ use Rattle.book_lists.specs.Decisions.{IsGrantedSet, IfDenied}
 use Rattle.book_lists.specs.Memberships.{Memberships}
 use Rattle.book_rights.proofs.Masks.{same_test}
 
-leaf_at : ℕ → Leaf
+pub leaf_at : ℕ → Leaf
 leaf_at n = get_or (ReadTexts ∷ WriteContent ∷ WriteProperties ∷ Bind ∷ Unbind ∷ ReadAcl ∷ WriteAcl ∷ ReadCurrentUserPrivilegeSet ∷ ReadNames ∷ []) n ReadTexts
 
-leaf_at-place_of : (leaf : Leaf) → leaf_at (place_of leaf) ≡ leaf
+pub leaf_at-place_of : (leaf : Leaf) → leaf_at (place_of leaf) ≡ leaf
 unfolding leaf_at
 leaf_at-place_of leaf = each_leaf (λ l. leaf_at (place_of l) ≡ l) refl refl refl refl refl refl refl refl refl leaf
 

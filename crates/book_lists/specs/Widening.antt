@@ -3,7 +3,11 @@ use Rattle.std.specs.Prelude.{◌≡◌, ◌↔◌, ℕ, Bool, true, false, ◌&
 use Rattle.std.specs.List.{AllByRecursion}
 use Rattle.book_rights.specs.declared.privileges.Leaf.{Leaf}
 use Rattle.book_rights.specs.declared.privileges.Leaf.TheVariants.{ReadTexts, WriteContent, WriteProperties, Bind, Unbind, ReadAcl, WriteAcl, ReadCurrentUserPrivilegeSet, ReadNames}
+use Rattle.book_rights.specs.declared.methods.Method.{Method}
+use Rattle.book_rights.specs.declared.methods.Shape.{Shape}
+use Rattle.book_rights.specs.declared.places.Need.{Need}
 use Rattle.book_rights.specs.Leaves.{place_of, leaves_in}
+use Rattle.book_rights.specs.Needs.{needs_of}
 use Rattle.book_rights.specs.Privileges.{leaf_name, name_of, denied_name}
 use Rattle.book_lists.specs.declared.entries.Entry.{Entry}
 use Rattle.book_lists.specs.declared.entries.Here.{Here}
@@ -45,6 +49,15 @@ pub record IsDecidedAlike (entries : List Entry) (circle : CircleOf) (here : Her
 abbrev pub WidenedListsDecideAlike : Type 0
 WidenedListsDecideAlike = (entries : List Entry) (circle : CircleOf) (here : Here) (need : Leaf → Bool)
     → AllByRecursion (λ (e : Entry). IsOfFirst e.set) entries → IsOfFirst need → IsDecidedAlike entries circle here need
+
+-- a set that was made of one of version 1
+abbrev pub IsWidened : (Leaf → Bool) → Type 0
+IsWidened set = (first : Leaf → Bool) × IsOfFirst first × (set ≡ widened first)
+
+-- each need of a request is such a set; the report of names, which version 1 did not know, needs a leaf of its own
+abbrev pub NeedsAreWidened : Type 0
+NeedsAreWidened = (method : Method) (shape : Shape) → shape.names ≡ false
+    → AllByRecursion (λ (need : Need). IsWidened need.set) (needs_of method shape)
 
 -- a mask of version 1 with bit 8, where it has bit 0
 abbrev pub widened_mask : ℕ → ℕ

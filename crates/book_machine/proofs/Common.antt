@@ -8,7 +8,7 @@ pub use Rattle.std.specs.FinMap.{get, len, entries, insert}
 pub use Rattle.std.specs.List.{AllZip, flat_map}
 pub use Rattle.std.specs.Str.{bytes_eq}
 pub use Rattle.book_limits.specs.declared.TheConstants.{MAX_CARDS, LAST_NUMBER, MAX_BOOKS}
-pub use Rattle.book_rights.specs.Needs.{only}
+pub use Rattle.book_rights.specs.Leaves.{only}
 pub use Rattle.book_rights.specs.declared.methods.Method.{Method}
 pub use Rattle.book_rights.specs.declared.methods.Method.TheVariants.{Move, Copy, Delete, Mkcol, Proppatch, Put, Acl, Get, Head, Options, Propfind}
 pub use Rattle.book_rights.specs.declared.places.Need.{Need}

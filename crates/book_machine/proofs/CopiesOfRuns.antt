@@ -1,9 +1,8 @@
 -- What sync reports tell in runs of the machine.
 use Rattle.book_machine.proofs.Common.{◌≡◌, inl, inr, ℕ, List, [], ◌∷◌, false, Option, Some, None, option_map, Result, Ok, Err, refl, sym, ap, ◌∙◌, subst, arith, CircleOf, IsCircle, one_circle, Office, Path, Standing, node_at, unnumbered, IsSound, Node, Method, Report, named, asked_of, destination_in, report_asked, AreWellFormed, refused, Call, caller_of, at_node, at_unmapped, target_of, suits_target, destination_of, ready_of, report_plan, IsBodyAnswer, limits_of, IsSuccessOf, IsDone, IsPlan, IsPlannedFrom, settled, Serves, IsGranted, Reply, Request, Plan, Ready, Target, Refusal, NeedPrivileges, Unavailable, ValidSyncToken}
 use Rattle.book_office_values.specs.declared.paths.Path.TheVariants as path
-use Rattle.book_office_sync.proofs.SyncedRuns.{told as told_report, valid_epoch, copies_follow, copies_begin}
+use Rattle.book_office_sync.proofs.SyncedRuns.{AreCalls, AreSteps, told as told_report, valid_epoch, copies_follow, copies_begin}
 use Rattle.book_office_sync.specs.Copies.{sync}
-use Rattle.book_office_sync.specs.SyncedRuns.{AreCalls, AreSteps}
 use Rattle.book_office_sync.specs.declared.messages.Token.{Token}
 use Rattle.book_machine.proofs.AlikePlans.{ready_named}
 use Rattle.book_machine.proofs.FittingPlans.{answered, bind_ok, same_Ok}

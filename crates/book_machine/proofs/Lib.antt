@@ -30,6 +30,7 @@ pub mod StepLaws
 pub mod StillAgreeing
 pub mod SyncPlans
 pub mod ToldResources
+pub mod SoundExample
 pub mod UnreadExample
 pub mod UnseenRuns
 pub mod YoungBooks

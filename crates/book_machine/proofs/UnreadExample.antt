@@ -1,6 +1,8 @@
 -- Offices that agree for everybody and differ in the text of a card, which nobody may read.
 use Rattle.book_machine.proofs.Common.{◌≡◌, inl, inr, ℕ, false, List, [], ◌∷◌, ◌++◌, map, Some, None, option_map, option_and_then, unwrap_or, refl, sym, ap, ◌∙◌, subst, arith, true, nat_list_cmp_total, get, insert, mapped, get_mapped, CircleOf, name_cmp, Entry, place_card, protected_at, own_at, level_at, effective_of, effective_at, Resource, book_resource, card_at, EffectiveEntry, only, Leaf, names_apart, NamesTo, Book, StoredCard, Office, Path, outline_of_book, outline, IsGrantedAt, bare_entries, here_of}
-use Rattle.std.proofs.Common.{zero, suc}
+use Rattle.std.proofs.Common.{zero, suc, ◌<◌, get_or}
+use Rattle.book_lists.specs.Names.{IsName}
+use Rattle.book_office_values.specs.Texts.{IsCardText}
 use Rattle.std.specs.FinMap.{empty, get-empty, same_map}
 use Rattle.book_lists.specs.Decisions.{bears, Grants}
 use Rattle.book_lists.specs.declared.entries.Here.{Here}
@@ -14,7 +16,10 @@ use Rattle.book_office_values.proofs.OneName.{by_put, put_here}
 use Rattle.book_office_values.specs.declared.paths.Path.TheVariants as path
 use Rattle.book_machine.proofs.StillAgreeing.{own_of_card, protected_of_card, place_outline, put_cases}
 use Rattle.book_machine.specs.Agreement.{name_in}
-use Rattle.book_machine.specs.Unseen.{AgreeingOfficesMayDiffer, AgreeingOfficesMayDifferWhereNamed}
+use Rattle.book_machine.specs.Unseen.{AgreeingOfficesMayDiffer, AgreeingOfficesMayDifferWhereNamed, AreTextsAt}
+use Rattle.book_machine.proofs.SoundExample.{sound_book, sound_office}
+use Rattle.book_office.specs.Sound.{IsKnownForm, IsSound, IsSoundList}
+use Rattle.book_office_values.proofs.Labels.{empty_label}
 use Rattle.book_office_listings.specs.Verdicts.{IsGrantedBy}
 
 -- what is in force at a card where its own list alone has entries
@@ -47,6 +52,11 @@ module _ (own : List Entry) (b c : List ℕ) where
     text_is =
         ap (λ r. option_map (λ (card : StoredCard). card.text) (option_and_then (λ (book : Book). get book.cards c) r)) (put_here empty b (book text))
         ∙ ap (option_map (λ (card : StoredCard). card.text)) (put_here empty c (unread own text))
+
+    -- such an Office is sound
+    sound : AreTextsAt b c text text → ((o : Office) → IsSoundList o own) → IsSound (office text)
+    sound are list = sound_office b (book text) are.book_named (λ o. sound_book o c (unread own text) are.card_named
+        (record { owner = tt; label = empty_label; own = list o; text = are.is_text }))
 
     -- the own list of a card is this one, or has no entry
     own_told : (q n : List ℕ) (P : List Entry → Type 0) → P own → P [] → P (own_at (office text) (path.Card q n))
@@ -133,10 +143,22 @@ module _ (own : List Entry) (b c : List ℕ) where
         ]
       ]
 
+no_list : (o : Office) → IsSoundList o []
+no_list o = record { few = omega arith; known = λ k d l. absurd (omega arith) }
+
+-- each of the two texts alone
+first_text : (b c text other : List ℕ) → AreTextsAt b c text other → AreTextsAt b c text text
+first_text b c text other are = record { book_named = are.book_named; card_named = are.card_named; is_text = are.is_text; is_other = are.is_text }
+
+other_text : (b c text other : List ℕ) → AreTextsAt b c text other → AreTextsAt b c other other
+other_text b c text other are = record { book_named = are.book_named; card_named = are.card_named; is_text = are.is_other; is_other = are.is_other }
+
 pub may_differ : AgreeingOfficesMayDiffer
-may_differ b c text other = (
+may_differ b c text other are = (
   office [] b c text,
   office [] b c other,
+  sound [] b c text (first_text b c text other are) no_list,
+  sound [] b c other (other_text b c text other are) no_list,
   text_is [] b c text,
   text_is [] b c other,
   λ caller. record {
@@ -171,10 +193,19 @@ names_granted b c text circle =
     (sym (in_force names_alone b c text b c ∙ ap (standing (path.Card b c)) (own_here names_alone b c text)))
     (grant_names (path.Card b c) circle (here_of (office names_alone b c text) (path.Card b c)))
 
+all_known : (o : Office) (k : ℕ) (d : Entry) → k < 1 → IsKnownForm o (get_or names_alone k d).who
+all_known o zero d l = tt
+all_known o (suc k) d l = absurd (omega (arith, l))
+
+names_list : (o : Office) → IsSoundList o names_alone
+names_list o = record { few = omega arith; known = all_known o }
+
 pub may_differ_where_named : AgreeingOfficesMayDifferWhereNamed
-may_differ_where_named b c text other same = (
+may_differ_where_named b c text other are same = (
   office names_alone b c text,
   office names_alone b c other,
+  sound names_alone b c text (first_text b c text other are) names_list,
+  sound names_alone b c other (other_text b c text other are) names_list,
   text_is names_alone b c text,
   text_is names_alone b c other,
   names_granted b c text,

@@ -1,6 +1,6 @@
 -- What a caller may read, and Offices that differ in nothing that the caller may read (own profile).
 use Rattle.std.specs.Prelude.{◌≡◌, ℕ, Bool, List, [], Option, Some, None, option_and_then}
-use Rattle.book_rights.specs.Needs.{only}
+use Rattle.book_rights.specs.Leaves.{only}
 use Rattle.book_rights.specs.Privileges.{is_read}
 use Rattle.book_rights.specs.declared.privileges.Leaf.{Leaf}
 use Rattle.book_rights.specs.declared.privileges.Leaf.TheVariants.{ReadNames}

@@ -4,6 +4,7 @@ use Rattle.std.specs.BTreeSet.{insert_key}
 use Rattle.std.specs.Option.{option_map_or}
 use Rattle.std.specs.Str.{bytes_eq}
 use Rattle.book_lists.specs.Principals.{path_cmp}
+use Rattle.book_lists.specs.declared.submitted.Submitted.{Submitted}
 use Rattle.book_limits.specs.declared.TheConstants.{MAX_MEMBERS, MAX_LABEL_BYTES}
 use Rattle.book_office_listings.specs.declared.messages.Extent.{Extent}
 use Rattle.book_office_listings.specs.declared.messages.Extent.TheVariants.{Resource as Alone, Children}
@@ -25,57 +26,77 @@ use Rattle.book_machine.specs.declared.messages.Flag.{Flag}
 use Rattle.book_machine.specs.declared.messages.Flag.TheVariants as flag
 use Rattle.book_machine.specs.declared.messages.Patch.{Patch}
 use Rattle.book_machine.specs.declared.messages.Patch.TheVariants as patch
+use Rattle.book_machine.specs.declared.messages.ReportKind.{ReportKind}
 use Rattle.book_machine.specs.declared.messages.Request.{Request}
 use Rattle.book_machine.specs.declared.refusals.Refusal.{Refusal}
 use Rattle.book_machine.specs.declared.refusals.Refusal.TheVariants.{BadRequest, BodyOnMkcol}
 
--- the method of what is asked
+-- what is asked, part by part: the method, the properties of a PROPFIND, where a COPY or MOVE leads, the report
+pub record Parts : Type 0 where
+  pub method : Method
+  pub properties : List Property
+  pub to : Option Destination
+  pub report : Option ReportKind
+
+abbrev pub only_method : Method → Parts
+only_method m = record { method = m; properties = []; to = None; report = None }
+
+abbrev pub parts_of : Asked → Parts
+parts_of asked.Get = only_method method.Get
+parts_of asked.Head = only_method method.Head
+parts_of asked.Options = only_method method.Options
+parts_of (asked.Put text) = only_method method.Put
+parts_of (asked.Propfind find) = record { method = method.Propfind; properties = find.properties; to = None; report = None }
+parts_of (asked.Proppatch p) = only_method method.Proppatch
+parts_of (asked.Acl list) = only_method method.Acl
+parts_of (asked.Copy to) = record { method = method.Copy; properties = []; to = Some to; report = None }
+parts_of (asked.Move to) = record { method = method.Move; properties = []; to = Some to; report = None }
+parts_of asked.Delete = only_method method.Delete
+parts_of asked.Mkcol = only_method method.Mkcol
+parts_of (asked.Report which) = record { method = method.Report; properties = []; to = None; report = Some which }
+
 abbrev pub method_of : Asked → Method
-method_of asked.Get = method.Get
-method_of asked.Head = method.Head
-method_of asked.Options = method.Options
-method_of (asked.Put text) = method.Put
-method_of (asked.Propfind find) = method.Propfind
-method_of (asked.Proppatch p) = method.Proppatch
-method_of (asked.Acl list) = method.Acl
-method_of (asked.Copy to) = method.Copy
-method_of (asked.Move to) = method.Move
-method_of asked.Delete = method.Delete
-method_of asked.Mkcol = method.Mkcol
-method_of (asked.Report which) = method.Report
+method_of what = (parts_of what).method
+
+abbrev pub destination_in : Asked → Option Destination
+destination_in what = (parts_of what).to
 
 -- the path of a destination
 abbrev pub destination_path : Destination → Path
 destination_path to = path.Card to.book to.card
 
--- where a COPY or MOVE leads
-abbrev pub destination_in : Asked → Option Destination
-destination_in asked.Get = None
-destination_in asked.Head = None
-destination_in asked.Options = None
-destination_in (asked.Put text) = None
-destination_in (asked.Propfind find) = None
-destination_in (asked.Proppatch p) = None
-destination_in (asked.Acl list) = None
-destination_in (asked.Copy to) = Some to
-destination_in (asked.Move to) = Some to
-destination_in asked.Delete = None
-destination_in asked.Mkcol = None
-destination_in (asked.Report which) = None
-
 abbrev pub is_empty : List ℕ → Bool
 is_empty [] = true
 is_empty (c ∷ cs) = false
 
+-- a body, form by form: a text, the properties of a PROPFIND, what a PROPPATCH sets, a list, a report
+pub record Forms : Type 0 where
+  pub text : Option (List ℕ)
+  pub properties : Option (List Property)
+  pub patch : Option Patch
+  pub list : Option (List Submitted)
+  pub report : Option ReportKind
+
+abbrev pub no_form : Forms
+no_form = record { text = None; properties = None; patch = None; list = None; report = None }
+
+-- no body is the empty text, and asks for the usual properties (RFC 4918, section 9.1)
+abbrev pub forms_of : Body → Forms
+forms_of body.Empty = record { text = Some []; properties = Some usual_properties; patch = None; list = None; report = None }
+forms_of (body.Text text) = record { text = Some text; properties = None; patch = None; list = None; report = None }
+forms_of (body.Find properties) = record { text = None; properties = Some properties; patch = None; list = None; report = None }
+forms_of (body.Patch p) = record { text = None; properties = None; patch = Some p; list = None; report = None }
+forms_of (body.List list) = record { text = None; properties = None; patch = None; list = Some list; report = None }
+forms_of (body.Report which) = record { text = None; properties = None; patch = None; list = None; report = Some which }
+forms_of body.Unread = no_form
+
+-- what is asked by the form that a method wants, if the body has it
+abbrev pub asked_by : {A : Type 0} → (A → Result Asked Refusal) → Option A → Result Asked Refusal
+asked_by ask form = option_map_or ask form (Err BadRequest)
+
 -- a PUT has a text, the empty one where there is no body
 abbrev pub put_asked : Body → Result Asked Refusal
-put_asked body.Empty = Ok (asked.Put [])
-put_asked (body.Text text) = Ok (asked.Put text)
-put_asked (body.Find properties) = Err BadRequest
-put_asked (body.Patch p) = Err BadRequest
-put_asked (body.List list) = Err BadRequest
-put_asked (body.Report report) = Err BadRequest
-put_asked body.Unread = Err BadRequest
+put_asked b = asked_by (λ text. Ok (asked.Put text)) (forms_of b).text
 
 -- the properties within their bounds
 abbrev pub properties_asked : Extent → List Property → Result Asked Refusal
@@ -83,13 +104,7 @@ properties_asked extent properties = if may_be_asked properties then Ok (asked.P
 
 -- a PROPFIND of some depth has properties, the usual ones where there is no body (RFC 4918, section 9.1)
 abbrev pub find_asked_to : Extent → Body → Result Asked Refusal
-find_asked_to extent body.Empty = Ok (asked.Propfind (find_of extent usual_properties))
-find_asked_to extent (body.Text text) = Err BadRequest
-find_asked_to extent (body.Find properties) = properties_asked extent properties
-find_asked_to extent (body.Patch p) = Err BadRequest
-find_asked_to extent (body.List list) = Err BadRequest
-find_asked_to extent (body.Report report) = Err BadRequest
-find_asked_to extent body.Unread = Err BadRequest
+find_asked_to extent b = asked_by (properties_asked extent) (forms_of b).properties
 
 -- the depth is 0 or 1 (RFC 4918, section 10.2; that it may not be infinite is own profile)
 abbrev pub find_asked : Depth → Body → Result Asked Refusal
@@ -109,43 +124,19 @@ patch_asked (patch.GroupMembers members) =
 
 -- a PROPPATCH sets one property (RFC 4918, section 9.2)
 abbrev pub proppatch_asked : Body → Result Asked Refusal
-proppatch_asked body.Empty = Err BadRequest
-proppatch_asked (body.Text text) = Err BadRequest
-proppatch_asked (body.Find properties) = Err BadRequest
-proppatch_asked (body.Patch p) = patch_asked p
-proppatch_asked (body.List list) = Err BadRequest
-proppatch_asked (body.Report report) = Err BadRequest
-proppatch_asked body.Unread = Err BadRequest
+proppatch_asked b = asked_by patch_asked (forms_of b).patch
 
 -- an ACL has a list (RFC 3744, section 8.1)
 abbrev pub acl_asked : Body → Result Asked Refusal
-acl_asked body.Empty = Err BadRequest
-acl_asked (body.Text text) = Err BadRequest
-acl_asked (body.Find properties) = Err BadRequest
-acl_asked (body.Patch p) = Err BadRequest
-acl_asked (body.List list) = Ok (asked.Acl list)
-acl_asked (body.Report report) = Err BadRequest
-acl_asked body.Unread = Err BadRequest
+acl_asked b = asked_by (λ list. Ok (asked.Acl list)) (forms_of b).list
 
 -- a MKCOL has no body (RFC 4918, section 9.3)
 abbrev pub mkcol_asked : Body → Result Asked Refusal
-mkcol_asked body.Empty = Ok asked.Mkcol
-mkcol_asked (body.Text text) = if is_empty text then Ok asked.Mkcol else Err BodyOnMkcol
-mkcol_asked (body.Find properties) = Err BodyOnMkcol
-mkcol_asked (body.Patch p) = Err BodyOnMkcol
-mkcol_asked (body.List list) = Err BodyOnMkcol
-mkcol_asked (body.Report report) = Err BodyOnMkcol
-mkcol_asked body.Unread = Err BodyOnMkcol
+mkcol_asked b = option_map_or (λ text. if is_empty text then Ok asked.Mkcol else Err BodyOnMkcol) (forms_of b).text (Err BodyOnMkcol)
 
 -- a REPORT names a report (RFC 3253, section 3.6)
 abbrev pub report_asked : Body → Result Asked Refusal
-report_asked body.Empty = Err BadRequest
-report_asked (body.Text text) = Err BadRequest
-report_asked (body.Find properties) = Err BadRequest
-report_asked (body.Patch p) = Err BadRequest
-report_asked (body.List list) = Err BadRequest
-report_asked (body.Report which) = Ok (asked.Report which)
-report_asked body.Unread = Err BadRequest
+report_asked b = asked_by (λ which. Ok (asked.Report which)) (forms_of b).report
 
 -- whether a path is that of the card
 abbrev pub is_card : List ℕ → List ℕ → Option Path → Bool

@@ -1,6 +1,6 @@
 -- Contents that a caller may not read stay unseen: no reply tells of them.
 use Rattle.std.specs.Prelude.{◌≡◌, ◌≢◌, ℕ, ◌≤◌, List, Option, Some, option_map, All}
-use Rattle.book_rights.specs.Needs.{only}
+use Rattle.book_rights.specs.Leaves.{only}
 use Rattle.book_rights.specs.declared.methods.Method.TheVariants.{Move}
 use Rattle.book_rights.specs.declared.privileges.Leaf.TheVariants.{ReadNames}
 use Rattle.book_lists.specs.Circles.{CircleOf}
@@ -11,6 +11,9 @@ use Rattle.book_office_listings.specs.Verdicts.{IsGrantedAt}
 use Rattle.book_office_values.specs.declared.offices.StoredCard.{StoredCard}
 use Rattle.book_office_values.specs.declared.offices.Office.{Office}
 use Rattle.book_office_values.specs.declared.paths.Path.TheVariants as path
+use Rattle.book_lists.specs.Names.{IsName}
+use Rattle.book_office.specs.Sound.{IsSound}
+use Rattle.book_office_values.specs.Texts.{IsCardText}
 use Rattle.book_machine.specs.Agreement.{named, Agree}
 use Rattle.book_machine.specs.Runs.{Call, Run, last_office}
 use Rattle.book_machine.specs.Steps.{Steps}
@@ -24,16 +27,25 @@ AgreementIsAnEquivalence = (caller : Caller)
     × ((o p : Office) → Agree o p caller → Agree p o caller)
     × ((o p q : Office) → Agree o p caller → Agree p q caller → Agree o q caller)
 
--- Offices that agree may differ: there are such with a card of any two texts, at any path, that nobody may read
+-- what a card at a path may have: names, and one of two texts
+pub record AreTextsAt (b c text other : List ℕ) : Type 0 where
+  pub book_named : IsName b
+  pub card_named : IsName c
+  pub is_text : IsCardText text
+  pub is_other : IsCardText other
+
+-- Offices that agree may differ: there are sound ones with a card of any two texts, at any path, that nobody may read
 abbrev pub AgreeingOfficesMayDiffer : Type 0
-AgreeingOfficesMayDiffer = (b c text other : List ℕ) → (o : Office) × (p : Office)
+AgreeingOfficesMayDiffer = (b c text other : List ℕ) → AreTextsAt b c text other → (o : Office) × (p : Office)
+    × IsSound o × IsSound p
     × (option_map (λ (card : StoredCard). card.text) (card_at o b c) ≡ Some text)
     × (option_map (λ (card : StoredCard). card.text) (card_at p b c) ≡ Some other)
     × ((caller : Caller) → Agree o p caller)
 
 -- and where everybody may read the card's name alone: there are such with a card of any two texts that say one name
 abbrev pub AgreeingOfficesMayDifferWhereNamed : Type 0
-AgreeingOfficesMayDifferWhereNamed = (b c text other : List ℕ) → name_told text ≡ name_told other → (o : Office) × (p : Office)
+AgreeingOfficesMayDifferWhereNamed = (b c text other : List ℕ) → AreTextsAt b c text other → name_told text ≡ name_told other → (o : Office) × (p : Office)
+    × IsSound o × IsSound p
     × (option_map (λ (card : StoredCard). card.text) (card_at o b c) ≡ Some text)
     × (option_map (λ (card : StoredCard). card.text) (card_at p b c) ≡ Some other)
     × ((circle : CircleOf) → IsGrantedAt o circle (path.Card b c) (only ReadNames))

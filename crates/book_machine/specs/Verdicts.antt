@@ -24,9 +24,8 @@ use Rattle.book_office_listings.specs.Verdicts.{here_of, IsGrantedBy, IsDeniedBy
 use Rattle.book_office_listings.specs.declared.messages.Denial.{Denial}
 use Rattle.book_office_listings.specs.declared.messages.Property.{Property}
 use Rattle.book_office_listings.specs.declared.messages.Property.TheVariants.{Acl, CurrentUserPrivilegeSet}
-use Rattle.book_machine.specs.Asked.{destination_in, destination_path, method_of}
+use Rattle.book_machine.specs.Asked.{destination_in, destination_path, method_of, parts_of}
 use Rattle.book_machine.specs.declared.asked.Asked.{Asked}
-use Rattle.book_machine.specs.declared.asked.Asked.TheVariants as asked
 use Rattle.book_machine.specs.declared.asked.Destination.{Destination}
 use Rattle.book_machine.specs.declared.messages.ReportKind.{ReportKind}
 use Rattle.book_machine.specs.declared.messages.ReportKind.TheVariants as report
@@ -54,33 +53,11 @@ is_book kind.Card = false
 
 -- whether a PROPFIND asks for a property
 abbrev pub asks_for : Property → Asked → Bool
-asks_for p asked.Get = false
-asks_for p asked.Head = false
-asks_for p asked.Options = false
-asks_for p (asked.Put text) = false
-asks_for p (asked.Propfind find) = is_asked p find.properties
-asks_for p (asked.Proppatch patched) = false
-asks_for p (asked.Acl list) = false
-asks_for p (asked.Copy to) = false
-asks_for p (asked.Move to) = false
-asks_for p asked.Delete = false
-asks_for p asked.Mkcol = false
-asks_for p (asked.Report which) = false
+asks_for p what = is_asked p (parts_of what).properties
 
 -- the report that is asked for
 abbrev pub report_in : Asked → Option ReportKind
-report_in asked.Get = None
-report_in asked.Head = None
-report_in asked.Options = None
-report_in (asked.Put text) = None
-report_in (asked.Propfind find) = None
-report_in (asked.Proppatch patched) = None
-report_in (asked.Acl list) = None
-report_in (asked.Copy to) = None
-report_in (asked.Move to) = None
-report_in asked.Delete = None
-report_in asked.Mkcol = None
-report_in (asked.Report which) = Some which
+report_in what = (parts_of what).report
 
 -- whether a REPORT asks which entry decides each leaf
 abbrev pub is_effective : ReportKind → Bool

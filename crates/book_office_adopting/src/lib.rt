@@ -2,8 +2,8 @@
 //!
 //! It stands on `book_policy_values` and the crates below. The crate above uses that `adopt` leaves exactly the Office that the
 //! definition says, or on an error the Office as it was; that `adoption` tells beforehand whether anything changes and how
-//! many books there are then; that `office_under` tells what becomes of all but the cards; that adopting twice is adopting
-//! once; and that all of it is told without cards, so that a store has to read none.
+//! many books there are then; that `office_under` tells what becomes of all but the cards, the changes and the epoch; that
+//! adopting twice is adopting once; and that all of it is told without cards, so that a store has to read none.
 //!
 //! Read `adopting` first, then `comparing`.
 #![tactic(auto)]

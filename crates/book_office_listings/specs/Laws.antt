@@ -3,6 +3,7 @@ use Rattle.std.specs.Prelude.{◌≡◌, ◌↔◌, ℕ, Bool, true, List, [], �
 use Rattle.std.specs.FinMap.{get}
 use Rattle.std.specs.FinSet.{contains}
 use Rattle.std.specs.List.Sorted.{IsStrictlySortedBy}
+use Rattle.book_rights.specs.Leaves.{only}
 use Rattle.book_rights.specs.Privileges.{is_read}
 use Rattle.book_rights.specs.declared.privileges.Leaf.{Leaf}
 use Rattle.book_lists.specs.Circles.{CircleOf, has_path}
@@ -18,6 +19,7 @@ use Rattle.book_office.specs.Levels.{lists_at}
 use Rattle.book_office.specs.Resources.{resource_at}
 use Rattle.book_office.specs.declared.nodes.EffectiveEntry.{EffectiveEntry}
 use Rattle.book_office_sync.specs.Copies.{can_read}
+use Rattle.book_office_sync.specs.Granted.{text_at}
 use Rattle.book_office_listings.specs.Listings.{AreResponses, IsWhole, asks_members, children_paths, subject_at}
 use Rattle.book_office_listings.specs.Rulings.{AreRulingsAt}
 use Rattle.book_office_listings.specs.Values.{granted_by, members_in}
@@ -83,6 +85,13 @@ abbrev pub ViewsHaveWhatMayBeRead : Type 0
 ViewsHaveWhatMayBeRead = (o : Office) (circle : CircleOf) (b c : List ℕ) (book : Book) (card : StoredCard)
     → get o.books b ≡ Some book → get book.cards c ≡ Some card
     → (can_read o circle b c card ≡ true) ↔ IsGrantedAt o circle (path.Card b c) is_read
+
+-- the text of a card is told by a leaf exactly where that leaf is granted at the card, by the entries in force there (RFC 3744,
+-- section 6): the report of names tells by `x-read-names` what the decision grants
+abbrev pub TextsAreToldWhereGranted : Type 0
+TextsAreToldWhereGranted = (o : Office) (circle : CircleOf) (b c : List ℕ) (leaf : Leaf) (book : Book) (card : StoredCard)
+    → get o.books b ≡ Some book → get book.cards c ≡ Some card
+    → (text_at o circle b leaf c ≡ Some card.text) ↔ IsGrantedAt o circle (path.Card b c) (only leaf)
 
 -- a resource that is there has a listing
 abbrev pub ListingsExist : Type 0

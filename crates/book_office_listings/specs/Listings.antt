@@ -1,6 +1,6 @@
 -- What PROPFIND tells (RFC 4918, section 9.1): a response for the resource, and at depth 1 for each of its children.
-use Rattle.std.specs.Prelude.{◌≡◌, ℕ, Bool, true, false, List, [], ◌∷◌, map, codes, if◌then◌else◌, Option, Some, option_map}
-use Rattle.std.specs.List.{AllZip, list_any}
+use Rattle.std.specs.Prelude.{◌≡◌, ℕ, Bool, true, List, [], ◌∷◌, map, codes, if◌then◌else◌, Option, Some, option_map}
+use Rattle.std.specs.List.{AllZip}
 use Rattle.std.specs.List.Sorted.{IsStrictlySortedBy}
 use Rattle.std.specs.Str.{bytes_eq}
 use Rattle.book_lists.specs.Circles.{CircleOf}
@@ -12,6 +12,7 @@ use Rattle.book_office.specs.Levels.{effective_at}
 use Rattle.book_office.specs.Resources.{Resource, resource_at, children_at}
 use Rattle.book_office.specs.declared.nodes.EffectiveEntry.{EffectiveEntry}
 use Rattle.book_office.specs.declared.nodes.Listed.{Listed}
+use Rattle.book_office_listings.specs.Properties.{is_asked}
 use Rattle.book_office_listings.specs.Values.{value_of}
 use Rattle.book_office_listings.specs.Verdicts.{IsGrantedBy, IsDeniedBy, here_of}
 use Rattle.book_office_listings.specs.declared.messages.Extent.{Extent}
@@ -56,30 +57,12 @@ subject_of o p r = record { here = here_of o p; kind = r.kind; label = r.label; 
 abbrev pub subject_at : Office → Path → Option Subject
 subject_at o p = option_map (subject_of o p) (resource_at o p)
 
-abbrev pub is_members : Property → Bool
-is_members property.DisplayName = false
-is_members property.ResourceType = false
-is_members property.Owner = false
-is_members property.Acl = false
-is_members property.CurrentUserPrivilegeSet = false
-is_members property.GroupMemberSet = true
-is_members property.SyncToken = false
-
-abbrev pub is_token : Property → Bool
-is_token property.DisplayName = false
-is_token property.ResourceType = false
-is_token property.Owner = false
-is_token property.Acl = false
-is_token property.CurrentUserPrivilegeSet = false
-is_token property.GroupMemberSet = false
-is_token property.SyncToken = true
-
 -- whether the memberships have to be read, and whether the epoch
 abbrev pub asks_members : List Property → Bool
-asks_members asked = list_any is_members asked
+asks_members asked = is_asked property.GroupMemberSet asked
 
 abbrev pub asks_token : List Property → Bool
-asks_token asked = list_any is_token asked
+asks_token asked = is_asked property.SyncToken asked
 
 -- what the properties ask of the whole Office: the direct memberships, each once, ordered by the group and then by the member;
 -- and the access epoch

@@ -1,6 +1,7 @@
 //! What the definitions imply.
 
-ghost use Rattle.book_office_listings.specs.Laws.{GrantedResourcesAreTold, ListingsExist, ListingsHaveOneAnswer, RulingsExist, UnreadResourcesStayUnseen, ViewsHaveWhatMayBeRead};
+ghost use Rattle.book_office_listings.specs.Laws.{GrantedResourcesAreTold, ListingsExist, ListingsHaveOneAnswer, RulingsExist};
+ghost use Rattle.book_office_listings.specs.Laws.{TextsAreToldWhereGranted, UnreadResourcesStayUnseen, ViewsHaveWhatMayBeRead};
 ghost use Rattle.book_office_listings.specs.Laws.{MembersToldAreDirect, PrivilegesToldAreGranted};
 ghost use Rattle.book_office_listings.specs.Rulings.{RulingsAreTheGrants};
 
@@ -32,9 +33,11 @@ pub fn rulings_are_the_grants()
     ensures { RulingsAreTheGrants }
 {}
 
-/// The view of a book has exactly the cards at which `read` is granted.
+/// The view of a book has exactly the cards at which `read` is granted, and a text is told by a leaf exactly where that
+/// leaf is granted at its card (RFC 3744, section 6).
 pub fn views_have_what_may_be_read()
-    ensures { ViewsHaveWhatMayBeRead }
+    ensures views { ViewsHaveWhatMayBeRead }
+    ensures texts { TextsAreToldWhereGranted }
 {}
 
 /// A resource that is there has a listing, and rulings.

@@ -8,13 +8,14 @@ ghost use Rattle.book_office.specs.Keeping.{Reads};
 ghost use Rattle.book_office.specs.Levels.{effective_of};
 ghost use Rattle.book_office.specs.Resources.{node_at};
 ghost use Rattle.book_office_listings.specs.Listings.{AreResponses, IsResponseTo, child_path, home_path};
-ghost use Rattle.book_office_listings.specs.Listings.{asks_members, asks_token, is_members, is_token};
+ghost use Rattle.book_office_listings.specs.Listings.{asks_members, asks_token};
 ghost use Rattle.book_office_listings.specs.Reading.{AreRead, IsChildResponse};
 ghost use Rattle.book_office_listings.specs.Reading.{child_level, child_subject, children_for, groups_told, node_subject, pairs_about};
 ghost use Rattle.book_office_listings.specs.Scanning.{IsVerdict};
 ghost use Rattle.book_office_listings.specs.Sifting.{IsSifted};
 ghost use Rattle.book_office_listings.specs.Verdicts.{principal_of};
 
+use crate::asked_properties::is_asked;
 use crate::denials::judge;
 use crate::memberships::OrderedPairs;
 use crate::messages::{Denial, Extent, Find, Property, Response};
@@ -235,58 +236,18 @@ fn responses(
     Ok(Items::from_vec(responses))
 }
 
-/// Whether this is `group-member-set`.
-fn is_members(property: Property) -> bool
-    ensures { result ≡ is_members property }
-{
-    match property {
-        Property::GroupMemberSet => true,
-        Property::DisplayName
-        | Property::ResourceType
-        | Property::Owner
-        | Property::Acl
-        | Property::CurrentUserPrivilegeSet
-        | Property::SyncToken => false,
-    }
-}
-
-/// Whether this is `sync-token`.
-fn is_token(property: Property) -> bool
-    ensures { result ≡ is_token property }
-{
-    match property {
-        Property::SyncToken => true,
-        Property::DisplayName
-        | Property::ResourceType
-        | Property::Owner
-        | Property::Acl
-        | Property::CurrentUserPrivilegeSet
-        | Property::GroupMemberSet => false,
-    }
-}
-
 /// Whether the memberships have to be read.
 fn asks_members(asked: &[Property]) -> bool
     ensures { result ≡ asks_members asked.now }
 {
-    for property in asked {
-        if is_members(*property) {
-            return true;
-        }
-    }
-    false
+    is_asked(Property::GroupMemberSet, asked)
 }
 
 /// Whether the epoch has to be read.
 fn asks_token(asked: &[Property]) -> bool
     ensures { result ≡ asks_token asked.now }
 {
-    for property in asked {
-        if is_token(*property) {
-            return true;
-        }
-    }
-    false
+    is_asked(Property::SyncToken, asked)
 }
 
 /// The children, where they are asked for.

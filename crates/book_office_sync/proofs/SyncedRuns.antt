@@ -1,4 +1,6 @@
 -- A synced copy is the readable book, in any run of steps.
+use Rattle.std.proofs.Common.{◌<◌}
+use Rattle.book_lists.specs.Memberships.{Memberships}
 use Rattle.book_office_sync.proofs.Common.{◌≡◌, ℕ, ◌≤◌, zero, suc, inl, inr, true, false, ◌&&◌, List, [], ◌∷◌, drop, Option, Some, None, option_and_then, refl, sym, ap, ◌∙◌, subst, arith, ◌==◌, if◌then◌else◌, get, nat_tests, CircleOf, NamesTo, Book, Office, Right, Kept, Later, sync, is_valid, report, start_of, patch, Seen, Token}
 use Rattle.std.proofs.Common.{nat_le}
 use Rattle.std.specs.FinMap.{empty}
@@ -7,7 +9,7 @@ use Rattle.std.proofs.lemmas.Bool.{eqb-true, and_parts}
 use Rattle.std.proofs.lemmas.Option.{same_Some}
 use Rattle.book_office.specs.Sound.{IsSound}
 use Rattle.book_office_sync.specs.Copies.{IsView, sync_of}
-use Rattle.book_office_sync.specs.SyncedRuns.{CopySteps, AreSteps, still_steps, Finds, AreCalls, IsReportAt, CopiesFollow, CopiesBegin, TokensEnd}
+use Rattle.book_office_sync.specs.SyncedRuns.{CopySteps, Finds, IsReportAt}
 use Rattle.book_office_sync.specs.declared.messages.Report.{Report}
 use Rattle.book_office_values.proofs.OneName.{some_apart}
 use Rattle.book_office_sync.proofs.CopiesKept.{later_refl, later_trans}
@@ -64,6 +66,44 @@ module _ (p q : Office) (circle : CircleOf) (b : List ℕ) (x y : Book) (token :
       follows p q circle first.token x y most later (same_epoch valid) there now
       (token_within p b x there (sound.books b x there).1 circle token limit (start_within p b x token asked))
       (sound'.books b y now).1
+
+-- each step leads on, and a report tells the Office that it finds
+pub record AreSteps (steps : CopySteps) : Type 0 where
+  pub leads_on : (o p : Office) (call : steps.Call) (reply : steps.Reply) → IsSound o → steps.IsCall call → steps.Serves o call reply p → IsSound p × Later o p
+  pub one_circle : (pairs : Memberships) (name : Option (List ℕ)) (c d : CircleOf) → steps.IsCircle pairs name c → steps.IsCircle pairs name d → c ≡ d
+  pub reported : (o p : Office) (call : steps.Call) (reply : steps.Reply) (b : List ℕ) (token : Option Token) (limit : Option ℕ) (report : Report)
+      → steps.Serves o call reply p → steps.IsReported call reply b token limit report
+      → (circle : CircleOf) × steps.IsCircle o.pairs (steps.caller call) circle × (sync o circle b token limit ≡ Some report)
+
+module _ (steps : CopySteps) where
+  abbrev pub AreCalls : List steps.Call → Type 0
+  AreCalls [] = Unit {0}
+  AreCalls (call ∷ calls) = steps.IsCall call × AreCalls calls
+
+  -- a report by the token of an earlier one, to the same caller: what was right by the earlier is right by the later, and after one that isn't truncated it is the View
+  abbrev pub CopiesFollow : Type 0
+  CopiesFollow = (o p q : Office) (calls : List steps.Call) (replies : List steps.Reply) (i k : ℕ) (name : Option (List ℕ)) (b : List ℕ)
+      (token : Option Token) (limit most : Option ℕ) (first second : Report)
+      → IsSound o → AreCalls calls → Finds steps o calls replies i p → Finds steps p (drop i calls) (drop i replies) (suc k) q
+      → IsReportAt steps p calls replies i name b token limit first → IsReportAt steps q (drop i calls) (drop i replies) (suc k) name b (Some first.token) most second
+      → (circle : CircleOf) × steps.IsCircle p.pairs name circle × steps.IsCircle q.pairs name circle
+      × ((copy : NamesTo Seen) → Right copy p circle b first.token.number
+      → Right (patch copy second.items) q circle b second.token.number × (second.truncated ≡ false → IsView (patch copy second.items) q circle b))
+
+  -- an initial report: the empty copy patched by it
+  abbrev pub CopiesBegin : Type 0
+  CopiesBegin = (o p : Office) (calls : List steps.Call) (replies : List steps.Reply) (i : ℕ) (name : Option (List ℕ)) (b : List ℕ) (limit : Option ℕ) (report : Report)
+      → IsSound o → AreCalls calls → Finds steps o calls replies i p → IsReportAt steps p calls replies i name b None limit report
+      → (circle : CircleOf) × steps.IsCircle p.pairs name circle
+      × Right (patch empty report.items) p circle b report.token.number × (report.truncated ≡ false → IsView (patch empty report.items) p circle b)
+
+  -- a token of an earlier report names no later epoch: where access changed since, no report is told by it
+  abbrev pub TokensEnd : Type 0
+  TokensEnd = (o p q : Office) (calls : List steps.Call) (replies : List steps.Reply) (i k : ℕ) (name other : Option (List ℕ)) (b : List ℕ)
+      (token : Option Token) (limit most : Option ℕ) (first second : Report)
+      → IsSound o → AreCalls calls → Finds steps o calls replies i p → Finds steps p (drop i calls) (drop i replies) (suc k) q
+      → IsReportAt steps p calls replies i name b token limit first → p.epoch < q.epoch
+      → IsReportAt steps q (drop i calls) (drop i replies) (suc k) other b (Some first.token) most second → ⊥
 
 module _ (steps : CopySteps) (are : AreSteps steps) where
   -- a run leads to a later Office, and a sound one
@@ -135,10 +175,3 @@ module _ (steps : CopySteps) (are : AreSteps steps) where
       let now : first.token.epoch ≡ q.epoch = valid_epoch q b v.book first.token v.valid in
       let was : first.token.epoch ≡ p.epoch = ap (λ (f : Report). f.token.epoch) t.is in
       absurd (omega arith)
-
-pub still_are : AreSteps still_steps
-still_are = record {
-  leads_on = λ o p c r sound fine serves. serves;
-  one_circle = λ pairs name c d x y. x ∙ sym y;
-  reported = λ o p c r b token limit report serves none. absurd none;
-}

@@ -98,10 +98,6 @@ same_leaves-decides f g = (
 abbrev pub coded_set : Coded (Leaf → Bool)
 coded_set = code_by Nine (coded× coded_bool (coded× coded_bool (coded× coded_bool (coded× coded_bool (coded× coded_bool (coded× coded_bool (coded× coded_bool (coded× coded_bool coded_bool)))))))) nine_of set_by_leaf set_of-nine_of
 
--- how many leaves there are
-abbrev pub leaf_count : ℕ
-leaf_count = 9
-
 -- the place of a leaf in the order of the leaves, from 0
 abbrev pub place_of : Leaf → ℕ
 place_of ReadTexts = 0
@@ -126,8 +122,12 @@ union f g leaf = f leaf || g leaf
 abbrev pub difference : (Leaf → Bool) → (Leaf → Bool) → Leaf → Bool
 difference f g leaf = f leaf && not (g leaf)
 
+-- exactly this leaf
+abbrev pub only : Leaf → Leaf → Bool
+only one leaf = nat_eq (place_of leaf) (place_of one)
+
 abbrev pub with_leaf : (Leaf → Bool) → Leaf → Leaf → Bool
-with_leaf f added leaf = f leaf || nat_eq (place_of leaf) (place_of added)
+with_leaf f added leaf = f leaf || only added leaf
 
 -- some leaf is in both sets
 abbrev pub Meets : (Leaf → Bool) → (Leaf → Bool) → Type 0

@@ -1,6 +1,6 @@
 -- What each method needs (RFC 3744, appendix B). That COPY over a mapped destination needs both leaves there, that
 -- DELETE of a book needs `unbind` twice, and the reports effective and names are own profile.
-use Rattle.std.specs.Prelude.{Bool, true, false, ◌||◌, ◌&&◌, List, [], ◌∷◌, Option, Some, None, nat_eq}
+use Rattle.std.specs.Prelude.{Bool, true, false, ◌||◌, ◌&&◌, List, [], ◌∷◌, Option, Some, None}
 use Rattle.book_rights.specs.declared.privileges.Leaf.{Leaf}
 use Rattle.book_rights.specs.declared.privileges.Leaf.TheVariants.{WriteContent, WriteProperties, Bind, Unbind, ReadAcl, WriteAcl, ReadCurrentUserPrivilegeSet, ReadNames}
 use Rattle.book_rights.specs.declared.methods.Method.{Method}
@@ -10,12 +10,8 @@ use Rattle.book_rights.specs.declared.places.Need.{Need}
 use Rattle.book_rights.specs.declared.places.Needs.{Needs}
 use Rattle.book_rights.specs.declared.places.Place.{Place}
 use Rattle.book_rights.specs.declared.places.Place.TheVariants.{Target, Parent, Destination, DestinationParent}
-use Rattle.book_rights.specs.Leaves.{place_of}
+use Rattle.book_rights.specs.Leaves.{only}
 use Rattle.book_rights.specs.Privileges.{is_read}
-
--- exactly this leaf
-abbrev pub only : Leaf → Leaf → Bool
-only one leaf = nat_eq (place_of leaf) (place_of one)
 
 -- these leaves at this place
 abbrev pub at : Place → (Leaf → Bool) → Need

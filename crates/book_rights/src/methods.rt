@@ -2,7 +2,8 @@
 
 ghost use Rattle.std.specs.Prelude.{◌≡◌, Some, None};
 ghost use Rattle.book_rights.specs.declared.places.Place.TheVariants.{Target};
-ghost use Rattle.book_rights.specs.Needs.{at, only, needs_of, need_list, read_and};
+ghost use Rattle.book_rights.specs.Leaves.{only};
+ghost use Rattle.book_rights.specs.Needs.{at, needs_of, need_list, read_and};
 ghost use Rattle.book_rights.specs.Privileges.{is_read};
 
 use crate::leaf_sets::LeafSet;

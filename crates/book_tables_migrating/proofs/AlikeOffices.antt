@@ -20,7 +20,7 @@ use Rattle.book_tables_renewing.specs.Renewal.{first_rows_of}
 use Rattle.book_tables.specs.Rows.{resource_of, row_at}
 use Rattle.book_lists.specs.Widening.{widened_entry}
 use Rattle.book_tables_migrating.specs.Migrating.{StandsFirst, WidenedOfficesDecideAlike}
-use Rattle.book_tables_migrating.proofs.MappedLists.{in_force_mapped}
+use Rattle.book_tables_migrating.proofs.MappedLists.{effective_mapped, in_force_mapped}
 use Rattle.book_tables_migrating.proofs.MappedRows.{list_first}
 
 abbrev AreOfFirst : List Entry → Type 0
@@ -66,4 +66,8 @@ module _ (db : Database) (o : Office) (st : StandsFirst db o) where
   in_force_first p = append_first (lists_in true (map (level_at o) (levels p))) (lists_in false (map (level_at o) (levels p))) (levels_first true (levels p)) (levels_first false (levels p))
 
 pub offices_alike : WidenedOfficesDecideAlike
-offices_alike db o st p circle here need first = (in_force_mapped widened_entry o p, decided_alike (in_force_at o p) circle here need (in_force_first db o st p) first)
+offices_alike db o st p circle here need first = (
+  in_force_mapped widened_entry o p,
+  effective_mapped widened_entry o p,
+  decided_alike (in_force_at o p) circle here need (in_force_first db o st p) first,
+)

@@ -11,6 +11,8 @@ use Rattle.book_lists.specs.declared.entries.Here.{Here}
 use Rattle.book_office_values.specs.declared.offices.Office.{Office}
 use Rattle.book_office_values.specs.declared.paths.Path.{Path}
 use Rattle.book_office.specs.InForce.{in_force_at}
+use Rattle.book_office.specs.Levels.{effective_at}
+use Rattle.book_office.specs.declared.nodes.EffectiveEntry.{EffectiveEntry}
 use Rattle.book_office.specs.Sound.{IsSound}
 use Rattle.book_tables_rows.specs.Rows.{in_store}
 use Rattle.book_tables_rows.specs.Schema.{ace_tree}
@@ -48,10 +50,15 @@ StandsForNoFirst db = (o : Office) → ¬ (StandsFirst db o)
 -- ---- the law
 
 -- of an Office that tables of version 1 stand for, each decision on a need of the eight leaves at a path is the one on the widened
--- need in the widened Office: allowed where it was, and denied by the same entry under the same name
+-- need in the widened Office: allowed where it was, and denied by the same entry, which stands at the same path, under the same name
+abbrev pub widened_there : EffectiveEntry → EffectiveEntry
+widened_there e = record e { entry = widened_entry e.entry }
+
 abbrev pub WidenedOfficesDecideAlike : Type 0
 WidenedOfficesDecideAlike = (db : Database) (o : Office) → StandsFirst db o → (p : Path) → (circle : CircleOf) (here : Here) (need : Leaf → Bool) → IsOfFirst need
-    → (in_force_at (widen o) p ≡ map widened_entry (in_force_at o p)) × IsDecidedAlike (in_force_at o p) circle here need
+    → (in_force_at (widen o) p ≡ map widened_entry (in_force_at o p))
+    × (effective_at (widen o) p ≡ map widened_there (effective_at o p))
+    × IsDecidedAlike (in_force_at o p) circle here need
 
 -- ---- a connection
 

@@ -13,7 +13,6 @@ use book_office::{
 };
 use book_office_sync::{
     Item, Limit, Replica, Token, apply_report, edits_lead_on, sync_report,
-    synced_copies_are_the_readable_book,
 };
 use book_rights::{Leaf, Privilege};
 use std::alloc::Global;
@@ -306,7 +305,6 @@ const COPY_OF_ANN: &[(&str, &str)] = &[
 fn a_replica_is_what_ann_may_read(rt: HostRuntime) {
     follow(&rt, rt.alloc(), COPY_OF_ANN);
     edits_lead_on();
-    synced_copies_are_the_readable_book();
 }
 
 /// The initial report tells no removed name; the report after the number 0 tells them.
