@@ -3,6 +3,8 @@
 #   make try     builds the program without any proof, build/try/book_desk, and runs the tour of the README with it
 #   make build   proves the program and links it: build/book_desk
 #   make install copies the proved program, the manual page, the unit and the examples (DESTDIR, PREFIX)
+#   make package makes packages of Debian 12 of that program, or of that of make try: build/packages
+#   make try-package makes them, installs them in a new root, uses them there, and removes them (root, debootstrap)
 #   make demo    builds it, and runs it on texts and cards of examples/, and the tour
 #   make tour    builds it, and runs all that the documents show, and compares
 #   make streams builds it, and compares its replies to the streams of examples/ byte for byte
@@ -16,15 +18,18 @@
 #   make figures builds the program, and prints what its requests over a store in a file take, and asks for what takes most
 #                memory under an address space of 512 MB
 #   make many    builds the program, and serves 10,000 connections, 100 at once, and each worked stream cut at each byte, four
-#                at once; ends it by TERM at 100 moments; asks it through nginx
+#                at once; ends it by TERM at 100 moments; asks it through nginx; prints what an honest client waits for beside
+#                clients that take places or turns
 #   make clients tests the gateway with clients as they are: vdirsyncer, khard, curl, nginx, Chromium (gateway/packages.txt)
+#   make first-hour plays the first hour of the README from a clean clone, with the program of make try, and compares
 #   make gateway-demo runs the server and the gateway with two persons, for at most an hour
 #   make clean   removes what the others made
 #
 # They need rt, the command of the Rattle toolchain: on PATH, or in the kit whose folder RATTLE_KIT names; and python3, which
 # rt needs too.
 
-.PHONY: try build install demo tour streams test quick wrong turned faults bench figures many clients gateway-demo clean
+.PHONY: try build install demo tour streams test quick wrong turned faults bench figures many clients gateway-demo \
+	package try-package first-hour clean
 
 try:
 	@tools/try
@@ -35,6 +40,12 @@ build:
 
 install:
 	@tools/install
+
+package:
+	@tools/package
+
+try-package: package
+	@tools/try-package
 
 demo: build
 	@tools/demo build/book_desk
@@ -73,12 +84,16 @@ many: build
 	@tools/cuts build/book_desk
 	@tools/terminated build/book_desk
 	@tools/proxied build/book_desk
+	@tools/crowded build/book_desk
 
 clients:
 	@gateway/clients
 
 gateway-demo:
 	@gateway/demo
+
+first-hour:
+	@tools/first-hour
 
 clean:
 	rm -rf build crates/*/out
