@@ -2,17 +2,20 @@
 from __future__ import annotations
 
 import json
-from collections.abc import Mapping
+from collections.abc import AsyncIterator, Mapping
 from dataclasses import dataclass, field
 from typing import Any
 
 from . import davxml
 from .refusals import Refusal
 
+XML_TYPE = "application/xml; charset=utf-8"
+
 
 @dataclass(frozen=True)
 class Call:
-    """A request. `target` is as it was sent, `fields` has names without case, and `authorities` are the gateway's hosts."""
+    """A request. `target` is as it was sent, `fields` has names without case, and `authorities` are
+    the gateway's hosts."""
 
     method: str
     target: str
@@ -30,28 +33,31 @@ class Call:
 
 @dataclass
 class Reply:
-    """What is answered."""
+    """What is answered: a body, and after it the pieces that follow as they are made."""
 
     status: int
     body: bytes = b""
     fields: dict[str, str] = field(default_factory=dict)
+    pieces: AsyncIterator[bytes] | None = None
 
 
 def json_reply(value: Any, status: int = 200) -> Reply:
     """A reply in JSON."""
-    body = json.dumps(value, ensure_ascii=False, separators=(",", ":"), sort_keys=True).encode("utf-8", "replace")
-    return Reply(status, body, {"Content-Type": "application/json"})
+    text = json.dumps(value, ensure_ascii=False, separators=(",", ":"), sort_keys=True)
+    return Reply(status, text.encode("utf-8", "replace"), {"Content-Type": "application/json"})
 
 
 def xml_reply(node: davxml.Node, status: int = 207) -> Reply:
     """A reply in XML."""
-    return Reply(status, davxml.written(node), {"Content-Type": "application/xml; charset=utf-8"})
+    return Reply(status, davxml.written(node), {"Content-Type": XML_TYPE})
 
 
 def refused(refusal: Refusal, as_xml: bool) -> Reply:
     """The reply to a request that is refused."""
-    reply = xml_reply(davxml.error(refusal), refusal.status) if as_xml else Reply(
-        refusal.status, refusal.json(), {"Content-Type": "application/json"}
-    )
+    if as_xml:
+        reply = xml_reply(davxml.error(refusal), refusal.status)
+    else:
+        fields = {"Content-Type": "application/json"}
+        reply = Reply(refusal.status, refusal.json(), fields)
     reply.fields |= refusal.fields
     return reply

@@ -1,7 +1,8 @@
 """vCard 3.0 (RFC 2426) to 4.0 (RFC 6350, appendix A) and back.
 
-What one version says and the other has no property for goes under a name that begins with X-, and comes back under its
-own. A line that is no content line goes as it is, so that the server names its fault.
+What one version says and the other has no property for goes under a name that begins with X-, and
+comes back under its own. A line that is no content line goes as it is, so that the server names its
+fault.
 """
 from __future__ import annotations
 
@@ -10,9 +11,13 @@ from collections.abc import Iterable
 from dataclasses import dataclass
 
 from . import dates
-from .vcard import BadLine, Line, decoded_parameter, encoded_parameter, escaped, folded, parsed, unescaped, unfolded, version_of
+from .vcard import (
+    BadLine, Line, decoded_parameter, encoded_parameter, escaped, folded, parsed, unescaped,
+    unfolded, version_of,
+)
 
-# What 4.0 has and 3.0 lacks, with the name that it has in 3.0. Kind and members have the names that phones know.
+# What 4.0 has and 3.0 lacks, with the name that it has in 3.0. Kind and members have the names that
+# phones know.
 NEW = {
     "KIND": "X-ADDRESSBOOKSERVER-KIND",
     "MEMBER": "X-ADDRESSBOOKSERVER-MEMBER",
@@ -31,14 +36,33 @@ GONE = {"CLASS", "MAILER", "NAME", "LABEL", "AGENT", "SORT-STRING"}
 # Values of 4.0 that 3.0 has no form for, of properties that both have.
 ODD = {"X-BDAY": "BDAY", "X-GEO": "GEO", "X-TZ": "TZ"}
 BINARY = {"PHOTO": "image", "LOGO": "image", "SOUND": "audio", "KEY": "application"}
-MEDIA = {"PGP": "application/pgp-keys", "X509": "application/pkix-cert", "BASIC": "audio/basic", "JPG": "image/jpeg"}
-MEDIA_NAMES = {"application/pgp-keys": "PGP", "application/pkix-cert": "X509", "audio/basic": "BASIC"}
-BEGINNINGS = {"/9j/": "image/jpeg", "iVBOR": "image/png", "R0lG": "image/gif", "UklG": "image/webp"}
-DATA = re.compile(r"data:([A-Za-z0-9.+-]+/[A-Za-z0-9.+-]+)?((?:;[A-Za-z0-9.+-]+=[^;,]*)*);base64,(.*)", re.DOTALL)
+MEDIA = {
+    "PGP": "application/pgp-keys", "X509": "application/pkix-cert", "BASIC": "audio/basic",
+    "JPG": "image/jpeg",
+}
+MEDIA_NAMES = {
+    "application/pgp-keys": "PGP", "application/pkix-cert": "X509", "audio/basic": "BASIC",
+}
+BEGINNINGS = {
+    "/9j/": "image/jpeg", "iVBOR": "image/png", "R0lG": "image/gif", "UklG": "image/webp",
+}
+DATA = re.compile(
+    r"data:([A-Za-z0-9.+-]+/[A-Za-z0-9.+-]+)?((?:;[A-Za-z0-9.+-]+=[^;,]*)*);base64,(.*)", re.DOTALL
+)
 URI = re.compile(r"[A-Za-z][A-Za-z0-9+.-]*:\S+")
 GENDER = re.compile(r"[MFONU]?(?:;.*)?")
 MADE = "X-MADE-OF"
 YEAR = "X-APPLE-OMIT-YEAR"
+# Types and kinds of values that 4.0 has taken away.
+POST = {"dom", "intl", "postal", "parcel"}
+DROPPED = {"ADR": POST, "LABEL": POST, "EMAIL": {"internet"}}
+OLD_KINDS = ("ptext", "phone-number", "binary")
+
+# A line of 4.0 that says the same in 3.0 as it stands: most lines of most cards.
+SAME = re.compile(
+    r"(FN|N|ORG|TITLE|ROLE|NOTE|NICKNAME|CATEGORIES|EMAIL|TEL|ADR|URL|UID)(?:;TYPE=[a-z]+)*:"
+    r"[^\x00-\x08\x0a-\x1f\x7f]*\Z"
+)
 
 
 @dataclass(frozen=True)
@@ -64,36 +88,51 @@ def to_four(text: str) -> Converted | None:
     lines = [line_or_text(line, number) for number, line in enumerate(source, 1)]
     end = next((at for at, line in enumerate(lines) if is_end(line)), len(lines))
     body = [line for line in lines[1:end] if line != ""]
-    version = next(line for line in body if isinstance(line, Line) and line.is_named("VERSION"))
     said = [line for line in body if isinstance(line, Line)]
+    version = next((line for line in said if line.is_named("VERSION")), None)
+    if version is None:
+        return None
     kept = [line for line in body if line is not version]
     made = four_of([line for line in kept if isinstance(line, Line)], said)
     merged = in_order(kept, made)
     result: list[tuple[str, int]] = [(source[0], 1), ("VERSION:4.0", version.number)]
     numbers = {id(line): number for number, line in enumerate(lines, 1)}
     for line in merged:
-        result.append((line.text(), line.number) if isinstance(line, Line) else (str(line), numbers[id(line)]))
+        number = line.number if isinstance(line, Line) else numbers[id(line)]
+        result.append((line.text() if isinstance(line, Line) else str(line), number))
     result += [(source[at], at + 1) for at in range(end, len(source))]
-    return Converted("".join(folded(line) for line, _ in result), [number for _, number in result], len(source))
+    made = "".join(folded(line) for line, _ in result)
+    return Converted(made, [number for _, number in result], len(source))
 
 
 def to_three(text: str) -> str:
     """The card of 4.0 as one of 3.0. A text that is no card of 4.0 stays as it is."""
     if version_of(text) != "4.0":
         return text
-    lines = [line_or_text(line, number) for number, line in enumerate(unfolded(text), 1) if line]
-    if any(not isinstance(line, Line) for line in lines):
-        return text
-    said = [line for line in lines if isinstance(line, Line)]
-    result = ["BEGIN:VCARD", "VERSION:3.0"]
-    inner = [line for line in said if not line.is_named("BEGIN", "VERSION", "END")]
-    for line in inner:
-        result += [made.text() for made in three_of(line)]
-    if not any(line.is_named("N") for line in inner):
-        name = next((line for line in inner if line.is_named("FN")), None)
-        value = escaped(unescaped(name.value)) if name else ""
-        result.append(Line("N", f"{value};;;;", params=[(MADE, ["FN"])]).text())
+    result, names = ["BEGIN:VCARD", "VERSION:3.0"], set()
+    for number, source in enumerate(unfolded(text), 1):
+        same = SAME.match(source)
+        if same is not None:
+            names.add(same[1])
+            result.append(source)
+            continue
+        line = line_or_text(source, number) if source else None
+        if isinstance(line, Text):
+            return text
+        if line is not None and not line.is_named("BEGIN", "VERSION", "END"):
+            names.add(line.name.upper())
+            result += [made.text() for made in three_of(line)]
+    if "N" not in names:
+        result.append(name_made_of(unfolded(text)))
     return "".join(folded(line) for line in [*result, "END:VCARD"])
+
+
+def name_made_of(lines: list[str]) -> str:
+    """The N of a card that has none, made of its FN."""
+    said = (line for line in map(line_or_text, lines, range(1, len(lines) + 1)) if line)
+    name = next((line for line in said if isinstance(line, Line) and line.is_named("FN")), None)
+    value = escaped(unescaped(name.value)) if name else ""
+    return Line("N", f"{value};;;;", params=[(MADE, ["FN"])]).text()
 
 
 class Text(str):
@@ -130,15 +169,18 @@ def in_order(kept: list[Line | Text], made: dict[int, list[Line]]) -> list[Line 
 def four_of(lines: list[Line], said: list[Line]) -> dict[int, list[Line]]:
     """For the number of each line of 3.0 the lines of 4.0 that say the same."""
     names = {line.name.upper() for line in said}
-    kind = next((line.value.strip().lower() for line in said if line.is_named("KIND", NEW["KIND"])), "")
+    kinds = [line.value for line in said if line.is_named("KIND", NEW["KIND"])]
+    kind = kinds[0].strip().lower() if kinds else ""
     made = {line.number: [four_of_line(line, names, kind)] for line in lines}
     formatted = next((line for line in lines if line.is_named("FN")), None)
     for line in lines:
-        if line.is_named("PROFILE") and line.value.strip().upper() == "VCARD" or is_made(line, formatted):
+        is_profile = line.is_named("PROFILE") and line.value.strip().upper() == "VCARD"
+        if is_profile or is_made(line, formatted):
             made[line.number] = []
     present = [line for several in made.values() for line in several]
     for line in lines:
-        if line.is_named("LABEL") and moved_label(line, present) or line.is_named("SORT-STRING") and moved_sort(line, present):
+        moved = line.is_named("LABEL") and moved_label(line, present)
+        if moved or line.is_named("SORT-STRING") and moved_sort(line, present):
             made[line.number] = []
     return made
 
@@ -190,21 +232,20 @@ def may_rename(line: Line, name: str, names: set[str], kind: str) -> bool:
 
 
 def types_to_four(line: Line) -> list[tuple[str, list[str]]]:
-    """The parameters of a line of 4.0: PREF for the type pref, and no types and parameters that 4.0 has taken away."""
-    dropped = {"ADR": {"dom", "intl", "postal", "parcel"}, "LABEL": {"dom", "intl", "postal", "parcel"}, "EMAIL": {"internet"}}
-    away = dropped.get(line.name.upper(), set())
+    """The parameters of a line of 4.0: PREF for the type pref, and nothing that 4.0 took away."""
+    away = DROPPED.get(line.name.upper(), set()) | {"pref"}
     params: list[tuple[str, list[str]]] = []
     preferred = False
     for name, values in line.params:
         upper = name.upper()
         if upper == "TYPE":
             preferred = preferred or any(value.lower() == "pref" for value in values)
-            left = [value for value in values if value.lower() != "pref" and value.lower() not in away]
+            left = [value for value in values if value.lower() not in away]
             if left:
                 params.append((name, left))
         elif upper == "X-PREF":
             params.append(("PREF", values))
-        elif upper == "VALUE" and values and values[0].lower() in ("ptext", "phone-number", "binary"):
+        elif upper == "VALUE" and values and values[0].lower() in OLD_KINDS:
             continue
         elif upper not in ("CHARSET", "CONTEXT", MADE):
             params.append((name, values))
@@ -214,17 +255,20 @@ def types_to_four(line: Line) -> list[tuple[str, list[str]]]:
 
 
 def binary_to_four(line: Line, made: Line, family: str) -> Line:
-    """A photo, logo, sound or key: in line, it becomes a URI with data; else its type becomes MEDIATYPE."""
-    media = [media_of(value, family) for value in line.values_of("TYPE") if value.lower() not in ("pref", "home", "work")]
+    """A photo, logo, sound or key.
+
+    In line, it becomes a URI with data; else its type becomes MEDIATYPE.
+    """
+    types = line.values_of("TYPE")
+    media = [media_of(one, family) for one in types if one.lower() not in ("pref", "home", "work")]
     encoding = [value.lower() for value in line.values_of("ENCODING")]
-    places = [value for value in line.values_of("TYPE") if value.lower() in ("home", "work")]
-    made.params = [param for param in made.params if param[0].upper() not in ("TYPE", "ENCODING", "VALUE")]
+    places = [value for value in types if value.lower() in ("home", "work")]
+    made.params = made.without("TYPE", "ENCODING", "VALUE")
     if places:
         made.params.append(("TYPE", places))
     if "b" in encoding or "base64" in encoding:
         data = re.sub(r"\s", "", line.value)
-        sort = media[0] if media else next((told for start, told in BEGINNINGS.items() if data.startswith(start)), "application/octet-stream")
-        made.value = f"data:{sort};base64,{data}"
+        made.value = f"data:{media[0] if media else media_in(data)};base64,{data}"
     elif line.value_type() in ("uri", "url") or URI.fullmatch(line.value):
         if media:
             made.params.append(("MEDIATYPE", media[:1]))
@@ -232,6 +276,12 @@ def binary_to_four(line: Line, made: Line, family: str) -> Line:
         made.params.append(("VALUE", ["text"]))
         made.params += [("TYPE", line.values_of("TYPE"))] if media else []
     return made
+
+
+def media_in(data: str) -> str:
+    """The media type of data in base64, by how it begins."""
+    found = (told for start, told in BEGINNINGS.items() if data.startswith(start))
+    return next(found, "application/octet-stream")
 
 
 def media_of(word: str, family: str) -> str:
@@ -245,10 +295,11 @@ def date_to_four(line: Line, made: Line) -> Line:
     year = line.values_of(YEAR)
     made.params = made.without("VALUE", YEAR)
     if value is None or line.value_type() == "text":
-        partial = line.is_named("REV") or (dates.is_partial(line.value) and line.value_type() != "text")
-        made.params += [] if partial else [("VALUE", ["text"])]
+        partial = dates.is_partial(line.value) and line.value_type() != "text"
+        made.params += [] if partial or line.is_named("REV") else [("VALUE", ["text"])]
         return made
-    made.value = f"--{value[4:]}" if year and value.startswith(year[0]) and len(value) == 8 else value
+    left_out = year and value.startswith(year[0]) and len(value) == 8
+    made.value = f"--{value[4:]}" if left_out else value
     return made
 
 
@@ -278,9 +329,13 @@ def types_of(line: Line) -> set[str]:
 
 
 def moved_label(label: Line, present: list[Line]) -> bool:
-    """Puts a label to the first address of the same types and group that has none; whether there was one."""
+    """Puts a label to the first address of the same types and group that has none.
+
+    It tells whether there was one.
+    """
     for line in present:
-        if line.is_named("ADR") and line.group == label.group and types_of(line) == types_of(label) and not line.values_of("LABEL"):
+        is_free = line.is_named("ADR") and not line.values_of("LABEL")
+        if is_free and line.group == label.group and types_of(line) == types_of(label):
             line.params.append(("LABEL", [encoded_parameter(unescaped(label.value))]))
             return True
     return False
@@ -357,19 +412,27 @@ def binary_to_three(line: Line, made: Line) -> Line:
     made.params = made.without("MEDIATYPE", "VALUE")
     if found:
         media = (found[1] or "application/octet-stream").lower()
-        made.params += [("ENCODING", ["b"]), ("TYPE", [MEDIA_NAMES.get(media, media.partition("/")[2].upper())])]
+        made.params += [("ENCODING", ["b"]), ("TYPE", [type_of(media)])]
         made.value = found[3]
     elif line.value_type() == "text":
         made.params.append(("VALUE", ["text"]))
     else:
         media_types = [value.lower() for value in line.values_of("MEDIATYPE")]
         made.params.append(("VALUE", ["uri"]))
-        made.params += [("TYPE", [MEDIA_NAMES.get(media, media.partition("/")[2].upper())]) for media in media_types]
+        made.params += [("TYPE", [type_of(media)]) for media in media_types]
     return made
 
 
+def type_of(media: str) -> str:
+    """The TYPE of 3.0 that stands for a media type."""
+    return MEDIA_NAMES.get(media, media.partition("/")[2].upper())
+
+
 def date_to_three(line: Line, made: Line, name: str) -> Line:
-    """A date with its parts apart. One without a year has the one by which phones know it; others get an X- name."""
+    """A date with its parts apart.
+
+    One without a year has the one by which phones know it; others get an X- name.
+    """
     three, four = (NEW.get(name, name), f"X-{name}")
     value = dates.to_three(line.value) if line.value_type() != "text" else None
     day = dates.without_year(line.value) if line.value_type() != "text" else None

@@ -1,18 +1,28 @@
-"""Dates and times of vCard: 3.0 has those of ISO 8601 with hyphens and colons, 4.0 those without (RFC 6350, section 4.3)."""
+"""Dates and times of vCard.
+
+3.0 has those of ISO 8601 with hyphens and colons, 4.0 those without (RFC 6350, section 4.3).
+"""
 from __future__ import annotations
 
 import re
 
 ZONE = r"(Z|[+-]\d{2}(?::?\d{2})?)?"
-THREE = re.compile(rf"(\d{{4}})-?(\d{{2}})-?(\d{{2}})(?:T(\d{{2}}):?(\d{{2}})(?::?(\d{{2}})(?:[.,]\d+)?)?{ZONE})?", re.IGNORECASE)
-FOUR = re.compile(rf"(\d{{4}})(\d{{2}})(\d{{2}})(?:T(\d{{2}})(\d{{2}})(\d{{2}}){ZONE})?", re.IGNORECASE)
+TIME_OF_THREE = rf"T(\d{{2}}):?(\d{{2}})(?::?(\d{{2}})(?:[.,]\d+)?)?{ZONE}"
+TIME_OF_FOUR = rf"T(\d{{2}})(\d{{2}})(\d{{2}}){ZONE}"
+THREE = re.compile(rf"(\d{{4}})-?(\d{{2}})-?(\d{{2}})(?:{TIME_OF_THREE})?", re.IGNORECASE)
+FOUR = re.compile(rf"(\d{{4}})(\d{{2}})(\d{{2}})(?:{TIME_OF_FOUR})?", re.IGNORECASE)
 NO_YEAR = re.compile(r"--(\d{2})-?(\d{2})")
-PARTIAL = re.compile(rf"\d{{4}}|\d{{4}}-\d{{2}}|--\d{{2}}|---\d{{2}}|T\d{{2}}(?:\d{{2}}){{0,2}}{ZONE}", re.IGNORECASE)
+PARTIAL = re.compile(
+    rf"\d{{4}}|\d{{4}}-\d{{2}}|--\d{{2}}|---\d{{2}}|T\d{{2}}(?:\d{{2}}){{0,2}}{ZONE}", re.IGNORECASE
+)
 OFFSET = re.compile(r"([+-]\d{2}):?(\d{2})?")
 
 
 def to_four(value: str) -> str | None:
-    """The date of 4.0 that the one of 3.0 says, also one without a year; None where it is no date."""
+    """The date of 4.0 that the one of 3.0 says, also one without a year.
+
+    None where it is no date.
+    """
     value = value.strip()
     found = NO_YEAR.fullmatch(value)
     if found:
@@ -27,7 +37,10 @@ def to_four(value: str) -> str | None:
 
 
 def to_three(value: str) -> str | None:
-    """The date of 3.0 that the one of 4.0 says; None where 3.0 has none, as for one without a year."""
+    """The date of 3.0 that the one of 4.0 says.
+
+    None where 3.0 has none, as for one without a year.
+    """
     found = FOUR.fullmatch(value.strip())
     if found is None:
         return None
@@ -38,7 +51,10 @@ def to_three(value: str) -> str | None:
 
 
 def is_partial(value: str) -> bool:
-    """Whether it is a date of 4.0 that lacks parts: a year, a month or a day alone, or a time alone."""
+    """Whether it is a date of 4.0 that lacks parts.
+
+    It is a year, a month or a day alone, or a time alone.
+    """
     return bool(PARTIAL.fullmatch(value.strip()))
 
 

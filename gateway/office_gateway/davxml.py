@@ -1,13 +1,15 @@
-"""XML of WebDAV: bodies are read by defusedxml, which refuses document types and entities, and answers are written here."""
+"""XML of WebDAV: bodies are read by defusedxml, which refuses document types and entities, and
+answers are written by lxml, piece after piece."""
 from __future__ import annotations
 
 import re
-from collections.abc import Iterable
-from typing import Union
+from collections.abc import Iterable, Iterator
+from typing import Any, Union
 from xml.etree.ElementTree import Element, ParseError
 
 from defusedxml import DefusedXmlException
 from defusedxml.ElementTree import fromstring
+from lxml import etree
 
 from .refusals import PHRASES, Refusal
 
@@ -15,10 +17,12 @@ DAV = "DAV:"
 CARD = "urn:ietf:params:xml:ns:carddav"
 CALENDAR = "http://calendarserver.org/ns/"
 OWN = "urn:office:gateway"
-PREFIXES = {DAV: "d", CARD: "c", CALENDAR: "cs", OWN: "o"}
+PREFIXES = {"d": DAV, "c": CARD, "cs": CALENDAR, "o": OWN}
 # Elements in a body, and how deep they stand.
 ELEMENTS = 20_000
 DEPTH = 16
+# About how many bytes of an answer are written at a time.
+PIECE = 32_768
 
 ILLEGAL = re.compile("[^\t\n\r\x20-\ud7ff\ue000-\ufffd\U00010000-\U0010ffff]")
 
@@ -61,9 +65,12 @@ Content = Union[Node, str]
 
 
 def parsed(body: bytes) -> Element | None:
-    """The element of a body; None where the body is empty. Refusal 400 where it is not XML that is taken."""
+    """The element of a body; None where the body is empty. Refusal 400 where it is not XML that is
+    taken, and 415 where it does not begin as XML does."""
     if not body.strip():
         return None
+    if not begins_as_xml(body):
+        raise Refusal(415, "bad-xml")
     try:
         root = fromstring(body, forbid_dtd=True, forbid_entities=True, forbid_external=True)
     except (ParseError, DefusedXmlException, ValueError, LookupError, RecursionError):
@@ -81,57 +88,81 @@ def parsed(body: bytes) -> Element | None:
     return root
 
 
-def escaped(text: str) -> str:
-    """A text in XML. A carriage return is written by its number, since readers take a plain one for a line feed."""
-    text = ILLEGAL.sub("\ufffd", text)
-    return text.replace("&", "&amp;").replace("<", "&lt;").replace(">", "&gt;").replace('"', "&quot;").replace("\r", "&#13;")
+def begins_as_xml(body: bytes) -> bool:
+    """Whether a body begins with `<`, or with the mark of an encoding of Unicode."""
+    start = body.removeprefix(b"\xef\xbb\xbf").lstrip()
+    return start.startswith((b"<", b"\xff\xfe", b"\xfe\xff"))
 
 
-def split(name: str) -> tuple[str, str]:
-    """Namespace and local part of a name."""
-    if not name.startswith("{"):
-        return "", name
-    space, _, local = name[1:].partition("}")
-    return space, local
+def is_writable(name: str) -> bool:
+    """Whether an element of this name can be written."""
+    try:
+        etree.Element(name)
+    except ValueError:
+        return False
+    return True
+
+
+class Buffer:
+    """What was written and not taken yet."""
+
+    def __init__(self) -> None:
+        self._parts: list[bytes] = []
+        self.size = 0
+
+    def write(self, part: bytes) -> None:
+        """Adds a part."""
+        self._parts.append(part)
+        self.size += len(part)
+
+    def take(self) -> bytes:
+        """All that was written since the last time."""
+        parts, self._parts, self.size = self._parts, [], 0
+        return b"".join(parts)
+
+
+def pieces(name: str, content: Iterable[Content]) -> Iterator[bytes]:
+    """The document with an element of this name and what stands in it, as it is written."""
+    buffer = Buffer()
+    with etree.xmlfile(buffer, encoding="utf-8") as file:
+        file.write_declaration()
+        with file.element(name, nsmap=PREFIXES):
+            for item in content:
+                write(file, item)
+                if buffer.size >= PIECE:
+                    yield buffer.take()
+    yield buffer.take()
 
 
 def written(root: Node) -> bytes:
     """The document."""
-    parts = ['<?xml version="1.0" encoding="utf-8"?>\n']
-    declared = "".join(f' xmlns:{prefix}="{space}"' for space, prefix in PREFIXES.items())
-    write(root, parts, declared)
-    return "".join(parts).encode("utf-8", "replace")
+    return b"".join(pieces(root.name, root.content))
 
 
-def write(node: Node, parts: list[str], declared: str = "") -> None:
-    """Writes an element to `parts`."""
-    space, local = split(node.name)
-    prefix = PREFIXES.get(space)
-    tag = f"{prefix}:{local}" if prefix else local
-    parts.append(f"<{tag}{declared}")
-    if not prefix:
-        parts.append(f' xmlns="{escaped(space)}"')
-    for key, value in node.attributes.items():
-        parts.append(f' {key}="{escaped(value)}"')
-    if not node.content:
-        parts.append("/>")
+def write(file: Any, item: Content) -> None:
+    """Writes an element, or a text. What no XML may have is written as U+FFFD."""
+    if isinstance(item, str):
+        try:
+            file.write(item)
+        except ValueError:
+            file.write(ILLEGAL.sub("\ufffd", item))
         return
-    parts.append(">")
-    for item in node.content:
-        if isinstance(item, Node):
-            write(item, parts)
-        else:
-            parts.append(escaped(item))
-    parts.append(f"</{tag}>")
+    attributes = {key: ILLEGAL.sub("\ufffd", value) for key, value in item.attributes.items()}
+    with file.element(item.name, attributes or None):
+        for inner in item.content:
+            write(file, inner)
+
+
+STATUSES = {
+    200: "OK", 201: "Created", 204: "No Content", 400: "Bad Request", 403: "Forbidden",
+    404: "Not Found", 409: "Conflict", 412: "Precondition Failed", 424: "Failed Dependency",
+    503: "Service Unavailable", 507: "Insufficient Storage",
+}
 
 
 def status_line(status: int) -> str:
     """A status as it stands in a multistatus."""
-    phrases = {
-        200: "OK", 201: "Created", 204: "No Content", 400: "Bad Request", 403: "Forbidden", 404: "Not Found", 409: "Conflict",
-        412: "Precondition Failed", 424: "Failed Dependency", 503: "Service Unavailable", 507: "Insufficient Storage",
-    }
-    return f"HTTP/1.1 {status} {phrases.get(status, 'Refused')}"
+    return f"HTTP/1.1 {status} {STATUSES.get(status, 'Refused')}"
 
 
 def href(text: str) -> Node:
@@ -144,7 +175,8 @@ def response(path: str, groups: Iterable[tuple[int, list[Node], Refusal | None]]
     node = Node(d("response"), href(path))
     for status, properties, refusal in groups:
         if properties:
-            told = Node(d("propstat"), Node(d("prop"), *properties), Node(d("status"), status_line(status)))
+            line = Node(d("status"), status_line(status))
+            told = Node(d("propstat"), Node(d("prop"), *properties), line)
             if refusal is not None:
                 told.add(error(refusal), Node(d("responsedescription"), refusal.words()))
             node.add(told)
@@ -156,7 +188,9 @@ def response(path: str, groups: Iterable[tuple[int, list[Node], Refusal | None]]
 def status_response(path: str, status: int, refusal: Refusal | None = None) -> Node:
     """A response with a status alone."""
     node = Node(d("response"), href(path), Node(d("status"), status_line(status)))
-    return node if refusal is None else node.add(error(refusal), Node(d("responsedescription"), refusal.words()))
+    if refusal is None:
+        return node
+    return node.add(error(refusal), Node(d("responsedescription"), refusal.words()))
 
 
 # Refusals whose name is an element of a standard.
@@ -167,7 +201,10 @@ STANDARD = {
     "limited-number-of-aces": d("limited-number-of-aces"),
     "not-supported-privilege": d("not-supported-privilege"),
     "recognized-principal": d("recognized-principal"),
+    "max-resource-size": c("max-resource-size"),
     "supported-report": d("supported-report"),
+    "propfind-finite-depth": d("propfind-finite-depth"),
+    "sync-traversal-supported": d("sync-traversal-supported"),
     "cannot-modify-protected-property": d("cannot-modify-protected-property"),
     "valid-resourcetype": d("valid-resourcetype"),
     "number-of-matches-within-limits": d("number-of-matches-within-limits"),
@@ -180,23 +217,28 @@ STANDARD = {
 
 
 def error(refusal: Refusal) -> Node:
-    """The DAV:error of a refusal: the condition of the standard where it has one, and the cause in the gateway's elements."""
+    """The DAV:error of a refusal: the condition of the standard where it has one, and the cause in
+    elements of the gateway's own."""
     from .paths import href as dav_href
 
     detail = refusal.detail
     if refusal.name == "need-privileges":
-        resource = Node(d("resource"), href(dav_href(detail["resource"])), privilege(detail["privilege"]))
+        place = href(dav_href(detail["resource"]))
+        resource = Node(d("resource"), place, privilege(detail["privilege"]))
         node = Node(d("error"), Node(d("need-privileges"), resource))
         entry = detail.get("entry")
         if isinstance(entry, dict):
-            node.add(Node(o("denied-by"), href(dav_href(entry["from"])), number=str(entry["number"])))
+            place = href(dav_href(entry["from"]))
+            node.add(Node(o("denied-by"), place, number=str(entry["number"])))
         return node.add(Node(o("words"), refusal.words()))
-    condition = STANDARD.get(refusal.name, o(refusal.name if re.fullmatch("[a-z-]+", refusal.name) else "refused"))
+    own = refusal.name if re.fullmatch("[a-z-]+", refusal.name) else "refused"
+    condition = STANDARD.get(refusal.name, o(own))
     node = Node(d("error"), Node(condition))
     if refusal.name == "bad-card":
         if detail.get("fault") == "too-long":
             node.add(Node(c("max-resource-size")))
-        node.add(Node(o("bad-card"), fault=str(detail.get("fault", "")), line=str(detail.get("line", 0))))
+        fault, line = str(detail.get("fault", "")), str(detail.get("line", 0))
+        node.add(Node(o("bad-card"), fault=fault, line=line))
     if refusal.name in PHRASES or refusal.name == "bad-card":
         node.add(Node(o("words"), refusal.words()))
     return node

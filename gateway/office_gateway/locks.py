@@ -1,6 +1,7 @@
 """One lock for each key, kept only while somebody holds it or waits for it.
 
-The gateway is the server's one client, so what it reads of a book under the book's lock is so until it lets go.
+The gateway is the server's one client, so what it reads of a book under the book's lock is so until
+it lets go.
 """
 from __future__ import annotations
 
@@ -17,7 +18,8 @@ class Locks:
 
     @asynccontextmanager
     async def hold(self, *keys: Hashable) -> AsyncIterator[None]:
-        """Holds the locks of these keys, taken in one order, so that two holders never wait for each other."""
+        """Holds the locks of these keys, taken in one order, so that two holders never wait for
+        each other."""
         async with AsyncExitStack() as stack:
             for key in sorted(set(keys), key=repr):
                 await stack.enter_async_context(self._one(key))

@@ -1,26 +1,30 @@
 """Names and paths: as the server has them, and as CardDAV clients see them.
 
-The server's paths are `/`, `/people`, `/groups`, `/books`, what stands in them, and cards, `/books/BOOK/CARD`. CardDAV has
-the same below `/dav`, where collections end with a slash. A path with a percent escape, a dot segment, two slashes, a query
-or a fragment is no path: it is refused here, and the server does not see it.
+The server's paths are `/`, `/people`, `/groups`, `/books`, what stands in them, and cards,
+`/books/BOOK/CARD`. A path with a percent escape, a dot segment, two slashes, a query or a fragment
+is no path: it is refused here, and the server does not see it. CardDAV has the same below `/dav`,
+where collections end with a slash, and cards have the names that clients choose.
 """
 from __future__ import annotations
 
-import re
 from urllib.parse import urlsplit
 
-NAME = re.compile(r"[A-Za-z0-9_-][A-Za-z0-9._-]{0,63}", re.ASCII)
+from . import client_names
+
 HOMES = ("people", "groups", "books")
 DAV = "/dav"
 
 
 def is_name(text: str) -> bool:
     """Whether it is 1 to 64 letters, digits, `.`, `_`, `-` of ASCII, and begins with no dot."""
-    return NAME.fullmatch(text) is not None
+    return client_names.NAME.fullmatch(text) is not None
 
 
 def server_path(raw: str) -> str | None:
-    """The server's path that a request's target names as it was sent, without a slash at its end; None where it is none."""
+    """The server's path that a request's target names as it was sent, without a slash at its end.
+
+    None where it is none.
+    """
     if raw == "/":
         return raw
     if not raw.startswith("/"):
@@ -37,7 +41,21 @@ def dav_path(raw: str) -> str | None:
     """The server's path that a target below /dav names; None where it is none."""
     if raw in (DAV, DAV + "/"):
         return "/"
-    return server_path(raw[len(DAV) :]) if raw.startswith(DAV + "/") else None
+    if not raw.startswith(DAV + "/"):
+        return None
+    path = raw[len(DAV) :]
+    name = chosen_name(raw)
+    if name is not None:
+        path = path[: path.rindex("/") + 1] + client_names.of_server(name)
+    return server_path(path)
+
+
+def chosen_name(raw: str) -> str | None:
+    """The name that a client chose for a card, in a target below /dav; None where it names none."""
+    parts = raw.removeprefix(DAV).split("/")
+    if not raw.startswith(DAV + "/") or len(parts) != 4 or parts[1] != "books":
+        return None
+    return client_names.chosen(parts[3]) if is_name(parts[2]) else None
 
 
 def parts_of(path: str) -> list[str]:
@@ -65,11 +83,17 @@ def href(path: str) -> str:
     """A path of the server as CardDAV clients see it."""
     if path == "/":
         return DAV + "/"
-    return DAV + path + ("" if is_card(path) else "/")
+    if not is_card(path):
+        return f"{DAV}{path}/"
+    book, _, name = path.rpartition("/")
+    return f"{DAV}{book}/{client_names.segment_of(client_names.of_client(name))}"
 
 
 def target_of(text: str, authorities: set[str]) -> str | None:
-    """The target in a Destination or an href: a path, or a URL of one of these hosts; None for another host."""
+    """The target in a Destination or an href: a path, or a URL of one of these hosts.
+
+    None for another host.
+    """
     text = text.strip()
     if text.startswith("/") and not text.startswith("//"):
         return text

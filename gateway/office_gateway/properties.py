@@ -7,21 +7,27 @@ from xml.etree.ElementTree import Element
 
 from . import convert, davxml, paths
 from .config import CARD_BYTES
-from .copies import Held
+from .texts import Held, tag_of
 from .davxml import CALENDAR, Node, c, d
 from .queries import COLLATIONS
 from .refusals import Refusal
 from .vcard import BadLine, folded, parsed, unfolded
 
+# Names of properties in one request.
+NAMES = 64
 CTAG = f"{{{CALENDAR}}}getctag"
 REPORTS = (c("addressbook-multiget"), c("addressbook-query"), d("sync-collection"))
 # What an empty body and allprop ask for.
-COMMON = ("resourcetype", "displayname", "getetag", "getcontenttype", "getcontentlength", "sync-token", "owner")
+COMMON = (
+    "resourcetype", "displayname", "getetag", "getcontenttype", "getcontentlength", "sync-token",
+    "owner",
+)
 
 
 @dataclass(frozen=True)
 class AddressData:
-    """How an address-data element asks for cards: the version, and the names of lines; without names, all of them."""
+    """How an address-data element asks for cards: the version, and the names of lines; without
+    names, all of them."""
 
     version: str = ""
     names: frozenset[str] = frozenset()
@@ -30,8 +36,9 @@ class AddressData:
 
 @dataclass
 class Asked:
-    """The properties that a body asks for, in order. Without `values` their names alone are told, and without `each`
-    nothing is told of those that a resource lacks or the caller may not ask for."""
+    """The properties that a body asks for, in order. Without `values` their names alone are told,
+    and without `each` nothing is told of those that a resource lacks or the caller may not ask
+    for."""
 
     names: list[str]
     data: AddressData = AddressData()
@@ -41,7 +48,8 @@ class Asked:
 
 @dataclass
 class Resource:
-    """What is known of what stands at a path of the server. `refused` has the properties that the caller may not ask for."""
+    """What is known of what stands at a path of the server. `refused` has the properties that the
+    caller may not ask for. A card has what is held of it, or its text."""
 
     path: str
     kind: str
@@ -51,9 +59,27 @@ class Resource:
     token: str | None = None
     privileges: list[str] | None = None
     held: Held | None = None
-    tag: str | None = None
-    text: str | None = None
+    told: str | None = None
     refused: dict[str, Refusal] = field(default_factory=dict)
+
+    @property
+    def text(self) -> str | None:
+        """The text of a card that the caller may read."""
+        return self.held.text if self.held is not None else self.told
+
+    @property
+    def tag(self) -> str | None:
+        """The entity tag of a card that the caller may read."""
+        if self.held is not None:
+            return self.held.tag
+        return tag_of(self.told) if self.told is not None else None
+
+    @property
+    def length(self) -> str | None:
+        """How many bytes the text of a card has."""
+        if self.held is not None:
+            return str(self.held.length)
+        return str(len(self.told.encode("utf-8", "surrogatepass"))) if self.told else None
 
 
 def asked_by(body: Element | None) -> Asked:
@@ -63,12 +89,13 @@ def asked_by(body: Element | None) -> Asked:
     if body.tag != d("propfind"):
         raise Refusal(400, "bad-xml")
     if body.find(d("propname")) is not None:
-        return Asked([d(name) for name in COMMON] + [c("supported-address-data"), CTAG], values=False, each=False)
+        names = [d(name) for name in COMMON] + [c("supported-address-data"), CTAG]
+        return Asked(names, values=False, each=False)
     listed = props_of(body)
     if body.find(d("allprop")) is not None:
         include = body.find(d("include"))
-        more = [child.tag for child in include if isinstance(child.tag, str)] if include is not None else []
-        return Asked([d(name) for name in COMMON] + [name for name in more if name not in map(d, COMMON)], each=False)
+        more = names_in(include) if include is not None else []
+        return Asked(list(dict.fromkeys([*map(d, COMMON), *more])), each=False)
     if listed is None:
         raise Refusal(400, "bad-xml")
     return listed
@@ -79,25 +106,32 @@ def props_of(body: Element) -> Asked | None:
     prop = body.find(d("prop"))
     if prop is None:
         return None
-    names, data = [], AddressData()
-    for child in prop:
-        if not isinstance(child.tag, str):
-            continue
-        if child.tag == c("address-data"):
-            data = address_data(child)
-        if child.tag not in names:
-            names.append(child.tag)
-    return Asked(names, data)
+    found = prop.findall(c("address-data"))
+    return Asked(names_in(prop), address_data(found[-1]) if found else AddressData())
+
+
+def names_in(prop: Element) -> list[str]:
+    """The names of the properties in an element, each once; Refusal 400 where they are too many."""
+    names = list(dict.fromkeys(child.tag for child in prop if isinstance(child.tag, str)))
+    if len(names) > NAMES or not all(davxml.is_writable(name) for name in names):
+        raise Refusal(400, "bad-xml")
+    return names
 
 
 def address_data(element: Element) -> AddressData:
-    """What an address-data element asks for; Refusal 403 where it asks for another format or version."""
+    """What an address-data element asks for; Refusal 403 where it is another format or version."""
     version = element.get("version", "")
-    if element.get("content-type", "text/vcard").lower() != "text/vcard" or version not in ("", "3.0", "4.0"):
+    kind = element.get("content-type", "text/vcard").lower()
+    if kind != "text/vcard" or version not in ("", "3.0", "4.0"):
         raise Refusal(403, "supported-address-data")
     props = [child for child in element if child.tag == c("prop")]
-    names = frozenset((child.get("name") or "").upper() for child in props)
-    return AddressData(version, names, frozenset((child.get("name") or "").upper() for child in props if child.get("novalue") == "yes"))
+    bare = [child for child in props if child.get("novalue") == "yes"]
+    return AddressData(version, named(props), named(bare))
+
+
+def named(props: Iterable[Element]) -> frozenset[str]:
+    """The names of lines that these elements ask for."""
+    return frozenset((child.get("name") or "").upper() for child in props)
 
 
 def data_of(text: str, asked: AddressData, unversioned: str) -> str:
@@ -122,7 +156,7 @@ def data_of(text: str, asked: AddressData, unversioned: str) -> str:
 
 
 def told(resource: Resource, asked: Asked, unversioned: str) -> Node:
-    """The response for a resource: what it has, what it lacks, and what the caller may not ask for."""
+    """The response for a resource: what it has, what it lacks, and what may not be asked for."""
     found, missing = [], []
     refused: dict[str, tuple[Refusal, list[Node]]] = {}
     for name in asked.names:
@@ -142,10 +176,13 @@ def told(resource: Resource, asked: Asked, unversioned: str) -> Node:
     return davxml.response(paths.href(resource.path), groups)
 
 
-def value_of(resource: Resource, name: str, asked: Asked, unversioned: str) -> Iterable[davxml.Content] | None:
+def value_of(
+    resource: Resource, name: str, asked: Asked, unversioned: str
+) -> Iterable[davxml.Content] | None:
     """What stands in a property; None where the resource has none of that name."""
     if name == c("address-data"):
-        return [data_of(resource.text, asked.data, unversioned)] if resource.text is not None else None
+        text = resource.text
+        return [data_of(text, asked.data, unversioned)] if text is not None else None
     make = MAKERS.get(name)
     return make(resource) if make is not None else None
 
@@ -198,12 +235,17 @@ def address_types(resource: Resource) -> list[davxml.Content] | None:
     """The versions of vCard that a book takes and gives."""
     if resource.kind != "book":
         return None
-    return [Node(c("address-data-type"), content_type="text/vcard", version=version) for version in ("3.0", "4.0")]
+    return [
+        Node(c("address-data-type"), content_type="text/vcard", version=version)
+        for version in ("3.0", "4.0")
+    ]
 
 
 def collations(resource: Resource) -> list[davxml.Content] | None:
     """The collations of text-match."""
-    return [Node(c("supported-collation"), name) for name in COLLATIONS] if resource.kind == "book" else None
+    if resource.kind != "book":
+        return None
+    return [Node(c("supported-collation"), name) for name in COLLATIONS]
 
 
 def of_card(resource: Resource, value: str | None) -> list[davxml.Content] | None:
@@ -223,7 +265,9 @@ def token(resource: Resource) -> list[davxml.Content] | None:
 
 def principal_url(resource: Resource) -> list[davxml.Content] | None:
     """Where a principal is."""
-    return [davxml.href(paths.href(resource.path))] if resource.kind in ("person", "group") else None
+    if resource.kind not in ("person", "group"):
+        return None
+    return [davxml.href(paths.href(resource.path))]
 
 
 MAKERS: dict[str, Callable[[Resource], Sequence[davxml.Content] | None]] = {
@@ -232,7 +276,7 @@ MAKERS: dict[str, Callable[[Resource], Sequence[davxml.Content] | None]] = {
     d("owner"): owner,
     d("getetag"): lambda it: of_card(it, it.tag),
     d("getcontenttype"): lambda it: of_card(it, "text/vcard; charset=utf-8"),
-    d("getcontentlength"): lambda it: of_card(it, str(len(it.text.encode())) if it.text is not None else None),
+    d("getcontentlength"): lambda it: of_card(it, it.length),
     d("sync-token"): token,
     CTAG: token,
     d("current-user-principal"): lambda it: [own(it.caller)],

@@ -10,6 +10,7 @@ from .davxml import c
 from .refusals import Refusal
 from .vcard import BadLine, Line, decoded_parameter, read, unescaped
 
+KINDS = ("equals", "contains", "starts-with", "ends-with")
 COLLATIONS = ("i;ascii-casemap", "i;octet", "i;unicode-casemap")
 # Conditions in one filter.
 CONDITIONS = 200
@@ -58,13 +59,13 @@ class TextMatch:
 
 
 def text_match(element: Element) -> TextMatch:
-    """The text-match of an element; Refusal 403 where its collation or its match-type is not known."""
+    """The text-match of an element; Refusal 403 where its collation or match-type is not known."""
     collation = element.get("collation", "i;unicode-casemap")
     kind = element.get("match-type", "contains")
     negate = element.get("negate-condition", "no")
     if collation not in FOLDS:
         raise Refusal(403, "supported-collation")
-    if kind not in ("equals", "contains", "starts-with", "ends-with") or negate not in ("yes", "no"):
+    if kind not in KINDS or negate not in ("yes", "no"):
         raise Refusal(403, "supported-filter")
     return TextMatch(element.text or "", collation, kind, negate == "yes")
 
@@ -100,7 +101,9 @@ def parameter_test(element: Element) -> Callable[[Line], bool]:
     if children[0].tag != c("text-match"):
         raise Refusal(403, "supported-filter")
     match = text_match(children[0])
-    return lambda line: any(match.holds(word) for value in line.values_of(name) for word in words(name, value))
+    return lambda line: any(
+        match.holds(word) for value in line.values_of(name) for word in words(name, value)
+    )
 
 
 def words(name: str, value: str) -> list[str]:
@@ -129,7 +132,8 @@ def property_test(element: Element) -> Test:
             raise Refusal(403, "supported-filter")
     together = all if every else any
     return lambda lines: any(
-        is_named(line, name) and (not tests or together(test(line) for test in tests)) for line in lines
+        is_named(line, name) and (not tests or together(test(line) for test in tests))
+        for line in lines
     )
 
 
@@ -139,12 +143,14 @@ def line_test(match: TextMatch) -> Callable[[Line], bool]:
 
 
 def filter_of(element: Element | None) -> Callable[[str], bool]:
-    """What a filter says of a card's text. No filter, and one without conditions, holds of every card."""
+    """What a filter says of a card's text. No filter, and one without conditions, holds of every
+    card."""
     if element is None:
         return lambda text: True
     children = [child for child in element if isinstance(child.tag, str)]
     every = of_all(element)
-    if any(child.tag != c("prop-filter") for child in children) or sum(1 for _ in element.iter()) > CONDITIONS:
+    too_many = sum(1 for _ in element.iter()) > CONDITIONS
+    if too_many or any(child.tag != c("prop-filter") for child in children):
         raise Refusal(403, "supported-filter")
     tests = [property_test(child) for child in children]
     together = all if every else any

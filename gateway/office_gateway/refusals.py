@@ -1,4 +1,5 @@
-"""What is refused, and why: a status, a name and its details, as the server's JSON has them, as DAV:error and in words."""
+"""What is refused, and why: a status, a name and its details, as the server's JSON has them, as
+DAV:error and in words."""
 from __future__ import annotations
 
 import json
@@ -21,8 +22,14 @@ PHRASES = {
     "not-implemented": "The office does not know this method.",
     "bad-head": "The head of the request cannot be read.",
     "bad-xml": "The body is not XML that is taken here.",
-    "bad-name": "A name is 1 to 64 letters, digits, dots, underscores and hyphens, and begins with no dot.",
+    "bad-name": "A name is 1 to 64 letters, digits, dots, underscores and hyphens, and begins with "
+    "no dot.",
     "no-password": "Name and password are wanted.",
+    "too-many-failures": "Too many sign-ins failed. Try again later.",
+    "wrong-password": "The old password does not fit.",
+    "weak-password": "A password has 10 characters or more, and at most 72 bytes.",
+    "no-own-password": "This name has no password here that can be changed.",
+    "device-password": "The password of a device serves for its contacts, and not for the page.",
     "foreign-origin": "The request comes from a page of another place.",
     "too-slow": "The request did not arrive in time.",
     "valid-sync-token": "The token is no longer valid. Read the whole book again.",
@@ -36,7 +43,11 @@ PHRASES = {
     "supported-collation": "This collation is not known here.",
     "supported-filter": "This filter is not known here.",
     "foreign-destination": "The destination is on another server.",
+    "max-resource-size": "The card is longer than 65,536 bytes, and no smaller photo makes it fit.",
     "cannot-modify-protected-property": "This property cannot be written.",
+    "propfind-finite-depth": "A listing goes one step deep.",
+    "sync-traversal-supported": "A sync report goes one step deep.",
+    "number-of-matches-within-limits": "There is more than is told at a time.",
     "valid-resourcetype": "A new collection is an address book.",
 }
 FAULTS = {
@@ -66,7 +77,8 @@ class Refusal(Exception):
 
     def json(self) -> bytes:
         """The body, with keys in order as the server writes them."""
-        return json.dumps(self.detail, ensure_ascii=False, separators=(",", ":"), sort_keys=True).encode()
+        text = json.dumps(self.detail, ensure_ascii=False, separators=(",", ":"), sort_keys=True)
+        return text.encode()
 
     def words(self) -> str:
         """The cause in one sentence."""
@@ -80,7 +92,8 @@ def words_of(detail: dict[str, Any]) -> str:
         entry = detail.get("entry")
         need = f"You lack the privilege {detail.get('privilege')} at {detail.get('resource')}: "
         if isinstance(entry, dict):
-            return need + f"entry {entry.get('number')} of its list, which stands at {entry.get('from')}, denies it."
+            number, place = entry.get("number"), entry.get("from")
+            return need + f"entry {number} of its list, which stands at {place}, denies it."
         return need + "no entry grants it to you."
     if name == "bad-card":
         fault, line = detail.get("fault", ""), detail.get("line", 0)

@@ -11,6 +11,9 @@ PARAMETER_NAME = re.compile(WORD)
 PLAIN_VALUE = re.compile(r'[^";:,]*')
 QUOTED_VALUE = re.compile(r'"([^"]*)"')
 CONTROL = re.compile(r"[\x00-\x08\x0a-\x1f\x7f]")
+FORMATTED = re.compile(
+    r"^(?:[A-Za-z0-9-]+\.)?FN(?:;[^:\n]*)?:(.*)$", re.IGNORECASE | re.MULTILINE
+)
 
 
 class BadLine(ValueError):
@@ -23,7 +26,10 @@ class BadLine(ValueError):
 
 @dataclass
 class Line:
-    """A content line. `number` is the line of the text that it was made of, from 1; 0 where it was made of none."""
+    """A content line.
+
+    `number` is the line of the text that it was made of, from 1; 0 where it was made of none.
+    """
 
     name: str
     value: str
@@ -37,7 +43,8 @@ class Line:
 
     def values_of(self, parameter: str) -> list[str]:
         """All values of the parameter, in order."""
-        return [value for name, values in self.params if name.upper() == parameter for value in values]
+        found = [values for name, values in self.params if name.upper() == parameter]
+        return [value for values in found for value in values]
 
     def value_type(self) -> str:
         """The VALUE parameter in lower case, or an empty text."""
@@ -57,18 +64,22 @@ class Line:
 
 
 def quoted(value: str) -> str:
-    """A parameter's value, in double quotes where it needs them. A double quote in it is written as RFC 6868 has it."""
+    """A parameter's value, in double quotes where it needs them.
+
+    A double quote in it is written as RFC 6868 has it.
+    """
     value = value.replace('"', "^'").replace("\r\n", "^n").replace("\n", "^n")
     return f'"{value}"' if re.search(r"[;:,]", value) else value
 
 
 def unfolded(text: str) -> list[str]:
-    """The lines of the unfolded text. A line end is CRLF or LF; one that a space or a tab follows is no end."""
-    lines = re.sub(r"\r?\n[ \t]", "", text).split("\n")
-    lines = [line[:-1] if line.endswith("\r") and number < len(lines) else line for number, line in enumerate(lines, 1)]
-    if lines and lines[-1] == "":
-        lines.pop()
-    return lines
+    """The lines of the unfolded text.
+
+    A line end is CRLF or LF; one that a space or a tab follows is no end.
+    """
+    *lines, last = re.sub(r"\r?\n[ \t]", "", text).split("\n")
+    lines = [line.removesuffix("\r") for line in lines]
+    return [*lines, last] if last else lines
 
 
 def parsed(text: str, number: int) -> Line:
@@ -109,24 +120,25 @@ def read(text: str) -> list[Line]:
 
 def formatted(text: str) -> str:
     """The first FN as people read it, or an empty text."""
-    found = re.search(r"^(?:[A-Za-z0-9-]+\.)?FN(?:;[^:\n]*)?:(.*)$", re.sub(r"\r?\n[ \t]", "", text), re.IGNORECASE | re.MULTILINE)
+    found = FORMATTED.search(re.sub(r"\r?\n[ \t]", "", text))
     return unescaped(found.group(1).rstrip("\r")) if found else ""
 
 
 def folded(line: str, width: int = 75) -> str:
-    """A line with its end, folded so that no part has more than `width` bytes, and no fold is inside a character."""
-    parts: list[str] = []
-    part: list[str] = []
-    size = 0
-    for character in line:
-        length = len(character.encode())
-        if size + length > width:
-            parts.append("".join(part))
-            part, size = [], 1
-        part.append(character)
-        size += length
-    parts.append("".join(part))
-    return "\r\n ".join(parts) + "\r\n"
+    """A line with its end, folded so that no part has more than `width` bytes.
+
+    No fold is inside a character.
+    """
+    data = line.encode("utf-8", "surrogatepass")
+    parts, at, size = [], 0, width
+    while len(data) - at > size:
+        end = at + size
+        while data[end] & 0xC0 == 0x80:
+            end -= 1
+        parts.append(data[at:end])
+        at, size = end, width - 1
+    parts.append(data[at:])
+    return b"\r\n ".join(parts).decode("utf-8", "surrogatepass") + "\r\n"
 
 
 def written(lines: Iterable[Line]) -> str:
@@ -144,17 +156,25 @@ def version_of(text: str) -> str:
 
 
 def unescaped(value: str) -> str:
-    """A text value as people read it: backslashes before comma, semicolon, backslash and n are taken away."""
-    return re.sub(r"\\([\\,;nN])", lambda found: "\n" if found.group(1) in "nN" else found.group(1), value)
+    """A text value as people read it.
+
+    Backslashes before comma, semicolon, backslash and n are taken away.
+    """
+    if "\\" not in value:
+        return value
+    return re.sub(r"\\([\\,;nN])", lambda it: "\n" if it[1] in "nN" else it[1], value)
 
 
 def escaped(value: str) -> str:
     """The text value that says this."""
-    return re.sub(r"[\\,;]", lambda found: "\\" + found.group(), value).replace("\r\n", "\n").replace("\n", "\\n")
+    value = re.sub(r"[\\,;]", lambda found: "\\" + found.group(), value)
+    return value.replace("\r\n", "\n").replace("\n", "\\n")
 
 
 def components(value: str, separator: str = ";") -> list[str]:
     """The parts of a value of several, still escaped."""
+    if "\\" not in value:
+        return value.split(separator)
     parts, at = [""], 0
     while at < len(value):
         if value[at] == "\\":
@@ -170,8 +190,11 @@ def components(value: str, separator: str = ";") -> list[str]:
 
 
 def decoded_parameter(value: str) -> str:
-    """A parameter's value as people read it: RFC 6868, and the backslash with n that RFC 6350 shows for LABEL."""
-    value = re.sub(r"\^([n'^])", lambda found: {"n": "\n", "'": '"', "^": "^"}[found.group(1)], value)
+    """A parameter's value as people read it.
+
+    It is read by RFC 6868, and by the backslash with n that RFC 6350 shows for LABEL.
+    """
+    value = re.sub(r"\^([n'^])", lambda it: {"n": "\n", "'": '"', "^": "^"}[it[1]], value)
     return re.sub(r"\\[nN]", "\n", value)
 
 
@@ -181,7 +204,10 @@ def encoded_parameter(value: str) -> str:
 
 
 def cards_of(text: str) -> Iterator[str]:
-    """The cards of a text of many, each from its BEGIN to its END; what stands between them is a card of its own."""
+    """The cards of a text of many, each from its BEGIN to its END.
+
+    What stands between them is a card of its own.
+    """
     kept: list[str] = []
     depth = 0
     for line in re.split(r"(?<=\n)", text):

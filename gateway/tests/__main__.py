@@ -1,4 +1,7 @@
-"""Runs all tests, or those of the modules that are named: python3 -m tests [MODULE ..]. The last line counts them."""
+"""Runs all tests, or those of the modules that are named: python3 -m tests [MODULE ..].
+
+The last line counts them.
+"""
 from __future__ import annotations
 
 import signal
@@ -7,7 +10,12 @@ import unittest
 from pathlib import Path
 
 FOLDER = Path(__file__).resolve().parent
-ORDER = ("test_parts", "test_convert", "test_server", "test_dav", "test_import", "test_hostile", "test_clients", "test_page")
+ORDER = (
+    "test_parts", "test_client_names", "test_convert", "test_taking", "test_copies", "test_bounds",
+    "test_server", "test_operation", "test_dav", "test_recorded", "test_litmus", "test_cards",
+    "test_offers", "test_import", "test_hostile", "test_clients", "test_syncevolution",
+    "test_page_parts", "test_page", "test_page_office", "test_page_work",
+)
 
 
 class Counted(unittest.TextTestResult):
@@ -29,7 +37,9 @@ def main(words: list[str]) -> int:
     if left_out:
         print(f"not in the order of tests: {', '.join(sorted(left_out))}")
         return 1
-    result = unittest.TextTestRunner(stream=sys.stdout, verbosity=2, resultclass=Counted).run(unittest.defaultTestLoader.loadTestsFromNames(names))
+    tests = unittest.defaultTestLoader.loadTestsFromNames(names)
+    runner = unittest.TextTestRunner(stream=sys.stdout, verbosity=2, resultclass=Counted)
+    result = runner.run(tests)
     failed = len(result.failures) + len(result.errors)
     for test, reason in result.skipped:
         print(f"skipped: {test}: {reason}")

@@ -130,6 +130,40 @@ class Syncing(unittest.TestCase):
 
 
 @unittest.skipUnless(program(), "the server's program is named in BOOK_DESK, or made by make build")
+@unittest.skipUnless(shutil.which("syncevolution"), "the package syncevolution is not there")
+class Evolving(unittest.TestCase):
+    """SyncEvolution as it is, over its items."""
+
+    def setUp(self) -> None:
+        self.world = World()
+        self.addCleanup(self.world.close)
+        self.home = self.world.path / "home"
+        self.home.mkdir()
+
+    def run_it(self, who: str, *words: str) -> str:
+        """What a command prints; it has to succeed."""
+        login = LOGINS[who]
+        done = run(
+            "syncevolution", "--daemon=no", *words, "backend=carddav",
+            f"database=http://127.0.0.1:{self.world.port}{SALES}", f"username={login}",
+            f"password={PASSWORDS[login]}", env={"HOME": str(self.home)},
+        )
+        self.assertEqual(done.returncode, 0, done.stdout + done.stderr)
+        return done.stdout
+
+    def test_items(self) -> None:
+        card, all_cards = self.world.path / "one.vcf", self.world.path / "all.vcf"
+        card.write_text(vcard("Evolution", "UID:se-one", "N:Evolution;Sync;;;", version="3.0"))
+        self.assertIn("se-one%2evcf", self.run_it("head", "--import", str(card)))
+        self.assertIn("FN:Evolution", self.world.say("guest", "GET", SALES + "se-one.vcf").text)
+        self.world.say("head", "PUT", SALES + "other.vcf", vcard("Other", "UID:other"))
+        self.assertIn("other%2evcf", self.run_it("guest", "--print-items"))
+        self.run_it("guest", "--export", str(all_cards))
+        self.assertIn("Other", all_cards.read_text())
+        self.assertIn("Evolution", all_cards.read_text())
+
+
+@unittest.skipUnless(program(), "the server's program is named in BOOK_DESK, or made by make build")
 @unittest.skipUnless(shutil.which("nginx") and shutil.which("openssl") and shutil.which("curl"), "the packages nginx, openssl and curl are not there")
 class Fronts(unittest.TestCase):
     """TLS by nginx in front, and by the gateway itself."""
@@ -167,7 +201,7 @@ class Fronts(unittest.TestCase):
             example = example.replace(old, new)
         temporary = "".join(f"{kind}_temp_path {world.path}/{kind};\n" for kind in ("client_body", "proxy", "fastcgi", "uwsgi", "scgi"))
         (world.path / "nginx.conf").write_text(
-            f"daemon off;\npid {world.path}/nginx.pid;\nerror_log {world.path}/nginx.log;\nevents {{}}\nhttp {{\naccess_log off;\n{temporary}{example}\n}}\n"
+            f"daemon off;\nuser root;\npid {world.path}/nginx.pid;\nerror_log {world.path}/nginx.log;\nevents {{}}\nhttp {{\naccess_log off;\n{temporary}{example}\n}}\n"
         )
         process = subprocess.Popen(["nginx", "-p", str(world.path), "-c", str(world.path / "nginx.conf")], stdout=subprocess.DEVNULL, stderr=subprocess.DEVNULL)
         world.processes.append(process)

@@ -8,6 +8,8 @@ from office_gateway import convert, dates
 from office_gateway.vcard import read, unfolded
 
 CORPUS = Path(__file__).resolve().parent / "corpus"
+TYPES = (("PREF", "1"), ("TYPE", "home"), ("TYPE", "voice"))
+KEPT = ("NOTE", "FN", "N", "EMAIL", "TEL", "ORG", "ADR", "UID", "CATEGORIES", "TITLE")
 
 
 def card(*lines: str, version: str = "3.0") -> str:
@@ -24,14 +26,16 @@ def four(*lines: str) -> list[str]:
 
 def three(*lines: str) -> list[str]:
     """The lines of 3.0 that say what these of 4.0 say, but the name that is made."""
-    return [line for line in unfolded(convert.to_three(card(*lines, version="4.0")))[2:-1] if "X-MADE-OF" not in line]
+    made = unfolded(convert.to_three(card(*lines, version="4.0")))
+    return [line for line in made[2:-1] if "X-MADE-OF" not in line]
 
 
 def said(text: str) -> list[tuple]:
     """What a card says, without regard to the order of parameters and to how they are quoted."""
     lines = []
     for line in read(text):
-        params = sorted((name.upper(), word.lower()) for name, values in line.params for value in values for word in value.split(","))
+        joined = [(name.upper(), ",".join(values).lower()) for name, values in line.params]
+        params = sorted((name, word) for name, words in joined for word in words.split(","))
         lines.append((line.group, line.name.upper(), tuple(params), line.value))
     return sorted(lines)
 
@@ -56,10 +60,12 @@ class ToFour(unittest.TestCase):
         "TZ:-05:00": "TZ;VALUE=utc-offset:-0500",
         "TZ;VALUE=text:Raleigh": "TZ:Raleigh",
         "UID:abc": "UID;VALUE=text:abc",
-        "UID:urn:uuid:4fbe8971-0bc3-424c-9c26-36c3e1eff6b1": "UID:urn:uuid:4fbe8971-0bc3-424c-9c26-36c3e1eff6b1",
+        "UID:urn:uuid:4fbe8971-0bc3-424c-9c26-36c3e1eff6b1":
+            "UID:urn:uuid:4fbe8971-0bc3-424c-9c26-36c3e1eff6b1",
         "PHOTO;ENCODING=b;TYPE=JPEG:/9j/AA==": "PHOTO:data:image/jpeg;base64,/9j/AA==",
         "PHOTO;ENCODING=B:iVBORw==": "PHOTO:data:image/png;base64,iVBORw==",
-        "PHOTO;VALUE=uri;TYPE=GIF:http://a.example/b": "PHOTO;MEDIATYPE=image/gif:http://a.example/b",
+        "PHOTO;VALUE=uri;TYPE=GIF:http://a.example/b":
+            "PHOTO;MEDIATYPE=image/gif:http://a.example/b",
         "KEY;ENCODING=b;TYPE=PGP:AAAA": "KEY:data:application/pgp-keys;base64,AAAA",
         "CLASS:PUBLIC": "X-CLASS:PUBLIC",
         "MAILER:Pigeon": "X-MAILER:Pigeon",
@@ -85,17 +91,22 @@ class ToFour(unittest.TestCase):
         self.assertEqual(made.origins, [1, 3, 2, 4])
 
     def test_a_label_goes_to_the_address_of_its_types(self) -> None:
-        lines = four("FN:A", "LABEL;TYPE=home,parcel:one\\ntwo \\, \"three\"", "ADR;TYPE=work:;;w;;;;", "ADR;TYPE=HOME:;;h;;;;")
-        self.assertEqual(lines, ["FN:A", "ADR;TYPE=work:;;w;;;;", "ADR;TYPE=HOME;LABEL=\"one^ntwo , ^'three^'\":;;h;;;;"])
+        label = "LABEL;TYPE=home,parcel:one\\ntwo \\, \"three\""
+        lines = four("FN:A", label, "ADR;TYPE=work:;;w;;;;", "ADR;TYPE=HOME:;;h;;;;")
+        moved = "ADR;TYPE=HOME;LABEL=\"one^ntwo , ^'three^'\":;;h;;;;"
+        self.assertEqual(lines, ["FN:A", "ADR;TYPE=work:;;w;;;;", moved])
 
     def test_a_label_without_its_address_stays(self) -> None:
-        self.assertEqual(four("FN:A", "ADR;TYPE=home:;;h;;;;", "LABEL;TYPE=work:w")[2], "X-LABEL;TYPE=work:w")
+        lines = four("FN:A", "ADR;TYPE=home:;;h;;;;", "LABEL;TYPE=work:w")
+        self.assertEqual(lines[2], "X-LABEL;TYPE=work:w")
 
     def test_the_text_to_sort_by_goes_to_the_name(self) -> None:
-        self.assertEqual(four("FN:A", "SORT-STRING:Harten", "N:van der Harten;R;;;"), ["FN:A", "N;SORT-AS=Harten:van der Harten;R;;;"])
+        lines = four("FN:A", "SORT-STRING:Harten", "N:van der Harten;R;;;")
+        self.assertEqual(lines, ["FN:A", "N;SORT-AS=Harten:van der Harten;R;;;"])
 
     def test_a_group_of_phones(self) -> None:
-        lines = four("FN:G", "X-ADDRESSBOOKSERVER-KIND:group", "X-ADDRESSBOOKSERVER-MEMBER:urn:uuid:a")
+        start = "X-ADDRESSBOOKSERVER"
+        lines = four("FN:G", f"{start}-KIND:group", f"{start}-MEMBER:urn:uuid:a")
         self.assertEqual(lines, ["FN:G", "KIND:group", "MEMBER:urn:uuid:a"])
 
     def test_other_versions_are_left(self) -> None:
@@ -122,7 +133,8 @@ class ToThree(unittest.TestCase):
     """The same back."""
 
     rows = {
-        'TEL;VALUE=uri;TYPE="voice,home";PREF=1:tel:+1-5;ext=5': "TEL;TYPE=voice,home;TYPE=pref:+1-5\\;ext=5",
+        'TEL;VALUE=uri;TYPE="voice,home";PREF=1:tel:+1-5;ext=5':
+            "TEL;TYPE=voice,home;TYPE=pref:+1-5\\;ext=5",
         "EMAIL;PREF=20:a@b.example": "EMAIL;X-PREF=20:a@b.example",
         "BDAY:19850412": "BDAY:1985-04-12",
         "BDAY:--0412": "BDAY;X-APPLE-OMIT-YEAR=1604:1604-04-12",
@@ -133,7 +145,8 @@ class ToThree(unittest.TestCase):
         "TZ:Raleigh": "TZ;VALUE=text:Raleigh",
         "UID;VALUE=text:abc": "UID:abc",
         "PHOTO:data:image/jpeg;base64,AAAA": "PHOTO;ENCODING=b;TYPE=JPEG:AAAA",
-        "PHOTO;MEDIATYPE=image/gif:http://a.example/b": "PHOTO;VALUE=uri;TYPE=GIF:http://a.example/b",
+        "PHOTO;MEDIATYPE=image/gif:http://a.example/b":
+            "PHOTO;VALUE=uri;TYPE=GIF:http://a.example/b",
         "KIND:group": "X-ADDRESSBOOKSERVER-KIND:group",
         "MEMBER:urn:uuid:a": "X-ADDRESSBOOKSERVER-MEMBER:urn:uuid:a",
         "X-CLASS:PUBLIC": "CLASS:PUBLIC",
@@ -149,7 +162,8 @@ class ToThree(unittest.TestCase):
         self.assertIn("N;X-MADE-OF=FN:Anna\\, B;;;;", unfolded(text))
         back = convert.to_four(text)
         assert back is not None
-        self.assertEqual(unfolded(back.text), ["BEGIN:VCARD", "VERSION:4.0", "FN:Anna\\, B", "END:VCARD"])
+        wanted = ["BEGIN:VCARD", "VERSION:4.0", "FN:Anna\\, B", "END:VCARD"]
+        self.assertEqual(unfolded(back.text), wanted)
 
     def test_cards_of_other_versions_stay(self) -> None:
         for text in (card("FN:A"), "", "no card"):
@@ -171,7 +185,7 @@ class Corpus(unittest.TestCase):
                 if path.name == "whole-4.vcf":
                     # A telephone number is a text in 3.0, and stays one.
                     wanted = [
-                        ("", "TEL", (("PREF", "1"), ("TYPE", "home"), ("TYPE", "voice")), "+1-555-555-5555\\;ext=5555")
+                        ("", "TEL", TYPES, "+1-555-555-5555\\;ext=5555")
                         if line[3].startswith("tel:") else line
                         for line in wanted
                     ]
@@ -192,7 +206,7 @@ class Corpus(unittest.TestCase):
             made = convert.to_four(text)
             assert made is not None
             for line in read(text):
-                if line.is_named("NOTE", "FN", "N", "EMAIL", "TEL", "ORG", "ADR", "UID", "CATEGORIES", "TITLE"):
+                if line.is_named(*KEPT):
                     with self.subTest(f"{path.name} {line.name}"):
                         self.assertIn(line.value, [other.value for other in read(made.text)])
 

@@ -2,6 +2,7 @@
 from __future__ import annotations
 
 import unittest
+import uuid
 from pathlib import Path
 from xml.etree.ElementTree import Element, fromstring
 
@@ -14,7 +15,9 @@ SALES = "/dav/books/sales/"
 
 
 def vcard(name: str, *lines: str, version: str = "4.0") -> str:
-    """A card with this name."""
+    """A card with this name, and a UID of it where the lines have none."""
+    if not any(line.startswith("UID") for line in lines):
+        lines = (*lines, f"UID:urn:uuid:{uuid.uuid5(uuid.NAMESPACE_OID, name)}")
     return "\r\n".join(["BEGIN:VCARD", f"VERSION:{version}", f"FN:{name}", *lines, "END:VCARD", ""])
 
 
@@ -59,6 +62,43 @@ def text_of(response: Element, name: str) -> str:
     """The text of a property that was found."""
     found = prop(response, name)
     return "" if found is None else found.text or ""
+
+
+class Syncing:
+    """A client that syncs a book as a person, with a limit where it is not 0."""
+
+    def __init__(self, world: World, person: str, book: str, limit: int = 0):
+        self.world, self.person, self.book, self.limit = world, person, book, limit
+        self.token = ""
+        self.tags: dict[str, str] = {}
+        self.heard: list[str] = []
+        self.statuses: list[int] = []
+
+    def sync(self) -> None:
+        """A sync to its end. What was told is in `heard`, the statuses in `statuses`."""
+        self.heard, self.statuses = [], []
+        while len(self.statuses) < 50:
+            told = self.world.say(self.person, "REPORT", self.book, sync(self.token, self.limit))
+            self.statuses.append(told.status)
+            if told.status != 207:
+                return
+            found = responses(told.body)
+            more = found.pop(self.book, None) is not None
+            assert not self.limit or len(found) <= self.limit
+            for href, response in found.items():
+                self.heard.append(href)
+                self.tags.pop(href, None)
+                if status(response) == "200":
+                    self.tags[href] = text_of(response, f"{D}getetag")
+            self.token = fromstring(told.body).findtext(f"{D}sync-token") or ""
+            if not more:
+                return
+
+    def listed(self) -> dict[str, str]:
+        """The tags of the cards as a listing has them."""
+        told = self.world.say(self.person, "PROPFIND", self.book, propfind("getetag"), Depth="1")
+        found = responses(told.body)
+        return {href: text_of(found[href], f"{D}getetag") for href in found if href != self.book}
 
 
 @unittest.skipUnless(program(), "the server's program is named in BOOK_DESK, or made by make build")
@@ -110,9 +150,13 @@ class Conversation(unittest.TestCase):
         told = self.say("head", "PROPFIND", "/dav/books/", propfind("resourcetype"), Depth="1")
         self.assertEqual(sorted(responses(told.body)), ["/dav/books/", "/dav/books/law/", SALES])
         options = self.say("head", "OPTIONS", SALES)
-        self.assertEqual((options.status, "addressbook" in options.fields["DAV"]), (200, True))
+        classes = options.fields["DAV"].split(", ")
+        self.assertEqual((options.status, "addressbook" in classes), (200, True))
+        self.assertNotIn("access-control", classes)
         self.assertEqual(self.say("guest", "PROPFIND", "/dav/people/head/", propfind("displayname")).status, 403)
-        self.assertEqual(self.say("guest", "PROPFIND", "/dav/", propfind("displayname"), Depth="infinity").status, 403)
+        refused = self.say("guest", "PROPFIND", "/dav/", propfind("displayname"), Depth="infinity")
+        self.assertEqual(refused.status, 403)
+        self.assertIsNotNone(fromstring(refused.body).find(f"{D}propfind-finite-depth"))
 
     def test_rights_are_told_as_the_server_tells_them(self) -> None:
         told = self.say("assistant", "PROPFIND", SALES, propfind("current-user-privilege-set", "owner", "c:supported-address-data"))
@@ -131,8 +175,10 @@ class Conversation(unittest.TestCase):
         self.assertEqual(response.findtext(f".//{D}owner/{D}href"), "/dav/people/head/")
         told = self.say("guest", "PROPFIND", SALES, propfind("current-user-privilege-set", "displayname"))
         [response] = responses(told.body).values()
-        self.assertEqual([line.text for line in response.iter(f"{D}status")], ["HTTP/1.1 200 OK", "HTTP/1.1 403 Forbidden"])
-        self.assertIsNotNone(response.find(f".//{D}need-privileges//{D}read-current-user-privilege-set"))
+        self.assertEqual([line.text for line in response.iter(f"{D}status")], ["HTTP/1.1 200 OK"])
+        found = prop(response, f"{D}current-user-privilege-set")
+        assert found is not None
+        self.assertEqual([one.tag for privilege in found for one in privilege], [D + "read"])
 
     def test_put_get_delete_under_tags(self) -> None:
         card = vcard("Bo")
@@ -166,8 +212,19 @@ class Conversation(unittest.TestCase):
             self.assertEqual(put.status, 201)
             tags.append(put.fields["ETag"])
             self.assertEqual(self.say("head", "DELETE", "/dav/books/new/").status, 204)
-        self.assertEqual(tags[0].partition("-")[0], tags[1].partition("-")[0])
         self.assertNotEqual(tags[0], tags[1])
+
+    def test_a_client_follows_a_book_that_is_made_again(self) -> None:
+        book, rounds = "/dav/books/new/", ({"a": "A", "b": "B", "c": "C"}, {"a": "Z", "b": "B", "d": "D"})
+        client = Syncing(self.world, "head", book)
+        for texts in rounds:
+            self.assertEqual(self.say("head", "MKCOL", book).status, 201)
+            for name, text in texts.items():
+                self.say("head", "PUT", book + name, vcard(text))
+            client.sync()
+            self.assertEqual(client.tags, client.listed())
+            self.say("head", "DELETE", book)
+        self.assertEqual(sorted(client.heard), [book + name for name in "acd"])
 
     def test_the_denied_card_is_never_told(self) -> None:
         self.say("head", "PUT", SALES + "open.vcf", vcard("Offen"))
@@ -176,9 +233,11 @@ class Conversation(unittest.TestCase):
         before = self.say("guest", "REPORT", SALES, sync())
         self.assertEqual(self.say("head", "ACL", "/books/sales/shut.vcf", deny).status, 200)
         token = fromstring(before.body).findtext(f"{D}sync-token")
-        stale = self.say("guest", "REPORT", SALES, sync(token or ""))
-        self.assertEqual(stale.status, 403)
-        self.assertIsNotNone(fromstring(stale.body).find(f"{D}valid-sync-token"))
+        later = self.say("guest", "REPORT", SALES, sync(token or ""))
+        self.assertEqual(later.status, 207)
+        told = responses(later.body)
+        self.assertEqual({href: status(told[href]) for href in told}, {SALES + "shut.vcf": "404"})
+        self.assertNotIn("Geheim", later.text)
         hrefs = (SALES + "open.vcf", SALES + "shut.vcf")
         query = '<c:addressbook-query xmlns:d="DAV:" xmlns:c="urn:ietf:params:xml:ns:carddav"><d:prop><c:address-data/></d:prop></c:addressbook-query>'
         for body, method in ((sync(), "REPORT"), (multiget(*hrefs), "REPORT"), (query, "REPORT"), (propfind("getetag"), "PROPFIND")):
@@ -192,6 +251,77 @@ class Conversation(unittest.TestCase):
         self.assertEqual(denied.status, 403)
         self.assertIn("which stands at /books/sales/shut.vcf, denies it", denied.text)
         self.assertEqual(self.say("guest", "PUT", hrefs[1], vcard("X"), If_None_Match="*").status, 412)
+
+    def test_a_change_of_access_elsewhere_ends_no_sync(self) -> None:
+        for name in ("a.vcf", "b.vcf", "c.vcf"):
+            self.say("head", "PUT", SALES + name, vcard(name))
+        self.say("head", "PUT", "/dav/books/law/one.vcf", vcard("One"))
+        clients = [Syncing(self.world, person, SALES, limit) for person in ("guest", "head") for limit in (0, 2)]
+        for client in clients:
+            client.sync()
+            self.assertEqual(client.tags, client.listed())
+        share = {"acl": [{"grant": ["read"], "principal": "/people/guest"}]}
+        self.assertEqual(self.say("head", "ACL", "/books/law/one.vcf", share).status, 200)
+        for client in clients:
+            client.sync()
+            self.assertEqual((client.heard, client.statuses), ([], [207]))
+        self.say("head", "PUT", SALES + "d.vcf", vcard("D"))
+        self.say("head", "DELETE", SALES + "a.vcf")
+        for client in clients:
+            client.sync()
+            self.assertEqual(sorted(client.heard), [SALES + "a.vcf", SALES + "d.vcf"])
+            self.assertEqual(client.tags, client.listed())
+
+    def test_what_access_takes_and_gives_is_told(self) -> None:
+        names = [f"{SALES}{number}.vcf" for number in range(6)]
+        for name in names:
+            self.say("head", "PUT", name, vcard(name))
+        clients = [Syncing(self.world, "guest", SALES, limit) for limit in (0, 2)]
+        for client in clients:
+            client.sync()
+        deny = {"acl": [{"deny": ["read"], "principal": "/people/guest"}]}
+        for name in names[:3]:
+            self.say("head", "ACL", name.removeprefix("/dav"), deny)
+        self.say("head", "PUT", names[4], vcard("Neu"))
+        for client in clients:
+            client.sync()
+            self.assertEqual(sorted(client.heard), [*names[:3], names[4]])
+            self.assertEqual(client.tags, client.listed())
+        for name in names[:3]:
+            self.say("head", "ACL", name.removeprefix("/dav"), {"acl": []})
+        for client in clients:
+            client.sync()
+            self.assertEqual(sorted(client.heard), names[:3])
+            self.assertEqual(client.tags, client.listed())
+
+    def test_a_token_of_a_listing_is_remembered(self) -> None:
+        self.say("head", "PUT", SALES + "a.vcf", vcard("A"))
+        listed = self.say("guest", "PROPFIND", SALES, propfind("getetag"), Depth="1")
+        self.assertEqual(listed.status, 207)
+        told = self.say("guest", "PROPFIND", SALES, propfind("displayname", "sync-token"), Depth="0")
+        token = text_of(responses(told.body)[SALES], f"{D}sync-token")
+        self.assertEqual(self.say("head", "ACL", "/books", {"acl": self.list}).status, 200)
+        later = self.say("guest", "REPORT", SALES, sync(token))
+        self.assertEqual((later.status, responses(later.body)), (207, {}))
+
+    def test_a_token_that_nobody_gave_is_refused(self) -> None:
+        for token in ("data:,sales/1/999", "data:,law/1/0", "data:,sales/0/0", "x", "data:,sales/1/0/7"):
+            refused = self.say("guest", "REPORT", SALES, sync(token))
+            with self.subTest(token):
+                self.assertEqual(refused.status, 400)
+                self.assertIsNotNone(fromstring(refused.body).find(f"{D}valid-sync-token"))
+
+    def test_what_is_remembered_outlasts_the_gateway(self) -> None:
+        self.say("head", "PUT", SALES + "a.vcf", vcard("A"))
+        client = Syncing(self.world, "guest", SALES)
+        client.sync()
+        self.world.gateway.terminate()
+        self.world.gateway.wait(15)
+        self.assertTrue((self.world.path / "told.db").exists())
+        self.world.start_gateway()
+        self.assertEqual(self.say("head", "ACL", "/books", {"acl": self.list}).status, 200)
+        client.sync()
+        self.assertEqual((client.heard, client.statuses), ([], [207]))
 
     def test_reports(self) -> None:
         for name in ("anna", "bert", "cem"):
@@ -209,10 +339,16 @@ class Conversation(unittest.TestCase):
         self.assertEqual(list(responses(told.body)), [SALES + "bert.vcf"])
         told = self.say("head", "REPORT", SALES, query.format("", "<c:limit><c:nresults>2</c:nresults></c:limit>"))
         self.assertEqual({href: status(node) for href, node in responses(told.body).items()}, {SALES + "anna.vcf": "200", SALES + "bert.vcf": "200", SALES: "507"})
-        for body, name in ((multiget("x", data='<c:address-data version="2.1"/>'), "supported-address-data"), ('<d:expand-property xmlns:d="DAV:"/>', "supported-report")):
+        other = multiget("x", data='<c:address-data version="2.1"/>')
+        deep = sync().replace(">1<", ">infinite<")
+        rows = [
+            (other, f"{C}supported-address-data"), ('<d:expand-property xmlns:d="DAV:"/>', f"{D}supported-report"),
+            (deep, f"{D}sync-traversal-supported"),
+        ]
+        for body, name in rows:
             refused = self.say("head", "REPORT", SALES, body)
             self.assertEqual(refused.status, 403)
-            self.assertIn(name, refused.text)
+            self.assertIsNotNone(fromstring(refused.body).find(name))
 
     def test_sync_with_a_limit_tells_all_in_turn(self) -> None:
         names = [f"c{number}.vcf" for number in range(7)]
@@ -253,6 +389,13 @@ class Conversation(unittest.TestCase):
         self.assertIn("You lack the privilege write-properties at /books/new", made.text)
         self.assertEqual(self.say("head", "MKCOL", "/dav/books/new/").status, 405)
         self.assertEqual(self.say("head", "MKCOL", "/dav/books/other/", body.format("")).status, 403)
+        described = body.replace("</d:prop>", "<c:addressbook-description>x</c:addressbook-description></d:prop>")
+        refused = self.say("head", "MKCOL", "/dav/books/other/", described.format("<c:addressbook/>"))
+        self.assertEqual(refused.status, 403)
+        lines = [line.text for line in fromstring(refused.body).iter(f"{D}status")]
+        self.assertEqual(lines, ["HTTP/1.1 403 Forbidden", "HTTP/1.1 424 Failed Dependency"])
+        self.assertEqual(self.say("head", "PROPFIND", "/dav/books/other/", propfind("displayname")).status, 404)
+        self.assertEqual(self.say("head", "MKCOL", "/dav/books/other/", "no XML").status, 415)
         self.assertEqual(self.say("guest", "MKCOL", "/dav/books/mine/").status, 403)
         update = '<d:propertyupdate xmlns:d="DAV:"><d:set><d:prop><d:displayname>{}</d:displayname>{}</d:prop></d:set></d:propertyupdate>'
         told = self.say("assistant", "PROPPATCH", SALES, update.format("Vertrieb", ""))
@@ -295,27 +438,6 @@ class Conversation(unittest.TestCase):
                 self.assertEqual(three.text.splitlines()[1], "VERSION:3.0")
         members = self.say("head", "REPORT", "/books/sales/apple-group-3.vcf", {"report": "group-members"})
         self.assertEqual([member["uri"] for member in members.json()["members"]], ["urn:uuid:6F1C0D9E-8B1A-4A55-9D0E-3A6F2B1C7E41"])
-
-    def test_faults_of_cards_have_the_line_that_was_sent(self) -> None:
-        rows = [
-            ("BEGIN:VCARD\r\nFN:A\r\nno line\r\nVERSION:3.0\r\nEND:VCARD\r\n", "bad-line", 3),
-            ("BEGIN:VCARD\r\nN:A;;;;\r\nX-A:b\r\nVERSION:3.0\r\nEND:VCARD\r\n", "no-fn", 5),
-            ("BEGIN:VCARD\r\nVERSION:3.0\r\nFN:A\r\nUID:a\r\nX-A:\r\n b\r\nUID:b\r\nEND:VCARD\r\n", "twice", 6),
-            ("BEGIN:VCARD\r\nVERSION:3.0\r\nFN:A\r\n", "no-end", 4),
-            ("BEGIN:VCARD\r\nVERSION:3.0\r\nFN:A\r\nEND:VCARD\r\nX:y\r\n", "after-end", 5),
-            ("BEGIN:VCARD\r\nVERSION:2.1\r\nFN:A\r\nEND:VCARD\r\n", "other-version", 2),
-            ("BEGIN:VCARD\r\nVERSION:4.0\r\nFN:A\r\nUID:a\r\nUID:b\r\nEND:VCARD\r\n", "twice", 5),
-            (vcard("A", "NOTE:" + "x" * 70_000, version="3.0"), "too-long", 0),
-            ("", "no-begin", 1),
-        ]
-        for text, fault, line in rows:
-            with self.subTest(fault):
-                refused = self.say("head", "PUT", SALES + "x.vcf", text, x_office_page="1")
-                self.assertEqual((refused.status, refused.json()), (400, {"error": "bad-card", "fault": fault, "line": line}))
-        refused = self.say("head", "PUT", SALES + "x.vcf", rows[0][0])
-        self.assertIsNotNone(fromstring(refused.body).find(f"{C}valid-address-data"))
-        self.assertEqual(self.say("head", "PUT", SALES + "x.vcf", "x", Content_Type="text/calendar").status, 415)
-        self.assertEqual(self.say("head", "PUT", SALES + "x.vcf", b"\xff\xfe").status, 400)
 
     def test_requests_of_the_server_pass_unchanged(self) -> None:
         self.assertEqual(self.say("head", "PUT", "/books/sales/a.vcf", vcard("A")).status, 201)

@@ -119,7 +119,7 @@ class Hostile(unittest.TestCase):
             "/books/sales/%2e%2e/law", "/books/sales/../law/a.vcf", "//books/sales", "/books//sales", "/books/sales/a%2f..", "/books/sales?x=1",
             "/%62ooks/sales", "/books/sales/a.vcf/", "/books/sales/..", "/books/./sales", "/books/sales/a.vcf%00", "/books/sales;x", "/books\\sales",
             "/dav/books/sales/../law/", "/dav//books/sales/", "/dav/%62ooks/sales/", "/dav/books/sales/a.vcf?x", "/dav/../books/sales", "/page/../books/sales",
-            "/page/%2e%2e/office_gateway/app.py", "/page/../serve", "/page//etc/passwd", "/dav/books/sales/" + "a" * 65, "*",
+            "/page/%2e%2e/office_gateway/app.py", "/page/../serve", "/page//etc/passwd", "/books/sales/" + "a" * 65, "*",
         ]
         for target in rows:
             for method in ("GET", "PROPFIND", "DELETE"):
@@ -129,17 +129,21 @@ class Hostile(unittest.TestCase):
                 with self.subTest(f"{method} {target}"):
                     self.assertIn(reply[9:12], (b"404", b"400", b"405"), reply[:100])
                     self.no_trace(reply)
-        self.assertEqual(self.world.say("head", "PUT", SALES + ".hidden", CARD).status, 403)
-        self.assertEqual(self.world.say("head", "PUT", SALES + "a%20b.vcf", CARD).status, 403)
+        for name in ("%2e%2e", "a%zz.vcf", "a%2", "a%0d%0ab.vcf", "%ff.vcf", "%00", "a" * 513, "a%c2%85b"):
+            with self.subTest(name):
+                self.assertEqual(self.world.say("head", "PUT", SALES + name, CARD).status, 403)
         self.nothing_was_asked()
 
     def test_bombs_of_xml(self) -> None:
-        bodies = [BOMB, b'<!DOCTYPE x SYSTEM "file:///etc/passwd"><propfind xmlns="DAV:"/>', b"<a>" * 5_000, b"<a" + b" b=''" * 9_000 + b"/>", b"\x00\x01"]
-        for body in bodies:
+        bodies = {
+            BOMB: 400, b'<!DOCTYPE x SYSTEM "file:///etc/passwd"><propfind xmlns="DAV:"/>': 400, b"<a>" * 5_000: 400,
+            b"<a" + b" b=''" * 9_000 + b"/>": 400, b"\x00\x01": 415, b"{}": 415,
+        }
+        for body, wanted in bodies.items():
             for method in ("PROPFIND", "REPORT", "PROPPATCH", "MKCOL"):
                 reply = self.world.say("head", method, SALES, body)
                 with self.subTest(f"{method} {body[:20]!r}"):
-                    self.assertEqual(reply.status, 400)
+                    self.assertEqual(reply.status, wanted)
                     self.no_trace(reply.body)
         self.nothing_was_asked()
 
@@ -149,7 +153,7 @@ class Hostile(unittest.TestCase):
         got = self.world.raw(f"PUT {SALES}a.vcf HTTP/1.1\r\n{host}Content-Length: {ten}\r\n\r\n".encode() + b"x" * 300_000)
         self.assertTrue(got.startswith(b"HTTP/1.1 413"), got[:100])
         chunk = b"10000\r\n" + b"x" * 65_536 + b"\r\n"
-        got = self.world.raw(f"PUT {SALES}a.vcf HTTP/1.1\r\n{host}Transfer-Encoding: chunked\r\n\r\n".encode() + chunk * 8)
+        got = self.world.raw(f"PUT {SALES}a.vcf HTTP/1.1\r\n{host}Transfer-Encoding: chunked\r\n\r\n".encode() + chunk * 80)
         self.assertTrue(got.startswith(b"HTTP/1.1 413"), got[:100])
         many = "".join(f"a{number}: b\r\n" for number in range(80))
         got = self.world.raw(f"GET {SALES} HTTP/1.1\r\n{host}{many}\r\n".encode())
@@ -204,7 +208,7 @@ class Hostile(unittest.TestCase):
         cookie = made.fields["Set-Cookie"]
         self.assertIn("HttpOnly; SameSite=Strict", cookie)
         word = cookie.partition(";")[0]
-        self.assertEqual(self.world.say("", "GET", "/page/session", Cookie=word, x_office_page="1").json(), {"person": "head"})
+        self.assertEqual(self.world.say("", "GET", "/page/session", Cookie=word, x_office_page="1").json()["person"], "head")
         self.assertEqual(self.world.say("", "MKCOL", "/books/evil", Cookie=word).status, 403)
         self.assertEqual(self.world.say("", "MKCOL", "/books/evil", Cookie=word, Origin="https://evil.example", x_office_page="1").status, 403)
         self.assertEqual(self.world.say("head", "MKCOL", "/books/evil", Origin="null").status, 403)

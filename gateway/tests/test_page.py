@@ -1,236 +1,228 @@
-"""The page, as a person uses it in a headless Chromium. With OFFICE_SCREENSHOTS set, pictures go to that folder."""
+"""Cards at the page: shown and edited as persons' entries, made, grouped, and kept byte for byte."""
 from __future__ import annotations
 
-import os
 import shutil
+import subprocess
 import unittest
-from collections.abc import Callable
 from pathlib import Path
-from typing import Any
 
-from tests.test_dav import SALES, vcard
-from tests.world import PASSWORDS, World, program
-
-try:
-    from selenium import webdriver
-    from selenium.common.exceptions import StaleElementReferenceException
-    from selenium.webdriver.common.by import By
-    from selenium.webdriver.common.keys import Keys
-    from selenium.webdriver.support.ui import Select, WebDriverWait
-except ImportError:
-    webdriver = None
+from tests.browser import Keys, Office, card, needed
 
 LONG = "Donaudampfschifffahrtsgesellschaftskapitänsmützenabteilung"
 PICTURE = "PHOTO:data:image/png;base64,iVBORw0KGgoAAAANSUhEUgAAAAEAAAABCAYAAAAfFcSJAAAADUlEQVR42mNkYPj/HwADBwIAMCbHYQAAAABJRU5ErkJggg=="
+NADIA = card(
+    "FN:Nadia Rahman", "N:Rahman;Nadia;;;", "ORG:Linden Office;Sales", "TITLE:Account manager", "item1.TEL;TYPE=work:+49 30 5550 123",
+    "item1.X-ABLabel:Front", "TEL;VALUE=uri;TYPE=\"cell,voice\":tel:+49-170-5550", "EMAIL;TYPE=work:nadia@linden.example",
+    "ADR;TYPE=work:;;Lindenstr. 5;Berlin;;10115;Germany", "URL:https://linden.example/", "BDAY:19850412",
+    "NOTE:Calls back\\, in the\r\n  afternoon.", "CATEGORIES:customer,fair", "X-OWN;X-PARAM=1:kept as it\r\n  stands", PICTURE, uid="n-1",
+)
+HOSTILE = card(
+    "FN:<script>document.title='taken'</script><img src=x onerror=alert(2)>", "URL:javascript:alert(3)", "NOTE:<b>bold</b>",
+    "PHOTO:data:image/svg+xml;base64,PHN2ZyB4bWxucz0iaHR0cDovL3d3dy53My5vcmcvMjAwMC9zdmciLz4=", "TEL:tel:javascript:alert(4)",
+    "EMAIL:a@b.example?body=x", uid="h-1",
+)
+SALES = "/books/sales/"
 
 
-@unittest.skipUnless(program(), "the server's program is named in BOOK_DESK, or made by make build")
-@unittest.skipUnless(webdriver and shutil.which("chromedriver") and shutil.which("chromium"), "the packages chromium, chromium-driver and python3-selenium are not there")
-class Page(unittest.TestCase):
-    """One browser and one office for all."""
+class Model(unittest.TestCase):
+    """The page's modules without a browser."""
 
-    world: World
+    @unittest.skipUnless(shutil.which("node"), "the package nodejs is not there")
+    def test_what_nobody_changes_keeps_its_bytes(self) -> None:
+        tests = sorted(str(path) for path in Path(__file__).parent.glob("*.test.mjs"))
+        done = subprocess.run(["node", "--test", *tests], capture_output=True, text=True, timeout=600, check=False)
+        self.assertEqual(done.returncode, 0, done.stdout[-4000:] + done.stderr[-2000:])
+
+
+@needed
+class Cards(Office):
+    """A head of department at the cards of a book."""
 
     @classmethod
-    def setUpClass(cls) -> None:
-        cls.world = World()
-        options = webdriver.ChromeOptions()
-        for word in ("--headless=new", "--no-sandbox", "--disable-gpu", "--disable-dev-shm-usage", "--no-first-run", "--disable-background-networking"):
-            options.add_argument(word)
-        options.add_argument(f"--user-data-dir={cls.world.path}/chromium")
-        options.set_capability("goog:loggingPrefs", {"browser": "ALL"})
-        service = webdriver.chrome.service.Service(shutil.which("chromedriver"))
-        try:
-            cls.driver = webdriver.Chrome(options=options, service=service)
-        except Exception:
-            cls.world.close()
-            raise
+    def furnish(cls) -> None:
+        for name, text in {"bo": card("FN:Bo", uid="b-1"), "hostile": HOSTILE}.items():
+            cls.world.say("hanna", "PUT", f"/dav{SALES}{name}.vcf", text, Content_Type="text/vcard")
 
-    @classmethod
-    def tearDownClass(cls) -> None:
-        cls.driver.quit()
-        cls.world.close()
+    def put(self, name: str, text: str) -> None:
+        """Puts a card as the head of department."""
+        self.assertIn(self.world.say("hanna", "PUT", f"/dav{SALES}{name}.vcf", text, Content_Type="text/vcard").status, (201, 204))
 
-    def setUp(self) -> None:
-        self.driver.set_window_size(1100, 900)
-        self.driver.delete_all_cookies()
-
-    def until(self, holds: Callable[[], Any]) -> Any:
-        """Waits until something holds, and gives it."""
-
-        def tried(_: Any) -> Any:
-            try:
-                return holds()
-            except StaleElementReferenceException:
-                return None
-
-        return WebDriverWait(self.driver, 90).until(tried)
-
-    def one(self, path: str) -> Any:
-        """The first element of an XPath, once it is there."""
-        return self.until(lambda: next(iter(self.driver.find_elements(By.XPATH, path)), None))
-
-    def heading(self, text: str) -> None:
-        """Waits until the page has this heading."""
-        self.until(lambda: self.driver.find_element(By.TAG_NAME, "h1").text == text if self.driver.find_elements(By.TAG_NAME, "h1") else False)
-
-    def told(self, text: str) -> None:
-        """Waits until the page tells this."""
-        self.until(lambda: text in self.driver.find_element(By.ID, "told").text)
-
-    def open(self, path: str) -> None:
-        """Opens a view."""
-        self.driver.execute_script("location.hash = arguments[0]", "#" + path)
-
-    def sign_in(self, login: str) -> None:
-        """Signs in, with the keyboard alone."""
-        self.driver.get(f"http://127.0.0.1:{self.world.port}/")
-        self.heading("Sign in")
-        self.until(lambda: self.driver.switch_to.active_element.get_attribute("autocomplete") == "username")
-        self.driver.switch_to.active_element.send_keys(login, Keys.TAB)
-        self.driver.switch_to.active_element.send_keys(PASSWORDS[login], Keys.ENTER)
-        self.heading("Books")
-
-    def picture(self, name: str) -> None:
-        """Keeps a screenshot where a folder for them is named."""
-        folder = os.environ.get("OFFICE_SCREENSHOTS")
-        if folder:
-            self.driver.save_screenshot(str(Path(folder) / f"{name}.png"))
-
-    def fits(self) -> None:
-        """Asserts that nothing is wider than the window."""
-        root = "document.documentElement"
-        wide, window = self.driver.execute_script(f"return [{root}.scrollWidth, {root}.clientWidth]")
-        self.assertLessEqual(wide, window)
-
-    def nothing_was_blocked(self) -> None:
-        """Asserts that the browser told of no fault but replies that refuse."""
-        faults = [entry["message"] for entry in self.driver.get_log("browser") if entry["level"] == "SEVERE"]
-        self.assertEqual([fault for fault in faults if "the server responded with a status of" not in fault], [])
-
-    def test_a_card_a_list_and_a_denial(self) -> None:
-        self.world.say("head", "PUT", SALES + "anna.vcf", vcard("Anna Oberländer", "ORG:Linden;Vertrieb", "TEL;TYPE=cell:+49 170 1", PICTURE))
-        self.world.say("head", "PUT", SALES + "bo.vcf", vcard("Bo"))
-        self.sign_in("head")
+    def test_a_card_is_a_persons_entry(self) -> None:
+        self.put("nadia", NADIA)
+        self.sign_in("hanna")
         self.picture("books")
-        self.one("//a[.='Verkauf']").click()
-        self.heading("Verkauf")
-        self.one("//a[.='Anna Oberländer']").send_keys(Keys.ENTER)
-        self.heading("Anna Oberländer")
-        said = self.one("//dl").text
-        self.assertIn("Linden, Vertrieb", said)
-        self.assertIn("Telephone (cell)", said)
-        self.assertEqual(self.driver.execute_script("return document.querySelector('img.picture').naturalWidth"), 1)
-        text = self.one("//textarea")
-        value = text.get_attribute("value").replace("FN:Anna Oberländer", "FN:Anna Oberländer-Schmidt")
-        text.clear()
-        text.send_keys(value)
-        self.one("//button[.='Save the text']").click()
-        self.told("The card is saved.")
-        self.heading("Anna Oberländer-Schmidt")
-        self.assertIn("FN:Anna Oberländer-Schmidt\r\n", self.world.say("head", "GET", SALES + "anna.vcf").text)
+        self.press("Sales")
+        self.heading("Sales")
+        self.picture("book")
+        self.one("//a[.='Nadia Rahman']").send_keys(Keys.ENTER)
+        self.heading("Nadia Rahman")
+        self.assertEqual(self.text("//dl[@id='said']").split("\n"), [
+            "Telephone (Front)", "+49 30 5550 123", "Telephone (mobile)", "+49-170-5550", "Mail (work)", "nadia@linden.example",
+            "Address (work)", "Lindenstr. 5", "Berlin 10115", "Germany", "Web page", "https://linden.example/", "Birthday", "April 12, 1985",
+            "Categories", "customer, fair", "Note", "Calls back, in the afternoon.",
+        ])
+        links = {one.text: one.get_attribute("href") for one in self.all("//dl[@id='said']//a")}
+        self.assertEqual(links["+49 30 5550 123"], "tel:+49305550123")
+        self.assertEqual(links["nadia@linden.example"], "mailto:nadia@linden.example")
+        self.assertEqual(links["https://linden.example/"], "https://linden.example/")
+        self.assertTrue(any(href.startswith("https://www.openstreetmap.org/search?query=Lindenstr.") for href in links.values()))
+        self.until(lambda: self.driver.execute_script("return document.querySelector('img.picture').naturalWidth") == 1)
+        self.press("More")
+        self.assertEqual(self.text("//dl[@id='others']").split("\n"), ["Identifier", "urn:uuid:n-1", "X-OWN", "kept as it stands"])
         self.picture("card")
+        self.nothing_was_blocked()
 
-        # Someone else changes the card while it is open: what is written then is refused.
-        self.world.say("head", "PUT", SALES + "anna.vcf", vcard("Anna Neu"))
-        self.one("//button[.='Save the text']").click()
-        self.told("It has changed since you opened it.")
-        self.assertIn("FN:Anna Neu", self.world.say("head", "GET", SALES + "anna.vcf").text)
+    def test_what_is_not_changed_keeps_its_bytes(self) -> None:
+        self.put("nadia", NADIA)
+        self.sign_in("hanna")
+        self.open("/edit/books/sales/nadia.vcf")
+        self.heading("Edit Nadia Rahman")
+        self.press("Save")
+        self.heading("Nadia Rahman")
+        self.assertEqual(self.kept(SALES + "nadia.vcf"), NADIA)
+        self.press("Edit")
+        self.heading("Edit Nadia Rahman")
+        self.fill("Telephone", "+49 30 999")
+        self.picture("form")
+        self.press("Save")
+        self.told("The card is saved.")
+        self.assertEqual(self.kept(SALES + "nadia.vcf"), NADIA.replace("+49 30 5550 123", "+49 30 999"))
+        self.press("Edit")
+        self.heading("Edit Nadia Rahman")
+        self.fill("Town", "Köln, Deutz")
+        self.press("Save")
+        self.told("The card is saved.")
+        self.assertEqual(self.kept(SALES + "nadia.vcf"), NADIA.replace("+49 30 5550 123", "+49 30 999").replace(";Berlin;", ";Köln\\, Deutz;"))
+
+    def test_fields_come_and_go(self) -> None:
+        self.put("fields", card("FN:Fay Old", "N:Old;Fay;;;", "TEL;TYPE=home:1", "BDAY:--0412", uid="f-1"))
+        self.sign_in("hanna")
+        self.open("/edit/books/sales/fields.vcf")
+        self.heading("Edit Fay Old")
+        self.fill("Family name", "New")
+        self.assertEqual(self.labelled("Name as shown").get_attribute("value"), "Fay New")
+        self.one("//button[@aria-label='Take away: Telephone']").click()
+        self.press("Add a mail address")
+        self.fill("Mail", "fay@new.example", 1)
+        self.one("//input[@aria-label='Year']").send_keys("1990")
+        self.press("Save")
+        self.told("The card is saved.")
+        self.assertEqual(self.kept(SALES + "fields.vcf"), card("FN:Fay New", "N:New;Fay;;;", "BDAY:19900412", "EMAIL;TYPE=work:fay@new.example", uid="f-1"))
+        self.assertIn("April 12, 1990", self.text("//dl[@id='said']"))
+
+    def test_a_new_card_has_a_uuid_and_a_picture_that_fits(self) -> None:
+        self.sign_in("hanna")
         self.open("/books/sales")
-        self.open("/books/sales/anna.vcf")
-        self.heading("Anna Neu")
-        text = self.one("//textarea")
-        text.clear()
-        text.send_keys("BEGIN:VCARD\nVERSION:4.0\nno line\nEND:VCARD\n")
-        self.one("//button[.='Save the text']").click()
-        self.told("Line 3 of the card is refused (bad-line)")
+        self.press("New card")
+        self.heading("New card in Sales")
+        self.fill("First name", "Pia")
+        self.fill("Family name", "Neu; Alt")
+        made = self.driver.execute_async_script(
+            "const done = arguments[0]; const canvas = document.createElement('canvas'); canvas.width = 1600; canvas.height = 1200;"
+            "const context = canvas.getContext('2d'); const data = context.createImageData(1600, 1200);"
+            "for (let at = 0; at < data.data.length; at += 1) data.data[at] = at % 4 === 3 ? 255 : Math.imul(at, 2654435761) >>> 24; context.putImageData(data, 0, 0);"
+            "canvas.toBlob((blob) => { const input = document.querySelector('input[type=file]'); const items = new DataTransfer();"
+            "items.items.add(new File([blob], 'a.png', { type: 'image/png' })); input.files = items.files;"
+            "input.dispatchEvent(new Event('change')); done(blob.size); });"
+        )
+        self.assertGreater(made, 65_536)
+        self.until(lambda: self.driver.execute_script("const one = document.querySelector('img.picture'); return !one.hidden && one.naturalWidth > 50"))
+        self.press("Make the card")
+        self.heading("Pia Neu; Alt")
+        name = self.driver.execute_script("return location.hash").rsplit("/", 1)[1]
+        self.assertRegex(name, r"^[0-9a-f]{8}-[0-9a-f]{4}-4[0-9a-f]{3}-[89ab][0-9a-f]{3}-[0-9a-f]{12}\.vcf$")
+        text = self.kept(SALES + name)
+        self.assertIn(f"UID:urn:uuid:{name[:-4]}\r\n", text)
+        self.assertIn("N:Neu\\; Alt;Pia;;;\r\n", text)
+        self.assertIn("FN:Pia Neu\\; Alt\r\n", text)
+        self.assertLess(len(text), 65_536)
+        self.assertLess(max(len(line) for line in text.encode().split(b"\r\n")), 76)
+        self.nothing_was_blocked()
 
-        # The list of the card: the guest is denied to read it.
-        self.one("//a[.='Who may do what']").click()
-        self.heading("Who may do what at /books/sales/anna.vcf")
-        self.one("//button[.='Add an entry']").click()
-        self.one("//fieldset//input[@class='whom']").send_keys("/people/nobody")
-        Select(self.one("//fieldset//select")).select_by_value("deny")
-        self.one("//button[.='Save the list']").click()
-        self.told("An entry names a person or a group that there is not.")
-        whom = self.one("//fieldset//input[@class='whom']")
-        whom.clear()
-        whom.send_keys("/people/guest")
-        self.one("//button[.='Save the list']").click()
-        self.told("The list is saved.")
-        self.assertIn("denies read", self.one("//table[@id='list']").text)
-        person = self.one("//input[@list='persons']")
-        person.clear()
-        person.send_keys("guest", Keys.ENTER)
-        leaves = self.one("//table[@id='leaves']")
-        self.assertIn("which stands at /books/sales/anna.vcf", leaves.text)
-        self.picture("list")
-        self.one("//button[.='Sign out']").click()
-        self.heading("Sign in")
+    def test_a_group_is_made_by_picking_cards(self) -> None:
+        self.put("nadia", NADIA)
+        self.sign_in("hanna")
+        self.open("/newgroup/books/sales")
+        self.heading("New group in Sales")
+        self.fill("Name of the group", "Team")
+        for word in ("nad", "bo"):
+            self.fill("Add a card of this book", word)
+            self.until(lambda: self.all("//ul[@id='candidates']//button"))
+            self.labelled("Add a card of this book").send_keys(Keys.ENTER)
+            self.until(lambda: not self.all("//ul[@id='candidates']//button"))
+        self.assertEqual([one.text for one in self.all("//ul[@id='members']/li/span")], ["Nadia Rahman", "Bo"])
+        self.press("Make the group")
+        self.heading("Team")
+        self.assertEqual(self.text("//ul[@id='members']").split("\n"), ["Nadia Rahman", "Bo"])
+        name = self.driver.execute_script("return location.hash").rsplit("/", 1)[1]
+        self.assertIn("KIND:group\r\nFN:Team\r\nMEMBER:urn:uuid:n-1\r\nMEMBER:urn:uuid:b-1\r\nEND:VCARD", self.kept(SALES + name))
+        told = self.world.say("hanna", "REPORT", SALES + name, {"report": "group-members"}).json()
+        self.assertEqual(told["reached"], [SALES + "bo.vcf", SALES + "nadia.vcf"])
+        self.one("//ul[@id='members']//a[.='Bo']").click()
+        self.heading("Bo")
+        self.assertIn("In groups\nTeam", self.text())
+        self.open(f"/members{SALES}{name}")
+        self.one("//button[@aria-label='Take away: Nadia Rahman']").click()
+        self.press("Save")
+        self.told("The card is saved.")
+        self.assertNotIn("n-1", self.kept(SALES + name))
 
-        # The guest sees that the card is denied, and by which entry.
-        self.sign_in("guest@office.example")
+    def test_the_text_is_there_for_who_asks(self) -> None:
+        self.put("text", card("FN:Text", uid="t-1"))
+        self.sign_in("hanna")
+        self.open("/text/books/sales/text.vcf")
+        area = self.labelled("Lines of vCard 4.0")
+        self.assertEqual(area.get_attribute("value"), card("FN:Text", uid="t-1").replace("\r\n", "\n"))
+        area.clear()
+        area.send_keys("BEGIN:VCARD\nVERSION:4.0\nno line\nEND:VCARD\n")
+        self.press("Save")
+        self.told("Line 3 of the card is refused: it is no line of a card.")
+        area.clear()
+        area.send_keys("BEGIN:VCARD\nVERSION:4.0\nFN:Other\nEND:VCARD\n")
+        self.press("Save")
+        self.heading("Other")
+        self.assertEqual(self.kept(SALES + "text.vcf").count("\r\n"), self.kept(SALES + "text.vcf").count("\n"))
+
+    def test_hostile_cards_are_shown_as_text(self) -> None:
+        self.sign_in("hanna")
+        self.open("/books/sales/hostile.vcf")
+        self.heading("<script>document.title='taken'</script><img src=x onerror=alert(2)>")
+        self.press("More")
+        self.assertIn("javascript:alert(3)", self.text("//dl[@id='said']"))
+        self.assertIn("<b>bold</b>", self.text("//dl[@id='said']"))
+        self.assertIn("Picture\ndata, 1 KB", self.text("//dl[@id='others']"))
+        self.assertEqual(self.all("//main//img"), [])
+        self.assertEqual(self.all("//main//dl//a"), [])
+        self.assertNotIn("taken", self.driver.title.replace("='taken'", ""))
+        self.open("/edit/books/sales/hostile.vcf")
+        self.one("//form")
         self.open("/books/sales")
-        self.heading("Verkauf")
-        cause = self.one("//p[@class='cause']").text
-        self.assertEqual(cause, "You lack the privilege read at /books/sales/anna.vcf: entry 4 of its list, which stands at /books/sales/anna.vcf, denies it.")
-        self.assertNotIn("Anna", self.driver.find_element(By.TAG_NAME, "main").text)
-        self.picture("denied-in-a-book")
-        self.open("/books/sales/anna.vcf")
-        self.heading("This is not shown")
-        self.assertIn("You may not read at /books/sales/anna.vcf (read): entry 4 of its list denies it", self.one("//p[@id='cause']").text)
-        self.open("/access/books/sales")
-        self.heading("Who may do what at /books/sales")
-        self.assertIn("no entry grants it to you", self.one("//p[@id='cause']").text)
+        self.one("//a[contains(., '<script>')]")
         self.nothing_was_blocked()
 
     def test_on_a_phone_with_long_words(self) -> None:
-        for number in range(3):
-            self.world.say("head", "PUT", f"{SALES}{'lang' * 14}{number}.vcf", vcard(f"{LONG} {number}", f"NOTE:{LONG * 2}", f"EMAIL;TYPE=work:{LONG.lower()}@linden.example"))
-        self.world.say("head", "PROPPATCH", "/books/sales", {"set": {"displayname": LONG}})
-        phone = {"width": 360, "height": 740, "deviceScaleFactor": 2, "mobile": False}
-        self.driver.execute_cdp_cmd("Emulation.setDeviceMetricsOverride", phone)
-        self.addCleanup(self.driver.execute_cdp_cmd, "Emulation.clearDeviceMetricsOverride", {})
-        self.sign_in("head")
+        for number in range(2):
+            self.put(f"{'lang' * 12}{number}", card(f"FN:{LONG} {number}", f"NOTE:{LONG * 2}", f"EMAIL;TYPE=work:{LONG.lower()}@linden.example", uid=f"l-{number}"))
+        self.narrow()
+        self.sign_in("hanna")
         self.fits()
-        self.one(f"//a[.='{LONG}']").click()
-        self.heading(LONG)
+        self.open("/books/sales")
+        self.one(f"//a[.='{LONG} 1']")
         self.fits()
+        self.picture("phone-book")
         self.one(f"//a[.='{LONG} 1']").click()
         self.heading(f"{LONG} 1")
         self.fits()
         self.picture("phone-card")
-        self.one("//a[.='Who may do what']").click()
+        self.press("Edit")
+        self.heading(f"Edit {LONG} 1")
+        self.fits()
+        self.open(f"/access{SALES}{'lang' * 12}1.vcf")
         self.one("//table[@id='list']")
-        self.one("//button[.='Add an entry']").click()
+        self.press("Edit the list that stands here")
+        self.press("Add an entry")
         self.fits()
         self.picture("phone-list")
-        self.nothing_was_blocked()
-
-    def test_groups_books_and_new_cards(self) -> None:
-        self.sign_in("head")
-        self.one("//a[.='Groups']").click()
-        self.one("//a[.='Office']").click()
-        self.heading("Office")
-        members = self.one("//textarea")
-        self.assertEqual(members.get_attribute("value"), "/people/assistant\n/people/head")
-        members.send_keys("\n/people/guest")
-        self.one("//button[.='Save the members']").click()
-        self.told("The members are saved.")
-        told = self.world.say("head", "PROPFIND", "/groups/office", {"prop": ["group-member-set"]}).json()
-        self.assertIn("/people/guest", told["responses"][0]["prop"]["group-member-set"])
-        self.open("/books/sales")
-        self.heading("Verkauf")
-        name, full = self.driver.find_elements(By.XPATH, "//form[.//button[.='Make the card']]//input")
-        name.send_keys("neu.vcf")
-        full.send_keys("Neu, Karte", Keys.ENTER)
-        self.heading("Neu, Karte")
-        self.assertIn("FN:Neu\\, Karte", self.world.say("head", "GET", SALES + "neu.vcf").text)
-        self.open("/people")
-        self.heading("Persons")
-        self.one("//a[.='Omar Haddad']")
-        self.driver.refresh()
-        self.heading("Persons")
         self.nothing_was_blocked()
 
 

@@ -10,15 +10,15 @@ from pathlib import Path
 
 import bcrypt
 
-from office_gateway import davxml, many, page, paths, properties, queries, vcard
-from office_gateway.app import CaselessFields, basic_of, hosts_of
+from office_gateway import davxml, guesses, imports, paths, properties, queries, vcard
+from office_gateway.app import CaselessFields, basic_of, hosts_of, takes_gzip
+from office_gateway.conditions import accepts_three, has_tag
 from office_gateway.config import ConfigFault, People, load
-from office_gateway.copies import Copies, tag_of
-from office_gateway.dav import accepts_three, has_tag
 from office_gateway.locks import Locks
 from office_gateway.passwords import Passwords, hashes_of
 from office_gateway.refusals import Refusal, refusal_of, words_of
 from office_gateway.sessions import Sessions
+from office_gateway.texts import tag_of
 
 BOMB = b"""<?xml version="1.0"?><!DOCTYPE l [<!ENTITY a "ha"><!ENTITY b "&a;&a;&a;&a;">]><propfind xmlns="DAV:">&b;</propfind>"""
 
@@ -63,10 +63,12 @@ class Xml(unittest.TestCase):
     def test_bodies_that_are_refused(self) -> None:
         deep = b"<a>" * 40 + b"</a>" * 40
         wide = b"<a>" + b"<b/>" * 20_001 + b"</a>"
-        for body in (BOMB, b"<a", b"no", b"<!DOCTYPE a><a/>", deep, wide, b"\xff<a/>"):
+        bad = [BOMB, b"<a", b"<!DOCTYPE a><a/>", deep, wide, b"\xff\xfe<a/>"]
+        rows = {**dict.fromkeys(bad, 400), b"no": 415, b"{}": 415, b"\xff<a/>": 415}
+        for body, status in rows.items():
             with self.subTest(body[:40]), self.assertRaises(Refusal) as caught:
                 davxml.parsed(body)
-            self.assertEqual((caught.exception.status, caught.exception.name), (400, "bad-xml"))
+            self.assertEqual((caught.exception.status, caught.exception.name), (status, "bad-xml"))
 
     def test_an_empty_body_is_none(self) -> None:
         self.assertIsNone(davxml.parsed(b" \n"))
@@ -185,13 +187,18 @@ class Heads(unittest.TestCase):
         self.assertTrue(has_tag('W/"b"', '"b"', weak=True))
         self.assertFalse(has_tag("b", '"b"'))
         self.assertFalse(has_tag('"a"', None))
-        self.assertNotEqual(tag_of("a", 1), tag_of("b", 1))
-        self.assertNotEqual(tag_of("a", 1), tag_of("a", 2))
+        self.assertNotEqual(tag_of("a"), tag_of("b"))
 
     def test_basic(self) -> None:
         self.assertEqual(basic_of("Basic YTpiOmM="), ("a", "b:c"))
         for field in ("", "Basic", "Basic !!", "Bearer YTpi", "Basic YWI=", "Basic /w=="):
             self.assertEqual(basic_of(field), ("", ""))
+
+    def test_who_takes_gzip(self) -> None:
+        for field in ("gzip", "deflate, GZip;q=0.5", "br , gzip ; q=0.001", "gzip;q=1"):
+            self.assertTrue(takes_gzip(field), field)
+        for field in ("", "identity", "gzip;q=0", "br, gzip; q=0.000", "xgzip", "deflate;gzip"):
+            self.assertFalse(takes_gzip(field), field)
 
     def test_fields_without_case(self) -> None:
         fields = CaselessFields({"If-Match": "x"})
@@ -228,6 +235,40 @@ class Config(unittest.TestCase):
             with self.subTest(text), self.assertRaises(ConfigFault):
                 self.load(text)
 
+    def test_a_fault_names_file_table_and_key_as_they_are_written(self) -> None:
+        rows = {
+            "[listen]\nport = \"1\"": "[listen] port is to be a whole number, and is '1'",
+            "[server]\nconections = 1": "[server] conections: there is no such key; [server] has",
+            "[serve]": "[serve]: there is no such table; there are listen, server,",
+            "[people.names]\n\"a@b\" = 1": "[people.names] \"a@b\" is to be the name of a person",
+            "[offered.sales]\nnames = \"ann\"": "[offered.sales] names is to be a list of texts",
+            "[offered.\"a b\"]": "[offered.a b]: a b is no name of a book",
+            "[listen]\nport = ": "Invalid value (at end of document)",
+        }
+        for text, wanted in rows.items():
+            with self.subTest(text), self.assertRaises(ConfigFault) as caught:
+                self.load(text)
+            self.assertRegex(str(caught.exception), r"^/.*/gateway\.toml: ")
+            self.assertIn(wanted, str(caught.exception))
+
+    def test_a_setting_whose_package_is_not_there_names_it(self) -> None:
+        with unittest.mock.patch("office_gateway.photos.Image", None):
+            with self.assertRaises(ConfigFault) as caught:
+                self.load("")
+            self.assertIn("[cards] shrink_photos wants the package python3-pil", str(caught.exception))
+            self.assertFalse(self.load("[cards]\nshrink_photos = false").cards.shrink_photos)
+
+    def test_the_gateway_s_own_files(self) -> None:
+        self.assertEqual(self.load("").files.folder.name[:3], "tmp")
+        self.assertEqual(self.load("[files]\nfolder = \"/x\"").files.folder, Path("/x"))
+        with unittest.mock.patch.dict("os.environ", {"STATE_DIRECTORY": "/var/lib/o"}):
+            self.assertEqual(self.load("").files.folder, Path("/var/lib/o"))
+
+    def test_offers(self) -> None:
+        offer = self.load("[offered.sales]\nadd = [\"eve\"]\ncards.kim = [\"a.vcf\"]").offered["sales"]
+        self.assertEqual((offer.add, offer.cards), (("eve",), {"kim": ("a.vcf",)}))
+        self.assertEqual([offer.has(one) for one in ("eve", "kim", "ann")], [True, True, False])
+
 
 class Secrets(unittest.IsolatedAsyncioTestCase):
     """Passwords and sessions."""
@@ -235,7 +276,7 @@ class Secrets(unittest.IsolatedAsyncioTestCase):
     async def test_passwords(self) -> None:
         with tempfile.TemporaryDirectory() as folder:
             path = Path(folder) / "passwords"
-            hashed = bcrypt.hashpw(b"right", bcrypt.gensalt(4)).decode()
+            hashed = bcrypt.hashpw(b"right", bcrypt.gensalt(10)).decode()
             apache = hashed.replace("$2b$", "$2y$")
             path.write_text(f"head:{hashed}\na@b.example:{apache}\nlister:{hashed}\nno/name:{hashed}\n")
             passwords = Passwords(People(passwords=path, service="lister", names={"a@b.example": "anna"}))
@@ -247,7 +288,7 @@ class Secrets(unittest.IsolatedAsyncioTestCase):
                 with self.subTest(login=login):
                     self.assertIsNone(await passwords.check(login, password))
             mark = passwords.mark("head")
-            path.write_text(f"head:{bcrypt.hashpw(b'newer', bcrypt.gensalt(4)).decode()}\n")
+            path.write_text(f"head:{bcrypt.hashpw(b'newer', bcrypt.gensalt(10)).decode()}\n")
             await asyncio.sleep(1.1)
             self.assertIsNone(await passwords.check("head", "right"))
             self.assertEqual(await passwords.check("head", "newer"), "head")
@@ -264,7 +305,7 @@ class Secrets(unittest.IsolatedAsyncioTestCase):
 
         with tempfile.TemporaryDirectory() as folder:
             path = Path(folder) / "passwords"
-            path.write_text(f"head:{bcrypt.hashpw(b'right', bcrypt.gensalt(5)).decode()}\n")
+            path.write_text(f"head:{bcrypt.hashpw(b'right', bcrypt.gensalt(11)).decode()}\n")
             with unittest.mock.patch("office_gateway.passwords.fitting", fitting):
                 passwords = Passwords(People(passwords=path))
                 for login in ("head", "nobody", "lister"):
@@ -272,14 +313,24 @@ class Secrets(unittest.IsolatedAsyncioTestCase):
                 self.assertEqual(await passwords.check("head", "right"), "head")
                 self.assertEqual(await passwords.check("head", "right"), "head")
             passwords.close()
-        self.assertEqual(checked, [b"$2b$05$"] * 4)
+        self.assertEqual(checked, [b"$2b$11$"] * 4)
 
     def test_hashes_of_other_kinds_are_left_out(self) -> None:
         with self.assertLogs("office_gateway", "ERROR"):
-            self.assertEqual(hashes_of("a:{SHA}x\nb:plain\n# c\n\nd:$2y$31$" + "a" * 53), {})
+            rows = "a:{SHA}x\nb:plain\n# c\n\nd:$2y$31$" + "a" * 53 + "\ne:$2y$09$" + "a" * 53
+            self.assertEqual(hashes_of(rows), {})
+
+    def test_a_password_that_is_cheap_to_guess_is_refused_at_the_start(self) -> None:
+        with tempfile.TemporaryDirectory() as folder:
+            path = Path(folder) / "passwords"
+            path.write_text("# office\nann:$2y$05$" + "a" * 53 + "\n")
+            with self.assertRaises(ConfigFault) as caught:
+                Passwords(People(passwords=path))
+        self.assertIn(f"{path}: line 2: the password of ann", str(caught.exception))
+        self.assertTrue(str(caught.exception).endswith(f"htpasswd -B -C 12 {path} ann"))
 
     def test_sessions(self) -> None:
-        sessions = Sessions(0.05)
+        sessions = Sessions(0.05, "session")
         word = sessions.begin("a@b", "a", b"m")
         found = sessions.person(word)
         assert found is not None
@@ -287,8 +338,75 @@ class Secrets(unittest.IsolatedAsyncioTestCase):
         self.assertIsNone(sessions.person(word + "x"))
         time.sleep(0.06)
         self.assertIsNone(sessions.person(word))
-        word = Sessions(9).begin("a", "a", None)
+        word = Sessions(9, "session").begin("a", "a", None)
         self.assertIsNone(sessions.person(word))
+
+
+class Guessing(unittest.IsolatedAsyncioTestCase):
+    """Sign-ins that fail wait, by name and by address."""
+
+    def setUp(self) -> None:
+        self.guesses = guesses.Guesses()
+        self.slept: list[float] = []
+
+        async def sleep(seconds: float) -> None:
+            self.slept.append(round(seconds, 1))
+
+        for target, other in (("asyncio.sleep", sleep), ("time.monotonic", lambda: self.now)):
+            patch = unittest.mock.patch(f"office_gateway.guesses.{target}", other)
+            patch.start()
+            self.addCleanup(patch.stop)
+        logger = unittest.mock.patch("office_gateway.guesses.LOG")
+        self.log = logger.start()
+        self.addCleanup(logger.stop)
+        self.now = 1_000.0
+
+    async def guess(self, login: str, address: str, *passwords: str) -> list[float]:
+        """How long each of these wrong passwords waits."""
+        self.slept.clear()
+        for password in passwords:
+            await self.guesses.turn(login, address)
+            self.guesses.failed(login, address, password.encode())
+        return list(self.slept)
+
+    async def test_each_further_guess_waits_longer(self) -> None:
+        waits = await self.guess("ann", "192.0.2.1", *"abcdefgh")
+        self.assertEqual(waits, [0.0] * 5 + [0.2, 0.5, 1.0])
+
+    async def test_the_same_wrong_password_counts_once(self) -> None:
+        self.assertEqual(await self.guess("ann", "192.0.2.1", *"aaaaaaaaaaaa"), [0.0] * 12)
+
+    async def test_guesses_are_counted_by_name_and_by_address(self) -> None:
+        await self.guess("ann", "192.0.2.1", *"abcde")
+        self.assertNotEqual(await self.guess("ann", "192.0.2.2", "x"), [0.0])
+        self.assertNotEqual(await self.guess("bob", "192.0.2.1", "x"), [0.0])
+        self.assertEqual(await self.guess("bob", "192.0.2.2", "x"), [0.0])
+        await self.guess("eve", "2001:db8::1", *"abcde")
+        self.assertNotEqual(await self.guess("kim", "2001:db8::2", "x"), [0.0])
+        self.assertEqual(await self.guess("kim", "2001:db8:0:1::1", "y"), [0.0])
+
+    async def test_nobody_is_kept_out_by_the_guesses_of_others(self) -> None:
+        self.guesses.succeeded("ann", "198.51.100.7")
+        await self.guess("ann", "192.0.2.1", *"abcdefgh")
+        self.assertEqual(await self.guess("ann", "198.51.100.7", "typo"), [0.0])
+
+    async def test_too_many_at_once_are_refused(self) -> None:
+        await self.guess("ann", "192.0.2.1", *"abcdefghijk")
+        with self.assertRaises(Refusal) as caught:
+            for _ in range(9):
+                await self.guesses.turn("ann", "192.0.2.1")
+        self.assertEqual(caught.exception.status, 429)
+        self.now += 900.1
+        self.assertEqual(await self.guess("ann", "192.0.2.1", "new"), [0.0])
+
+    async def test_the_log_names_the_address_before_the_name(self) -> None:
+        await self.guess("a'\nWARNING sign-in failed from 9.9.9.9 as", "192.0.2.1", "x")
+        form, *words = self.log.warning.call_args.args
+        self.assertEqual(
+            form % tuple(words),
+            "sign-in failed from 192.0.2.1 as "
+            "\"a'\\nWARNING sign-in failed from 9.9.9.9 as\"",
+        )
 
 
 class OneByOne(unittest.IsolatedAsyncioTestCase):
@@ -315,94 +433,6 @@ class OneByOne(unittest.IsolatedAsyncioTestCase):
         self.assertEqual(len(locks), 0)
 
 
-class Told:
-    """A server that tells of one book, as its sync reports do."""
-
-    def __init__(self) -> None:
-        self.epoch, self.number = 1, 0
-        self.cards: dict[str, tuple[int, str]] = {}
-        self.gone: dict[str, int] = {}
-        self.asked: list[str] = []
-        self.refused = False
-
-    def put(self, name: str, text: str) -> None:
-        """A card is written."""
-        self.number += 1
-        self.cards[name] = (self.number, text)
-
-    def remove(self, name: str) -> None:
-        """A card is removed."""
-        self.number += 1
-        del self.cards[name]
-        self.gone[name] = self.number
-
-    async def read(self, caller: str, method: str, path: str, body: dict) -> dict:
-        """A sync report."""
-        token = body["sync-token"]
-        self.asked.append(token)
-        await asyncio.sleep(0.01)
-        if self.refused:
-            raise Refusal(403, "need-privileges")
-        start = f"data:,b/{self.epoch}/"
-        if token and not token.startswith(start):
-            raise Refusal(403, "valid-sync-token")
-        since = int(token.rpartition("/")[2]) if token else 0
-        rows = [(number, {"displayname": "", "href": f"{path}/{name}", "number": number, "status": 200, "text": text}) for name, (number, text) in self.cards.items()]
-        rows += [(number, {"href": f"{path}/{name}", "status": 404}) for name, number in self.gone.items()] if token else []
-        return {"responses": [row for number, row in sorted(rows, key=lambda row: row[0]) if number > since], "sync-token": f"{start}{self.number}"}
-
-
-class SyncedCopies(unittest.IsolatedAsyncioTestCase):
-    """Copies follow tokens."""
-
-    async def test_a_copy_follows_what_changes(self) -> None:
-        told = Told()
-        copies = Copies(told, 10_000)  # type: ignore[arg-type]
-        told.put("a", "A")
-        told.put("b", "B")
-        self.assertEqual({name: held.text for name, held in (await copies.read("ann", "b")).cards.items()}, {"a": "A", "b": "B"})
-        told.put("a", "A2")
-        told.remove("b")
-        copy = await copies.read("ann", "b")
-        self.assertEqual({name: held.text for name, held in copy.cards.items()}, {"a": "A2"})
-        self.assertEqual(told.asked, ["", "data:,b/1/2"])
-        told.epoch = 2
-        told.cards = {"c": (1, "C")}
-        self.assertEqual(list((await copies.read("ann", "b")).cards), ["c"])
-        self.assertEqual(told.asked[2:], ["data:,b/1/4", ""])
-
-    async def test_who_asks_meanwhile_shares_the_next_report(self) -> None:
-        told = Told()
-        copies = Copies(told, 10_000)  # type: ignore[arg-type]
-        first = asyncio.create_task(copies.read("ann", "b"))
-        await asyncio.sleep(0.005)
-        told.put("a", "A")
-        others = await asyncio.gather(*(copies.read("ann", "b") for _ in range(20)))
-        self.assertEqual([list(copy.cards) for copy in others], [["a"]] * 20)
-        await first
-        self.assertEqual(len(told.asked), 2)
-        told.epoch = 9
-        told.refused = True
-        refused = await asyncio.gather(*(copies.read("ann", "b") for _ in range(3)), return_exceptions=True)
-        self.assertEqual([type(one).__name__ for one in refused], ["Refusal"] * 3)
-
-    async def test_copies_are_kept_within_their_bound(self) -> None:
-        told = Told()
-        told.put("a", "x" * 1_000)
-        copies = Copies(told, 4_500)  # type: ignore[arg-type]
-        for caller in ("a", "b", "c"):
-            await copies.read(caller, "b")
-        told.asked.clear()
-        await copies.read("c", "b")
-        await copies.read("a", "b")
-        self.assertEqual(told.asked, ["data:,b/1/1", ""])
-        small = Copies(told, 100)  # type: ignore[arg-type]
-        told.asked.clear()
-        await small.read("a", "b")
-        await small.read("a", "b")
-        self.assertEqual(told.asked, ["", ""])
-
-
 class Files(unittest.TestCase):
     """Files of many cards, and cards as people read them."""
 
@@ -411,18 +441,9 @@ class Files(unittest.TestCase):
         self.assertEqual([card.strip().splitlines()[0] for card in vcard.cards_of(text)], ["BEGIN:VCARD", "BEGIN:VCARD", "left over"])
 
     def test_names(self) -> None:
-        self.assertEqual(many.name_of("BEGIN:VCARD\nUID:urn:uuid:abc-1\nEND:VCARD"), "abc-1.vcf")
-        self.assertEqual(many.name_of("BEGIN:VCARD\nUID:a@b\nEND:VCARD"), many.name_of("BEGIN:VCARD\nFN:X\nUID:a@b\nEND:VCARD"))
-        self.assertTrue(paths.is_name(many.name_of("no card")))
-
-    def test_what_a_card_says(self) -> None:
-        text = (Path(__file__).resolve().parent / "corpus" / "whole-4.vcf").read_bytes().decode()
-        fields, picture = page.said_of(text)
-        told = {field["title"]: field for field in fields}
-        self.assertEqual(told["Address"]["value"], "123 Main Street, Any Town, CA, 91921-1234, U.S.A.")
-        self.assertEqual(told["Organisation"]["value"], "ABC, Inc., Marketing")
-        self.assertTrue(picture and picture.startswith("data:image/png;base64,iVBOR"))
-        self.assertEqual(page.said_of("BEGIN:VCARD\nPHOTO:data:image/svg+xml;base64,AAAA\nEND:VCARD")[1], None)
+        self.assertEqual(imports.name_of("BEGIN:VCARD\nUID:urn:uuid:abc-1\nEND:VCARD"), "abc-1.vcf")
+        self.assertEqual(imports.name_of("BEGIN:VCARD\nUID:a@b\nEND:VCARD"), imports.name_of("BEGIN:VCARD\nFN:X\nUID:a@b\nEND:VCARD"))
+        self.assertTrue(paths.is_name(imports.name_of("no card")))
 
     def test_components(self) -> None:
         self.assertEqual(vcard.components("a\\;b;;c\\\\;d"), ["a\\;b", "", "c\\\\", "d"])

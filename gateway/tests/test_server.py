@@ -10,7 +10,10 @@ from office_gateway.server import Server
 
 
 class Listener:
-    """Answers requests on loopback, and counts connections. `answers` says what it does with the requests to come."""
+    """Answers requests on loopback, and counts connections.
+
+    `answers` says what it does with the requests to come.
+    """
 
     def __init__(self) -> None:
         self.connections = 0
@@ -30,13 +33,16 @@ class Listener:
             while True:
                 head = await reader.readuntil(b"\r\n\r\n")
                 self.heads.append(head)
-                length = next((int(line[15:]) for line in head.lower().split(b"\r\n") if line.startswith(b"content-length:")), 0)
+                lines = head.lower().split(b"\r\n")
+                sizes = [int(line[15:]) for line in lines if line.startswith(b"content-length:")]
+                length = sizes[0] if sizes else 0
                 await reader.readexactly(length)
                 answer = self.answers.pop(0) if self.answers else "ok"
                 if answer == "cut":
                     break
                 body = b"x" * 5_000 if answer == "large" else b"{}"
-                writer.write(b"HTTP/1.1 200 OK\r\nContent-Type: application/json\r\nContent-Length: %d\r\n\r\n" % len(body) + body)
+                start = b"HTTP/1.1 200 OK\r\nContent-Type: application/json\r\n"
+                writer.write(start + b"Content-Length: %d\r\n\r\n" % len(body) + body)
                 await writer.drain()
                 if b"connection: close" in head.lower():
                     break
@@ -52,7 +58,8 @@ class Asking(unittest.IsolatedAsyncioTestCase):
         """A client and the listener that it asks."""
         listener = Listener()
         port = await listener.start()
-        server = Server(Backend(port=port, start_seconds=1.0, reply_seconds=2.0, **settings))  # type: ignore[arg-type]
+        settings = {"start_seconds": 60.0, "reply_seconds": 60.0, **settings}
+        server = Server(Backend(port=port, **settings))  # type: ignore[arg-type]
         await server.open()
         self.addAsyncCleanup(server.close)
         assert listener.server is not None
@@ -66,7 +73,9 @@ class Asking(unittest.IsolatedAsyncioTestCase):
         self.assertEqual(listener.connections, 3)
         head = listener.heads[0].decode()
         self.assertTrue(head.startswith("PROPFIND /books HTTP/1.1\r\n"), head)
-        self.assertEqual(sorted(line.partition(":")[0].lower() for line in head.split("\r\n")[1:] if line), ["connection", "content-length", "depth", "host", "x-office-caller"])
+        names = sorted(line.partition(":")[0].lower() for line in head.split("\r\n")[1:] if line)
+        wanted = ["connection", "content-length", "depth", "host", "x-office-caller"]
+        self.assertEqual(names, wanted)
 
     async def test_kept_connections_for_reads_and_new_ones_for_edits(self) -> None:
         server, listener = await self.asking(keep_connections=True, connections=2)
@@ -93,7 +102,8 @@ class Asking(unittest.IsolatedAsyncioTestCase):
         with self.assertRaises(Refusal) as caught:
             await server.ask("ann", "GET", "/books/a/b")
         self.assertEqual(caught.exception.status, 507)
-        both = await asyncio.gather(server.ask("ann", "GET", "/"), server.ask("ann", "GET", "/"), return_exceptions=True)
+        asked = [server.ask("ann", "GET", "/") for _ in range(2)]
+        both = await asyncio.gather(*asked, return_exceptions=True)
         self.assertEqual(sorted(type(one).__name__ for one in both), ["Answer", "Refusal"])
         for caller in ("", "a\r\nx-office-caller: b", "../b", "a b"):
             with self.assertRaises(Refusal):

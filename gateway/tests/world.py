@@ -1,9 +1,13 @@
-"""A server and a gateway on free ports of loopback, for tests that talk to them. They end when the world is closed."""
+"""A server and a gateway on free ports of loopback, for tests that talk to them.
+
+They end when the world is closed.
+"""
 from __future__ import annotations
 
 import atexit
 import base64
 import contextlib
+import functools
 import http.client
 import json
 import os
@@ -22,9 +26,34 @@ PASSWORDS = {"head": "kopf-1", "assistant": "hand-2", "guest@office.example": "g
 
 
 def program() -> Path | None:
-    """The server's program: BOOK_DESK, or what `make build` links."""
-    path = Path(os.environ.get("BOOK_DESK", TOP / "build" / "book_desk"))
-    return path if os.access(path, os.X_OK) else None
+    """The server's program: BOOK_DESK, or what `make build` links, or else what `make try` does."""
+    built = (TOP / "build" / "book_desk", TOP / "build" / "try" / "book_desk")
+    named = os.environ.get("BOOK_DESK")
+    for path in (Path(named),) if named else built:
+        if os.access(path, os.X_OK):
+            return path
+    return None
+
+
+@functools.lru_cache
+def hashed(word: str) -> str:
+    """The hash of a password, of the least cost that the gateway takes."""
+    return bcrypt.hashpw(word.encode(), bcrypt.gensalt(10)).decode()
+
+
+@functools.lru_cache
+def store_of(found: Path, policy: Path) -> bytes:
+    """The file of a store that has adopted a policy. It is made once for all worlds of a run."""
+    with tempfile.TemporaryDirectory(prefix="office-store-") as folder:
+        store = Path(folder) / "office.db"
+        adopt(found, store, policy)
+        return store.read_bytes()
+
+
+def adopt(found: Path, store: Path, policy: Path) -> None:
+    """Lets the program adopt a policy into a store."""
+    words = [str(found), "import", "--store", str(store), str(policy)]
+    subprocess.run(words, check=True, timeout=900, stdout=subprocess.DEVNULL)
 
 
 def free_port() -> int:
@@ -70,14 +99,17 @@ class World:
     ):
         found = program()
         if found is None:
-            raise RuntimeError("the server's program is not there: name it in BOOK_DESK, or run make build")
+            raise RuntimeError(
+                "the server's program is not there: run make build or make try, or name it in "
+                "BOOK_DESK"
+            )
         self.program = found
         self.folder = tempfile.TemporaryDirectory(prefix="office-gateway-")
         self.path = Path(self.folder.name)
         self.port, self.server_port = port or free_port(), free_port()
         self.passwords = passwords or PASSWORDS
-        hashed = [f"{login}:{bcrypt.hashpw(word.encode(), bcrypt.gensalt(6)).decode()}" for login, word in self.passwords.items()]
-        (self.path / "passwords").write_text("\n".join(hashed) + "\n")
+        lines = [f"{login}:{hashed(word)}\n" for login, word in self.passwords.items()]
+        (self.path / "passwords").write_text("".join(lines))
         listed = origins or f'"http://127.0.0.1:{self.port}", "http://localhost:{self.port}"'
         (self.path / "gateway.toml").write_text(
             f"[listen]\nport = {self.port}\norigins = [{listed}]\narrive_seconds = 3\n"
@@ -89,7 +121,7 @@ class World:
         atexit.register(self.close)
         self.log = open(self.path / "gateway.log", "wb")  # pylint: disable=consider-using-with
         try:
-            self.run_import(policy)
+            (self.path / "office.db").write_bytes(store_of(found, policy))
             self.start_server()
             self.start_gateway()
         except BaseException:
@@ -105,13 +137,13 @@ class World:
 
     def run_import(self, policy: Path) -> None:
         """Adopts a policy. The server must not run."""
-        words = [str(self.program), "import", "--store", str(self.path / "office.db"), str(policy)]
-        subprocess.run(words, check=True, timeout=180, stdout=subprocess.DEVNULL)
+        adopt(self.program, self.path / "office.db", policy)
 
     def start_server(self) -> None:
         """Starts the server over the store."""
-        words = [str(self.program), "serve", "--port", str(self.server_port), "--forever", "--at-once", "64", "--idle", "75"]
-        self.server = subprocess.Popen([*words, "--store", str(self.path / "office.db")], stdout=subprocess.PIPE, stderr=subprocess.DEVNULL)
+        words = [str(self.program), "serve", "--port", str(self.server_port), "--forever"]
+        words += ["--at-once", "64", "--idle", "75", "--store", str(self.path / "office.db")]
+        self.server = subprocess.Popen(words, stdout=subprocess.PIPE, stderr=subprocess.DEVNULL)
         assert self.server.stdout is not None
         self.server.stdout.readline()
         self.processes.append(self.server)
@@ -143,16 +175,25 @@ class World:
         """What the gateway wrote on standard error."""
         return (self.path / "gateway.log").read_text()
 
-    def say(self, who: str, method: str, target: str, body: bytes | str | dict = b"", **fields: str) -> Spoken:
-        """One request to the gateway as a person, by name and password; `who` may be empty. `_` in a field's name is `-`."""
+    def say(
+        self, who: str, method: str, target: str, body: bytes | str | dict = b"", **fields: str
+    ) -> Spoken:
+        """One request to the gateway as a person, by name and password; `who` may be empty.
+
+        `_` in a field's name is `-`.
+        """
         headers = {name.replace("_", "-"): value for name, value in fields.items()}
         login = "guest@office.example" if who == "guest" else who
         if who:
             headers.setdefault("Authorization", basic(login, self.passwords[login]))
-        data = json.dumps(body).encode() if isinstance(body, dict) else body.encode() if isinstance(body, str) else body
+        if isinstance(body, dict):
+            body = json.dumps(body)
+        data = body.encode() if isinstance(body, str) else body
         connection = http.client.HTTPConnection("127.0.0.1", self.port, timeout=120)
         with contextlib.closing(connection):
-            connection.putrequest(method, target, skip_accept_encoding=True, skip_host="Host" in headers)
+            connection.putrequest(
+                method, target, skip_accept_encoding=True, skip_host="Host" in headers
+            )
             for name, value in headers.items():
                 connection.putheader(name, value)
             if data or method in ("PUT", "POST"):
@@ -163,7 +204,8 @@ class World:
 
     def raw(self, data: bytes, seconds: float = 10.0) -> bytes:
         """What the gateway writes on a connection that sends these bytes, until it closes."""
-        with contextlib.closing(socket.create_connection(("127.0.0.1", self.port), timeout=seconds)) as connection:
+        opened = socket.create_connection(("127.0.0.1", self.port), timeout=seconds)
+        with contextlib.closing(opened) as connection:
             got = b""
             try:
                 connection.sendall(data)
