@@ -11,9 +11,7 @@ use book_lists::{Caller, Entry, Name, Pairs, Principal, Who};
 use book_office::{
     Book, Changes, Edit, Items, Keeper, MemoryKeeper, NameMap, Office, Properties, StoredCard, Text,
 };
-use book_office_sync::{
-    Item, Limit, Replica, Token, apply_report, edits_lead_on, sync_report,
-};
+use book_office_sync::{Item, Limit, Replica, Token, apply_report, edits_lead_on, sync_report};
 use book_rights::{Leaf, Privilege};
 use std::alloc::Global;
 use std::process::Abort;
