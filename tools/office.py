@@ -1,0 +1,131 @@
+"""An office of one person for the tools that ask the program: its policy, cards, requests and replies, a server of it and a
+connection. What imports this is run by `python3 -B`, so that nothing is left in tools/."""
+
+import contextlib
+import os
+import pathlib
+import re
+import socket
+import subprocess
+import sys
+import tempfile
+
+TOP = pathlib.Path(__file__).resolve().parent.parent
+SECONDS = 60
+
+
+def program(words):
+    """The program that the words name first, or else the proved one."""
+    return pathlib.Path(words[0]) if words else TOP / "build/book_desk"
+
+
+def want(file, how="make build"):
+    """Ends the tool where a program that it asks is not there."""
+    if not os.access(file, os.X_OK):
+        sys.exit(f"{file} was not found: run '{how}' first")
+
+
+def policy(at="/books/all"):
+    """The text of a policy: Ann, her book, and that she may do anything at the path and below."""
+    lines = ["version = 1", "[[person]]", 'name = "ann"', "[[book]]", 'name = "all"', 'owner = "/people/ann"']
+    return "\n".join([*lines, "[[entry]]", f'at = "{at}"', 'who = "/people/ann"', 'grant = ["all"]', ""])
+
+
+@contextlib.contextmanager
+def room(at="/books/all"):
+    """A temporary folder with that policy, as policy.toml."""
+    with tempfile.TemporaryDirectory() as name:
+        folder = pathlib.Path(name)
+        (folder / "policy.toml").write_text(policy(at), encoding="ascii")
+        yield folder
+
+
+def card(number, note=219):
+    """The text of a card, with a note of so many bytes: of 300 bytes in all where it is not told."""
+    lines = ["BEGIN:VCARD", "VERSION:4.0", f"UID:urn:uuid:{number:06}", f"FN:Card {number:06}", "NOTE:" + note * "n"]
+    return "\r\n".join([*lines, "END:VCARD", ""])
+
+
+def request(method, path, body=b"", fields="", caller="ann"):
+    """The bytes of a request, with further fields, each of which has its line end."""
+    body = body if isinstance(body, bytes) else body.encode()
+    head = f"{method} {path} HTTP/1.1\r\nx-office-caller: {caller}\r\n{fields}Content-Length: {len(body)}\r\n\r\n"
+    return head.encode() + body
+
+
+def replies(text):
+    """Each of the replies of a text, by the lengths that they tell; of a last one that is cut off what is there."""
+    at = 0
+    while at < len(text):
+        end = text.find(b"\r\n\r\n", at)
+        _, _, length = text[at : max(at, end)].lower().partition(b"\r\ncontent-length: ")
+        after = end + 4 + int(length.partition(b"\r\n")[0] or 0) if end >= 0 else len(text)
+        yield text[at:after]
+        at = after
+
+
+def statuses(text):
+    """The status of each of the replies of a text, all of whose heads are whole."""
+    return (int(reply[9 : reply.index(b"\r\n\r\n")][:3]) for reply in replies(text))
+
+
+class Reply:
+    """A reply: its status, its head with the empty line, its body, and the size of both."""
+
+    def __init__(self, head, body):
+        self.status, self.head, self.body, self.size = int(head[9:12]), head, body, len(head) + len(body)
+
+    def __repr__(self):
+        return repr((self.status, self.body))
+
+
+class Line:
+    """A connection to a port of loopback, over which one reply is read after the other."""
+
+    def __init__(self, port):
+        self.port = port
+        self.line = socket.create_connection(("127.0.0.1", port), SECONDS)
+        self.replies = self.line.makefile("rb")
+
+    def ask(self, asked):
+        self.line.sendall(asked)
+        return self.reply()
+
+    def reply(self):
+        """The next reply; nothing where the connection ends before its end."""
+        head = b""
+        while not head.endswith(b"\r\n\r\n"):
+            line = self.replies.readline()
+            if not line:
+                return None
+            head += line
+        length = re.search(rb"\r\ncontent-length: *(\d+)\r\n", head.lower())
+        body = self.replies.read(int(length[1]) if length else 0)
+        return Reply(head, body) if length is None or len(body) == int(length[1]) else None
+
+    def close(self):
+        self.replies.close()
+        self.line.close()
+
+
+def serving(file, *words):
+    """The command of a server at a free port of loopback."""
+    return [file, "serve", "--port", "0", *words]
+
+
+class Server:
+    """A process of a command that tells first, as `serve` does, at which port it listens."""
+
+    def __init__(self, command, **how):
+        self.process = subprocess.Popen(command, stdout=subprocess.PIPE, **how)
+        self.port = int(self.process.stdout.readline().rpartition(b":")[2])
+
+    def spent(self):
+        """The processor time of the process so far, in microseconds."""
+        return int(pathlib.Path(f"/proc/{self.process.pid}/schedstat").read_text(encoding="ascii").split()[0]) / 1e3
+
+    def end(self):
+        """Ends it by TERM."""
+        self.process.terminate()
+        self.process.wait(SECONDS)
+        self.process.stdout.close()
