@@ -2,12 +2,13 @@
 #
 #   make try     builds the program without any proof, build/try/book_desk, and runs the tour of the README with it
 #   make build   proves the program and links it: build/book_desk
-#   make install copies the proved program, the manual page, the unit and the examples (DESTDIR, PREFIX)
+#   make install copies the proved program, the gateway, manual pages, units and examples (DESTDIR, PREFIX)
 #   make package makes packages of Debian 12 of that program, or of that of make try: build/packages
 #   make try-package makes them, installs them in a new root, uses them there, and removes them (root, debootstrap)
 #   make demo    builds it, and runs it on texts and cards of examples/, and the tour
 #   make tour    builds it, and runs all that the documents show, and compares
-#   make streams builds it, and compares its replies to the streams of examples/ byte for byte
+#   make streams builds it, and compares its replies to the streams of examples/ byte for byte, and its decisions to the
+#                answers of examples/conformance
 #   make test    the gate: every proof from nothing, the edits that must fail, the tests, the programs, the streams
 #   make quick   the tests of the crates of examples, without any proof
 #   make wrong   tries the wrong bodies that are too dear for each run of the gate: each must be refused
@@ -18,8 +19,8 @@
 #   make figures builds the program, and prints what its requests over a store in a file take, and asks for what takes most
 #                memory under an address space of 512 MB
 #   make many    builds the program, and serves 10,000 connections, 100 at once, and each worked stream cut at each byte, four
-#                at once; ends it by TERM at 100 moments; asks it through nginx; prints what an honest client waits for beside
-#                clients that take places or turns
+#                at once; ends it by TERM at 100 moments; loses the file of a store beside its log; makes syncs fail; asks it
+#                through nginx; prints what an honest client waits for beside clients that take places or turns
 #   make clients tests the gateway with clients as they are: vdirsyncer, khard, curl, nginx, Chromium (gateway/packages.txt)
 #   make first-hour plays the first hour of the README from a clean clone, with the program of make try, and compares
 #   make gateway-demo runs the server and the gateway with two persons, for at most an hour
@@ -55,6 +56,7 @@ tour: build
 
 streams: build
 	@tools/streams build/book_desk
+	@tools/check-conformance build/book_desk
 
 test:
 	@tools/gate
@@ -83,6 +85,8 @@ many: build
 	@tools/together build/book_desk
 	@tools/cuts build/book_desk
 	@tools/terminated build/book_desk
+	@tools/lost build/book_desk
+	@tools/unsynced build/book_desk
 	@tools/proxied build/book_desk
 	@tools/crowded build/book_desk
 

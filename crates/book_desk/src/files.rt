@@ -1,9 +1,9 @@
 //! The files that the words name: the policy's and the store's.
 
+use crate::progress::{Stage, tell_stage};
 use book_desk_app::{Failure, InputFault, StoreFailure, read_short_text};
 use book_limits::MAX_POLICY_BYTES;
-use book_tables_files::open_store_files;
-use book_tables_schema::is_empty;
+use book_tables_files::{log_holds_commit, open_store_files};
 use sqlite::{Connection, Error, ErrorCode, File as DiskFile, FileStore, Unknown};
 use sqlite_std_file::OpenError;
 use std::alloc::Global;
@@ -21,15 +21,18 @@ const KEPT_IN_MEMORY: usize = 8_192_000;
 /// Who may read and write the file of a new store: its owner alone.
 const PRIVATE: u32 = 0o600;
 
-/// What stood where a store's file is named, before it was opened. The log beside it counts with it.
+/// How long a file counts that can't be looked at.
+const UNKNOWN: u64 = u64::MAX;
+
+/// What the words ask of a store's file.
 #[derive(Clone, Copy, Debug, PartialEq, Eq)]
-pub enum Before {
-    /// No file, and no log with a byte.
-    Missing,
-    /// A file without a byte, and no log with one.
-    Empty,
-    /// A file or a log with bytes, or what can't be looked at.
-    Filled,
+enum Wanted {
+    /// A store, which is made where there is none.
+    Any,
+    /// One that is there already.
+    Existing,
+    /// One that is there already, and has a byte in its file.
+    Former,
 }
 
 /// What the words name, read and opened.
@@ -38,8 +41,6 @@ pub struct Opened {
     pub store: Option<FileConnection>,
     /// The bytes of the policy's file.
     pub policy: Option<Vec<u8>>,
-    /// What stood in the place of the store.
-    pub before: Before,
 }
 
 /// A policy of one byte more than a policy may have: what a longer file is read as, since its text is not kept.
@@ -81,13 +82,11 @@ fn read_file(rt: &(impl Files + AllocGlobal), name: &str) -> Result<Vec<u8>, Inp
 }
 
 /// The bytes of the policy's file, if one is named.
-fn read_policy_file(
-    rt: &(impl Files + AllocGlobal),
-    name: &Option<String>,
-) -> Result<Option<Vec<u8>>, Failure> {
+fn read_policy_file(rt: &HostRuntime, name: &Option<String>) -> Result<Option<Vec<u8>>, Failure> {
     let Some(name) = name else {
         return Ok(None);
     };
+    tell_stage(rt, Stage::Reading(name.as_str()));
     match read_file(rt, name.as_str()) {
         Ok(bytes) => Ok(Some(bytes)),
         Err(fault) => Err(Failure::Input(fault)),
@@ -143,25 +142,43 @@ fn log_name(alloc: Global, name: &str) -> Result<String, Failure> {
     }
 }
 
-/// How long a file is; none where there is none. One that can't be looked at counts as long.
+/// How long a file is; none where there is none, and `UNKNOWN` where it can't be looked at.
 fn length_of(files: &impl Files, name: &str) -> Option<u64> {
     match fs::metadata(files, name) {
         Ok(found) => Some(found.len()),
         Err(error) if error.kind() == io::ErrorKind::NotFound => None,
-        Err(_) => Some(u64::MAX),
+        Err(_) => Some(UNKNOWN),
     }
 }
 
-/// What stands where a store's file is named.
-fn before_opening(rt: &HostRuntime, name: &str) -> Result<Before, Failure> {
-    let log = log_name(rt.alloc(), name)?;
-    if length_of(rt, log.as_str()).unwrap_or(0) > 0 {
-        return Ok(Before::Filled);
+/// Whether the log at a name holds a commit. It is read without a lock, and nothing is written.
+fn holds_commit(rt: &HostRuntime, log: &str) -> Result<bool, Failure> {
+    let Ok(bytes) = fs::read(rt, log) else {
+        return Err(Failure::Store(StoreFailure::Store));
+    };
+    match log_holds_commit(rt.alloc(), bytes.as_slice()) {
+        Ok(held) => Ok(held),
+        Err(error) => Err(open_failure(error)),
     }
-    match length_of(rt, name) {
-        None => Ok(Before::Missing),
-        Some(0) => Ok(Before::Empty),
-        Some(_) => Ok(Before::Filled),
+}
+
+/// Whether a store may be made where its file is missing, or has no byte. The store is the file and its log: where the log
+/// holds a commit, the file was lost. So nothing is made then, nor where a store has to be there already.
+fn may_be_made(
+    rt: &HostRuntime,
+    name: &str,
+    is_missing: bool,
+    wanted: Wanted,
+) -> Result<(), Failure> {
+    let log = log_name(rt.alloc(), name)?;
+    let has_log = length_of(rt, log.as_str()).unwrap_or(0) > 0;
+    if wanted != Wanted::Former && has_log && holds_commit(rt, log.as_str())? {
+        return Err(Failure::Store(StoreFailure::Store));
+    }
+    match wanted {
+        Wanted::Any => Ok(()),
+        Wanted::Existing if has_log && !is_missing => Ok(()),
+        Wanted::Existing | Wanted::Former => Err(Failure::Store(StoreFailure::NoStore)),
     }
 }
 
@@ -174,36 +191,34 @@ fn make_private(rt: &HostRuntime, name: &str) {
         .open(rt, name);
 }
 
-/// Opens the store's file, if one is named, and tells what stood there. It is made where it is missing, but where the store
-/// has to be there already.
+/// Opens the store's file. It is made where it is missing, but where the store has to be there already.
 fn open_store_file(
     rt: &HostRuntime,
-    name: &Option<String>,
-    existing: bool,
-) -> Result<(Option<FileConnection>, Before), Failure> {
-    let Some(name) = name else {
-        return Ok((None, Before::Filled));
-    };
-    if is_no_path(name.as_str()) {
+    name: &str,
+    wanted: Wanted,
+) -> Result<FileConnection, Failure> {
+    if is_no_path(name) {
         return Err(Failure::Store(StoreFailure::Store));
     }
-    let before = before_opening(rt, name.as_str())?;
-    if existing && (before != Before::Filled || length_of(rt, name.as_str()).is_none()) {
-        return Err(Failure::Store(StoreFailure::NoStore));
+    let length = length_of(rt, name);
+    if length.unwrap_or(0) == 0 {
+        may_be_made(rt, name, length.is_none(), wanted)?;
     }
-    if before == Before::Missing {
-        make_private(rt, name.as_str());
+    if length.is_none() {
+        make_private(rt, name);
     }
-    let connection = open_at(rt, name.as_str(), seed(rt)?)?;
-    Ok((Some(connection), before))
+    if length != Some(UNKNOWN) {
+        tell_stage(rt, Stage::Opening(name, length.unwrap_or(0)));
+    }
+    open_at(rt, name, seed(rt)?)
 }
 
 /// Reads the policy's file, and then opens the store's file, where they are named.
 ///
 /// # Errors
 ///
-/// `Input` where the policy's file can't be read, and `Store` where the store's can't be opened, or has to be there
-/// already and is missing or empty.
+/// `Input` where the policy's file can't be read, and `Store` where the store's can't be opened, is missing or empty beside
+/// a log that holds a commit, or has to be there already and is missing or empty.
 pub fn open_inputs(
     rt: &HostRuntime,
     store: &Option<String>,
@@ -211,52 +226,32 @@ pub fn open_inputs(
     existing: bool,
 ) -> Result<Opened, Failure> {
     let policy = read_policy_file(rt, policy)?;
-    let (store, before) = open_store_file(rt, store, existing)?;
-    Ok(Opened {
-        store,
-        policy,
-        before,
-    })
+    let wanted = if existing {
+        Wanted::Existing
+    } else {
+        Wanted::Any
+    };
+    let store = match store {
+        Some(name) => Some(open_store_file(rt, name.as_str(), wanted)?),
+        None => None,
+    };
+    Ok(Opened { store, policy })
 }
 
-/// Takes back what opening a store began where it was missing or empty.
-fn take_back(rt: &HostRuntime, name: &str, before: Before) {
-    let Ok(log) = log_name(rt.alloc(), name) else {
-        return;
-    };
-    match before {
-        Before::Filled => {}
-        Before::Missing => {
-            let _ = fs::remove_file(rt, name);
-            let _ = fs::remove_file(rt, log.as_str());
-        }
-        Before::Empty => {
-            let _ = OpenOptions::new().write(true).truncate(true).open(rt, name);
-            let _ = fs::remove_file(rt, log.as_str());
-        }
-    }
+/// Opens the file of a store that is to be migrated.
+///
+/// # Errors
+///
+/// `Store` where it can't be opened, or is missing or empty.
+pub fn open_former(rt: &HostRuntime, name: &str) -> Result<FileConnection, Failure> {
+    open_store_file(rt, name, Wanted::Former)
 }
 
 /// Closes the store's file, if there is one; there is none where its tables could not be had. What was done stands
-/// already, in the file or in the log beside it, so that a failure here changes nothing of it. Where no table was made in
-/// a store that was missing or empty, it is so again.
-pub fn close(
-    rt: &HostRuntime,
-    name: &Option<String>,
-    before: Before,
-    connection: Option<FileConnection>,
-) {
-    let is_unmade = match connection {
-        Some(connection) => {
-            let is_unmade = is_empty(&connection);
-            let _ = connection.close();
-            is_unmade
-        }
-        None => true,
-    };
-    if let Some(name) = name {
-        if is_unmade {
-            take_back(rt, name.as_str(), before);
-        }
+/// already, in the file or in the log beside it, so that a failure here changes nothing of it. A store in which no table
+/// was made stays without one: another run may have it by then, so its files are not removed.
+pub fn close(connection: Option<FileConnection>) {
+    if let Some(connection) = connection {
+        let _ = connection.close();
     }
 }

@@ -1,29 +1,37 @@
 //! The program `book_desk` of the shared contact books. Its words are read by `book_desk_words`. `book_desk_app` does
 //! the rest, over any store, reader and writers: `run_text` what `explain`, `card` and help do, `run` what `import`,
 //! `audit` and `pipe` do, `run_migration` and `serve` what the commands of their names do, and `prepare` what `serve`
-//! does before it listens. Their contracts say what is written where these tell their bytes. Nothing stands above it:
-//! `main` joins them to the process, to the files (`files`) and to the port.
+//! does before it listens, and `begin` what `init` does in a folder. Their contracts say what is written where these tell
+//! their bytes. Nothing stands above it: `main` joins them to the process, to the files (`files`, `folders`) and to the
+//! port, and tells each stage before it calls it, where standard error is a terminal (`progress`).
 #![tactic(auto)]
 
 ghost use Rattle.std.specs.Prelude.{◌≡◌};
 ghost use Rattle.book_desk_words.specs.WordsFaults.{words_status};
 
+mod beginnings;
 mod files;
+mod folders;
+mod progress;
 
+use beginnings::BEGINNING;
 use book_desk_app::{
-    Failure, InputFault, Prepared, StoreFailure, TextCommand, Work, prepare, run, run_migration,
-    run_text, serve, serve_many, tell,
+    Failure, InputFault, Lines, Noting, Prepared, TextCommand, Work, begin, prepare, run,
+    run_migration, run_text, serve, serve_many, tell, tell_line,
 };
 use book_desk_loop::{Limits, Polled};
 use book_desk_words::{Command, WordsFault, command_of, words_not_text};
 use book_machine::Machine;
 use book_office::Keeper;
 use book_tables_schema::Unopened;
-use files::{Opened, close, open_inputs};
+use files::{Opened, close, open_former, open_inputs};
+use folders::{DiskFolder, make_folder, remove_folder};
+use progress::{Stage, tell_stage};
 use sqlite::{Alter, Connection};
 use std::env;
 use std::io::{self, BufReader, Write};
-use std::net::{Net, OpenListener, TcpListener};
+use std::net::{Ipv4Addr, Net, SocketAddr, TcpListener};
+use std::os::fd::AsFd;
 use std::process::ExitCode;
 use std::rt::{Clock, Env};
 use std::time::Duration;
@@ -61,6 +69,20 @@ fn print<W: Write, E: Write>(
     }
 }
 
+/// The command `init`: the folder is made where it is missing, and the files in it. A folder that was made goes again where
+/// they were not.
+fn init<W: Write, E: Lines>(rt: &HostRuntime, path: &str, writer: &mut W, errors: &mut E) -> u8 {
+    let was_missing = match make_folder(rt, path) {
+        Ok(was_missing) => was_missing,
+        Err(fault) => return tell_line(errors, &Failure::Init(fault)),
+    };
+    let status = begin(&mut DiskFolder::new(rt, path), &BEGINNING, writer, errors);
+    if was_missing && status != 0 {
+        remove_folder(rt, path);
+    }
+    status
+}
+
 /// The files that the words name.
 #[derive(Drop)]
 struct Named {
@@ -73,24 +95,28 @@ struct Named {
 }
 
 /// The commands `import`, `audit` and `pipe`: the policy's file is read, the store's file is opened, and the work done.
-fn work<W: Write, E: Write>(
+fn work<W: Write, E: Lines>(
     rt: &HostRuntime,
     kind: Work,
     named: &Named,
     writer: &mut W,
     errors: &mut E,
 ) -> u8 {
-    let Opened {
-        store,
-        policy,
-        before,
-    } = match open_inputs(rt, &named.store, &named.policy, named.existing) {
+    let Opened { store, policy } = match open_inputs(
+        rt,
+        &named.store,
+        &named.policy,
+        named.existing,
+    ) {
         Ok(opened) => opened,
         Err(failure) => return tell(errors, &failure),
     };
+    if policy.is_some() {
+        tell_stage(rt, Stage::Adopting);
+    }
     let mut reader = rt.reader();
     let (status, connection) = run(rt.alloc(), kind, store, policy, &mut reader, writer, errors);
-    close(rt, &named.store, before, connection);
+    close(connection);
     status
 }
 
@@ -106,26 +132,19 @@ fn connection_of<S: Alter + Drop>(left: Unopened<S>) -> Option<Connection<S>> {
 }
 
 /// The command `migrate`: the store's file, which has to be there, is opened and migrated.
-fn migrate<W: Write, E: Write>(
+fn migrate<W: Write, E: Lines>(
     rt: &HostRuntime,
-    store: &Option<String>,
+    store: &str,
     writer: &mut W,
     errors: &mut E,
 ) -> u8 {
-    let Opened {
-        store: opened,
-        policy,
-        before,
-    } = match open_inputs(rt, store, &None, true) {
+    let opened = match open_former(rt, store) {
         Ok(opened) => opened,
         Err(failure) => return tell(errors, &failure),
     };
-    drop(policy);
-    let Some(opened) = opened else {
-        return tell(errors, &Failure::Store(StoreFailure::NoStore));
-    };
+    tell_stage(rt, Stage::Migrating);
     let (status, left) = run_migration(rt.alloc(), opened, writer, errors);
-    close(rt, store, before, connection_of(left));
+    close(connection_of(left));
     status
 }
 
@@ -142,32 +161,25 @@ struct Service {
     idle: Option<u16>,
 }
 
-/// How many connections are served one after the other.
-fn count_of(service: Service) -> u64 {
-    match service.connections {
-        Some(connections) => u64::from(connections),
-        None => u64::MAX,
-    }
-}
-
-/// How connections are served at once, so many of them.
-fn limits_of(service: Service, at_once: u16) -> Limits {
+/// How connections are served by the loop: so many at once, or one after the other, of which none gives its place away.
+fn limits_of(service: Service) -> Limits {
     let idle = match service.idle {
         Some(seconds) => Some(Duration::from_secs(u64::from(seconds))),
         None => None,
     };
     Limits {
-        at_once: usize::from(at_once),
+        at_once: usize::from(service.at_once.unwrap_or(1)),
         total: service.connections,
         idle,
+        gives_way: service.at_once.is_some(),
     }
 }
 
-/// Serves the connections of a listener at once, so many of them.
-fn serve_at_once_on<K: Keeper, N: Net + Clock + AllocGlobal, W: Write, E: Write>(
+/// Serves the connections of a listener by the loop.
+fn serve_at_once_on<K: Keeper, N: Net + Clock + AllocGlobal, W: Write, E: Lines>(
     rt: &N,
     machine: Machine<K>,
-    listener: &N::Listener,
+    listener: &TcpListener,
     limits: Limits,
     writer: &mut W,
     errors: &mut E,
@@ -190,52 +202,57 @@ fn serve_at_once_on<K: Keeper, N: Net + Clock + AllocGlobal, W: Write, E: Write>
     }
 }
 
-/// Serves the connections of a listener.
-fn serve_all<K: Keeper, N: Net + Clock + AllocGlobal, W: Write, E: Write>(
+/// Serves the connections of a listener: by the loop where many are served at once, or where there is no end of them.
+fn serve_all<K: Keeper, N: Net + Clock + AllocGlobal, W: Write, E: Lines>(
     rt: &N,
     mut machine: Machine<K>,
-    listener: &N::Listener,
+    listener: &TcpListener,
     service: Service,
     writer: &mut W,
     errors: &mut E,
 ) -> (Machine<K>, u8) {
-    match service.at_once {
-        Some(at_once) => {
-            let limits = limits_of(service, at_once);
-            serve_at_once_on(rt, machine, listener, limits, writer, errors)
-        }
-        None => {
-            let count = count_of(service);
+    match (service.at_once, service.connections) {
+        (None, Some(connections)) => {
             let status = serve(
                 rt,
                 rt.alloc(),
                 &mut machine,
                 listener,
-                count,
+                u64::from(connections),
                 writer,
                 errors,
             );
             (machine, status)
         }
+        _ => serve_at_once_on(rt, machine, listener, limits_of(service), writer, errors),
     }
 }
 
+/// A listener of this host at the port, which waits, with the longest backlog that the system allows.
+fn listener_at<N: Net>(rt: &N, port: u16) -> io::Result<TcpListener> {
+    let address = SocketAddr::from((Ipv4Addr::LOCALHOST, port));
+    let listener = mio::net::TcpListener::bind(rt, address)?;
+    let listener = TcpListener::from(listener.as_fd().try_clone_to_owned()?);
+    listener.set_nonblocking(false)?;
+    Ok(listener)
+}
+
 /// Listens on the port, and serves the connections.
-fn serve_on<K: Keeper, N: Net + Clock + AllocGlobal, W: Write, E: Write>(
+fn serve_on<K: Keeper, N: Net + Clock + AllocGlobal, W: Write, E: Lines>(
     rt: &N,
     machine: Machine<K>,
     service: Service,
     writer: &mut W,
     errors: &mut E,
 ) -> (Machine<K>, u8) {
-    match TcpListener::bind(rt, ("127.0.0.1", service.port)) {
+    match listener_at(rt, service.port) {
         Ok(listener) => serve_all(rt, machine, &listener, service, writer, errors),
         Err(_) => (machine, tell(errors, &Failure::Listen)),
     }
 }
 
 /// Serves the Office of a machine that is ready, and gives its store back, if there is one.
-fn serve_prepared<S: Alter + Drop, N: Net + Clock + AllocGlobal, W: Write, E: Write>(
+fn serve_prepared<S: Alter + Drop, N: Net + Clock + AllocGlobal, W: Write, E: Lines>(
     rt: &N,
     prepared: Prepared<S>,
     service: Service,
@@ -255,21 +272,25 @@ fn serve_prepared<S: Alter + Drop, N: Net + Clock + AllocGlobal, W: Write, E: Wr
 }
 
 /// The command `serve`: the policy's file is read, the store's file is opened, and connections are served.
-fn serve_with<W: Write, E: Write>(
+fn serve_with<W: Write, E: Lines>(
     rt: &HostRuntime,
     named: &Named,
     service: Service,
     writer: &mut W,
     errors: &mut E,
 ) -> u8 {
-    let Opened {
-        store,
-        policy,
-        before,
-    } = match open_inputs(rt, &named.store, &named.policy, named.existing) {
+    let Opened { store, policy } = match open_inputs(
+        rt,
+        &named.store,
+        &named.policy,
+        named.existing,
+    ) {
         Ok(opened) => opened,
         Err(failure) => return tell(errors, &failure),
     };
+    if policy.is_some() {
+        tell_stage(rt, Stage::Adopting);
+    }
     let (status, store) = match prepare(rt.alloc(), store, policy) {
         Ok(prepared) => serve_prepared(rt, prepared, service, writer, errors),
         // A store whose tables were not had is let go as it is.
@@ -280,12 +301,12 @@ fn serve_with<W: Write, E: Write>(
         Err((failure, Some(left))) => (tell(errors, &failure), connection_of(left)),
         Err((failure, None)) => (tell(errors, &failure), None),
     };
-    close(rt, &named.store, before, store);
+    close(store);
     status
 }
 
 /// Does what the words ask for, and gives the status.
-fn perform<W: Write, E: Write>(
+fn perform<W: Write, E: Lines>(
     rt: &HostRuntime,
     command: Command,
     writer: &mut W,
@@ -295,6 +316,7 @@ fn perform<W: Write, E: Write>(
         Command::Explain => print(rt, &TextCommand::Explain, writer, errors),
         Command::Card => print(rt, &TextCommand::Card, writer, errors),
         Command::Help(text) => print(rt, &TextCommand::Help(text), writer, errors),
+        Command::Init { folder } => init(rt, folder.as_str(), writer, errors),
         Command::Import { store, policy } => {
             let named = Named {
                 store: Some(store),
@@ -319,7 +341,7 @@ fn perform<W: Write, E: Write>(
             };
             work(rt, Work::Pipe, &named, writer, errors)
         }
-        Command::Migrate { store } => migrate(rt, &Some(store), writer, errors),
+        Command::Migrate { store } => migrate(rt, store.as_str(), writer, errors),
         Command::Serve {
             port,
             connections,
@@ -347,7 +369,7 @@ fn perform<W: Write, E: Write>(
 
 fn main(rt: HostRuntime) -> ExitCode {
     let mut writer = rt.stdout();
-    let mut errors = rt.stderr();
+    let mut errors = Noting::new(rt.stderr());
     let command = match words_of(&rt) {
         Ok(words) => command_of(rt.alloc(), words.as_slice()),
         Err(fault) => Err(fault),

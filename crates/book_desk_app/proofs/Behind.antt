@@ -12,6 +12,7 @@ use Rattle.book_wire.specs.Stream.{Answers, Exchange, IsStream, answered_of}
 use Rattle.book_wire.specs.Turn as turn
 use Rattle.book_wire.specs.declared.stream.StreamFault.TheVariants.{Memory, Read, Write}
 use Rattle.book_desk_app.specs.Tasks.{EndsPipe}
+use Rattle.book_desk_app.specs.declared.failures.Failure.{Failure}
 
 module _ (old new : Standing) (was is : Remembered) (nothing : (o : Office) → Remembers was o) where
   runs_behind : (answered : List Answered) → Runs (remembering old was) (remembering new is) answered → Runs old new answered
@@ -87,26 +88,26 @@ module _ (old new : Standing) (was is : Remembered) (nothing : (o : Office) → 
     written_is = stops.written_is;
   }
 
-  pipe_behind : (before after held holds : Option (List ℕ)) (status : ℕ) → EndsPipe (remembering old was) before after held holds status (remembering new is)
-      → EndsPipe old before after held holds status new
-  pipe_behind before after held holds status ends = (
+  pipe_behind : (Told : Failure → Type 0) (before after held holds : Option (List ℕ)) (status : ℕ) → EndsPipe Told (remembering old was) before after held holds status (remembering new is)
+      → EndsPipe Told old before after held holds status new
+  pipe_behind Told before after held holds status ends = (
     λ differs. let it = ends.0 differs in (it.0, it.1, it.2, it.3, it.4, it.5, stream_behind it.2 it.3 it.0 it.6),
-    λ same. let it = ends.1 same in (it.0, it.1, it.2, it.3, it.4, stop_behind it.1 it.2 it.0 it.5),
+    λ same. let it = ends.1 same in (it.0, it.1, it.2, it.3, it.4, stop_behind it.1 it.2 it.0 it.5, it.6),
   )
 
 -- the keeper that is given, one in front of it that remembers nothing, and what comes back of it
-module _ {K : Type 0} (standing : K → Standing) (before after held holds : Option (List ℕ)) (status : ℕ) where
+module _ (Told : Failure → Type 0) {K : Type 0} (standing : K → Standing) (before after held holds : Option (List ℕ)) (status : ℕ) where
   abbrev Piped : Standing → Standing → Type 0
-  Piped old new = EndsPipe old before after held holds status new
+  Piped old new = EndsPipe Told old before after held holds status new
 
   abbrev pub standing_before : Cached K → Standing
   standing_before k = remembering (standing k.keeper) k.remembered
 
   pub piped_behind : (old new : K) (was start end back : Cached K) → was.keeper ≡ old → ((o : Office) → Remembers was.remembered o) → start ≡ was → back ≡ end → new ≡ back.keeper
-      → EndsPipe (standing_before start) before after held holds status (standing_before end) → EndsPipe (standing old) before after held holds status (standing new)
+      → EndsPipe Told (standing_before start) before after held holds status (standing_before end) → EndsPipe Told (standing old) before after held holds status (standing new)
   piped_behind old new was start end back keeper nothing start_is back_is new_is ends =
       let at_start : Piped (standing_before was) (standing_before end) = subst (λ k. Piped (standing_before k) (standing_before end)) start_is ends in
       let at_end : Piped (standing_before was) (standing_before back) = subst (λ k. Piped (standing_before was) (standing_before k)) (sym back_is) at_start in
       let behind : Piped (standing was.keeper) (standing back.keeper) =
-      pipe_behind (standing was.keeper) (standing back.keeper) was.remembered back.remembered nothing before after held holds status at_end in
+      pipe_behind (standing was.keeper) (standing back.keeper) was.remembered back.remembered nothing Told before after held holds status at_end in
       subst (λ k. Piped (standing k) (standing new)) keeper (subst (λ k. Piped (standing was.keeper) (standing k)) (sym new_is) behind)

@@ -1,6 +1,6 @@
 -- How a task ends: the status of its outcome, and that a failure is told.
-use Rattle.book_desk_app.proofs.Common.{◌≡◌, ℕ, arith, Ok, Err, inl, inr}
-use Rattle.std.proofs.Common.{Result, OnOk, IfErr}
+use Rattle.book_desk_app.proofs.Common.{◌≡◌, ◌∙◌, ℕ, ap, arith, Ok, Err, inl, inr, subst}
+use Rattle.std.proofs.Common.{◌⊎◌, Result, OnOk, IfErr}
 use Rattle.book_machine.specs.declared.adoptions.AdoptFault.{AdoptFault}
 use Rattle.book_machine.specs.declared.adoptions.AdoptFault.TheVariants.{Full, Unavailable}
 use Rattle.book_policy.specs.declared.faults.PolicyFault.{PolicyFault}
@@ -8,10 +8,12 @@ use Rattle.book_policy.specs.declared.faults.PolicyFault.TheVariants as policy_f
 use Rattle.book_desk_app.specs.TextFailures.{input_status}
 use Rattle.book_desk_app.specs.declared.text_failures.InputFault.{InputFault}
 use Rattle.book_desk_app.specs.declared.text_failures.InputFault.TheVariants as inputs
-use Rattle.book_desk_app.specs.Failures.{adopt_status, failure_status, policy_status}
+use Rattle.book_desk_app.specs.declared.failures.InitFault.{InitFault}
+use Rattle.book_desk_app.specs.declared.failures.InitFault.TheVariants as inits
+use Rattle.book_desk_app.specs.Failures.{adopt_status, failure_status, init_status, policy_status}
 use Rattle.book_desk_app.specs.Tasks.{EndsWith}
 use Rattle.book_desk_app.specs.declared.failures.Failure.{Failure}
-use Rattle.book_desk_app.specs.declared.failures.Failure.TheVariants.{Input, Output, Listen, Policy, Store, Adoption, Stream}
+use Rattle.book_desk_app.specs.declared.failures.Failure.TheVariants.{Input, Output, Init, Listen, Policy, Store, Adoption, Stream}
 
 input_not_done : (fault : InputFault) → input_status fault ≡ 0 → ⊥
 input_not_done inputs.Read e = omega (arith, e)
@@ -29,6 +31,10 @@ policy_not_done policy_faults.UnknownPrivilege e = omega (arith, e)
 policy_not_done policy_faults.TooMany e = omega (arith, e)
 policy_not_done policy_faults.Memory e = omega (arith, e)
 
+init_not_done : (fault : InitFault) → init_status fault ≡ 0 → ⊥
+init_not_done inits.Exists e = omega (arith, e)
+init_not_done inits.Write e = omega (arith, e)
+
 adopt_not_done : (fault : AdoptFault) → adopt_status fault ≡ 0 → ⊥
 adopt_not_done Full e = omega (arith, e)
 adopt_not_done Unavailable e = omega (arith, e)
@@ -37,19 +43,27 @@ adopt_not_done Unavailable e = omega (arith, e)
 pub not_done : (failure : Failure) → failure_status failure ≡ 0 → ⊥
 not_done (Input fault) e = input_not_done fault e
 not_done Output e = omega (arith, e)
+not_done (Init fault) e = init_not_done fault e
 not_done Listen e = omega (arith, e)
 not_done (Policy fault) e = policy_not_done fault e
 not_done (Store failure) e = omega (arith, e)
 not_done (Adoption failure) e = adopt_not_done failure.fault e
 not_done (Stream failure) e = omega (arith, e)
 
-pub ends : {Done : Type 0} {Fails : Failure → Type 0} (Told : Type 0) (outcome : Result (Unit {0}) Failure) (status : ℕ)
+pub ends : {Done : Type 0} {Fails : Failure → Type 0} (Told : Failure → Type 0) (Silent : Type 0) (outcome : Result (Unit {0}) Failure) (status : ℕ)
     → OnOk outcome Done → IfErr outcome Fails
-    → OnOk outcome ((status ≡ 0) × Told) → IfErr outcome (λ failure. status ≡ failure_status failure) → EndsWith Done Fails status
-ends Told (Ok _) status done fails zero failed = inl (zero.0, done)
-ends Told (Err failure) status done fails zero failed = inr (failure, failed, fails)
+    → OnOk outcome ((status ≡ 0) × Silent) → IfErr outcome (λ failure. (status ≡ failure_status failure) × Told failure) → EndsWith Told Done Fails status
+ends Told Silent (Ok _) status done fails zero failed = inl (zero.0, done)
+ends Told Silent (Err failure) status done fails zero failed = inr (failure, failed.0, fails, failed.1)
 
-pub silent : (Told : Type 0) (outcome : Result (Unit {0}) Failure) (status : ℕ)
-    → OnOk outcome ((status ≡ 0) × Told) → IfErr outcome (λ failure. status ≡ failure_status failure) → status ≡ 0 → Told
-silent Told (Ok _) status zero failed done = zero.1
-silent Told (Err failure) status zero failed done = absurd (not_done failure (rw (← failed) done))
+pub silent : (Told : Failure → Type 0) (Silent : Type 0) (outcome : Result (Unit {0}) Failure) (status : ℕ)
+    → OnOk outcome ((status ≡ 0) × Silent) → IfErr outcome (λ failure. (status ≡ failure_status failure) × Told failure) → status ≡ 0 → Silent
+silent Told Silent (Ok _) status zero failed done = zero.1
+silent Told Silent (Err failure) status zero failed done = absurd (not_done failure (rw (← failed.0) done))
+
+-- the same where what is done is a line that is written
+pub written : {Done : Type 0} (Told : Failure → Type 0) (Silent : Type 0) (outcome : Result (Unit {0}) Failure) (status : ℕ)
+    → OnOk outcome Done → IfErr outcome (λ failure. failure ≡ Output)
+    → OnOk outcome ((status ≡ 0) × Silent) → IfErr outcome (λ failure. (status ≡ failure_status failure) × Told failure) → ((status ≡ 0) × Done) ⊎ ((status ≡ 3) × Told Output)
+written Told Silent (Ok _) status done fails zero failed = inl (zero.0, done)
+written Told Silent (Err failure) status done is zero failed = inr (failed.0 ∙ ap failure_status is, subst Told is failed.1)

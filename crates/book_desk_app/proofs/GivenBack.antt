@@ -1,5 +1,5 @@
 -- What comes back of a store that could not be opened.
-use Rattle.std.specs.Prelude.{◌≢◌, IsTrue}
+use Rattle.std.specs.Prelude.{◌≢◌}
 use Rattle.sqlite.specs.Held.{Held, state}
 use Rattle.sqlite.specs.State.{HasCleanDisk}
 use Rattle.sqlite_trees.specs.declared.store.Store.{Ghosts}
@@ -8,13 +8,13 @@ use Rattle.book_tables_schema.specs.Reopening.{IfConnection, IfStore, IsConnecti
 use Rattle.book_tables_schema.specs.declared.reopening.Unopened.{Unopened}
 use Rattle.book_tables_schema.specs.declared.reopening.Unopened.TheVariants.{Connection, Store}
 use Rattle.book_tables.specs.declared.opening.OpenFault.{OpenFault}
-use Rattle.book_tables_opening.specs.Reading.{FaultSays, IsRefused, IsUnopened, StandsForNone}
+use Rattle.book_tables_opening.specs.Reading.{FaultSaysOf, IsRefused, IsUnopened, StandForNone}
 use Rattle.book_desk_app.specs.Runs.{LeavesStore}
 
 -- one with tables, which could not be opened
 pub unopened : {S : Type 0} (g : Ghosts S) (store : Held S) (fault : OpenFault) (back : Unopened S) → (state g store).now.schema ≢ no_schema
-    → (IsRefused fault → IsConnectionAnd back (λ c. HasCleanDisk (state g c) → StandsForNone (state g c)))
-    → (IsRefused fault → IsConnectionAnd back (λ c. HasCleanDisk (state g c) → IsTrue (state g c).is_open → FaultSays g 2 (state g c).now fault))
+    → (IsRefused fault → IsConnectionAnd back (λ c. HasCleanDisk (state g c) → StandForNone (state g store).committed.trees))
+    → (IsRefused fault → IsConnectionAnd back (λ c. HasCleanDisk (state g c) → FaultSaysOf 2 (state g store).committed.trees fault))
     → IfConnection back (λ c. HasCleanDisk (state g c) → IsUnopened (state g store).committed.trees (state g c))
     → IfStore back (IsUnharmed g (state g store))
     → LeavesStore g store fault back

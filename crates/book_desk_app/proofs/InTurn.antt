@@ -1,7 +1,8 @@
 -- What connections did to the Office, however they ended, is what a run of requests does.
 use Rattle.book_desk_app.proofs.Common.{◌≡◌, ◌∷◌, [], ◌++◌, ℕ, List, true, Ok, Err, Option, refl, sym, subst, ◌∙◌, inl, inr, Consumes, Served, StreamFault}
 use Rattle.std.proofs.Common.{Bool, false, cond, Result, ap, ap₂, map}
-use Rattle.std.proofs.KnownBytes.{Appends-kept, Appends-nil, Consumes-kept, Consumes-nil}
+use Rattle.std.proofs.Common.{append_assoc, append-nil}
+use Rattle.std.proofs.KnownBytes.{Appends-kept, Appends-nil, Appends-trans, Consumes-kept, Consumes-nil}
 use Rattle.std.specs.Io.KnownBytes.{Appends, Keeps}
 use Rattle.book_office.specs.Keeping.{Standing}
 use Rattle.book_wire.specs.Serving.{Answered, Runs, Stays}
@@ -9,7 +10,8 @@ use Rattle.book_wire.specs.Stream.{answered_of}
 use Rattle.book_wire.specs.Turn.{StopsReading, StopsWriting}
 use Rattle.book_wire.specs.declared.stream.StreamFault.TheVariants.{Memory, Read, Write}
 use Rattle.book_wire.proofs.Servings.{runs_none, runs_then, stays}
-use Rattle.book_desk_app.specs.Connections.{AreConnections, ComesTo, ServedConnection, ConnectionStops, IsConnection, had_no_fault, none_had_a_fault, outcomes_of}
+use Rattle.book_desk_app.specs.Connections.{AreConnections, ComesTo, ServedConnection, ConnectionStops, IsConnection, had_no_fault, line_of_connection, lines_of_connections, none_had_a_fault, outcomes_of}
+use Rattle.book_desk_app.specs.Telling.{Tells}
 
 abbrev Outcome : Type 0
 Outcome = Result Served StreamFault
@@ -81,3 +83,22 @@ pub sound_after : (outcomes : List Outcome) (outcome : Outcome) (before sound : 
     → before ≡ none_had_a_fault outcomes → sound ≡ had_no_fault outcome → cond sound before false ≡ none_had_a_fault (outcomes ++ outcome ∷ [])
 sound_after outcomes outcome before sound b s =
     both before sound ∙ ap₂ (λ x y. cond x y false) b s ∙ sym (none_more outcomes outcome)
+
+-- ---- what is told of them
+
+lines_more : (outcomes : List Outcome) (outcome : Outcome) → lines_of_connections (outcomes ++ outcome ∷ []) ≡ lines_of_connections outcomes ++ line_of_connection outcome
+lines_more [] outcome = append-nil (line_of_connection outcome)
+lines_more (first ∷ more) outcome =
+    ap (λ lines. line_of_connection first ++ lines) (lines_more more outcome) ∙ sym (append_assoc (line_of_connection first) (lines_of_connections more) (line_of_connection outcome))
+
+-- two texts that are told one after the other
+pub tells_then : (a b c : Bool) (x y z : Option (List ℕ)) (first second : List ℕ) → Tells a b x y first → Tells b c y z second → Tells a c x z (first ++ second)
+tells_then a b c x y z first second one two = record {
+  before = λ whole. one.before (two.before whole);
+  told = λ whole. Appends-trans x y z first second (one.told (two.before whole)) (two.told whole);
+}
+
+pub told_after : (outcomes : List Outcome) (outcome : Outcome) (all : List Outcome) (a b c : Bool) (x y z : Option (List ℕ)) → all ≡ outcomes ++ outcome ∷ []
+    → Tells a b x y (lines_of_connections outcomes) → Tells b c y z (line_of_connection outcome) → Tells a c x z (lines_of_connections all)
+told_after outcomes outcome all a b c x y z is one two =
+    subst (λ lines. Tells a c x z lines) (sym (ap lines_of_connections is ∙ lines_more outcomes outcome)) (tells_then a b c x y z _ _ one two)

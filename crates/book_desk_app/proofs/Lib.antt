@@ -5,3 +5,4 @@ pub mod Ending
 pub mod Behind
 pub mod GivenBack
 pub mod InTurn
+pub mod AtOnce

@@ -1,9 +1,10 @@
 -- Connections, one after the other (RFC 9112, section 9): each is a stream of requests by itself, whatever it brought.
-use Rattle.std.specs.Prelude.{◌≡◌, ℕ, List, [], ◌∷◌, map, Bool, true, false, cond, Option, Result, Ok, Err}
+use Rattle.std.specs.Prelude.{◌≡◌, ℕ, List, [], ◌∷◌, ◌++◌, codes, map, Bool, true, false, cond, Option, Result, Ok, Err}
 use Rattle.std.specs.Io.KnownBytes.{Appends, Consumes}
 use Rattle.book_office.specs.Keeping.{Standing}
 use Rattle.book_wire.specs.Serving.{Stays}
 use Rattle.book_wire.specs.Stream.{IsInput, IsStream}
+use Rattle.book_desk_app.specs.ServingFailures.{stream_text}
 use Rattle.book_wire.specs.Turn.{StopsReading, StopsWriting}
 use Rattle.book_wire.specs.declared.stream.Served.{Served}
 use Rattle.book_wire.specs.declared.stream.StreamFault.{StreamFault}
@@ -52,3 +53,12 @@ had_no_fault (Err fault) = false
 abbrev pub none_had_a_fault : List (Result Served StreamFault) → Bool
 none_had_a_fault [] = true
 none_had_a_fault (outcome ∷ more) = cond (had_no_fault outcome) (none_had_a_fault more) false
+
+-- what is told of a connection: its fault, as a line
+abbrev pub line_of_connection : Result Served StreamFault → List ℕ
+line_of_connection (Ok served) = []
+line_of_connection (Err fault) = stream_text fault ++ codes "\n"
+
+abbrev pub lines_of_connections : List (Result Served StreamFault) → List ℕ
+lines_of_connections [] = []
+lines_of_connections (outcome ∷ more) = line_of_connection outcome ++ lines_of_connections more

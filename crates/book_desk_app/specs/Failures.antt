@@ -11,7 +11,9 @@ use Rattle.book_policy.specs.declared.faults.PolicyFault.TheVariants as policy_f
 use Rattle.book_desk_app.specs.ServingFailures.{adoption_text, stream_text}
 use Rattle.book_desk_app.specs.TextFailures.{input_text, input_status}
 use Rattle.book_desk_app.specs.declared.failures.Failure.{Failure}
-use Rattle.book_desk_app.specs.declared.failures.Failure.TheVariants.{Input, Output, Listen, Policy, Store, Adoption, Stream}
+use Rattle.book_desk_app.specs.declared.failures.Failure.TheVariants.{Input, Output, Init, Listen, Policy, Store, Adoption, Stream}
+use Rattle.book_desk_app.specs.declared.failures.InitFault.{InitFault}
+use Rattle.book_desk_app.specs.declared.failures.InitFault.TheVariants as inits
 use Rattle.book_desk_app.specs.declared.failures.StoreFailure.{StoreFailure}
 use Rattle.book_desk_app.specs.declared.failures.StoreFailure.TheVariants as stores
 
@@ -26,9 +28,14 @@ store_text stores.NoStore = codes "store: no-store"
 store_text stores.Memory = codes "store: memory"
 store_text stores.Store = codes "store: store"
 
+abbrev pub init_text : InitFault → List ℕ
+init_text inits.Exists = codes "init: exists"
+init_text inits.Write = codes "init: write"
+
 abbrev pub failure_text : Failure → List ℕ
 failure_text (Input fault) = input_text fault
 failure_text Output = codes "output: write"
+failure_text (Init fault) = init_text fault
 failure_text Listen = codes "listen: failed"
 failure_text (Policy fault) = codes "policy: " ++ fault_name fault
 failure_text (Store failure) = store_text failure
@@ -52,9 +59,14 @@ abbrev pub adopt_status : AdoptFault → ℕ
 adopt_status Full = 1
 adopt_status Unavailable = 3
 
+abbrev pub init_status : InitFault → ℕ
+init_status inits.Exists = 1
+init_status inits.Write = 3
+
 abbrev pub failure_status : Failure → ℕ
 failure_status (Input fault) = input_status fault
 failure_status Output = 3
+failure_status (Init fault) = init_status fault
 failure_status Listen = 3
 failure_status (Policy fault) = policy_status fault
 failure_status (Store failure) = 3

@@ -13,4 +13,7 @@ pub mod Runs
 pub mod Preparing
 pub mod Migrations
 pub mod Connections
+pub mod AtOnce
 pub mod ServingFailures
+pub mod Telling
+pub mod Beginnings

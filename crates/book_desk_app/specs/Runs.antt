@@ -1,7 +1,6 @@
 -- What a run over a store does (own profile).
 use Rattle.std.specs.Prelude.{◌≡◌, ◌≢◌, ◌⊎◌, ℕ, List, Option, Some, None, IsTrue}
 use Rattle.std.specs.Io.KnownBytes.{Keeps}
-use Rattle.sqlite.specs.Effect.{Database}
 use Rattle.sqlite.specs.Held.{Held, state as state_of}
 use Rattle.sqlite.specs.State.{State, HasCleanDisk}
 use Rattle.sqlite_trees.specs.declared.store.Store.{Ghosts}
@@ -16,11 +15,12 @@ use Rattle.book_tables.specs.Keeps.{standing_of}
 use Rattle.book_tables.specs.Opened.{IsUnfounded, StandsAlone}
 use Rattle.book_tables.specs.declared.opening.OpenFault.{OpenFault}
 use Rattle.book_tables.specs.declared.opening.OpenFault.TheVariants as faults
-use Rattle.book_tables_opening.specs.Reading.{FaultSays, IsRefused, IsUnopened, SameRows, StandsForItsOffice, StandsForNone}
+use Rattle.book_tables_opening.specs.Reading.{FaultSaysOf, IsRefused, IsUnopened, SameRows, StandForNone, StandsAsBefore}
 use Rattle.book_desk_app.specs.Failures.{failure_status}
 use Rattle.book_desk_app.specs.Tasks.{Performs}
 use Rattle.book_desk_app.specs.Works.{GivesNoTask, SpellsTask}
 use Rattle.book_desk_app.specs.declared.failures.Failure.{Failure}
+use Rattle.book_desk_app.specs.declared.failures.Failure.TheVariants.{Store as StoreFailed}
 use Rattle.book_desk_app.specs.declared.failures.StoreFailure.{StoreFailure}
 use Rattle.book_desk_app.specs.declared.failures.StoreFailure.TheVariants as stores
 use Rattle.book_desk_app.specs.declared.tasks.Task.{Task}
@@ -35,25 +35,26 @@ store_failure faults.Store = stores.Store
 
 -- ---- the tables of a store
 
--- a store without tables stands for the empty Office then; another for the Office of its rows, as its last commit left them
+-- a store without tables stands for the empty Office then; another for the Office that its last commit stood for, with the same rows
 -- but for `reach`
 pub record IsOpenedFrom (before after : State) : Type 0 where
   pub made : before.now.schema ≡ no_schema → StandsAlone after empty_office
-  pub opened : before.now.schema ≢ no_schema → StandsForItsOffice after
-  pub same : before.now.schema ≢ no_schema → IsTrue after.is_open → SameRows before.committed.trees after.now.trees
+  pub opened : before.now.schema ≢ no_schema → StandsAsBefore before.committed.trees after
+  pub same : before.now.schema ≢ no_schema → SameRows before.committed.trees after.now.trees
 
 -- a store that could not be opened: without tables it shows what it showed, and a stop leaves that or the empty Office; else it
--- has the rows that were committed but for `reach`, and so has what a stop leaves. Where it is refused, its rows were read, and stand for no Office
-pub record IsGivenBack (says : Database → OpenFault → Type 0) (before after : State) (fault : OpenFault) : Type 0 where
+-- shows what was committed, and a stop leaves that or the Office that it stood for. Where it is refused, what was committed was read,
+-- and stands for no Office
+pub record IsGivenBack (before after : State) (fault : OpenFault) : Type 0 where
   pub bare : before.now.schema ≡ no_schema → IsUnfounded before after empty_office
   pub left : before.now.schema ≢ no_schema → IsUnopened before.committed.trees after
-  pub none : IsRefused fault → StandsForNone after
-  pub other : IsRefused fault → IsTrue after.is_open → says after.now fault
+  pub none : IsRefused fault → StandForNone before.committed.trees
+  pub other : IsRefused fault → FaultSaysOf 2 before.committed.trees fault
 
 module _ {S : Type 0} (g : Ghosts S) where
   -- what comes back: the connection; or its store, unharmed, where one with tables could not be opened again
   abbrev pub LeavesStore : Held S → OpenFault → Unopened S → Type 0
-  LeavesStore store fault (Connection left) = HasCleanDisk (state_of g left) → IsGivenBack (FaultSays g 2) (state_of g store) (state_of g left) fault
+  LeavesStore store fault (Connection left) = HasCleanDisk (state_of g left) → IsGivenBack (state_of g store) (state_of g left) fault
   LeavesStore store fault (Store left) = ((state_of g store).now.schema ≢ no_schema) × ¬ (IsRefused fault) × IsUnharmed g (state_of g store) left
 
   -- why the tables of a store were not had, and what came back
@@ -74,27 +75,27 @@ module _ {C K : Type 0} (state : C → State) (connection : K → C) (failures :
   abbrev pub standing_in : K → Standing
   standing_in tables = standing_of (state (connection tables)) (failures tables)
 
-  -- why the tables of a store were not had, and what was left of it
-  module _ (is_not_had : C → StoreFailure → Type 0) where
-    -- the tables were not had, and nothing was read or written; or the task was done over them
+  -- how a failure is told; and why the tables of a store were not had, and what was left of it
+  module _ (Told : Failure → Type 0) (is_not_had : C → StoreFailure → Type 0) where
+    -- the tables were not had, which was told, and nothing was read or written; or the task was done over them
     abbrev pub RunsOver : Task → C → Option (List ℕ) → Option (List ℕ) → Option (List ℕ) → Option (List ℕ) → ℕ → Option C → Type 0
     RunsOver task store before after held holds status back =
         ((failure : StoreFailure) × is_not_had store failure × (status ≡ 3) × (back ≡ None)
-        × Keeps before after × Keeps held holds)
-        ⊎ ((old : K) × (new : K) × AreTablesOf store old × Performs standing_in task old before after held holds status new
+        × Keeps before after × Keeps held holds × Told (StoreFailed failure))
+        ⊎ ((old : K) × (new : K) × AreTablesOf store old × Performs Told standing_in task old before after held holds status new
         × (back ≡ Some (connection new)))
 
     -- without a store it is done over the empty Office in memory
     abbrev pub RunsIn : Task → Option C → Option (List ℕ) → Option (List ℕ) → Option (List ℕ) → Option (List ℕ) → ℕ → Option C → Type 0
     RunsIn task None before after held holds status back =
-        ((new : Office) × Performs in_memory task empty_office before after held holds status new) × (back ≡ None)
+        ((new : Office) × Performs Told in_memory task empty_office before after held holds status new) × (back ≡ None)
     RunsIn task (Some store) before after held holds status back = RunsOver task store before after held holds status back
 
     -- ---- a run, where the policy's file has such bytes
 
-    -- the file makes no task of the work, and nothing was touched; or its task was done
+    -- the file makes no task of the work, which was told, and nothing was touched; or its task was done
     abbrev pub Runs : {F : Type 0} → (F → List ℕ) → Work → Option C → Option F → Option (List ℕ) → Option (List ℕ) → Option (List ℕ) → Option (List ℕ) → ℕ → Option C → Type 0
     Runs bytes work store file before after held holds status back =
         ((failure : Failure) × (status ≡ failure_status failure) × GivesNoTask bytes work file failure × (back ≡ store)
-        × Keeps before after × Keeps held holds)
+        × Keeps before after × Keeps held holds × Told failure)
         ⊎ ((task : Task) × SpellsTask bytes work file task × RunsIn task store before after held holds status back)

@@ -1,10 +1,14 @@
 -- What `pipe` and `serve` do, and the status that ends them (own profile).
-use Rattle.std.specs.Prelude.{◌≡◌, ℕ, List, ◌++◌, codes, true, length, Option}
+use Rattle.std.specs.Prelude.{◌≡◌, ◌⊎◌, ℕ, List, ◌++◌, codes, Bool, true, cond, length, Option}
 use Rattle.std.specs.Io.KnownBytes.{Appends, Consumes}
 use Rattle.std.specs.declared.net.socket_addr.SocketAddr.{SocketAddr}
 use Rattle.std.specs.Net.Text.{socket_text}
 use Rattle.book_office.specs.Keeping.{Standing}
-use Rattle.book_desk_app.specs.Connections.{AreConnections, ServedConnection, ConnectionStops, none_had_a_fault, outcomes_of}
+use Rattle.book_desk_app.specs.Connections.{AreConnections, ServedConnection, ConnectionStops, lines_of_connections, none_had_a_fault, outcomes_of}
+use Rattle.book_desk_app.specs.Failures.{failure_text}
+use Rattle.book_desk_app.specs.Telling.{Tells, TellsFailure}
+use Rattle.book_desk_app.specs.declared.failures.Failure.{Failure}
+use Rattle.book_desk_app.specs.declared.failures.Failure.TheVariants.{Listen, Output, Stream}
 use Rattle.book_wire.specs.Stream.{IsInput, IsStream}
 use Rattle.book_wire.specs.declared.stream.Ended.{Ended}
 use Rattle.book_wire.specs.declared.stream.Ended.TheVariants.{Clean, Cut, Closed}
@@ -25,11 +29,11 @@ Pipes old reads held holds status new =
     (served : Served) × (status ≡ ended_status served.ended) × (input : List ℕ) × (written : List ℕ)
     × IsInput reads input × Appends held holds written × IsStream old input written served new
 
--- the stream stopped with a fault
-abbrev pub StopsToPipe : Standing → Option (List ℕ) → Option (List ℕ) → Option (List ℕ) → Option (List ℕ) → Standing → Type 0
-StopsToPipe old before after held holds new =
+-- the stream stopped with a fault, which was told so
+abbrev pub StopsToPipe : (Failure → Type 0) → Standing → Option (List ℕ) → Option (List ℕ) → Option (List ℕ) → Option (List ℕ) → Standing → Type 0
+StopsToPipe Told old before after held holds new =
     (fault : StreamFault) × (input : List ℕ) × (written : List ℕ)
-    × Consumes before after input × Appends held holds written × ConnectionStops old input written fault new
+    × Consumes before after input × Appends held holds written × ConnectionStops old input written fault new × Told (Stream (record { fault = fault }))
 
 -- ---- connections
 
@@ -37,10 +41,31 @@ StopsToPipe old before after held holds new =
 abbrev pub listening_line : SocketAddr → List ℕ
 listening_line address = codes "listening on " ++ (socket_text address ++ codes "\n")
 
--- it said where it listens, and so many connections were served, none of which had a fault
 module _ {S : Type 0} (remaining contents : S → Option (List ℕ)) {K : Type 0} (standing : K → Standing) where
+  -- it said where it listens, and so many connections were served, none of which had a fault
   abbrev pub ServesSoundly : K → Option (List ℕ) → Option (List ℕ) → ℕ → K → Type 0
   ServesSoundly old held holds count new =
       ((address : SocketAddr) × Appends held holds (listening_line address))
       × ((connections : List (ServedConnection S)) × AreConnections remaining contents standing old connections new
       × (length connections ≡ count) × (none_had_a_fault (outcomes_of connections) ≡ true))
+
+  -- what was told, where the writer of lines took each text to its end before and takes each now, and what it held and holds
+  module _ (was_whole is_whole : Bool) (told tells : Option (List ℕ)) where
+    -- it could not be said where it listens, which was told, and no connection was served
+    abbrev pub SaysNothing : ℕ → Type 0
+    SaysNothing status =
+        (failure : Failure) × ((failure ≡ Listen) ⊎ (failure ≡ Output)) × (status ≡ 3) × TellsFailure is_whole told tells failure
+
+    -- so many connections came, and the fault of each that had one was told; or after these none could be accepted, which was told last
+    abbrev pub EndsServing : List (ServedConnection S) → ℕ → ℕ → Type 0
+    EndsServing connections count status =
+        ((length connections ≡ count) × (status ≡ cond (none_had_a_fault (outcomes_of connections)) 0 3)
+        × Tells was_whole is_whole told tells (lines_of_connections (outcomes_of connections)))
+        ⊎ ((status ≡ 3) × Tells was_whole is_whole told tells (lines_of_connections (outcomes_of connections) ++ (failure_text Listen ++ codes "\n")))
+
+    -- these connections were served, in turn, and what each was sent is what its stream says
+    abbrev pub Serves : K → Option (List ℕ) → Option (List ℕ) → ℕ → ℕ → K → Type 0
+    Serves old held holds count status new =
+        (SaysNothing status × (new ≡ old))
+        ⊎ (((address : SocketAddr) × Appends held holds (listening_line address))
+        × ((connections : List (ServedConnection S)) × AreConnections remaining contents standing old connections new × EndsServing connections count status))

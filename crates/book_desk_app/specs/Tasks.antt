@@ -11,28 +11,31 @@ use Rattle.book_desk_app.specs.declared.failures.Failure.{Failure}
 use Rattle.book_desk_app.specs.declared.tasks.Task.{Task}
 use Rattle.book_desk_app.specs.declared.tasks.Task.TheVariants.{Import, Audit, Pipe}
 
--- it was done, or it failed, with the status of the failure
-abbrev pub EndsWith : Type 0 → (Failure → Type 0) → ℕ → Type 0
-EndsWith Done Fails status = ((status ≡ 0) × Done) ⊎ ((failure : Failure) × (status ≡ failure_status failure) × Fails failure)
+-- where a failure is told so
+module _ (Told : Failure → Type 0) where
+  -- it was done, or it failed, with the status of the failure, which was told
+  abbrev pub EndsWith : Type 0 → (Failure → Type 0) → ℕ → Type 0
+  EndsWith Done Fails status = ((status ≡ 0) × Done) ⊎ ((failure : Failure) × (status ≡ failure_status failure) × Fails failure × Told failure)
 
--- the requests were served, or the stream stopped with a fault
-abbrev pub EndsPipe : Standing → Option (List ℕ) → Option (List ℕ) → Option (List ℕ) → Option (List ℕ) → ℕ → Standing → Type 0
-EndsPipe old before after held holds status new =
-    (status ≢ 3 → Pipes old before held holds status new) × (status ≡ 3 → StopsToPipe old before after held holds new)
+  -- the requests were served, or the stream stopped with a fault, which was told
+  abbrev pub EndsPipe : Standing → Option (List ℕ) → Option (List ℕ) → Option (List ℕ) → Option (List ℕ) → ℕ → Standing → Type 0
+  EndsPipe old before after held holds status new =
+      (status ≢ 3 → Pipes old before held holds status new) × (status ≡ 3 → StopsToPipe Told old before after held holds new)
 
 -- over a keeper: what was read and is left to read, what the writer held and holds, the status, and the keeper afterwards
-module _ {K : Type 0} (standing : K → Standing) where
+module _ (Told : Failure → Type 0) {K : Type 0} (standing : K → Standing) where
   -- the policy was refused, and nothing was read or written; or the requests were served after it
   abbrev pub PipesAfter : Option PolicyTables → K → Option (List ℕ) → Option (List ℕ) → Option (List ℕ) → Option (List ℕ) → ℕ → K → Type 0
   PipesAfter policy old before after held holds status new =
-      ((failure : Failure) × (status ≡ failure_status failure) × FailsToAdopt (standing old) policy failure (standing new) × Keeps before after × Keeps held holds)
-      ⊎ ((between : K) × AdoptsGiven (standing old) policy (standing between) × EndsPipe (standing between) before after held holds status (standing new))
+      ((failure : Failure) × (status ≡ failure_status failure) × FailsToAdopt (standing old) policy failure (standing new) × Keeps before after × Keeps held holds
+      × Told failure)
+      ⊎ ((between : K) × AdoptsGiven (standing old) policy (standing between) × EndsPipe Told (standing between) before after held holds status (standing new))
 
   abbrev pub Performs : Task → K → Option (List ℕ) → Option (List ℕ) → Option (List ℕ) → Option (List ℕ) → ℕ → K → Type 0
   Performs (Import policy) old before after held holds status new =
-      EndsWith (Imports (standing old) policy held holds (standing new)) (λ failure. FailsToImport (standing old) policy failure held holds (standing new)) status
+      EndsWith Told (Imports (standing old) policy held holds (standing new)) (λ failure. FailsToImport (standing old) policy failure held holds (standing new)) status
       × Keeps before after
   Performs Audit old before after held holds status new =
-      EndsWith (Audits (standing old) held holds (standing new)) (λ failure. FailsToAudit (standing old) failure held holds (standing new)) status
+      EndsWith Told (Audits (standing old) held holds (standing new)) (λ failure. FailsToAudit (standing old) failure held holds (standing new)) status
       × Keeps before after
   Performs (Pipe policy) old before after held holds status new = PipesAfter policy old before after held holds status new

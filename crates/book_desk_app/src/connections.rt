@@ -3,9 +3,13 @@
 ghost use Rattle.std.specs.Prelude.{◌≡◌, IfOk, List, length, true};
 ghost use Rattle.std.specs.Io.KnownBytes.{Keeps};
 ghost use Rattle.book_wire.specs.Serving.{Answered, Runs};
-ghost use Rattle.book_desk_app.specs.Connections.{AreConnections, ComesTo, ServedConnection, had_no_fault, none_had_a_fault, outcomes_of};
+ghost use Rattle.book_desk_app.specs.Connections.{AreConnections, ComesTo, ServedConnection, had_no_fault, line_of_connection, lines_of_connections, none_had_a_fault, outcomes_of};
+ghost use Rattle.book_desk_app.specs.Telling.{Tells};
 
+use crate::failures::Failure;
+use crate::lines::Lines;
 use crate::serving_failures::StreamFailure;
+use crate::telling::tell_line;
 use book_desk_loop::close_in_stages;
 use book_machine::Machine;
 use book_office::Keeper;
@@ -17,7 +21,7 @@ use std::net::{OpenListener, OpenStream};
 use std::rt::Clock;
 
 /// Serves the requests of one connection, and says how it ended. A fault is told on `errors`, as a line.
-fn serve_one<K: Keeper, R: Read, W: Write, E: Write>(
+fn serve_one<K: Keeper, R: Read, W: Write, E: Lines>(
     alloc: Global,
     machine: &mut Machine<K>,
     reader: &mut R,
@@ -26,13 +30,14 @@ fn serve_one<K: Keeper, R: Read, W: Write, E: Write>(
 ) -> Result<Served, StreamFault>
     ensures served { ComesTo (K.standing machine.old.keeper) (R.remaining reader.old) (R.remaining reader.new)
         (W.contents writer.old) (W.contents writer.new) result (K.standing machine.new.keeper) }
-    ensures silent { had_no_fault result ≡ true → Keeps (E.contents errors.old) (E.contents errors.new) }
+    ensures silent { had_no_fault result ≡ true → Keeps (E.Write.contents errors.old) (E.Write.contents errors.new) }
+    ensures told { Tells (E.is_whole errors.old) (E.is_whole errors.new) (E.Write.contents errors.old) (E.Write.contents errors.new) (line_of_connection result) }
 {
     match serve_stream(alloc, machine, reader, writer) {
         Ok(served) => Ok(served),
         Err(fault) => {
             // Where this can't be written, the status of the program alone tells it.
-            let _ = writeln!(errors, "{}", StreamFailure { fault });
+            tell_line(errors, &Failure::Stream(StreamFailure { fault }));
             Err(fault)
         }
     }
@@ -77,7 +82,7 @@ pub fn serve_connections<
     K: Keeper,
     S: Read + Write + OpenStream + Drop,
     L: OpenListener<Stream = S>,
-    E: Write,
+    E: Lines,
 >(
     clock: &C,
     alloc: Global,
@@ -87,9 +92,10 @@ pub fn serve_connections<
     errors: &mut E,
 ) -> io::Result<bool>
     ensures served { (connections : List (ServedConnection S)) × AreConnections S.remaining S.contents K.standing machine.old.keeper connections machine.new.keeper
+        × Tells (E.is_whole errors.old) (E.is_whole errors.new) (E.Write.contents errors.old) (E.Write.contents errors.new) (lines_of_connections (outcomes_of connections))
         × IfOk result (λ sound. (length connections ≡ count) × (sound ≡ none_had_a_fault (outcomes_of connections))) }
     ensures runs { (answered : List Answered) × Runs (K.standing machine.old.keeper) (K.standing machine.new.keeper) answered }
-    ensures silent { IfOk result (λ sound. sound ≡ true → Keeps (E.contents errors.old) (E.contents errors.new)) }
+    ensures silent { IfOk result (λ sound. sound ≡ true → Keeps (E.Write.contents errors.old) (E.Write.contents errors.new)) }
 {
     let mut sound = true;
     for _ in 0..count {

@@ -1,7 +1,7 @@
 //! Why a command was not done: its text for standard error, and the status of the program.
 
 ghost use Rattle.std.specs.Prelude.{◌≡◌};
-ghost use Rattle.book_desk_app.specs.Failures.{IsTold, adopt_status, failure_status, failure_text, policy_status};
+ghost use Rattle.book_desk_app.specs.Failures.{IsTold, adopt_status, failure_status, failure_text, init_status, policy_status};
 
 use crate::lines::put_front;
 use crate::serving_failures::{AdoptionFailure, StreamFailure};
@@ -62,6 +62,31 @@ impl fmt::Display for StoreFailure {
 
 impl Error for StoreFailure {}
 
+/// Why no files to begin with were made (own profile). It prints as what is told on standard error.
+#[derive(Clone, Copy, Debug, PartialEq, Eq)]
+pub enum InitFault {
+    /// `init: exists`: a file of one of their names is there.
+    Exists,
+    /// `init: write`: the folder or a file could not be made.
+    Write,
+}
+
+impl fmt::Display for InitFault {
+    ghost use Rattle.std.specs.Prelude.{Some};
+    ghost use Rattle.book_desk_app.specs.Failures.{init_text};
+
+    ghost output = { λ fault. Some (init_text fault) };
+
+    fn fmt<W: fmt::Write>(&self, f: &mut fmt::Formatter<W>) -> fmt::Result {
+        match self {
+            InitFault::Exists => f.write_str("init: exists"),
+            InitFault::Write => f.write_str("init: write"),
+        }
+    }
+}
+
+impl Error for InitFault {}
+
 /// Why a command was not done (own profile). It prints as what is told on standard error.
 #[derive(Clone, Copy, Debug, PartialEq, Eq)]
 pub enum Failure {
@@ -69,6 +94,8 @@ pub enum Failure {
     Input(InputFault),
     /// The output could not be written.
     Output,
+    /// No files to begin with were made.
+    Init(InitFault),
     /// The port can't be had, or a connection can't be accepted.
     Listen,
     /// The text is no policy.
@@ -89,6 +116,7 @@ impl Failure {
         match self {
             Failure::Input(fault) => fault.status(),
             Failure::Output => BROKEN,
+            Failure::Init(fault) => init_status(*fault),
             Failure::Listen => BROKEN,
             Failure::Policy(fault) => policy_status(*fault),
             Failure::Store(_) => BROKEN,
@@ -115,6 +143,15 @@ fn policy_status(fault: PolicyFault) -> u8
     }
 }
 
+fn init_status(fault: InitFault) -> u8
+    ensures { result ≡ init_status fault }
+{
+    match fault {
+        InitFault::Exists => REFUSED,
+        InitFault::Write => BROKEN,
+    }
+}
+
 fn adopt_status(fault: AdoptFault) -> u8
     ensures { result ≡ adopt_status fault }
 {
@@ -134,6 +171,7 @@ impl fmt::Display for Failure {
         match self {
             Failure::Input(fault) => write!(f, "{fault}"),
             Failure::Output => f.write_str("output: write"),
+            Failure::Init(fault) => write!(f, "{fault}"),
             Failure::Listen => f.write_str("listen: failed"),
             Failure::Policy(fault) => write!(f, "policy: {fault}"),
             Failure::Store(failure) => write!(f, "{failure}"),

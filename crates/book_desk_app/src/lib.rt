@@ -10,17 +10,19 @@
 //! policy before any store is touched (`SpellsTask`); that `run`, which does all work but `serve`, ends as the work
 //! does over the store's Office (`Runs`, `Performs`); that `open_store` gives the tables of a store (`AreTablesOf`), or
 //! the store back as it was (`FailsToOpen`); that `prepare` does what `serve` does before it listens (`Prepares`); and
-//! that `serve_connections` does to the Office what a run of requests does.
+//! that `serve_connections` does to the Office what a run of requests does. `begin` makes the files that `init` makes,
+//! in any folder (`Folder`).
 //!
 //! Read `text_commands` and `dispatch` first, then `explaining`, `card_summaries`, and `streams` and `short_texts`,
 //! which read. Then `works`, which makes a task, `tasks`, which joins `policies`, `importing`, `auditing` and `piping`,
 //! and `memory`; `stores` and `running`; `adoptions`, `preparing`, `connections`, `listening`, and `looping`, which
-//! serves many connections at once. `failures`, `lines`, `text_failures` and `serving_failures` have what is told on
+//! serves many connections at once; `beginning`. `failures`, `lines`, `text_failures` and `serving_failures` have what is told on
 //! standard error.
 #![tactic(auto)]
 
 mod adoptions;
 mod auditing;
+mod beginning;
 mod card_summaries;
 mod connections;
 mod dispatch;
@@ -41,16 +43,19 @@ mod short_texts;
 mod stores;
 mod streams;
 mod tasks;
+mod telling;
 mod text_commands;
 mod text_failures;
 mod works;
 
 pub use adoptions::adopt_or_fail;
 pub use auditing::audit;
+pub use beginning::{Beginning, Folder, begin};
 pub use connections::serve_connections;
 pub use dispatch::run_text;
-pub use failures::{Failure, StoreFailure, tell};
+pub use failures::{Failure, InitFault, StoreFailure, tell};
 pub use importing::{adopt_given, import};
+pub use lines::{Lines, Noting};
 pub use listening::serve;
 pub use looping::serve_many;
 pub use memory::perform_in_memory;
@@ -63,6 +68,7 @@ pub use serving_failures::{AdoptionFailure, StreamFailure};
 pub use short_texts::read_short_text;
 pub use stores::open_store;
 pub use tasks::{Task, perform};
+pub use telling::tell_line;
 pub use text_commands::TextCommand;
 pub use text_failures::{BROKEN, DONE, InputFault, REFUSED, TextFailure};
 pub use works::{Work, given_policy, task_of};

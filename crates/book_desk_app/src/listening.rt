@@ -5,10 +5,13 @@ ghost use Rattle.std.specs.Io.KnownBytes.{Appends, Keeps};
 ghost use Rattle.std.specs.declared.net.socket_addr.SocketAddr.{SocketAddr};
 ghost use Rattle.book_wire.specs.Serving.{Answered, Runs};
 ghost use Rattle.book_desk_app.specs.Failures.{failure_status};
-ghost use Rattle.book_desk_app.specs.Streams.{ServesSoundly, listening_line};
+ghost use Rattle.book_desk_app.specs.Streams.{Serves, ServesSoundly, listening_line};
+ghost use Rattle.book_desk_app.specs.declared.failures.Failure.TheVariants.{Listen, Output};
 
 use crate::connections::serve_connections;
-use crate::failures::{Failure, tell};
+use crate::failures::Failure;
+use crate::lines::Lines;
+use crate::telling::tell_line;
 use crate::text_failures::{BROKEN, DONE};
 use book_machine::Machine;
 use book_office::Keeper;
@@ -28,6 +31,7 @@ pub(crate) fn say_where<L: OpenListener, W: Write>(
 ) -> Result<(), Failure>
     ensures said { OnOk result ((address : SocketAddr) × Appends (W.contents writer.old) (W.contents writer.new) (listening_line address)) }
     ensures broken { IfErr result (λ failure. failure_status failure ≡ 3) }
+    ensures why { IfErr result (λ failure. (failure ≡ Listen) ⊎ (failure ≡ Output)) }
 {
     let Ok(address) = listener.local_addr() else {
         return Err(Failure::Listen);
@@ -38,15 +42,16 @@ pub(crate) fn say_where<L: OpenListener, W: Write>(
     Ok(())
 }
 
-/// Says where it listens, and serves so many connections. The status is 0 where none had a fault, else 3; it is 3 at
-/// once where that can't be said, or a connection can't be accepted.
+/// Says where it listens, and serves so many connections, as `serve_connections`. The status is 0 where none had a fault,
+/// else 3; it is 3 at once where that can't be said, or a connection can't be accepted, which is told on `errors` after the
+/// faults of those before it.
 pub fn serve<
     C: Clock,
     K: Keeper,
     S: Read + Write + OpenStream + Drop,
     L: OpenListener<Stream = S>,
     W: Write,
-    E: Write,
+    E: Lines,
 >(
     clock: &C,
     alloc: Global,
@@ -60,14 +65,17 @@ pub fn serve<
     ensures sound { result ≡ 0 → ServesSoundly S.remaining S.contents K.standing machine.old.keeper (W.contents writer.old) (W.contents writer.new)
         connections machine.new.keeper }
     ensures runs { (answered : List Answered) × Runs (K.standing machine.old.keeper) (K.standing machine.new.keeper) answered }
-    ensures silent { result ≡ 0 → Keeps (E.contents errors.old) (E.contents errors.new) }
+    ensures silent { result ≡ 0 → Keeps (E.Write.contents errors.old) (E.Write.contents errors.new) }
+    ensures serves { Serves S.remaining S.contents K.standing (E.is_whole errors.old) (E.is_whole errors.new)
+        (E.Write.contents errors.old) (E.Write.contents errors.new) machine.old.keeper (W.contents writer.old) (W.contents writer.new)
+        connections result machine.new.keeper }
 {
     if let Err(failure) = say_where(listener, writer) {
-        return tell(errors, &failure);
+        return tell_line(errors, &failure);
     }
     match serve_connections(clock, alloc, machine, listener, connections, errors) {
         Ok(true) => DONE,
         Ok(false) => BROKEN,
-        Err(_) => tell(errors, &Failure::Listen),
+        Err(_) => tell_line(errors, &Failure::Listen),
     }
 }

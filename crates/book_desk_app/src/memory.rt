@@ -6,7 +6,9 @@ ghost use Rattle.book_office.specs.Edits.{empty_office};
 ghost use Rattle.book_office.specs.Keeping.{in_memory};
 ghost use Rattle.book_office_values.specs.declared.offices.Office.{Office};
 ghost use Rattle.book_desk_app.specs.Tasks.{Performs};
+ghost use Rattle.book_desk_app.specs.Telling.{TellsFailure};
 
+use crate::lines::Lines;
 use crate::tasks::{Task, perform};
 use book_machine::Machine;
 use book_office::MemoryKeeper;
@@ -15,16 +17,17 @@ use std::io::{Read, Write};
 
 /// Does the task over an empty Office in memory, which is let go afterwards, and gives the status of the program, as
 /// `perform`.
-pub fn perform_in_memory<R: Read, W: Write, E: Write>(
+pub fn perform_in_memory<R: Read, W: Write, E: Lines>(
     alloc: Global,
     task: &Task,
     reader: &mut R,
     writer: &mut W,
     errors: &mut E,
 ) -> u8
-    ensures ends { (after : Office) × Performs in_memory task.now empty_office (R.remaining reader.old) (R.remaining reader.new)
+    ensures ends { (after : Office) × Performs (TellsFailure (E.is_whole errors.new) (E.Write.contents errors.old) (E.Write.contents errors.new))
+        in_memory task.now empty_office (R.remaining reader.old) (R.remaining reader.new)
         (W.contents writer.old) (W.contents writer.new) result after }
-    ensures silent { result ≡ 0 → Keeps (E.contents errors.old) (E.contents errors.new) }
+    ensures silent { result ≡ 0 → Keeps (E.Write.contents errors.old) (E.Write.contents errors.new) }
 {
     let mut machine = Machine::new(MemoryKeeper::new(alloc));
     perform(alloc, task, &mut machine, reader, writer, errors)

@@ -3,9 +3,12 @@
 ghost use Rattle.std.specs.Prelude.{◌≡◌, ◌≢◌};
 ghost use Rattle.std.specs.Io.KnownBytes.{Keeps};
 ghost use Rattle.book_desk_app.specs.Streams.{Pipes, StopsToPipe, ended_status};
+ghost use Rattle.book_desk_app.specs.Telling.{TellsFailure};
 
-use crate::failures::{Failure, tell};
+use crate::failures::Failure;
+use crate::lines::Lines;
 use crate::serving_failures::StreamFailure;
+use crate::telling::tell_line;
 use crate::text_failures::{DONE, REFUSED};
 use book_machine::Machine;
 use book_office::Keeper;
@@ -26,7 +29,7 @@ fn ended_status(ended: Ended) -> u8
 
 /// Serves the requests that the reader gives, and gives the status of the program: 3 where memory was refused, or a
 /// read or a write failed, which is told on `errors`; else by how the stream ended.
-pub fn pipe<K: Keeper, R: Read, W: Write, E: Write>(
+pub fn pipe<K: Keeper, R: Read, W: Write, E: Lines>(
     alloc: Global,
     machine: &mut Machine<K>,
     reader: &mut R,
@@ -35,12 +38,13 @@ pub fn pipe<K: Keeper, R: Read, W: Write, E: Write>(
 ) -> u8
     ensures ended { result ≢ 3 → Pipes (K.standing machine.old.keeper) (R.remaining reader.old)
         (W.contents writer.old) (W.contents writer.new) result (K.standing machine.new.keeper) }
-    ensures stopped { result ≡ 3 → StopsToPipe (K.standing machine.old.keeper) (R.remaining reader.old) (R.remaining reader.new)
+    ensures stopped { result ≡ 3 → StopsToPipe (TellsFailure (E.is_whole errors.new) (E.Write.contents errors.old) (E.Write.contents errors.new))
+        (K.standing machine.old.keeper) (R.remaining reader.old) (R.remaining reader.new)
         (W.contents writer.old) (W.contents writer.new) (K.standing machine.new.keeper) }
-    ensures silent { result ≢ 3 → Keeps (E.contents errors.old) (E.contents errors.new) }
+    ensures silent { result ≢ 3 → Keeps (E.Write.contents errors.old) (E.Write.contents errors.new) }
 {
     match serve_stream(alloc, machine, reader, writer) {
         Ok(served) => ended_status(served.ended),
-        Err(fault) => tell(errors, &Failure::Stream(StreamFailure { fault })),
+        Err(fault) => tell_line(errors, &Failure::Stream(StreamFailure { fault })),
     }
 }

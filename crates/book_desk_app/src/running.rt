@@ -6,13 +6,16 @@ ghost use Rattle.sqlite.specs.Held.{state};
 ghost use Rattle.book_desk_app.specs.Runs.{IsNotHad, Runs, RunsIn, RunsOver, standing_in};
 ghost use Rattle.book_tables.specs.declared.tables.Tables.{Tables};
 ghost use Rattle.book_desk_app.specs.Tasks.{EndsPipe, Performs, PipesAfter};
+ghost use Rattle.book_desk_app.specs.Telling.{TellsFailure};
 
-use crate::failures::{Failure, tell};
+use crate::failures::Failure;
 use crate::importing::adopt_given;
+use crate::lines::Lines;
 use crate::memory::perform_in_memory;
 use crate::piping::pipe;
 use crate::stores::open_store;
 use crate::tasks::{Task, perform};
+use crate::telling::tell_line;
 use crate::works::{Work, task_of};
 use book_machine::Machine;
 use book_office_cache::Cached;
@@ -24,17 +27,18 @@ use std::io::{Read, Write};
 
 /// Serves the requests that the reader gives over the tables, as `pipe`, and gives them back. What most requests ask of
 /// them is remembered meanwhile.
-fn pipe_over<S: Alter + Drop, R: Read, W: Write, E: Write>(
+fn pipe_over<S: Alter + Drop, R: Read, W: Write, E: Lines>(
     alloc: Global,
     tables: Tables<S>,
     reader: &mut R,
     writer: &mut W,
     errors: &mut E,
 ) -> (u8, Tables<S>)
-    ensures ends { EndsPipe (standing_in (state S.Store) (λ t. t.connection) (λ t. t.failures) tables)
+    ensures ends { EndsPipe (TellsFailure (E.is_whole errors.new) (E.Write.contents errors.old) (E.Write.contents errors.new))
+        (standing_in (state S.Store) (λ t. t.connection) (λ t. t.failures) tables)
         (R.remaining reader.old) (R.remaining reader.new) (W.contents writer.old) (W.contents writer.new) result.0
         (standing_in (state S.Store) (λ t. t.connection) (λ t. t.failures) result.1) }
-    ensures silent { result.0 ≢ 3 → Keeps (E.contents errors.old) (E.contents errors.new) }
+    ensures silent { result.0 ≢ 3 → Keeps (E.Write.contents errors.old) (E.Write.contents errors.new) }
 {
     let mut machine = Machine::new(Cached::new(alloc, tables));
     let status = pipe(alloc, &mut machine, reader, writer, errors);
@@ -43,7 +47,7 @@ fn pipe_over<S: Alter + Drop, R: Read, W: Write, E: Write>(
 
 /// Adopts the policy over the tables, if one is given, then serves the requests that the reader gives, and gives the
 /// tables back. Nothing is read or written where the policy was not adopted.
-fn pipe_after<S: Alter + Drop, R: Read, W: Write, E: Write>(
+fn pipe_after<S: Alter + Drop, R: Read, W: Write, E: Lines>(
     alloc: Global,
     policy: &Option<Policy>,
     tables: Tables<S>,
@@ -51,19 +55,20 @@ fn pipe_after<S: Alter + Drop, R: Read, W: Write, E: Write>(
     writer: &mut W,
     errors: &mut E,
 ) -> (u8, Tables<S>)
-    ensures ends { PipesAfter (standing_in (state S.Store) (λ t. t.connection) (λ t. t.failures)) policy.now tables
+    ensures ends { PipesAfter (TellsFailure (E.is_whole errors.new) (E.Write.contents errors.old) (E.Write.contents errors.new))
+        (standing_in (state S.Store) (λ t. t.connection) (λ t. t.failures)) policy.now tables
         (R.remaining reader.old) (R.remaining reader.new) (W.contents writer.old) (W.contents writer.new) result.0 result.1 }
-    ensures silent { result.0 ≡ 0 → Keeps (E.contents errors.old) (E.contents errors.new) }
+    ensures silent { result.0 ≡ 0 → Keeps (E.Write.contents errors.old) (E.Write.contents errors.new) }
 {
     let mut machine = Machine::new(tables);
     match adopt_given(alloc, &mut machine, policy) {
         Ok(()) => pipe_over(alloc, machine.release(), reader, writer, errors),
-        Err(failure) => (tell(errors, &failure), machine.release()),
+        Err(failure) => (tell_line(errors, &failure), machine.release()),
     }
 }
 
 /// Does the task over the tables, as `perform`, and gives them back.
-fn perform_over<S: Alter + Drop, R: Read, W: Write, E: Write>(
+fn perform_over<S: Alter + Drop, R: Read, W: Write, E: Lines>(
     alloc: Global,
     task: &Task,
     tables: Tables<S>,
@@ -71,9 +76,10 @@ fn perform_over<S: Alter + Drop, R: Read, W: Write, E: Write>(
     writer: &mut W,
     errors: &mut E,
 ) -> (u8, Tables<S>)
-    ensures ends { Performs (standing_in (state S.Store) (λ t. t.connection) (λ t. t.failures)) task.now tables
+    ensures ends { Performs (TellsFailure (E.is_whole errors.new) (E.Write.contents errors.old) (E.Write.contents errors.new))
+        (standing_in (state S.Store) (λ t. t.connection) (λ t. t.failures)) task.now tables
         (R.remaining reader.old) (R.remaining reader.new) (W.contents writer.old) (W.contents writer.new) result.0 result.1 }
-    ensures silent { result.0 ≡ 0 → Keeps (E.contents errors.old) (E.contents errors.new) }
+    ensures silent { result.0 ≡ 0 → Keeps (E.Write.contents errors.old) (E.Write.contents errors.new) }
 {
     match task {
         Task::Pipe(policy) => pipe_after(alloc, policy, tables, reader, writer, errors),
@@ -86,7 +92,7 @@ fn perform_over<S: Alter + Drop, R: Read, W: Write, E: Write>(
 }
 
 /// Does the task over the tables of a store. The connection comes back where they were had.
-fn perform_in<S: Alter + Drop, R: Read, W: Write, E: Write>(
+fn perform_in<S: Alter + Drop, R: Read, W: Write, E: Lines>(
     alloc: Global,
     task: &Task,
     store: Connection<S>,
@@ -94,9 +100,10 @@ fn perform_in<S: Alter + Drop, R: Read, W: Write, E: Write>(
     writer: &mut W,
     errors: &mut E,
 ) -> (u8, Option<Connection<S>>)
-    ensures runs { RunsOver {K = Tables S} (state S.Store) (λ t. t.connection) (λ t. t.failures) (IsNotHad S.Store) task.now store
+    ensures runs { RunsOver {K = Tables S} (state S.Store) (λ t. t.connection) (λ t. t.failures)
+        (TellsFailure (E.is_whole errors.new) (E.Write.contents errors.old) (E.Write.contents errors.new)) (IsNotHad S.Store) task.now store
         (R.remaining reader.old) (R.remaining reader.new) (W.contents writer.old) (W.contents writer.new) result.0 result.1 }
-    ensures silent { result.0 ≡ 0 → Keeps (E.contents errors.old) (E.contents errors.new) }
+    ensures silent { result.0 ≡ 0 → Keeps (E.Write.contents errors.old) (E.Write.contents errors.new) }
 {
     match open_store(alloc, store) {
         Ok(tables) => {
@@ -105,13 +112,13 @@ fn perform_in<S: Alter + Drop, R: Read, W: Write, E: Write>(
         }
         Err((failure, left)) => {
             drop(left);
-            (tell(errors, &Failure::Store(failure)), None)
+            (tell_line(errors, &Failure::Store(failure)), None)
         }
     }
 }
 
 /// Does the task over the tables of a store, or where there is none over an empty Office in memory.
-fn perform_given<S: Alter + Drop, R: Read, W: Write, E: Write>(
+fn perform_given<S: Alter + Drop, R: Read, W: Write, E: Lines>(
     alloc: Global,
     task: &Task,
     store: Option<Connection<S>>,
@@ -119,9 +126,10 @@ fn perform_given<S: Alter + Drop, R: Read, W: Write, E: Write>(
     writer: &mut W,
     errors: &mut E,
 ) -> (u8, Option<Connection<S>>)
-    ensures runs { RunsIn {K = Tables S} (state S.Store) (λ t. t.connection) (λ t. t.failures) (IsNotHad S.Store) task.now store
+    ensures runs { RunsIn {K = Tables S} (state S.Store) (λ t. t.connection) (λ t. t.failures)
+        (TellsFailure (E.is_whole errors.new) (E.Write.contents errors.old) (E.Write.contents errors.new)) (IsNotHad S.Store) task.now store
         (R.remaining reader.old) (R.remaining reader.new) (W.contents writer.old) (W.contents writer.new) result.0 result.1 }
-    ensures silent { result.0 ≡ 0 → Keeps (E.contents errors.old) (E.contents errors.new) }
+    ensures silent { result.0 ≡ 0 → Keeps (E.Write.contents errors.old) (E.Write.contents errors.new) }
 {
     match store {
         Some(store) => perform_in(alloc, task, store, reader, writer, errors),
@@ -138,7 +146,7 @@ fn perform_given<S: Alter + Drop, R: Read, W: Write, E: Write>(
 /// was one, but where its tables could not be made or opened.
 ///
 /// Faults come in this order: the policy's text, the tables, the adoption, the work.
-pub fn run<S: Alter + Drop, R: Read, W: Write, E: Write>(
+pub fn run<S: Alter + Drop, R: Read, W: Write, E: Lines>(
     alloc: Global,
     work: Work,
     store: Option<Connection<S>>,
@@ -147,12 +155,13 @@ pub fn run<S: Alter + Drop, R: Read, W: Write, E: Write>(
     writer: &mut W,
     errors: &mut E,
 ) -> (u8, Option<Connection<S>>)
-    ensures runs { Runs {K = Tables S} (state S.Store) (λ t. t.connection) (λ t. t.failures) (IsNotHad S.Store) (λ given. given.items) work store policy
+    ensures runs { Runs {K = Tables S} (state S.Store) (λ t. t.connection) (λ t. t.failures)
+        (TellsFailure (E.is_whole errors.new) (E.Write.contents errors.old) (E.Write.contents errors.new)) (IsNotHad S.Store) (λ given. given.items) work store policy
         (R.remaining reader.old) (R.remaining reader.new) (W.contents writer.old) (W.contents writer.new) result.0 result.1 }
-    ensures silent { result.0 ≡ 0 → Keeps (E.contents errors.old) (E.contents errors.new) }
+    ensures silent { result.0 ≡ 0 → Keeps (E.Write.contents errors.old) (E.Write.contents errors.new) }
 {
     match task_of(alloc, work, policy) {
         Ok(task) => perform_given(alloc, &task, store, reader, writer, errors),
-        Err(failure) => (tell(errors, &failure), store),
+        Err(failure) => (tell_line(errors, &failure), store),
     }
 }

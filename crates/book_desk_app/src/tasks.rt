@@ -4,11 +4,14 @@ ghost use Rattle.std.specs.Prelude.{◌≡◌, IfErr, OnOk};
 ghost use Rattle.std.specs.Io.KnownBytes.{Keeps};
 ghost use Rattle.book_desk_app.specs.Failures.{failure_status};
 ghost use Rattle.book_desk_app.specs.Tasks.{Performs, PipesAfter};
+ghost use Rattle.book_desk_app.specs.Telling.{TellsFailure};
 
 use crate::auditing::audit;
-use crate::failures::{Failure, tell};
+use crate::failures::Failure;
 use crate::importing::{adopt_given, import};
+use crate::lines::Lines;
 use crate::piping::pipe;
+use crate::telling::tell_line;
 use crate::text_failures::DONE;
 use book_machine::Machine;
 use book_office::{Keeper, Policy};
@@ -27,19 +30,20 @@ pub enum Task {
 }
 
 /// The status of what was done, or failed: a failure is told on `errors`.
-fn ended<E: Write>(errors: &mut E, outcome: Result<(), Failure>) -> u8
-    ensures done { OnOk outcome ((result ≡ 0) × Keeps (E.contents errors.old) (E.contents errors.new)) }
-    ensures failed { IfErr outcome (λ failure. result ≡ failure_status failure) }
+pub(crate) fn ended<E: Lines>(errors: &mut E, outcome: Result<(), Failure>) -> u8
+    ensures done { OnOk outcome ((result ≡ 0) × Keeps (E.Write.contents errors.old) (E.Write.contents errors.new)) }
+    ensures failed { IfErr outcome (λ failure. (result ≡ failure_status failure)
+        × TellsFailure (E.is_whole errors.new) (E.Write.contents errors.old) (E.Write.contents errors.new) failure) }
 {
     match outcome {
         Ok(()) => DONE,
-        Err(failure) => tell(errors, &failure),
+        Err(failure) => tell_line(errors, &failure),
     }
 }
 
 /// Adopts the policy, if one is given, and then serves the requests that the reader gives. Nothing is read or written
 /// where the policy was not adopted.
-fn pipe_after<K: Keeper, R: Read, W: Write, E: Write>(
+fn pipe_after<K: Keeper, R: Read, W: Write, E: Lines>(
     alloc: Global,
     machine: &mut Machine<K>,
     policy: &Option<Policy>,
@@ -47,20 +51,21 @@ fn pipe_after<K: Keeper, R: Read, W: Write, E: Write>(
     writer: &mut W,
     errors: &mut E,
 ) -> u8
-    ensures ends { PipesAfter K.standing policy.now machine.old.keeper (R.remaining reader.old) (R.remaining reader.new)
+    ensures ends { PipesAfter (TellsFailure (E.is_whole errors.new) (E.Write.contents errors.old) (E.Write.contents errors.new))
+        K.standing policy.now machine.old.keeper (R.remaining reader.old) (R.remaining reader.new)
         (W.contents writer.old) (W.contents writer.new) result machine.new.keeper }
-    ensures silent { result ≡ 0 → Keeps (E.contents errors.old) (E.contents errors.new) }
+    ensures silent { result ≡ 0 → Keeps (E.Write.contents errors.old) (E.Write.contents errors.new) }
 {
     match adopt_given(alloc, machine, policy) {
         Ok(()) => pipe(alloc, machine, reader, writer, errors),
-        Err(failure) => tell(errors, &failure),
+        Err(failure) => tell_line(errors, &failure),
     }
 }
 
 /// Does the task over the machine, and gives the status of the program: 0 where it is done, 1 where the input was
 /// refused, 3 where memory was refused, or the store, a read or a write failed. A failure is told on `errors`, all else
 /// is written to `writer`.
-pub fn perform<K: Keeper, R: Read, W: Write, E: Write>(
+pub fn perform<K: Keeper, R: Read, W: Write, E: Lines>(
     alloc: Global,
     task: &Task,
     machine: &mut Machine<K>,
@@ -68,9 +73,10 @@ pub fn perform<K: Keeper, R: Read, W: Write, E: Write>(
     writer: &mut W,
     errors: &mut E,
 ) -> u8
-    ensures ends { Performs K.standing task.now machine.old.keeper (R.remaining reader.old) (R.remaining reader.new)
+    ensures ends { Performs (TellsFailure (E.is_whole errors.new) (E.Write.contents errors.old) (E.Write.contents errors.new))
+        K.standing task.now machine.old.keeper (R.remaining reader.old) (R.remaining reader.new)
         (W.contents writer.old) (W.contents writer.new) result machine.new.keeper }
-    ensures silent { result ≡ 0 → Keeps (E.contents errors.old) (E.contents errors.new) }
+    ensures silent { result ≡ 0 → Keeps (E.Write.contents errors.old) (E.Write.contents errors.new) }
 {
     match task {
         Task::Import(policy) => {

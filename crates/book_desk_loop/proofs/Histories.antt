@@ -10,30 +10,29 @@ use Rattle.std.specs.List.{flat_map, AllByRecursion}
 use Rattle.book_office.specs.Keeping.{Standing}
 use Rattle.book_wire.specs.Connection.{View, fresh, IsFed}
 use Rattle.book_wire.specs.Serving.{Answered, Runs, Stays}
-use Rattle.book_wire.specs.Stream.{Exchange, IsOpen, IsServed, Ends, SoFar, text_of, reply_text, answered_of}
+use Rattle.book_wire.specs.Stream.{Exchange, IsOpen, IsPartial, IsServed, Waits, Ends, SoFar, text_of, reply_text, answered_of}
 use Rattle.book_wire.specs.Turn.{StopsWriting, StopsAt}
 use Rattle.book_wire.specs.declared.stream.Ended.TheVariants.{Closed}
 use Rattle.book_wire.proofs.Servings.{runs_none, runs_then, stays}
 use Rattle.book_wire.proofs.Streams.{all_append, ends_then, joined}
 use Rattle.book_desk_loop.specs.declared.connections.Accepted.{Accepted}
-use Rattle.book_desk_loop.specs.ManyConnections.{History, nothing, Entry, answered_in, own, with_history, receives, is_sent, IsThere, IsBehind, EndsSomehow, Holds, AreServed, AreServedSomehow, number_in, number_at}
+use Rattle.book_desk_loop.specs.ManyConnections.{History, nothing, Entry, answered_in, entries, own, with_history, grows, receives, is_sent, IsThere, IsBehind, EndsSomehow, Holds, AreServed, number_in, number_at}
 
-same : (k : ℕ) → (k == k) ≡ true
+pub same : (k : ℕ) → (k == k) ≡ true
 same k = eq-eqb k k refl
 
-differs : (j k : ℕ) → (j ≡ k → ⊥) → (j == k) ≡ false
+pub differs : (j k : ℕ) → (j ≡ k → ⊥) → (j == k) ≡ false
 differs j k h = grind (arith, nat_tests)
-
--- the exchanges of one connection
-abbrev pub entries : ℕ → List Exchange → List Entry
-entries k [] = []
-entries k (e ∷ es) = record { number = k; exchange = e } ∷ entries k es
 
 entries_answered : (k : ℕ) (es : List Exchange) → map answered_in (entries k es) ≡ map answered_of es
 entries_answered k [] = refl
 entries_answered k (e ∷ es) = ap (λ (t : List Answered). answered_of e ∷ t) (entries_answered k es)
 
-entries_run : (m a : Standing) (k : ℕ) (es : List Exchange) → Runs m a (map answered_of es) → Runs m a (map answered_in (entries k es))
+pub entries_append : (k : ℕ) (es fs : List Exchange) → entries k (es ++ fs) ≡ entries k es ++ entries k fs
+entries_append k [] fs = refl
+entries_append k (e ∷ es) fs = ap (λ (t : List Entry). record { number = k; exchange = e } ∷ t) (entries_append k es fs)
+
+pub entries_run : (m a : Standing) (k : ℕ) (es : List Exchange) → Runs m a (map answered_of es) → Runs m a (map answered_in (entries k es))
 entries_run m a k es runs = let P : List Answered → Type 0 = λ t. Runs m a t in subst P (sym (entries_answered k es)) runs
 
 own_entries : (k : ℕ) (es : List Exchange) → own k (entries k es) ≡ es
@@ -55,19 +54,19 @@ own_append k (x ∷ xs) ys =
 own_here : (k : ℕ) (log : List Entry) (es : List Exchange) → own k (log ++ entries k es) ≡ own k log ++ es
 own_here k log es = own_append k log (entries k es) ∙ ap (λ (t : List Exchange). own k log ++ t) (own_entries k es)
 
-own_there : (j k : ℕ) (log : List Entry) (es : List Exchange) → (j ≡ k → ⊥) → own j (log ++ entries k es) ≡ own j log
+pub own_there : (j k : ℕ) (log : List Entry) (es : List Exchange) → (j ≡ k → ⊥) → own j (log ++ entries k es) ≡ own j log
 own_there j k log es h =
     own_append j log (entries k es) ∙ ap (λ (t : List Exchange). own j log ++ t) (own_others j k es h) ∙ append-nil (own j log)
 
-history_here : (histories : ℕ → History) (k : ℕ) (p : History) → with_history histories k p k ≡ p
+pub history_here : (histories : ℕ → History) (k : ℕ) (p : History) → with_history histories k p k ≡ p
 history_here histories k p = rw (same k) refl
 
-history_there : (histories : ℕ → History) (j k : ℕ) (p : History) → (j ≡ k → ⊥) → with_history histories k p j ≡ histories j
+pub history_there : (histories : ℕ → History) (j k : ℕ) (p : History) → (j ≡ k → ⊥) → with_history histories k p j ≡ histories j
 history_there histories j k p h = rw (differs j k h) refl
 
 -- ---- places
 
-some_is : (x : Option Accepted) (l m : Accepted) → x ≡ Some l → x ≡ Some m → l ≡ m
+pub some_is : (x : Option Accepted) (l m : Accepted) → x ≡ Some l → x ≡ Some m → l ≡ m
 some_is x l m e f = some_same (sym e ∙ f)
   where
     some_same : (◌≡◌) {A = Option Accepted} (Some l) (Some m) → l ≡ m
@@ -201,8 +200,9 @@ made_more sent unsent new more replies x y =
 
 fed_open : (m a : Standing) (es : List Exchange) (history : History) (v w : View) (bytes more : List ℕ) (n : ℕ)
     → IsThere es history v → v.closing ≡ false → w.unsent ≡ v.unsent ++ more → w.closing ≡ false
+    → (w.closing ≡ false → w.stalled ≡ false → IsPartial w.unread)
     → SoFar m (v.unread ++ bytes) more n a w.unread → FedOne m a es history w bytes
-fed_open m a es history v w bytes more n x stayed made open_still s =
+fed_open m a es history v w bytes more n x stayed made open_still waits s =
     let was = x.stays stayed in (
       s.exchanges,
       s.answers.runs,
@@ -215,6 +215,7 @@ fed_open m a es history v w bytes more n x stayed made open_still s =
               ∙ ap (λ (t : List ℕ). flat_map reply_text es ++ t) s.answers.written_is ∙ sym (flat_map-append reply_text es s.exchanges),
         );
         closes = λ e. absurd (false≢true (sym open_still ∙ e));
+        waits = λ e f. inr (waits e f);
       },
     )
 
@@ -238,6 +239,7 @@ fed_closing m a es history v w bytes more n x stayed made closed s =
               (made_more history.sent v.unsent w.unsent more (flat_map reply_text es) was.2 made) refl s.told.written_is;
           ends = ends_then es s.exchanges s.told.rest s.told.refusal Closed was.0 s.told.ends;
         };
+        waits = λ e f. absurd (false≢true (sym e ∙ closed));
       },
     )
 
@@ -247,7 +249,7 @@ fed_one : (m a : Standing) (es : List Exchange) (history : History) (v w : View)
 fed_one m a es history v w bytes more n x stayed made fed = by w.closing refl
   where
     by : (closing : Bool) → w.closing ≡ closing → FedOne m a es history w bytes
-    by false e = fed_open m a es history v w bytes more n x stayed made e (fed.stays e)
+    by false e = fed_open m a es history v w bytes more n x stayed made e fed.waits (fed.stays e)
     by true e = fed_closing m a es history v w bytes more n x stayed made e (fed.closes e)
 
 -- ---- bytes came
@@ -256,15 +258,15 @@ pub feeds : (m a : Standing) (histories : ℕ → History) (log : List Entry) (o
     → AreServed histories log opened places → Holds places i l → l.connection.closing ≡ false → w.number ≡ l.number
     → w.connection.unsent ≡ l.connection.unsent ++ more
     → IsFed m (l.connection.unread ++ bytes) more n a w.connection
-    → (later : List Entry) × AreServed (receives histories l.number bytes) (log ++ later) opened (slice_set places i (Some w)) × Runs m a (map answered_in later)
+    → (later : List Exchange) × AreServed (receives histories l.number bytes) (log ++ entries l.number later) opened (slice_set places i (Some w)) × Runs m a (map answered_of later)
 feeds m a histories log opened places i l w bytes more n s holds stayed number made fed =
     let k = l.number in
     let p : History = record { received = (histories k).received ++ bytes; sent = (histories k).sent } in
     let x = fed_one m a (own k log) (histories k) l.connection w.connection bytes more n (s.here i l holds).1 stayed made fed in (
-      entries k x.0,
+      x.0,
       went_on histories log opened places i l x.0 p (Some w) s holds (behind (own k log ++ x.0) p w.connection x.2)
           (one_now k (own k log ++ x.0) p w number x.2),
-      entries_run m a k x.0 x.1,
+      x.1,
     )
 
 -- ---- one that is let go
@@ -318,17 +320,17 @@ lost_one m a es history v bytes more x stayed s = by s.stops
 pub loses : (m a : Standing) (histories : ℕ → History) (log : List Entry) (opened : ℕ) (places : List (Option Accepted)) (i : ℕ) (l : Accepted) (bytes more : List ℕ)
     → AreServed histories log opened places → Holds places i l → l.connection.closing ≡ false
     → StopsWriting m (l.connection.unread ++ bytes) more a
-    → (later : List Entry) × AreServed (receives histories l.number bytes) (log ++ later) opened (slice_set places i None) × Runs m a (map answered_in later)
+    → (later : List Exchange) × AreServed (receives histories l.number bytes) (log ++ entries l.number later) opened (slice_set places i None) × Runs m a (map answered_of later)
 loses m a histories log opened places i l bytes more s holds stayed stops =
     let k = l.number in
     let p : History = record { received = (histories k).received ++ bytes; sent = (histories k).sent } in
     let x = lost_one m a (own k log) (histories k) l.connection bytes more (s.here i l holds).1 stayed stops in
-    (entries k x.0, went_on histories log opened places i l x.0 p None s holds x.2 (nobody_now k (own k log ++ x.0) p), entries_run m a k x.0 x.1)
+    (x.0, went_on histories log opened places i l x.0 p None s holds x.2 (nobody_now k (own k log ++ x.0) p), x.1)
 
 -- no memory for what came
 pub starves : (m a : Standing) (histories : ℕ → History) (log : List Entry) (opened : ℕ) (places : List (Option Accepted)) (i : ℕ) (l : Accepted) (bytes : List ℕ)
     → AreServed histories log opened places → Holds places i l → l.connection.closing ≡ false → Stays m a
-    → (later : List Entry) × AreServed (receives histories l.number bytes) (log ++ later) opened (slice_set places i None) × Runs m a (map answered_in later)
+    → (later : List Exchange) × AreServed (receives histories l.number bytes) (log ++ entries l.number later) opened (slice_set places i None) × Runs m a (map answered_of later)
 starves m a histories log opened places i l bytes s holds stayed idle =
     let k = l.number in
     let p : History = record { received = (histories k).received ++ bytes; sent = (histories k).sent } in
@@ -336,12 +338,12 @@ starves m a histories log opened places i l bytes s holds stayed idle =
     let all_open : AllByRecursion IsOpen (own k log ++ []) =
     (let P : List Exchange → Type 0 = λ t. AllByRecursion IsOpen t in subst P (sym (append-nil (own k log))) (there.stays stayed).0) in
     let left = lost_after (own k log) [] (histories k) l.connection bytes [] (l.connection.unread ++ bytes) there stayed refl refl (inl (all_open, inl refl)) in
-    (entries k [], went_on histories log opened places i l [] p None s holds left (nobody_now k (own k log ++ []) p), runs_none m a idle)
+    ([], went_on histories log opened places i l [] p None s holds left (nobody_now k (own k log ++ []) p), runs_none m a idle)
 
 -- ---- the machine does nothing
 
 -- what a place has is left, or let go
-kept : (histories : ℕ → History) (log : List Entry) (opened : ℕ) (places others : List (Option Accepted))
+pub kept : (histories : ℕ → History) (log : List Entry) (opened : ℕ) (places others : List (Option Accepted))
     → AreServed histories log opened places → ((j : ℕ) (l : Accepted) → Holds others j l → Holds places j l)
     → AreServed histories log opened others
 kept histories log opened places others s held = record {
@@ -387,8 +389,9 @@ makes_room histories log opened places s = kept histories log opened places (pla
 pub sends : (histories : ℕ → History) (log : List Entry) (opened : ℕ) (places : List (Option Accepted)) (i n : ℕ) (l w : Accepted)
     → AreServed histories log opened places → Holds places i l → w.number ≡ l.number
     → w.connection.unsent ≡ drop n l.connection.unsent → w.connection.unread ≡ l.connection.unread → w.connection.closing ≡ l.connection.closing
+    → w.connection.stalled ≡ l.connection.stalled
     → AreServed (is_sent histories l.number (take n l.connection.unsent)) log opened (slice_set places i (Some w))
-sends histories log opened places i n l w s holds number left same_rest same_state =
+sends histories log opened places i n l w s holds number left same_rest same_state same_stalled =
     let k = l.number in
     let x = (s.here i l holds).1 in
     let part : List ℕ = take n l.connection.unsent in
@@ -404,6 +407,7 @@ sends histories log opened places i n l w s holds number left same_rest same_sta
       closes = λ e.
           let y = x.closes (sym same_state ∙ e) in
           record { rest = y.rest; refusal = y.refusal; input_is = y.input_is; written_is = told ∙ y.written_is; ends = y.ends };
+      waits = λ e f. (let P : List ℕ → Type 0 = λ t. Waits t in subst P (sym same_rest) (x.waits (sym same_state ∙ e) (sym same_stalled ∙ f)));
     } in
     let P : List Exchange → Type 0 = λ t. IsThere t p w.connection in
     let now : IsThere (own k log ++ []) p w.connection = subst P (sym (append-nil (own k log))) there in
@@ -419,6 +423,7 @@ nothing_yet es p none =
     subst P (sym none.0) (subst Q (sym none.1) (record {
       stays = λ _. (tt, refl, refl);
       closes = λ e. absurd (false≢true e);
+      waits = λ e f. inl refl;
     }))
 
 -- what is held where one place was written
@@ -483,7 +488,7 @@ sends_last histories log opened places i n l left s holds gone =
     let v = l.connection in
     let rest : View = record { unread = v.unread; unsent = drop n v.unsent; closing = v.closing; stalled = v.stalled } in
     let w : Accepted = record { number = l.number; connection = rest } in
-    let x = sends histories log opened places i n l w s holds refl refl refl refl in
+    let x = sends histories log opened places i n l w s holds refl refl refl refl refl in
     let within : i < length (slice_set places i (Some w)) = omega (arith, holds.0, length-set places i (Some w)) in
     let P : List (Option Accepted) → Type 0 = λ t. AreServed (is_sent histories l.number (take n v.unsent)) log opened t in
     let Q : Option Accepted → Type 0 = λ t. AreServed (is_sent histories l.number (take n v.unsent)) log opened (slice_set places i t) in
@@ -501,7 +506,7 @@ same_closing places i l m x y stayed = ap (λ (t : Accepted). t.connection.closi
 
 -- ---- nothing was moved
 
-like : (histories others : ℕ → History) (log : List Entry) (opened : ℕ) (places : List (Option Accepted)) → ((j : ℕ) → others j ≡ histories j)
+pub like : (histories others : ℕ → History) (log : List Entry) (opened : ℕ) (places : List (Option Accepted)) → ((j : ℕ) → others j ≡ histories j)
     → AreServed histories log opened places → AreServed others log opened places
 like histories others log opened places e s = record {
   all = λ k. (let P : History → Type 0 = λ t. IsBehind (own k log) t in subst P (sym (e k)) (s.all k));
@@ -513,7 +518,7 @@ like histories others log opened places e s = record {
   later = λ k h. (let was = s.later k h in (was.0, e k ∙ was.1));
 }
 
-unchanged : (histories : ℕ → History) (k : ℕ) (p : History) → p ≡ histories k → (j : ℕ) → with_history histories k p j ≡ histories j
+pub unchanged : (histories : ℕ → History) (k : ℕ) (p : History) → p ≡ histories k → (j : ℕ) → with_history histories k p j ≡ histories j
 unchanged histories k p e j = elim (cases_eq j k) [
   | inl at ↦ (let P : ℕ → Type 0 = λ i. with_history histories k p i ≡ histories i in subst P (sym at) (history_here histories k p ∙ e))
   | inr far ↦ history_there histories j k p far
@@ -521,7 +526,7 @@ unchanged histories k p e j = elim (cases_eq j k) [
 
 pub receives_none : (m : Standing) (histories : ℕ → History) (log : List Entry) (opened : ℕ) (places : List (Option Accepted)) (k : ℕ)
     → AreServed histories log opened places
-    → (more : List Entry) × AreServed (receives histories k []) (log ++ more) opened places × Runs m m (map answered_in more)
+    → (more : List Exchange) × AreServed (receives histories k []) (log ++ entries k more) opened places × Runs m m (map answered_of more)
 receives_none m histories log opened places k s =
     let p : History = record { received = (histories k).received ++ []; sent = (histories k).sent } in
     let e : p ≡ histories k = ap (λ (t : List ℕ). (let q : History = record { received = t; sent = (histories k).sent } in q)) (append-nil (histories k).received) in
@@ -547,25 +552,3 @@ within_all n front more all e within = omega (arith, within, ap (λ (t : List �
 
 pub number_held : (places : List (Option Accepted)) (i : ℕ) (l : Accepted) → Holds places i l → number_at places i ≡ l.number
 number_held places i l h = ap number_in h.1
-
--- ---- what has been served since some keeper
-
-pub since_none : (b : Standing) → AreServedSomehow b 0 [] b
-since_none b = record { histories = λ k. nothing; log = []; served = nobody; runs = runs_none b b (stays b) }
-
-pub since_more : (b m a : Standing) (opened opened_then : ℕ) (places places_then : List (Option Accepted)) (histories : ℕ → History) (more : List Entry)
-    → (x : AreServedSomehow b opened places m) → AreServed histories (x.log ++ more) opened_then places_then → Runs m a (map answered_in more)
-    → AreServedSomehow b opened_then places_then a
-since_more b m a opened opened_then places places_then histories more x served runs = record {
-  histories = histories;
-  log = x.log ++ more;
-  served = served;
-  runs =
-      let P : List Answered → Type 0 = λ t. Runs b a t in
-      subst P (sym (map-append answered_in x.log more)) (runs_then b m a (map answered_in x.log) (map answered_in more) x.runs runs);
-}
-
--- the machine did nothing
-pub since_same : (b m : Standing) (opened opened_then : ℕ) (places places_then : List (Option Accepted)) (histories : ℕ → History)
-    → (x : AreServedSomehow b opened places m) → AreServed histories x.log opened_then places_then → AreServedSomehow b opened_then places_then m
-since_same b m opened opened_then places places_then histories x served = record { histories = histories; log = x.log; served = served; runs = x.runs }

@@ -1,2 +1,4 @@
 pub mod ManyConnections
 pub mod Closing
+pub mod Streams
+pub mod Serving

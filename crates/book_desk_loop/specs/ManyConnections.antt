@@ -5,7 +5,7 @@ use Rattle.std.specs.List.{flat_map, AllByRecursion}
 use Rattle.book_office.specs.Keeping.{Standing}
 use Rattle.book_wire.specs.Connection.{View}
 use Rattle.book_wire.specs.Serving.{Answered, Runs}
-use Rattle.book_wire.specs.Stream.{Exchange, IsExchange, IsOpen, IsPartial, IsTold, EndsOpen, text_of, reply_text, answered_of}
+use Rattle.book_wire.specs.Stream.{Exchange, IsExchange, IsOpen, IsPartial, IsTold, EndsOpen, Waits, text_of, reply_text, answered_of}
 use Rattle.book_wire.specs.declared.stream.Ended.TheVariants.{Closed}
 use Rattle.book_desk_loop.specs.declared.connections.Accepted.{Accepted}
 
@@ -25,6 +25,11 @@ pub record Entry : Type 0 where
 abbrev pub answered_in : Entry → Answered
 answered_in e = answered_of e.exchange
 
+-- requests of the connection of that number
+abbrev pub entries : ℕ → List Exchange → List Entry
+entries k [] = []
+entries k (e ∷ es) = record { number = k; exchange = e } ∷ entries k es
+
 -- those of one connection
 abbrev pub own : ℕ → List Entry → List Exchange
 own k [] = []
@@ -42,12 +47,18 @@ receives histories k bytes = with_history histories k (record { received = (hist
 abbrev pub is_sent : (ℕ → History) → ℕ → List ℕ → ℕ → History
 is_sent histories k bytes = with_history histories k (record { received = (histories k).received; sent = (histories k).sent ++ bytes })
 
+-- it received some bytes, and was sent others
+abbrev pub grows : (ℕ → History) → ℕ → List ℕ → List ℕ → ℕ → History
+grows histories k came went =
+    with_history histories k (record { received = (histories k).received ++ came; sent = (histories k).sent ++ went })
+
 -- What it received is its whole requests and what is unread; what was and is to be sent is their replies. Where it closes, these
--- are what a stream is told that closes.
+-- are what a stream is told that closes. Where it stays and nothing stalls it, no whole request is unread.
 pub record IsThere (es : List Exchange) (history : History) (v : View) : Type 0 where
   pub stays : v.closing ≡ false → AllByRecursion IsOpen es × (history.received ≡ flat_map text_of es ++ v.unread)
       × (history.sent ++ v.unsent ≡ flat_map reply_text es)
   pub closes : v.closing ≡ true → IsTold es history.received (history.sent ++ v.unsent) Closed
+  pub waits : v.closing ≡ false → v.stalled ≡ false → Waits v.unread
 
 -- each but the last leaves the connection open; where all do, the rest may be refused
 abbrev pub EndsSomehow : List Exchange → List ℕ → List ℕ → Type 0
@@ -90,9 +101,9 @@ pub record OthersStay (i : ℕ) (old new : List (Option Accepted)) : Type 0 wher
 abbrev pub TakesBytes : List (Option Accepted) → ℕ → Type 0
 TakesBytes places i = (l : Accepted) × Holds places i l × (l.connection.closing ≡ false)
 
--- each whole request was answered, or 8,192 bytes wait to be sent
+-- each whole request was answered, or a reply waits to be sent
 abbrev pub IsAnswered : View → Type 0
-IsAnswered v = v.closing ≡ false → IsPartial v.unread ⊎ (8192 ≤ length v.unsent)
+IsAnswered v = v.closing ≡ false → IsPartial v.unread ⊎ (0 < length v.unsent)
 
 -- So many connections came, and each of them was and is served; those that are there have a place each.
 pub record AreServed (histories : ℕ → History) (log : List Entry) (opened : ℕ) (places : List (Option Accepted)) : Type 0 where
@@ -100,16 +111,3 @@ pub record AreServed (histories : ℕ → History) (log : List Entry) (opened : 
   pub here : (i : ℕ) (l : Accepted) → Holds places i l → (l.number < opened) × IsThere (own l.number log) (histories l.number) l.connection
   pub apart : (i j : ℕ) (l m : Accepted) → Holds places i l → Holds places j m → l.number ≡ m.number → i ≡ j
   pub later : (k : ℕ) → opened ≤ k → (own k log ≡ []) × (histories k ≡ nothing)
-
--- Some connections received something, and were served; the requests of all are one run of the machine.
-pub record AreServedSomehow (before : Standing) (opened : ℕ) (places : List (Option Accepted)) (after : Standing) : Type 0 where
-  pub histories : ℕ → History
-  pub log : List Entry
-  pub served : AreServed histories log opened places
-  pub runs : Runs before after (map answered_in log)
-
--- over keepers with what they stand for: connections that were served since some keeper are served since then
-abbrev pub GoesOn : {K : Type 0} → (K → Standing) → K → ℕ → List (Option Accepted) → K → ℕ → List (Option Accepted) → Type 0
-GoesOn {K} standing old opened places new opened_then places_then =
-    (before : K) → AreServedSomehow (standing before) opened places (standing old)
-    → AreServedSomehow (standing before) opened_then places_then (standing new)

@@ -49,35 +49,43 @@ pub(crate) fn is_enough(dropped: u64) -> bool {
     dropped >= MAX_DROPPED
 }
 
-/// Reads and drops until no more comes, enough was dropped, or the time is up.
+/// What is left of the time; none where it is up, or can't be told.
+fn time_left<C: Clock>(clock: &C, begun: Instant) -> Option<Duration> {
+    let Ok(now) = Instant::now(clock) else {
+        return None;
+    };
+    let passed = now.saturating_duration_since(begun);
+    match Duration::from_secs(LINGER).checked_sub(passed) {
+        Some(left) => { if left.is_zero() { None } else { Some(left) } }
+        None => None,
+    }
+}
+
+/// Reads and drops until no more comes, enough was dropped, or the time is up. A read waits as long as is left of it.
 #[tactic(auto, using(crate::proofs::Drops::drops_none))]
-fn drop_all<C: Clock, R: Read>(clock: &C, begun: Instant, reader: &mut R)
-    ensures { DropsSome (R.remaining reader.old) (R.remaining reader.new) }
+fn drop_all<C: Clock, S: Read + OpenStream>(clock: &C, begun: Instant, stream: &mut S)
+    ensures { DropsSome (S.remaining stream.old) (S.remaining stream.new) }
 {
     let mut memory = [0u8; READ];
     let mut dropped: u64 = 0;
     for _ in 0..MAX_DROPPED {
-        match drop_some(reader, &mut memory) {
+        let left = time_left(clock, begun);
+        if left.is_none() || stream.set_read_timeout(left).is_err() {
+            return;
+        }
+        match drop_some(stream, &mut memory) {
             Dropped::Some(count) => dropped = dropped.saturating_add(count as u64),
             Dropped::Nothing => return,
             Dropped::Ended => return,
         }
-        if is_enough(dropped) || is_over(clock, begun) {
+        if is_enough(dropped) {
             return;
         }
     }
 }
 
-/// Whether the time is up, or can't be told.
-fn is_over<C: Clock>(clock: &C, begun: Instant) -> bool {
-    match Instant::now(clock) {
-        Ok(now) => now.saturating_duration_since(begun) >= Duration::from_secs(LINGER),
-        Err(_) => true,
-    }
-}
-
 /// Closes a stream for writing, and reads and drops what the client still sends, until it is at its end, 4,194,304 bytes
-/// were dropped, 2 seconds have passed, or none came for 2 seconds (RFC 9112, section 9.6). The caller then lets it go.
+/// were dropped, or 2 seconds have passed (RFC 9112, section 9.6). The caller then lets it go.
 ///
 /// A stream that can't be closed for writing, or has no time-out for a read, is not read. No failure is told: the replies
 /// are sent already.
@@ -86,12 +94,6 @@ pub fn close_in_stages<C: Clock, S: Read + OpenStream>(clock: &C, stream: &mut S
     ensures { DropsSome (S.remaining stream.old) (S.remaining stream.new) }
 {
     if stream.shutdown(Shutdown::Write).is_err() {
-        return;
-    }
-    if stream
-        .set_read_timeout(Some(Duration::from_secs(LINGER)))
-        .is_err()
-    {
         return;
     }
     if let Ok(begun) = Instant::now(clock) {

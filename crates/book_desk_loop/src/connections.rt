@@ -1,9 +1,11 @@
 //! Many connections of one machine, without their sockets.
 
-ghost use Rattle.std.specs.Prelude.{◌≡◌, ◌⊎◌, ℕ, ◌+◌, ◌≤◌, ◌<◌, true, false, List, [], ◌++◌, length, take, drop, get_or, map, None, IfOk, IfSome, OnOk, OnErr};
+ghost use Rattle.std.specs.Prelude.{◌≡◌, ◌≢◌, ◌⊎◌, ℕ, ◌+◌, ◌≤◌, ◌<◌, true, false, List, [], ◌++◌, length, take, drop, get_or, map, None, IfOk, IfSome, OnOk, OnErr};
 ghost use Rattle.book_wire.specs.Connection.{fresh};
 ghost use Rattle.book_wire.specs.Serving.{Runs};
-ghost use Rattle.book_desk_loop.specs.ManyConnections.{AllStay, History, Entry, AreServed, TakesBytes, IsAnswered, Holds, OthersStay, answered_in, receives, is_sent};
+ghost use Rattle.book_wire.specs.Stream.{Exchange, answered_of};
+ghost use Rattle.book_desk_loop.specs.ManyConnections.{AllStay, History, Entry, AreServed, TakesBytes, IsAnswered, Holds, OthersStay, entries, receives, is_sent};
+ghost use Rattle.book_desk_loop.specs.Streams.{HasNoWhole, IsDoneAt, IsIdleAt, IsWithinAt};
 
 use book_machine::Machine;
 use book_office::Keeper;
@@ -14,6 +16,38 @@ use std::mem;
 /// With so many bytes of a connection waiting to be sent, no further request of it is answered, and no more is read.
 /// What is left of a long body waits too, also where it is not spelled yet.
 pub const MOST_UNSENT: usize = 8_192;
+
+/// With so many bytes waiting to be sent no second request is answered.
+fn most_of_one(unsent: usize) -> usize
+    ensures few { result ≤ 8192 }
+    ensures some { 0 < result }
+{
+    if unsent < MOST_UNSENT {
+        unsent + 1
+    } else {
+        MOST_UNSENT
+    }
+}
+
+/// Whether a whole request may be unread.
+fn may_have_whole(connection: &Connection) -> bool
+    ensures { result ≡ false → HasNoWhole connection.now }
+{
+    if connection.is_between_requests() {
+        return false;
+    }
+    connection.is_stalled()
+}
+
+/// Whether a request began and is not whole.
+fn is_within(connection: &Connection) -> bool
+    ensures { result ≡ true → (connection.now.closing ≡ false) × (connection.now.stalled ≡ false) × (connection.now.unread ≢ []) }
+{
+    if connection.is_between_requests() || connection.is_closing() {
+        return false;
+    }
+    !connection.is_stalled()
+}
 
 /// A connection that is there, and its number: how many came before it.
 #[derive(Drop)]
@@ -58,6 +92,21 @@ impl<K: Keeper> Connections<K> {
         ensures { result ≡ self.machine }
     {
         self.machine
+    }
+
+    /// How often the store has failed.
+    pub(crate) fn failures(&self) -> u64
+        ensures { result ≡ (K.standing self.now.machine.keeper).failures }
+    {
+        self.machine.keeper.failures()
+    }
+
+    /// Whether the Office can't be read now: its epoch is asked for.
+    pub(crate) fn shows_nothing(&mut self) -> bool
+        ensures runs { Runs (K.standing self.old.machine.keeper) (K.standing self.new.machine.keeper) [] }
+        ensures places { (self.new.places.items ≡ self.old.places.items) × (self.new.opened ≡ self.old.opened) }
+    {
+        self.machine.keeper.epoch().is_err()
     }
 
     /// A place with nothing in it.
@@ -140,7 +189,9 @@ impl<K: Keeper> Connections<K> {
     }
 
     /// Whether the connection is there, is to close, and nothing waits to be sent.
-    pub(crate) fn is_done(&self, place: usize) -> bool {
+    pub(crate) fn is_done(&self, place: usize) -> bool
+        ensures { result ≡ true → IsDoneAt self.now.places.items place }
+    {
         match self.places.get(place) {
             Some(Some(accepted)) => {
                 accepted.connection.is_closing() && accepted.connection.unsent().is_empty()
@@ -150,17 +201,21 @@ impl<K: Keeper> Connections<K> {
         }
     }
 
-    /// Whether whole requests of the connection may be unread, since too much waits to be sent: `feed` goes on with them.
-    pub(crate) fn is_stalled(&self, place: usize) -> bool {
+    /// Whether whole requests of the connection may be unread: `feed` goes on with them.
+    pub(crate) fn is_stalled(&self, place: usize) -> bool
+        ensures { result ≡ false → (l : Accepted) → Holds self.now.places.items place l → HasNoWhole l.connection }
+    {
         match self.places.get(place) {
-            Some(Some(accepted)) => accepted.connection.is_stalled(),
+            Some(Some(accepted)) => may_have_whole(&accepted.connection),
             Some(None) => false,
             None => false,
         }
     }
 
     /// Whether the connection is there, and nothing of it is unread or unsent.
-    pub(crate) fn is_idle(&self, place: usize) -> bool {
+    pub(crate) fn is_idle(&self, place: usize) -> bool
+        ensures { result ≡ true → IsIdleAt self.now.places.items place }
+    {
         match self.places.get(place) {
             Some(Some(accepted)) => {
                 accepted.connection.is_between_requests() && accepted.connection.unsent().is_empty()
@@ -170,14 +225,23 @@ impl<K: Keeper> Connections<K> {
         }
     }
 
-    /// Whether a request of the connection began and is not whole. Where too much waits to be sent, that isn't known.
-    pub(crate) fn is_within_request(&self, place: usize) -> bool {
+    /// Whether no whole request of the connection is unread, and nothing waits to be sent, as far as it is there.
+    pub(crate) fn is_at_rest(&self, place: usize) -> bool {
         match self.places.get(place) {
             Some(Some(accepted)) => {
-                !accepted.connection.is_between_requests()
-                    && !accepted.connection.is_closing()
-                    && !accepted.connection.is_stalled()
+                !may_have_whole(&accepted.connection) && accepted.connection.unsent().is_empty()
             }
+            Some(None) => true,
+            None => true,
+        }
+    }
+
+    /// Whether a request of the connection began and is not whole. Where whole ones may be unread, that isn't known.
+    pub(crate) fn is_within_request(&self, place: usize) -> bool
+        ensures { result ≡ true → IsWithinAt self.now.places.items place }
+    {
+        match self.places.get(place) {
+            Some(Some(accepted)) => is_within(&accepted.connection),
             Some(None) => false,
             None => false,
         }
@@ -197,8 +261,10 @@ impl<K: Keeper> Connections<K> {
             → AreServed histories log self.old.opened self.old.places.items
             → AreServed (is_sent histories l.number (take count l.connection.unsent)) log self.new.opened self.new.places.items }
         ensures left { OnOk result ((l : Accepted) → Holds self.old.places.items place l
-            → (m : Accepted) × Holds self.new.places.items place m × (m.connection.unsent ≡ drop count l.connection.unsent)) }
+            → (m : Accepted) × Holds self.new.places.items place m × (m.number ≡ l.number)
+            × (m.connection.unsent ≡ drop count l.connection.unsent)) }
         ensures gone { OnErr result (get_or self.new.places.items place None ≡ None) }
+        ensures opened { self.new.opened ≡ self.old.opened }
     {
         match mem::replace(&mut self.places[place], None) {
             Some(mut kept) => match kept.connection.did_send(alloc, count) {
@@ -219,6 +285,7 @@ impl<K: Keeper> Connections<K> {
         ensures machine { self.new.machine ≡ self.old.machine }
         ensures gone { get_or self.new.places.items place None ≡ None }
         ensures others { OthersStay place self.old.places.items self.new.places.items }
+        ensures opened { self.new.opened ≡ self.old.opened }
         ensures served { (histories : ℕ → History) (log : List Entry)
             → AreServed histories log self.old.opened self.old.places.items
             → AreServed histories log self.new.opened self.new.places.items }
@@ -228,7 +295,8 @@ impl<K: Keeper> Connections<K> {
         }
     }
 
-    /// Takes bytes of a connection, and answers its requests that are whole, until 8,192 bytes wait to be sent.
+    /// Takes bytes of a connection, and answers the first of its requests that is whole, unless 8,192 bytes wait to be
+    /// sent. The requests that are answered are its own.
     ///
     /// # Errors
     ///
@@ -238,27 +306,30 @@ impl<K: Keeper> Connections<K> {
         requires { TakesBytes self.old.places.items place }
         ensures served { (l : Accepted) → Holds self.old.places.items place l → (histories : ℕ → History) (log : List Entry)
             → AreServed histories log self.old.opened self.old.places.items
-            → (more : List Entry) × AreServed (receives histories l.number bytes.now) (log ++ more) self.new.opened self.new.places.items
-            × Runs (K.standing self.old.machine.keeper) (K.standing self.new.machine.keeper) (map answered_in more) }
+            → (more : List Exchange)
+            × AreServed (receives histories l.number bytes.now) (log ++ entries l.number more) self.new.opened self.new.places.items
+            × Runs (K.standing self.old.machine.keeper) (K.standing self.new.machine.keeper) (map answered_of more) }
         ensures others { OthersStay place self.old.places.items self.new.places.items }
-        ensures there { OnOk result ((l : Accepted) × Holds self.new.places.items place l × IsAnswered l.connection) }
+        ensures there { OnOk result ((l : Accepted) → Holds self.old.places.items place l
+            → (m : Accepted) × Holds self.new.places.items place m × (m.number ≡ l.number) × IsAnswered m.connection) }
         ensures gone { OnErr result (get_or self.new.places.items place None ≡ None) }
+        ensures opened { self.new.opened ≡ self.old.opened }
     {
         match mem::replace(&mut self.places[place], None) {
-            Some(mut accepted) => match accepted.connection.feed(
-                alloc,
-                &mut self.machine,
-                &mut self.wire,
-                bytes,
-                MOST_UNSENT,
-            ) {
-                Ok(answered) => {
-                    self.answered = self.answered.saturating_add(answered);
-                    self.places[place] = Some(accepted);
-                    Ok(())
+            Some(mut accepted) => {
+                let most = most_of_one(accepted.connection.unsent().len());
+                match accepted
+                    .connection
+                    .feed(alloc, &mut self.machine, &mut self.wire, bytes, most)
+                {
+                    Ok(answered) => {
+                        self.answered = self.answered.saturating_add(answered);
+                        self.places[place] = Some(accepted);
+                        Ok(())
+                    }
+                    Err(fault) => Err(fault),
                 }
-                Err(fault) => Err(fault),
-            },
+            }
             None => Ok(()),
         }
     }

@@ -5,19 +5,23 @@
 //! in the order in which they were completed (`AreServed`).
 //!
 //! Read `connections` first: those of one machine, without their sockets; then `moves`, which ties each to a reader and a
-//! writer, and gives one its turn; then `looping`, the loop, over `sockets` and `readiness`; and `closing`, which also
+//! writer, and gives one its turn; then `limits` and `looping`, the loop, over `sockets`, `socket_places`, `giving_way` and `readiness`; and `closing`, which also
 //! serves a program that has one connection after the other.
 #![tactic(auto)]
 
 mod closing;
 mod connections;
+mod giving_way;
+mod limits;
 mod looping;
 mod moves;
 mod readiness;
+mod socket_places;
 mod sockets;
 
 pub use closing::close_in_stages;
 pub use connections::{Accepted, Connections, MOST_UNSENT};
-pub use looping::{Faults, Limits, serve_at_once};
+pub use limits::{Faults, Limits, Stop};
+pub use looping::serve_at_once;
 pub use moves::{Moved, Turn, go_on, read_once, write_once};
 pub use readiness::{Polled, Readiness};

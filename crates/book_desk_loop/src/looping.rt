@@ -1,43 +1,31 @@
 //! The loop: one thread, and readiness of sockets that do not wait (RFC 9112, section 9).
 
-ghost use Rattle.std.specs.Prelude.{ℕ, List, Option};
+ghost use Rattle.std.specs.Prelude.{◌≡◌, ◌≢◌, ℕ, List, Option, None, Some, IfSome, Ok, Err, IfOk, OnOk, OnErr, true, false};
 ghost use Rattle.book_wire.specs.Serving.{Answered, Runs};
-ghost use Rattle.book_desk_loop.specs.ManyConnections.{AreServedSomehow, GoesOn};
-ghost use Rattle.book_desk_loop.specs.declared.connections.Accepted.{Accepted as AcceptedOf};
+ghost use Rattle.book_wire.specs.declared.stream.StreamFault.{StreamFault as Fault};
+ghost use Rattle.book_desk_loop.specs.Serving.{AreServedAtOnce, AreTold, Begins, BeginsAt, BeginsNone, EndsSo, GoesOn, KeepsOn, LetsGo, Line, LinesStay, MayGoAt, RestStays, ToldFault, TurnsAt, line_at};
+ghost use Rattle.book_desk_loop.specs.Streams.{IsAnsweredAt, IsDoneAt, IsStillAt};
 
-use crate::closing::{Dropped, drop_some, is_enough};
+use crate::closing::LINGER;
 use crate::connections::Connections;
-use crate::moves::{Turn, go_on, let_one_go, new_connections, open_one};
+use crate::giving_way::gives_way;
+use crate::limits::{
+    Ended, Faults, Limits, Stop, StoreState, fault_of, fewer, is_endless, none_left, stop_of, tell,
+};
+use crate::moves::{Turn, take_turn};
 use crate::readiness::Readiness;
-use crate::sockets::{Socket, has_passed, is_late};
+use crate::socket_places::{
+    are_none, close_at, close_for_writing, drop_at, join, note_begin, note_queued,
+};
+use crate::sockets::{DRAINED, RESTED, Socket, has_passed, is_late, is_short, passes};
 use book_machine::Machine;
 use book_office::Keeper;
-use book_wire::{StreamFault, Wire};
+use book_wire::Wire;
 use std::alloc::Global;
 use std::io::{ErrorKind, Read, Write};
-use std::net::{OpenListener, OpenStream, Shutdown};
+use std::net::{OpenListener, OpenStream};
 use std::time::{Duration, Instant};
 use std::{io, mem};
-
-/// How many connections are served, and how. One of which nothing is unread or unsent is idle.
-#[derive(Clone, Copy, Debug)]
-pub struct Limits {
-    /// The most at once. Others wait to be accepted: for one that waits, the connection is closed that is idle for the
-    /// longest time, if that is 0.1 seconds.
-    pub at_once: usize,
-    /// How many in all; none where there is no end. After the last came, those are closed that are idle for a second, and
-    /// the others are served to their end.
-    pub total: Option<u16>,
-    /// A connection that moves no byte for so long is closed as at the end of its input, and one whose request is not
-    /// whole 30 seconds after its first byte. None where there is no such limit.
-    pub idle: Option<Duration>,
-}
-
-/// What is told of the connection that had a fault.
-pub trait Faults {
-    /// A connection had this fault.
-    fn tell(&mut self, fault: StreamFault);
-}
 
 /// The most bytes of a read.
 const READ: usize = 16_384;
@@ -45,15 +33,10 @@ const READ: usize = 16_384;
 /// The longest wait where a time passes that is looked at, in milliseconds.
 const STEP: u64 = 250;
 
-/// A connection that moved no byte for so many milliseconds is idle, where another waits for its place.
-const RESTED: u64 = 100;
-
-/// No file descriptor is left (POSIX).
-const EMFILE: i32 = 24;
-
 /// The connections of a machine, and their sockets, each at the place of its connection.
 #[derive(Drop)]
 struct Server<K, S> {
+    limits: Limits,
     connections: Connections<K>,
     sockets: Vec<Option<Socket<S>>>,
     /// One that was accepted while no place was free.
@@ -66,48 +49,36 @@ struct Server<K, S> {
     again: Vec<usize>,
     /// Whether one may wait to be accepted.
     waiting: bool,
-    /// Whether no file descriptor was left.
+    /// Whether none could be accepted, and may be later.
     paused: bool,
-}
-
-/// Whether no more are to come.
-fn none_left(left: Option<u16>) -> bool {
-    match left {
-        Some(left) => left == 0,
-        None => false,
-    }
-}
-
-/// Whether the socket moved no byte for a while, and its connection is not to be closed anyway.
-fn is_rested<S>(socket: &Socket<S>, now: Instant) -> bool {
-    socket.dropped.is_none() && has_passed(socket.moved, now, Some(Duration::from_millis(RESTED)))
-}
-
-/// The fault of a connection that nothing can be read of.
-fn fault_of(error: &io::Error) -> StreamFault {
-    match error.kind() {
-        ErrorKind::OutOfMemory => StreamFault::Memory,
-        _ => StreamFault::Read,
-    }
-}
-
-/// One fewer.
-fn fewer(left: Option<u16>) -> Option<u16> {
-    match left {
-        Some(left) => Some(left.saturating_sub(1)),
-        None => None,
-    }
+    /// Whether that was for want of file descriptors.
+    short: bool,
+    /// How it stands with the store.
+    store: StoreState,
+    /// How often the store had failed when it was looked at last.
+    failures: u64,
 }
 
 impl<K: Keeper, S: Read + Write + OpenStream + Drop> Server<K, S> {
     /// Whether no more are to come, and none is there.
-    fn is_done(&self) -> bool {
-        none_left(self.left) && self.open == 0 && self.held.is_none()
+    fn is_done(&self) -> bool
+        ensures { result ≡ true → (self.now.left ≡ Some 0) × (self.now.held ≡ None) × ((i : ℕ) → line_at self.now.sockets.items i ≡ None) }
+    {
+        none_left(self.left)
+            && self.open == 0
+            && self.held.is_none()
+            && are_none(self.sockets.as_slice())
     }
 
     /// Whether a connection may be taken from the listener.
-    fn may_take(&self) -> bool {
-        self.held.is_none() && self.waiting && !self.paused && !none_left(self.left)
+    fn may_take(&self) -> bool
+        ensures { result ≡ true → (self.now.held ≡ None) × (self.now.left ≢ Some 0) }
+    {
+        self.held.is_none()
+            && self.waiting
+            && !self.paused
+            && !none_left(self.left)
+            && matches!(self.store, StoreState::Shows)
     }
 
     /// How long to wait at most until something can go on.
@@ -118,7 +89,7 @@ impl<K: Keeper, S: Read + Write + OpenStream + Drop> Server<K, S> {
         if self.held.is_some() {
             return Some(Duration::from_millis(RESTED));
         }
-        if self.paused || self.open > 0 {
+        if self.paused || self.open > 0 || !matches!(self.store, StoreState::Shows) {
             return Some(Duration::from_millis(STEP));
         }
         None
@@ -126,46 +97,25 @@ impl<K: Keeper, S: Read + Write + OpenStream + Drop> Server<K, S> {
 
     /// Lets a connection go, and closes its socket.
     fn let_go(&mut self, place: usize)
-        ensures { GoesOn K.standing self.old.connections.machine.keeper self.old.connections.opened self.old.connections.places.items
-            self.new.connections.machine.keeper self.new.connections.opened self.new.connections.places.items }
+        ensures { LetsGo S.remaining S.contents K.standing place self.old self.new }
     {
-        let_one_go(&mut self.connections, place);
-        if place < self.sockets.len() && self.sockets[place].is_some() {
-            self.sockets[place] = None;
+        self.connections.let_go(place);
+        if close_at(&mut self.sockets, place) {
             self.open = self.open.saturating_sub(1);
             self.paused = false;
+            self.short = false;
         }
     }
 
-    /// Has a stream a place.
-    fn put(&mut self, place: usize, stream: S, now: Instant) -> io::Result<()>
-        ensures { GoesOn K.standing self.old.connections.machine.keeper self.old.connections.opened self.old.connections.places.items
-            self.new.connections.machine.keeper self.new.connections.opened self.new.connections.places.items }
+    /// Lets a connection go that may go.
+    fn release(&mut self, place: usize)
+        requires { MayGoAt S.remaining S.contents self.old.limits self.old.connections.places.items self.old.sockets.items place }
+        ensures { KeepsOn S.remaining S.contents K.standing self.old self.new }
     {
-        while self.sockets.len() <= place {
-            self.sockets.push(None)?;
-        }
-        self.sockets[place] = Some(Socket::new(stream, now));
-        self.open = self.open.saturating_add(1);
-        Ok(())
+        self.let_go(place);
     }
 
-    /// Has a stream a place, and is told when it can go on.
-    fn join<P: Readiness<S>>(
-        &mut self,
-        readiness: &mut P,
-        place: usize,
-        stream: S,
-        now: Instant,
-    ) -> io::Result<()>
-        ensures { GoesOn K.standing self.old.connections.machine.keeper self.old.connections.opened self.old.connections.places.items
-            self.new.connections.machine.keeper self.new.connections.opened self.new.connections.places.items }
-    {
-        readiness.watch(&stream, place)?;
-        self.put(place, stream, now)
-    }
-
-    /// Begins with a connection that was accepted.
+    /// Begins with a connection that was accepted, at the place of its connection.
     fn begin<P: Readiness<S>>(
         &mut self,
         alloc: Global,
@@ -173,61 +123,50 @@ impl<K: Keeper, S: Read + Write + OpenStream + Drop> Server<K, S> {
         stream: S,
         now: Instant,
     ) -> io::Result<()>
-        ensures { GoesOn K.standing self.old.connections.machine.keeper self.old.connections.opened self.old.connections.places.items
-            self.new.connections.machine.keeper self.new.connections.opened self.new.connections.places.items }
+        ensures begins { Begins S.remaining S.contents K.standing self.old self.new }
+        ensures ok { OnOk result ((place : ℕ) × BeginsAt S.remaining S.contents K.standing place stream self.old self.new) }
+        ensures err { OnErr result (BeginsNone S.remaining S.contents K.standing self.old self.new) }
     {
         stream.set_nonblocking(true)?;
         // Without it a reply in two writes waits for the client's acknowledgement of the first.
         let _ = stream.set_nodelay(true);
-        let place = open_one(&mut self.connections, alloc)?;
-        match self.join(readiness, place, stream, now) {
-            Ok(()) => Ok(()),
+        let place = self.connections.open(alloc)?;
+        match join(&mut self.sockets, readiness, place, stream, now) {
+            Ok(()) => {
+                self.open = self.open.saturating_add(1);
+                Ok(())
+            }
             Err(error) => {
-                let_one_go(&mut self.connections, place);
+                self.connections.let_go(place);
                 Err(error)
             }
         }
     }
 
-    /// The connection that is idle for the longest time, if one is idle.
-    fn longest_idle(&self, now: Instant) -> Option<usize> {
-        let mut found: Option<(usize, Instant)> = None;
-        for (place, socket) in self.sockets.iter().enumerate() {
-            if let Some(socket) = socket {
-                if is_rested(socket, now) && self.connections.is_idle(place) {
-                    let longer = match found {
-                        Some((_, moved)) => socket.moved < moved,
-                        None => true,
-                    };
-                    if longer {
-                        found = Some((place, socket.moved));
-                    }
-                }
-            }
-        }
-        match found {
-            Some((place, _)) => Some(place),
-            None => None,
-        }
+    /// Whether one waits and no place is free, or none can be accepted for want of file descriptors.
+    fn wants_room(&self) -> bool {
+        let waits = self.held.is_some() && self.open >= self.limits.at_once;
+        self.limits.gives_way && (waits || self.short)
     }
 
-    /// Makes room for one more, if it can.
-    fn make_room(&mut self, at_once: usize, now: Instant)
-        ensures { GoesOn K.standing self.old.connections.machine.keeper self.old.connections.opened self.old.connections.places.items
-            self.new.connections.machine.keeper self.new.connections.opened self.new.connections.places.items }
+    /// Makes room for a connection that waits, if it can.
+    fn make_room(&mut self, now: Instant)
+        ensures { KeepsOn S.remaining S.contents K.standing self.old self.new }
     {
-        if self.open < at_once {
+        if !self.wants_room() {
             return;
         }
-        if let Some(place) = self.longest_idle(now) {
-            self.let_go(place);
+        match gives_way(&self.connections, self.sockets.as_slice(), now) {
+            Some(place) => self.release(place),
+            None => {}
         }
     }
 
-    /// Takes a connection from the listener, if one waits.
+    /// Takes a connection from the listener, if one waits, and holds it.
     fn take<L: OpenListener<Stream = S>>(&mut self, listener: &L) -> io::Result<()>
-        ensures { GoesOn K.standing self.old.connections.machine.keeper self.old.connections.opened self.old.connections.places.items
-            self.new.connections.machine.keeper self.new.connections.opened self.new.connections.places.items }
+        requires none_held { self.old.held ≡ None }
+        requires more { self.old.left ≢ Some 0 }
+        ensures { KeepsOn S.remaining S.contents K.standing self.old self.new }
     {
         match listener.accept() {
             Ok((stream, _)) => {
@@ -240,8 +179,9 @@ impl<K: Keeper, S: Read + Write + OpenStream + Drop> Server<K, S> {
                     self.waiting = false;
                     return Ok(());
                 }
-                if error.raw_os_error() == Some(EMFILE) {
+                if passes(&error) {
                     self.paused = true;
+                    self.short = is_short(&error);
                     return Ok(());
                 }
                 Err(error)
@@ -251,8 +191,7 @@ impl<K: Keeper, S: Read + Write + OpenStream + Drop> Server<K, S> {
 
     /// Takes a connection from the listener, if one waits and none is held.
     fn take_waiting<L: OpenListener<Stream = S>>(&mut self, listener: &L) -> io::Result<()>
-        ensures { GoesOn K.standing self.old.connections.machine.keeper self.old.connections.opened self.old.connections.places.items
-            self.new.connections.machine.keeper self.new.connections.opened self.new.connections.places.items }
+        ensures { KeepsOn S.remaining S.contents K.standing self.old self.new }
     {
         if !self.may_take() {
             return Ok(());
@@ -260,30 +199,40 @@ impl<K: Keeper, S: Read + Write + OpenStream + Drop> Server<K, S> {
         self.take(listener)
     }
 
-    /// Begins with the connection that is held, if there is room for it.
+    /// Begins with the connection that is held, if there is room for it. A fault is told.
     fn begin_held<P: Readiness<S>, F: Faults>(
         &mut self,
         alloc: Global,
         readiness: &mut P,
-        limits: Limits,
         now: Instant,
         faults: &mut F,
     )
-        ensures { GoesOn K.standing self.old.connections.machine.keeper self.old.connections.opened self.old.connections.places.items
-            self.new.connections.machine.keeper self.new.connections.opened self.new.connections.places.items }
+        ensures { GoesOn S.remaining S.contents K.standing F.tells self.old faults.old self.new faults.new }
     {
-        if self.held.is_none() {
+        if self.open >= self.limits.at_once {
             return;
         }
-        self.make_room(limits.at_once, now);
-        if self.open >= limits.at_once {
-            return;
+        match mem::replace(&mut self.held, None) {
+            Some(stream) => match self.begin(alloc, readiness, stream, now) {
+                Ok(()) => {}
+                Err(error) => tell(faults, fault_of(&error)),
+            },
+            None => {}
         }
-        if let Some(stream) = mem::replace(&mut self.held, None) {
-            if let Err(error) = self.begin(alloc, readiness, stream, now) {
-                faults.tell(fault_of(&error));
-            }
-        }
+    }
+
+    /// Begins with the connection that is held, and makes room for it, if it can.
+    fn make_room_and_begin<P: Readiness<S>, F: Faults>(
+        &mut self,
+        alloc: Global,
+        readiness: &mut P,
+        now: Instant,
+        faults: &mut F,
+    )
+        ensures { GoesOn S.remaining S.contents K.standing F.tells self.old faults.old self.new faults.new }
+    {
+        self.make_room(now);
+        self.begin_held(alloc, readiness, now, faults);
     }
 
     /// Takes one more connection, if one waits and none is held, and begins with it, if there is room.
@@ -292,15 +241,13 @@ impl<K: Keeper, S: Read + Write + OpenStream + Drop> Server<K, S> {
         alloc: Global,
         readiness: &mut P,
         listener: &L,
-        limits: Limits,
         now: Instant,
         faults: &mut F,
     ) -> io::Result<()>
-        ensures { GoesOn K.standing self.old.connections.machine.keeper self.old.connections.opened self.old.connections.places.items
-            self.new.connections.machine.keeper self.new.connections.opened self.new.connections.places.items }
+        ensures { GoesOn S.remaining S.contents K.standing F.tells self.old faults.old self.new faults.new }
     {
         self.take_waiting(listener)?;
-        self.begin_held(alloc, readiness, limits, now, faults);
+        self.make_room_and_begin(alloc, readiness, now, faults);
         Ok(())
     }
 
@@ -310,31 +257,26 @@ impl<K: Keeper, S: Read + Write + OpenStream + Drop> Server<K, S> {
         alloc: Global,
         readiness: &mut P,
         listener: &L,
-        limits: Limits,
         now: Instant,
         faults: &mut F,
     ) -> io::Result<()>
-        ensures { GoesOn K.standing self.old.connections.machine.keeper self.old.connections.opened self.old.connections.places.items
-            self.new.connections.machine.keeper self.new.connections.opened self.new.connections.places.items }
+        ensures { GoesOn S.remaining S.contents K.standing F.tells self.old faults.old self.new faults.new }
     {
-        for _ in 0..limits.at_once {
+        for _ in 0..self.limits.at_once {
             if !self.may_take() {
                 break;
             }
-            self.accept_one(alloc, readiness, listener, limits, now, faults)?;
+            self.accept_one(alloc, readiness, listener, now, faults)?;
         }
-        self.begin_held(alloc, readiness, limits, now, faults);
+        self.make_room_and_begin(alloc, readiness, now, faults);
         Ok(())
     }
 
     /// Notes that a connection may go on at once.
     fn queue(&mut self, place: usize) -> io::Result<()>
-        ensures { GoesOn K.standing self.old.connections.machine.keeper self.old.connections.opened self.old.connections.places.items
-            self.new.connections.machine.keeper self.new.connections.opened self.new.connections.places.items }
+        ensures { KeepsOn S.remaining S.contents K.standing self.old self.new }
     {
-        if let Some(Some(socket)) = self.sockets.get_mut(place) {
-            socket.queued = true;
-        }
+        note_queued(&mut self.sockets, place);
         self.again.push(place)?;
         Ok(())
     }
@@ -349,7 +291,9 @@ impl<K: Keeper, S: Read + Write + OpenStream + Drop> Server<K, S> {
     }
 
     /// Whether the last reply of the connection is sent.
-    fn is_lingering(&self, place: usize) -> bool {
+    fn is_lingering(&self, place: usize) -> bool
+        ensures { (line : Line S) → line_at self.now.sockets.items place ≡ Some line → line.lingers ≡ result }
+    {
         match self.sockets.get(place) {
             Some(Some(socket)) => socket.dropped.is_some(),
             Some(None) => false,
@@ -360,103 +304,134 @@ impl<K: Keeper, S: Read + Write + OpenStream + Drop> Server<K, S> {
     /// Begins to close a connection whose last reply is sent: the client is told that no more comes, and what it still
     /// sends is read and dropped, so that the reply reaches it (RFC 9112, section 9.6).
     fn begin_to_close(&mut self, place: usize)
-        ensures { GoesOn K.standing self.old.connections.machine.keeper self.old.connections.opened self.old.connections.places.items
-            self.new.connections.machine.keeper self.new.connections.opened self.new.connections.places.items }
+        requires done { IsDoneAt self.old.connections.places.items place }
+        requires serves { (line : Line S) → line_at self.old.sockets.items place ≡ Some line → line.lingers ≡ false }
+        ensures { KeepsOn S.remaining S.contents K.standing self.old self.new }
     {
-        if let Some(Some(socket)) = self.sockets.get_mut(place) {
-            // Where this fails the client is at its end.
-            let _ = socket.stream.shutdown(Shutdown::Write);
-            socket.dropped = Some(0);
-        }
+        close_for_writing(&mut self.sockets, place);
     }
 
-    /// A turn of a connection whose last reply is sent.
+    /// A turn of a connection whose last reply is sent: what came is dropped. It ends where no more comes, or enough did.
     fn linger(&mut self, place: usize, memory: &mut [u8]) -> Turn
-        ensures { GoesOn K.standing self.old.connections.machine.keeper self.old.connections.opened self.old.connections.places.items
-            self.new.connections.machine.keeper self.new.connections.opened self.new.connections.places.items }
+        requires { (line : Line S) → line_at self.old.sockets.items place ≡ Some line → line.lingers ≡ true }
+        ensures keeps { KeepsOn S.remaining S.contents K.standing self.old self.new }
+        ensures done { result ≢ Turn.Done }
+        ensures ended { result ≡ Turn.Ended → MayGoAt S.remaining S.contents self.new.limits self.new.connections.places.items self.new.sockets.items place }
+        ensures failed { (fault : Fault) → result ≢ Turn.Failed fault }
+    {
+        drop_at(&mut self.sockets, place, memory)
+    }
+
+    /// The turn of the connection at a place, by its own socket.
+    fn turn_at(&mut self, alloc: Global, place: usize, memory: &mut [u8], now: Instant) -> Turn
+        ensures none { line_at self.old.sockets.items place ≡ None → (result ≡ Turn.Waits)
+            × RestStays S.remaining S.contents K.standing self.old self.new × (self.new.connections ≡ self.old.connections)
+            × LinesStay self.old.sockets.items self.new.sockets.items }
+        ensures turns { (line : Line S) → line_at self.old.sockets.items place ≡ Some line
+            → (line_then : Line S) × TurnsAt S.remaining S.contents K.standing place self.old self.new line line_then
+            × (((fault : Fault) → result ≢ Turn.Failed fault)
+            → IsStillAt place self.old.connections.places.items self.new.connections.places.items)
+            × (result ≡ Turn.Ended → line_then.at_end ≡ true) }
+        ensures done { result ≡ Turn.Done → IsDoneAt self.new.connections.places.items place }
+        ensures ended { result ≡ Turn.Ended → IsAnsweredAt self.new.connections.places.items place }
     {
         match self.sockets.get_mut(place) {
-            Some(Some(socket)) => {
-                socket.queued = false;
-                match drop_some(&mut socket.stream, memory) {
-                    Dropped::Some(count) => {
-                        let dropped = socket.dropped.unwrap_or(0).saturating_add(count as u64);
-                        socket.dropped = Some(dropped);
-                        if is_enough(dropped) {
-                            Turn::Ended
-                        } else {
-                            Turn::Again
-                        }
-                    }
-                    Dropped::Nothing => Turn::Waits,
-                    Dropped::Ended => Turn::Ended,
+            Some(there) => match there {
+                Some(socket) => {
+                    socket.moved = now;
+                    socket.queued = false;
+                    take_turn(
+                        alloc,
+                        &mut self.connections,
+                        place,
+                        &mut socket.stream,
+                        memory,
+                        &mut socket.at_end,
+                    )
                 }
-            }
-            Some(None) => Turn::Ended,
-            None => Turn::Ended,
+                None => Turn::Waits,
+            },
+            None => Turn::Waits,
         }
     }
 
-    /// The turn of a connection that is served.
-    fn serve(&mut self, alloc: Global, place: usize, memory: &mut [u8], now: Instant) -> Turn
-        ensures { GoesOn K.standing self.old.connections.machine.keeper self.old.connections.opened self.old.connections.places.items
-            self.new.connections.machine.keeper self.new.connections.opened self.new.connections.places.items }
+    /// The turn of a connection that is served. One that has a fault is let go, and the fault is told.
+    fn serve<F: Faults>(
+        &mut self,
+        alloc: Global,
+        place: usize,
+        memory: &mut [u8],
+        now: Instant,
+        faults: &mut F,
+    ) -> Turn
+        requires { (line : Line S) → line_at self.old.sockets.items place ≡ Some line → line.lingers ≡ false }
+        ensures goes { GoesOn S.remaining S.contents K.standing F.tells self.old faults.old self.new faults.new }
+        ensures done { result ≡ Turn.Done → IsDoneAt self.new.connections.places.items place }
+        ensures ended { result ≡ Turn.Ended → MayGoAt S.remaining S.contents self.new.limits self.new.connections.places.items self.new.sockets.items place }
+        ensures serves { (line : Line S) → line_at self.new.sockets.items place ≡ Some line → line.lingers ≡ false }
     {
-        match self.sockets.get_mut(place) {
-            Some(Some(socket)) => {
-                socket.moved = now;
-                socket.queued = false;
-                go_on(
-                    alloc,
-                    &mut self.connections,
-                    place,
-                    &mut socket.stream,
-                    memory,
-                    &mut socket.at_end,
-                )
+        let turn = self.turn_at(alloc, place, memory, now);
+        match turn {
+            Turn::Failed(fault) => {
+                tell(faults, fault);
+                self.let_go(place);
+                turn
             }
-            Some(None) => Turn::Ended,
-            None => Turn::Ended,
+            Turn::Waits => turn,
+            Turn::Again => turn,
+            Turn::Done => turn,
+            Turn::Ended => turn,
         }
     }
 
-    /// Notes when the request began that is not whole: where others were answered since, it is at most as old as these.
-    fn note_begin(&mut self, place: usize, answered: bool, now: Instant)
-        ensures { GoesOn K.standing self.old.connections.machine.keeper self.old.connections.opened self.old.connections.places.items
-            self.new.connections.machine.keeper self.new.connections.opened self.new.connections.places.items }
-    {
-        let within = self.connections.is_within_request(place);
-        if let Some(Some(socket)) = self.sockets.get_mut(place) {
-            if !within {
-                socket.begun = None;
-            } else if answered || socket.begun.is_none() {
-                socket.begun = Some(now);
-            }
-        }
-    }
-
-    /// What a turn of a connection comes to.
-    fn after_turn<F: Faults>(&mut self, place: usize, turn: Turn, faults: &mut F) -> io::Result<()>
-        ensures { GoesOn K.standing self.old.connections.machine.keeper self.old.connections.opened self.old.connections.places.items
-            self.new.connections.machine.keeper self.new.connections.opened self.new.connections.places.items }
+    /// What a turn of a connection comes to. Where it had a fault, that is told already.
+    fn after_turn(&mut self, place: usize, turn: Turn) -> io::Result<()>
+        requires done { turn ≡ Turn.Done → IsDoneAt self.old.connections.places.items place
+            × ((line : Line S) → line_at self.old.sockets.items place ≡ Some line → line.lingers ≡ false) }
+        requires ended { turn ≡ Turn.Ended → MayGoAt S.remaining S.contents self.old.limits self.old.connections.places.items self.old.sockets.items place }
+        ensures { KeepsOn S.remaining S.contents K.standing self.old self.new }
     {
         match turn {
-            Turn::Waits => Ok(()),
+            Turn::Waits | Turn::Failed(_) => Ok(()),
             Turn::Again => self.queue(place),
             Turn::Done => {
                 self.begin_to_close(place);
                 self.queue(place)
             }
             Turn::Ended => {
-                self.let_go(place);
-                Ok(())
-            }
-            Turn::Failed(fault) => {
-                faults.tell(fault);
-                self.let_go(place);
+                self.release(place);
                 Ok(())
             }
         }
+    }
+
+    /// Gives a connection its turn that is served.
+    fn give_served<F: Faults>(
+        &mut self,
+        alloc: Global,
+        place: usize,
+        memory: &mut [u8],
+        now: Instant,
+        faults: &mut F,
+    ) -> io::Result<()>
+        requires { (line : Line S) → line_at self.old.sockets.items place ≡ Some line → line.lingers ≡ false }
+        ensures { GoesOn S.remaining S.contents K.standing F.tells self.old faults.old self.new faults.new }
+    {
+        let answered = self.connections.answered;
+        let turn = self.serve(alloc, place, memory, now, faults);
+        let within = self.connections.is_within_request(place);
+        let answered = self.connections.answered != answered;
+        note_begin(&mut self.sockets, place, within, answered, now);
+        self.after_turn(place, turn)
+    }
+
+    /// Gives a connection its turn whose last reply is sent.
+    fn give_lingering(&mut self, place: usize, memory: &mut [u8]) -> io::Result<()>
+        requires { (line : Line S) → line_at self.old.sockets.items place ≡ Some line → line.lingers ≡ true }
+        ensures { KeepsOn S.remaining S.contents K.standing self.old self.new }
+    {
+        let turn = self.linger(place, memory);
+        self.after_turn(place, turn)
     }
 
     /// Gives a connection its turn.
@@ -468,56 +443,73 @@ impl<K: Keeper, S: Read + Write + OpenStream + Drop> Server<K, S> {
         now: Instant,
         faults: &mut F,
     ) -> io::Result<()>
-        ensures { GoesOn K.standing self.old.connections.machine.keeper self.old.connections.opened self.old.connections.places.items
-            self.new.connections.machine.keeper self.new.connections.opened self.new.connections.places.items }
+        ensures { GoesOn S.remaining S.contents K.standing F.tells self.old faults.old self.new faults.new }
     {
         if self.is_lingering(place) {
-            let turn = self.linger(place, memory);
-            return self.after_turn(place, turn, faults);
+            return self.give_lingering(place, memory);
         }
-        let answered = self.connections.answered;
-        let turn = self.serve(alloc, place, memory, now);
-        self.note_begin(place, self.connections.answered != answered, now);
-        self.after_turn(place, turn, faults)
+        self.give_served(alloc, place, memory, now, faults)
     }
 
     /// Whether the connection is there, and its time is up.
-    fn is_over(&self, place: usize, now: Instant, limits: Limits) -> bool {
+    fn is_over(&self, place: usize, now: Instant) -> bool
+        ensures { result ≡ true → MayGoAt S.remaining S.contents self.now.limits self.now.connections.places.items self.now.sockets.items place }
+    {
         match self.sockets.get(place) {
             Some(Some(socket)) => {
-                let draining = none_left(self.left) && self.connections.is_idle(place);
-                has_passed(socket.moved, now, socket.patience(limits.idle, draining))
-                    || is_late(socket.begun, now, limits.idle)
+                if socket.dropped.is_some() {
+                    return has_passed(socket.moved, now, Some(Duration::from_secs(LINGER)));
+                }
+                if none_left(self.left) && self.connections.is_idle(place) {
+                    return has_passed(socket.moved, now, Some(Duration::from_secs(DRAINED)));
+                }
+                has_passed(socket.moved, now, self.limits.idle)
+                    || is_late(socket.begun, now, self.limits.idle)
             }
             Some(None) => false,
             None => false,
         }
     }
 
+    /// Lets a connection go whose time is up.
+    fn release_if_over(&mut self, place: usize, now: Instant)
+        ensures { KeepsOn S.remaining S.contents K.standing self.old self.new }
+    {
+        if self.is_over(place, now) {
+            self.release(place);
+        }
+    }
+
     /// Lets those go whose time is up.
-    fn sweep(&mut self, now: Instant, limits: Limits)
-        ensures { GoesOn K.standing self.old.connections.machine.keeper self.old.connections.opened self.old.connections.places.items
-            self.new.connections.machine.keeper self.new.connections.opened self.new.connections.places.items }
+    fn sweep(&mut self, now: Instant)
+        ensures { KeepsOn S.remaining S.contents K.standing self.old self.new }
     {
         let count = self.sockets.len();
         for place in 0..count {
-            if self.is_over(place, now, limits) {
-                self.let_go(place);
-            }
+            self.release_if_over(place, now);
         }
     }
 
     /// Lets those go whose time is up, if the last time was so long ago, and says when the last time was.
-    fn sweep_at(&mut self, now: Instant, swept: Instant, limits: Limits) -> Instant
-        ensures { GoesOn K.standing self.old.connections.machine.keeper self.old.connections.opened self.old.connections.places.items
-            self.new.connections.machine.keeper self.new.connections.opened self.new.connections.places.items }
+    fn sweep_at(&mut self, now: Instant, swept: Instant) -> Instant
+        ensures { KeepsOn S.remaining S.contents K.standing self.old self.new }
     {
         if now.saturating_duration_since(swept) < Duration::from_millis(STEP) {
             return swept;
         }
         self.paused = false;
-        self.sweep(now, limits);
+        self.short = false;
+        self.sweep(now);
         now
+    }
+
+    /// Looks at the store, and lets those go whose time is up, if the last time was so long ago. It says when the last time
+    /// was.
+    fn look_round(&mut self, now: Instant, swept: Instant) -> Instant
+        ensures { KeepsOn S.remaining S.contents K.standing self.old self.new }
+    {
+        self.note_store(now);
+        self.sweep_at(now, swept)
     }
 
     /// Gives those their turn that may go on at once.
@@ -528,8 +520,7 @@ impl<K: Keeper, S: Read + Write + OpenStream + Drop> Server<K, S> {
         now: Instant,
         faults: &mut F,
     ) -> io::Result<()>
-        ensures { GoesOn K.standing self.old.connections.machine.keeper self.old.connections.opened self.old.connections.places.items
-            self.new.connections.machine.keeper self.new.connections.opened self.new.connections.places.items }
+        ensures { GoesOn S.remaining S.contents K.standing F.tells self.old faults.old self.new faults.new }
     {
         let places = mem::replace(&mut self.again, Vec::new(alloc));
         for place in &places {
@@ -547,8 +538,7 @@ impl<K: Keeper, S: Read + Write + OpenStream + Drop> Server<K, S> {
         now: Instant,
         faults: &mut F,
     ) -> io::Result<()>
-        ensures { GoesOn K.standing self.old.connections.machine.keeper self.old.connections.opened self.old.connections.places.items
-            self.new.connections.machine.keeper self.new.connections.opened self.new.connections.places.items }
+        ensures { GoesOn S.remaining S.contents K.standing F.tells self.old faults.old self.new faults.new }
     {
         if self.is_queued(place) {
             return Ok(());
@@ -565,8 +555,7 @@ impl<K: Keeper, S: Read + Write + OpenStream + Drop> Server<K, S> {
         now: Instant,
         faults: &mut F,
     ) -> io::Result<()>
-        ensures { GoesOn K.standing self.old.connections.machine.keeper self.old.connections.opened self.old.connections.places.items
-            self.new.connections.machine.keeper self.new.connections.opened self.new.connections.places.items }
+        ensures { GoesOn S.remaining S.contents K.standing F.tells self.old faults.old self.new faults.new }
     {
         for place in ready {
             self.give_unqueued(alloc, *place, memory, now, faults)?;
@@ -580,24 +569,90 @@ impl<K: Keeper, S: Read + Write + OpenStream + Drop> Server<K, S> {
         alloc: Global,
         readiness: &mut P,
         listener: &L,
-        limits: Limits,
         ready: &[usize],
         memory: &mut [u8],
         now: Instant,
         faults: &mut F,
     ) -> io::Result<()>
-        ensures { GoesOn K.standing self.old.connections.machine.keeper self.old.connections.opened self.old.connections.places.items
-            self.new.connections.machine.keeper self.new.connections.opened self.new.connections.places.items }
+        ensures { GoesOn S.remaining S.contents K.standing F.tells self.old faults.old self.new faults.new }
     {
         self.give_again(alloc, memory, now, faults)?;
         self.give_ready(alloc, ready, memory, now, faults)?;
-        self.accept(alloc, readiness, listener, limits, now, faults)
+        self.accept(alloc, readiness, listener, now, faults)
+    }
+
+    /// Whether the store has failed since it was looked at last, and shows nothing.
+    fn fails(&mut self) -> bool
+        ensures { KeepsOn S.remaining S.contents K.standing self.old self.new }
+    {
+        let failures = self.connections.failures();
+        if failures == self.failures {
+            return false;
+        }
+        self.failures = failures;
+        self.connections.shows_nothing()
+    }
+
+    /// Whether nothing of the connection at a place is left to be answered or sent.
+    fn is_answered(&self, place: usize) -> bool {
+        match self.sockets.get(place) {
+            Some(Some(socket)) => socket.dropped.is_none() && self.connections.is_at_rest(place),
+            Some(None) => true,
+            None => true,
+        }
+    }
+
+    /// Whether each whole request that came is answered, and all is sent.
+    fn are_answered(&self) -> bool {
+        for place in 0..self.sockets.len() {
+            if !self.is_answered(place) {
+                return false;
+            }
+        }
+        self.again.is_empty()
+    }
+
+    /// Notes that the store shows nothing, where there is no end of connections.
+    fn note_failure(&mut self, now: Instant)
+        ensures { KeepsOn S.remaining S.contents K.standing self.old self.new }
+    {
+        if !is_endless(self.limits.total) {
+            return;
+        }
+        if !self.fails() {
+            return;
+        }
+        self.store = StoreState::Failed(now);
+    }
+
+    /// Notes that the store shows nothing; and then that each is answered.
+    fn note_store(&mut self, now: Instant)
+        ensures { KeepsOn S.remaining S.contents K.standing self.old self.new }
+    {
+        match self.store {
+            StoreState::Shows => self.note_failure(now),
+            StoreState::Failed(since) => {
+                let late = has_passed(since, now, Some(Duration::from_secs(LINGER)));
+                if late || (since < now && self.are_answered()) {
+                    self.store = StoreState::Left;
+                }
+            }
+            StoreState::Left => {}
+        }
+    }
+
+    /// Whether it ends since the store has failed more often than so.
+    fn is_left(&self, failures: u64) -> bool
+        ensures { result ≡ true → EndsSo S.remaining S.contents K.standing Ended.StoreFailed self.now failures }
+    {
+        matches!(self.store, StoreState::Left)
+            && is_endless(self.limits.total)
+            && self.connections.failures() != failures
     }
 
     /// Notes whether a connection may wait to be accepted.
     fn note_waiting(&mut self, waits: bool)
-        ensures { GoesOn K.standing self.old.connections.machine.keeper self.old.connections.opened self.old.connections.places.items
-            self.new.connections.machine.keeper self.new.connections.opened self.new.connections.places.items }
+        ensures { KeepsOn S.remaining S.contents K.standing self.old self.new }
     {
         if waits {
             self.waiting = true;
@@ -610,8 +665,7 @@ impl<K: Keeper, S: Read + Write + OpenStream + Drop> Server<K, S> {
         readiness: &mut P,
         ready: &mut Vec<usize>,
     ) -> io::Result<Instant>
-        ensures { GoesOn K.standing self.old.connections.machine.keeper self.old.connections.opened self.old.connections.places.items
-            self.new.connections.machine.keeper self.new.connections.opened self.new.connections.places.items }
+        ensures { KeepsOn S.remaining S.contents K.standing self.old self.new }
     {
         ready.clear();
         let waits = readiness.wait(self.patience(), ready)?;
@@ -620,87 +674,91 @@ impl<K: Keeper, S: Read + Write + OpenStream + Drop> Server<K, S> {
     }
 
     /// One round of the loop: a turn of each connection that can go on, then those that wait to be accepted, and then
-    /// those go whose time is up. It says when that was looked at last.
+    /// those go whose time is up. It says when that was looked at last. Then the store is looked at.
     fn round<L: OpenListener<Stream = S>, P: Readiness<S>, F: Faults>(
         &mut self,
         alloc: Global,
         readiness: &mut P,
         listener: &L,
-        limits: Limits,
         ready: &mut Vec<usize>,
         memory: &mut [u8],
         swept: Instant,
         faults: &mut F,
     ) -> io::Result<Instant>
-        ensures { GoesOn K.standing self.old.connections.machine.keeper self.old.connections.opened self.old.connections.places.items
-            self.new.connections.machine.keeper self.new.connections.opened self.new.connections.places.items }
+        ensures { GoesOn S.remaining S.contents K.standing F.tells self.old faults.old self.new faults.new }
     {
         let now = self.wait(readiness, ready)?;
         self.give_all(
             alloc,
             readiness,
             listener,
-            limits,
             ready.as_slice(),
             memory,
             now,
             faults,
         )?;
-        Ok(self.sweep_at(now, swept, limits))
+        Ok(self.look_round(now, swept))
     }
-}
 
-/// The loop.
-fn run<
-    K: Keeper,
-    S: Read + Write + OpenStream + Drop,
-    L: OpenListener<Stream = S>,
-    P: Readiness<S>,
-    F: Faults,
->(
-    alloc: Global,
-    server: &mut Server<K, S>,
-    listener: &L,
-    readiness: &mut P,
-    limits: Limits,
-    faults: &mut F,
-) -> io::Result<()>
-    ensures { GoesOn K.standing server.old.connections.machine.keeper server.old.connections.opened server.old.connections.places.items
-        server.new.connections.machine.keeper server.new.connections.opened server.new.connections.places.items }
-{
-    let mut memory = vec![in alloc; 0u8; READ]?;
-    let mut ready = Vec::new(alloc);
-    let mut swept = readiness.now()?;
-    for _ in 0..u64::MAX {
-        if server.is_done() {
-            break;
+    /// Rounds of the loop, until no more are to come and none is there, or the store has failed more often than so, where
+    /// there is no end of connections.
+    ///
+    /// # Errors
+    ///
+    /// As `serve_at_once`.
+    fn run<L: OpenListener<Stream = S>, P: Readiness<S>, F: Faults>(
+        &mut self,
+        alloc: Global,
+        listener: &L,
+        readiness: &mut P,
+        faults: &mut F,
+        failures: u64,
+    ) -> io::Result<Ended>
+        ensures goes { GoesOn S.remaining S.contents K.standing F.tells self.old faults.old self.new faults.new }
+        ensures ended { IfOk result (λ ended. EndsSo S.remaining S.contents K.standing ended self.new failures) }
+    {
+        let mut memory = vec![in alloc; 0u8; READ]?;
+        let mut ready = Vec::new(alloc);
+        let mut swept = readiness.now()?;
+        for _ in 0..u64::MAX {
+            if self.is_done() {
+                return Ok(Ended::Done);
+            }
+            if self.is_left(failures) {
+                return Ok(Ended::StoreFailed);
+            }
+            swept = self.round(
+                alloc,
+                readiness,
+                listener,
+                &mut ready,
+                &mut memory,
+                swept,
+                faults,
+            )?;
         }
-        swept = server.round(
-            alloc,
-            readiness,
-            listener,
-            limits,
-            &mut ready,
-            &mut memory,
-            swept,
-            faults,
-        )?;
+        // No loop is as long.
+        Err(ErrorKind::TimedOut.into())
     }
-    Ok(())
 }
 
 /// Serves connections of the listener, which does not wait, many at once, and gives the machine back. One that is cut or
-/// fails ends no other; the fault of one that fails is told. Where no file descriptor is left, none is accepted until
-/// one is closed, or 0.25 seconds have passed. After a last reply the client is told that no more comes, and what it
-/// still sends is read and dropped for at most 2 seconds (RFC 9112, section 9.6).
+/// fails ends no other; the fault of one that fails is told. Where none can be accepted for want of file descriptors,
+/// memory or the network, or since one was given up, none is until one is closed, or 0.25 seconds have passed. After a
+/// last reply the client is told that no more comes, and what it still sends is read and dropped for at most 2 seconds
+/// (RFC 9112, section 9.6).
 ///
-/// Whatever the order in which the bytes of the connections come, all their requests are one run of the machine, in the
-/// order in which they were completed. What each was sent, by what it received, is what the contracts of `read_once` and
-/// `write_once` say of its socket.
+/// Whatever the order in which the bytes of the connections come, each is answered for its own requests alone, and all
+/// their requests are one run of the machine, in the order in which they were completed. What each stream gave is what
+/// its connection received, and what it was given is what its connection was sent. Where it ends so, as many came as were
+/// to come, and each was let go for a reason: its last reply was sent, nothing of it was unread or unsent, its input was
+/// at its end and each whole request answered, its time was up, or it had a fault, which was told.
 ///
 /// # Errors
 ///
-/// Where a connection can't be accepted, nothing can be waited for, the time can't be told, or for want of memory.
+/// `Failed` where a connection can't be accepted, nothing can be waited for, the time can't be told, or for want of memory.
+/// `Store` where the store has failed and shows nothing, and there is no end of connections: none was accepted since, each
+/// whole request that came was answered, and what waited was sent, for at most 2 seconds.
 pub fn serve_at_once<
     K: Keeper,
     S: Read + Write + OpenStream + Drop,
@@ -714,16 +772,20 @@ pub fn serve_at_once<
     readiness: &mut P,
     limits: Limits,
     faults: &mut F,
-) -> (Machine<K>, io::Result<()>)
-    ensures served { (opened : ℕ) × (places : List (Option AcceptedOf)) × AreServedSomehow (K.standing machine.keeper) opened places (K.standing result.0.keeper) }
+) -> (Machine<K>, Result<(), Stop>)
+    ensures served { (told : List ToldFault) × AreTold F.tells faults.old told faults.new
+        × AreServedAtOnce S.remaining S.contents K.standing limits machine.keeper told result.1 result.0.keeper }
     ensures runs { (answered : List Answered) × Runs (K.standing machine.keeper) (K.standing result.0.keeper) answered }
 {
     let wire = match Wire::new(alloc) {
         Ok(wire) => wire,
-        Err(_) => return (machine, Err(ErrorKind::OutOfMemory.into())),
+        Err(_) => return (machine, Err(Stop::Failed)),
     };
+    let failures = machine.keeper.failures();
+    let connections = Connections::new(alloc, wire, machine);
     let mut server: Server<K, S> = Server {
-        connections: new_connections(alloc, wire, machine),
+        limits,
+        connections,
         sockets: Vec::new(alloc),
         held: None,
         open: 0,
@@ -731,7 +793,10 @@ pub fn serve_at_once<
         again: Vec::new(alloc),
         waiting: true,
         paused: false,
+        short: false,
+        store: StoreState::Shows,
+        failures,
     };
-    let result = run(alloc, &mut server, listener, readiness, limits, faults);
-    (server.connections.release(), result)
+    let ended = server.run(alloc, listener, readiness, faults, failures);
+    (server.connections.release(), stop_of(ended))
 }

@@ -1,16 +1,20 @@
 //! Bytes between a connection and its socket, or any other reader and writer that does not wait.
 
-ghost use Rattle.std.specs.Prelude.{◌≡◌, ◌≢◌, ℕ, ◌<◌, List, ◌++◌, length, map};
+ghost use Rattle.std.specs.Prelude.{◌≡◌, ◌≢◌, ◌⊎◌, ℕ, ◌<◌, List, [], ◌++◌, length, map, false, true};
 ghost use Rattle.std.specs.Io.KnownBytes.{Appends, Consumes, IsAtEnd};
 ghost use Rattle.book_wire.specs.Serving.{Runs};
-ghost use Rattle.book_desk_loop.specs.ManyConnections.{History, Entry, AreServed, AreServedSomehow, GoesOn, TakesBytes, OthersStay, answered_in, receives, is_sent, number_at};
+ghost use Rattle.book_wire.specs.Stream.{Exchange, answered_of};
+ghost use Rattle.book_wire.specs.declared.stream.StreamFault.{StreamFault as Fault};
+ghost use Rattle.book_desk_loop.specs.ManyConnections.{History, Entry, AreServed, Holds, TakesBytes, OthersStay, entries, receives, is_sent, number_at};
+ghost use Rattle.book_desk_loop.specs.declared.connections.Accepted.{Accepted};
+ghost use Rattle.book_desk_loop.specs.Streams.{HasNoWhole, IsAnsweredAt, IsDoneAt, IsStillAt, Serves, TakesATurn, WasAtEnd};
 
 use crate::connections::Connections;
-use book_machine::Machine;
 use book_office::Keeper;
-use book_wire::{StreamFault, Wire};
-use std::alloc::{AllocError, Global};
+use book_wire::StreamFault;
+use std::alloc::Global;
 use std::io::{ErrorKind, Read, Write};
+use std::net::OpenStream;
 
 /// What became of a read or a write.
 #[derive(Clone, Copy, Debug, PartialEq, Eq)]
@@ -37,11 +41,20 @@ pub fn read_once<K: Keeper, R: Read>(
     requires { TakesBytes connections.old.places.items place }
     ensures served { (bytes : List ℕ) × Consumes (R.remaining reader.old) (R.remaining reader.new) bytes
         × ((histories : ℕ → History) (log : List Entry) → AreServed histories log connections.old.opened connections.old.places.items
-        → (more : List Entry) × AreServed (receives histories (number_at connections.old.places.items place) bytes) (log ++ more) connections.new.opened connections.new.places.items
-        × Runs (K.standing connections.old.machine.keeper) (K.standing connections.new.machine.keeper) (map answered_in more)) }
+        → (more : List Exchange)
+        × AreServed (receives histories (number_at connections.old.places.items place) bytes)
+        (log ++ entries (number_at connections.old.places.items place) more) connections.new.opened connections.new.places.items
+        × Runs (K.standing connections.old.machine.keeper) (K.standing connections.new.machine.keeper) (map answered_of more)) }
     ensures others { OthersStay place connections.old.places.items connections.new.places.items }
-    ensures ended { result ≡ Moved.Ended → 0 < length memory.old → IsAtEnd (R.remaining reader.new) }
+    ensures opened { connections.new.opened ≡ connections.old.opened }
+    ensures there { ((fault : Fault) → result ≢ Moved.Failed fault)
+        → IsStillAt place connections.old.places.items connections.new.places.items }
+    ensures ended { result ≡ Moved.Ended → IsAtEnd (R.remaining reader.new) }
+    ensures still { result ≡ Moved.Ended → connections.new ≡ connections.old }
 {
+    if memory.is_empty() {
+        return Moved::Nothing;
+    }
     match reader.read(memory) {
         Ok(0) => Moved::Ended,
         Ok(count) => match connections.feed(alloc, place, &memory[..count]) {
@@ -62,6 +75,9 @@ pub fn write_once<K: Keeper, W: Write>(
 ) -> Moved
     ensures machine { connections.new.machine ≡ connections.old.machine }
     ensures others { OthersStay place connections.old.places.items connections.new.places.items }
+    ensures opened { connections.new.opened ≡ connections.old.opened }
+    ensures there { ((fault : Fault) → result ≢ Moved.Failed fault)
+        → IsStillAt place connections.old.places.items connections.new.places.items }
     ensures sent { (bytes : List ℕ) × Appends (W.contents writer.old) (W.contents writer.new) bytes
         × ((histories : ℕ → History) (log : List Entry) → AreServed histories log connections.old.opened connections.old.places.items
         → AreServed (is_sent histories (number_at connections.old.places.items place) bytes) log connections.new.opened connections.new.places.items) }
@@ -109,45 +125,53 @@ pub enum Turn {
     Failed(StreamFault),
 }
 
-/// The most steps of a connection before the next connection has its turn.
-const STEPS: u32 = 2;
-
 /// Sends once of what waits.
-fn send_some<K: Keeper, W: Write>(
+fn send_some<K: Keeper, S: Read + Write>(
     alloc: Global,
     connections: &mut Connections<K>,
     place: usize,
-    writer: &mut W,
+    stream: &mut S,
 ) -> Moved
-    ensures served { GoesOn K.standing connections.old.machine.keeper connections.old.opened connections.old.places.items
-        connections.new.machine.keeper connections.new.opened connections.new.places.items }
-    ensures others { OthersStay place connections.old.places.items connections.new.places.items }
+    ensures served { (went : List ℕ) × Serves K.standing S.remaining S.contents place connections.old connections.new
+        stream.old stream.new [] went }
+    ensures there { ((fault : Fault) → result ≢ Moved.Failed fault)
+        → IsStillAt place connections.old.places.items connections.new.places.items }
 {
-    write_once(alloc, connections, place, writer)
+    write_once(alloc, connections, place, stream)
 }
 
 /// Reads once, and answers.
-fn take_some<K: Keeper, R: Read>(
+fn take_some<K: Keeper, S: Read + Write>(
     alloc: Global,
     connections: &mut Connections<K>,
     place: usize,
-    reader: &mut R,
+    stream: &mut S,
     memory: &mut [u8],
 ) -> Moved
     requires { TakesBytes connections.old.places.items place }
-    ensures served { GoesOn K.standing connections.old.machine.keeper connections.old.opened connections.old.places.items
-        connections.new.machine.keeper connections.new.opened connections.new.places.items }
-    ensures others { OthersStay place connections.old.places.items connections.new.places.items }
+    ensures served { (came : List ℕ) × Serves K.standing S.remaining S.contents place connections.old connections.new
+        stream.old stream.new came [] }
+    ensures there { ((fault : Fault) → result ≢ Moved.Failed fault)
+        → IsStillAt place connections.old.places.items connections.new.places.items }
+    ensures ended { result ≡ Moved.Ended → IsAtEnd (S.remaining stream.new) }
+    ensures still { result ≡ Moved.Ended → connections.new ≡ connections.old }
 {
-    read_once(alloc, connections, place, reader, memory)
+    read_once(alloc, connections, place, stream, memory)
 }
 
-/// Goes on with the whole requests that are there.
+/// Goes on with the whole requests that are there. No byte is read for them.
 fn answer_more<K: Keeper>(alloc: Global, connections: &mut Connections<K>, place: usize) -> Moved
     requires { TakesBytes connections.old.places.items place }
-    ensures served { GoesOn K.standing connections.old.machine.keeper connections.old.opened connections.old.places.items
-        connections.new.machine.keeper connections.new.opened connections.new.places.items }
+    ensures served { (histories : ℕ → History) (log : List Entry) → AreServed histories log connections.old.opened connections.old.places.items
+        → (more : List Exchange)
+        × AreServed (receives histories (number_at connections.old.places.items place) [])
+        (log ++ entries (number_at connections.old.places.items place) more) connections.new.opened connections.new.places.items
+        × Runs (K.standing connections.old.machine.keeper) (K.standing connections.new.machine.keeper) (map answered_of more) }
     ensures others { OthersStay place connections.old.places.items connections.new.places.items }
+    ensures opened { connections.new.opened ≡ connections.old.opened }
+    ensures there { ((fault : Fault) → result ≢ Moved.Failed fault)
+        → IsStillAt place connections.old.places.items connections.new.places.items }
+    ensures ended { result ≢ Moved.Ended }
 {
     match connections.feed(alloc, place, &[]) {
         Ok(()) => Moved::Some,
@@ -156,19 +180,22 @@ fn answer_more<K: Keeper>(alloc: Global, connections: &mut Connections<K>, place
 }
 
 /// Goes on with the requests of a connection that takes bytes: with those that are there, or with those that come.
-#[tactic(auto, using(crate::proofs::Places::others_same))]
-fn bring<K: Keeper, R: Read>(
+fn bring<K: Keeper, S: Read + Write>(
     alloc: Global,
     connections: &mut Connections<K>,
     place: usize,
-    reader: &mut R,
+    stream: &mut S,
     memory: &mut [u8],
     at_end: bool,
 ) -> Moved
     requires { TakesBytes connections.old.places.items place }
-    ensures served { GoesOn K.standing connections.old.machine.keeper connections.old.opened connections.old.places.items
-        connections.new.machine.keeper connections.new.opened connections.new.places.items }
-    ensures others { OthersStay place connections.old.places.items connections.new.places.items }
+    ensures served { (came : List ℕ) × Serves K.standing S.remaining S.contents place connections.old connections.new
+        stream.old stream.new came [] × (at_end ≡ true → came ≡ []) }
+    ensures there { ((fault : Fault) → result ≢ Moved.Failed fault)
+        → IsStillAt place connections.old.places.items connections.new.places.items }
+    ensures ended { result ≡ Moved.Ended → (at_end ≡ true) ⊎ IsAtEnd (S.remaining stream.new) }
+    ensures still { result ≡ Moved.Ended → (connections.new ≡ connections.old)
+        × ((l : Accepted) → Holds connections.old.places.items place l → HasNoWhole l.connection) }
 {
     if connections.is_stalled(place) {
         return answer_more(alloc, connections, place);
@@ -176,41 +203,14 @@ fn bring<K: Keeper, R: Read>(
     if at_end {
         return Moved::Ended;
     }
-    take_some(alloc, connections, place, reader, memory)
-}
-
-/// The connections of a machine that serves nobody yet.
-pub(crate) fn new_connections<K: Keeper>(
-    alloc: Global,
-    wire: Wire,
-    machine: Machine<K>,
-) -> Connections<K>
-    ensures { AreServedSomehow (K.standing machine.keeper) result.opened result.places.items (K.standing result.machine.keeper) }
-{
-    Connections::new(alloc, wire, machine)
-}
-
-/// The place of one more connection.
-pub(crate) fn open_one<K: Keeper>(
-    connections: &mut Connections<K>,
-    alloc: Global,
-) -> Result<usize, AllocError>
-    ensures { GoesOn K.standing connections.old.machine.keeper connections.old.opened connections.old.places.items
-        connections.new.machine.keeper connections.new.opened connections.new.places.items }
-{
-    connections.open(alloc)
-}
-
-/// Lets a connection go, if it is there.
-pub(crate) fn let_one_go<K: Keeper>(connections: &mut Connections<K>, place: usize)
-    ensures { GoesOn K.standing connections.old.machine.keeper connections.old.opened connections.old.places.items
-        connections.new.machine.keeper connections.new.opened connections.new.places.items }
-{
-    connections.let_go(place);
+    take_some(alloc, connections, place, stream, memory)
 }
 
 /// What a connection does next that was written to and can't go on at once.
-fn waits(wrote: Moved) -> Turn {
+fn waits(wrote: Moved) -> Turn
+    ensures done { result ≢ Turn.Done }
+    ensures ended { result ≢ Turn.Ended }
+{
     match wrote {
         Moved::Nothing => Turn::Waits,
         Moved::Some | Moved::Ended => Turn::Again,
@@ -219,7 +219,10 @@ fn waits(wrote: Moved) -> Turn {
 }
 
 /// What a connection does next that was written to and of which nothing can be read now.
-fn rests<K: Keeper>(connections: &Connections<K>, place: usize, wrote: Moved) -> Turn {
+fn rests<K: Keeper>(connections: &Connections<K>, place: usize, wrote: Moved) -> Turn
+    ensures done { result ≢ Turn.Done }
+    ensures ended { result ≢ Turn.Ended }
+{
     match connections.unsent(place) {
         Some([]) => Turn::Waits,
         Some(_) => waits(wrote),
@@ -228,16 +231,18 @@ fn rests<K: Keeper>(connections: &Connections<K>, place: usize, wrote: Moved) ->
 }
 
 /// What a connection does next whose input is at its end.
-fn ends<K: Keeper>(connections: &Connections<K>, place: usize, wrote: Moved) -> Turn {
+fn ends<K: Keeper>(connections: &Connections<K>, place: usize, wrote: Moved) -> Turn
+    ensures done { result ≢ Turn.Done }
+    ensures ended { result ≡ Turn.Ended → (l : Accepted) × Holds connections.now.places.items place l × (l.connection.unsent ≡ []) }
+{
     match connections.unsent(place) {
         Some([]) => Turn::Ended,
         Some(_) => waits(wrote),
-        None => Turn::Ended,
+        None => Turn::Waits,
     }
 }
 
-/// One step of a turn: a write, and then a read or an answer.
-#[tactic(auto, using(crate::proofs::Places::others_same, crate::proofs::Places::others_then))]
+/// The first step of a turn: a write, and then a read or an answer.
 fn step<K: Keeper, S: Read + Write>(
     alloc: Global,
     connections: &mut Connections<K>,
@@ -246,9 +251,14 @@ fn step<K: Keeper, S: Read + Write>(
     memory: &mut [u8],
     at_end: &mut bool,
 ) -> Turn
-    ensures served { GoesOn K.standing connections.old.machine.keeper connections.old.opened connections.old.places.items
-        connections.new.machine.keeper connections.new.opened connections.new.places.items }
-    ensures others { OthersStay place connections.old.places.items connections.new.places.items }
+    ensures turn { TakesATurn K.standing S.remaining S.contents place connections.old connections.new stream.old stream.new at_end.old }
+    ensures there { ((fault : Fault) → result ≢ Turn.Failed fault)
+        → IsStillAt place connections.old.places.items connections.new.places.items }
+    ensures at_end { at_end.new ≡ true → (at_end.old ≡ true → WasAtEnd S.remaining S.contents stream.old)
+        → WasAtEnd S.remaining S.contents stream.new }
+    ensures stays_at_end { at_end.old ≡ true → at_end.new ≡ true }
+    ensures done { result ≡ Turn.Done → IsDoneAt connections.new.places.items place }
+    ensures ended { result ≡ Turn.Ended → (at_end.new ≡ true) × IsAnsweredAt connections.new.places.items place }
 {
     let wrote = send_some(alloc, connections, place, stream);
     if let Moved::Failed(fault) = wrote {
@@ -271,9 +281,35 @@ fn step<K: Keeper, S: Read + Write>(
     }
 }
 
-/// One turn of a connection: it is sent what waits, what it receives is read, and its whole requests are answered, until
-/// that would wait, or others are to have their turn. No more is read of one whose client takes too little.
-#[tactic(auto, using(crate::proofs::Places::others_same, crate::proofs::Places::others_then))]
+/// The last step of a turn: what waits is sent once more.
+fn finish<K: Keeper, S: Read + Write>(
+    alloc: Global,
+    connections: &mut Connections<K>,
+    place: usize,
+    stream: &mut S,
+) -> Turn
+    ensures served { (went : List ℕ) × Serves K.standing S.remaining S.contents place connections.old connections.new
+        stream.old stream.new [] went }
+    ensures there { ((fault : Fault) → result ≢ Turn.Failed fault)
+        → IsStillAt place connections.old.places.items connections.new.places.items }
+    ensures done { result ≡ Turn.Done → IsDoneAt connections.new.places.items place }
+    ensures ended { result ≢ Turn.Ended }
+{
+    let wrote = send_some(alloc, connections, place, stream);
+    if let Moved::Failed(fault) = wrote {
+        return Turn::Failed(fault);
+    }
+    if connections.is_done(place) {
+        return Turn::Done;
+    }
+    Turn::Again
+}
+
+/// One turn of a connection: it is sent what waits, it is read once, and one request of it is answered, if one is whole.
+/// No more is read of one whose client takes too little, or of which whole requests are unread.
+///
+/// What the stream gave and took is what the connection received and was sent, and the requests that were answered are
+/// its own. `at_end` is whether a read of the stream found its end: then it is not read.
 pub fn go_on<K: Keeper, S: Read + Write>(
     alloc: Global,
     connections: &mut Connections<K>,
@@ -282,15 +318,49 @@ pub fn go_on<K: Keeper, S: Read + Write>(
     memory: &mut [u8],
     at_end: &mut bool,
 ) -> Turn
-    ensures served { GoesOn K.standing connections.old.machine.keeper connections.old.opened connections.old.places.items
-        connections.new.machine.keeper connections.new.opened connections.new.places.items }
-    ensures others { OthersStay place connections.old.places.items connections.new.places.items }
+    ensures turn { TakesATurn K.standing S.remaining S.contents place connections.old connections.new stream.old stream.new at_end.old }
+    ensures there { ((fault : Fault) → result ≢ Turn.Failed fault)
+        → IsStillAt place connections.old.places.items connections.new.places.items }
+    ensures at_end { at_end.new ≡ true → (at_end.old ≡ true → WasAtEnd S.remaining S.contents stream.old)
+        → WasAtEnd S.remaining S.contents stream.new }
+    ensures done { result ≡ Turn.Done → IsDoneAt connections.new.places.items place }
+    ensures ended { result ≡ Turn.Ended → (at_end.new ≡ true) × IsAnsweredAt connections.new.places.items place }
 {
-    for _ in 0..STEPS {
-        let turn = step(alloc, connections, place, stream, memory, at_end);
-        if turn != Turn::Again {
-            return turn;
-        }
+    let turn = step(alloc, connections, place, stream, memory, at_end);
+    match turn {
+        Turn::Again => finish(alloc, connections, place, stream),
+        Turn::Waits | Turn::Done | Turn::Ended | Turn::Failed(_) => turn,
     }
-    Turn::Again
+}
+
+/// Whether the client has reset the connection, as far as its stream can tell.
+fn is_reset<S: OpenStream>(stream: &S) -> bool {
+    match stream.take_error() {
+        Ok(Some(_)) => true,
+        Ok(None) => false,
+        Err(_) => false,
+    }
+}
+
+/// The turn of a connection, unless its client has reset it while whole requests of it are unread: these are not served.
+pub(crate) fn take_turn<K: Keeper, S: Read + Write + OpenStream>(
+    alloc: Global,
+    connections: &mut Connections<K>,
+    place: usize,
+    stream: &mut S,
+    memory: &mut [u8],
+    at_end: &mut bool,
+) -> Turn
+    ensures turn { TakesATurn K.standing S.remaining S.contents place connections.old connections.new stream.old stream.new at_end.old }
+    ensures there { ((fault : Fault) → result ≢ Turn.Failed fault)
+        → IsStillAt place connections.old.places.items connections.new.places.items }
+    ensures at_end { at_end.new ≡ true → (at_end.old ≡ true → WasAtEnd S.remaining S.contents stream.old)
+        → WasAtEnd S.remaining S.contents stream.new }
+    ensures done { result ≡ Turn.Done → IsDoneAt connections.new.places.items place }
+    ensures ended { result ≡ Turn.Ended → (at_end.new ≡ true) × IsAnsweredAt connections.new.places.items place }
+{
+    if connections.is_stalled(place) && is_reset(stream) {
+        return Turn::Failed(StreamFault::Read);
+    }
+    go_on(alloc, connections, place, stream, memory, at_end)
 }

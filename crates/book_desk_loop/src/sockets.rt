@@ -1,13 +1,37 @@
-//! What is known of a connection's socket.
+//! What is known of a connection's socket, and of one that can't be accepted.
 
-use crate::closing::LINGER;
+ghost use Rattle.std.specs.Prelude.{◌≡◌, ◌≢◌, None, false, is_some, true};
+
+use std::io;
 use std::time::{Duration, Instant};
 
 /// How long a request may take from its first byte to its last, in seconds.
 const WHOLE_REQUEST: u64 = 30;
 
 /// How long a connection is idle that is closed when no more are to come, in seconds.
-const DRAINED: u64 = 1;
+pub(crate) const DRAINED: u64 = 1;
+
+/// A connection that moved no byte for so many milliseconds is idle, where another waits for its place.
+pub(crate) const RESTED: u64 = 100;
+
+/// A connection whose request is not whole for so many seconds is slow, where another waits for its place.
+const SLOW: u64 = 1;
+
+/// What the system says where file descriptors are wanting (POSIX): ENFILE and EMFILE.
+const SHORT: [i32; 2] = [23, 24];
+
+/// What the system says where a connection can't be accepted now and may be later (POSIX): it was given up, or file
+/// descriptors, memory or the network are wanting.
+const PASSING: [i32; 8] = [
+    1, // EPERM
+    12, // ENOMEM
+    23, // ENFILE
+    24, // EMFILE
+    71, // EPROTO
+    100, // ENETDOWN
+    103, // ECONNABORTED
+    105, // ENOBUFS
+];
 
 /// A connection's socket.
 #[derive(Drop)]
@@ -27,7 +51,11 @@ pub(crate) struct Socket<S> {
 
 impl<S> Socket<S> {
     /// That of a connection that came now.
-    pub(crate) fn new(stream: S, now: Instant) -> Socket<S> {
+    pub(crate) fn new(stream: S, now: Instant) -> Socket<S>
+        ensures stream { result.stream ≡ stream }
+        ensures at_end { result.at_end ≡ false }
+        ensures dropped { result.dropped ≡ None }
+    {
         Socket {
             stream,
             moved: now,
@@ -37,22 +65,12 @@ impl<S> Socket<S> {
             dropped: None,
         }
     }
-
-    /// How long it may move no byte.
-    pub(crate) fn patience(&self, idle: Option<Duration>, draining: bool) -> Option<Duration> {
-        if self.dropped.is_some() {
-            return Some(Duration::from_secs(LINGER));
-        }
-        if draining {
-            Some(Duration::from_secs(DRAINED))
-        } else {
-            idle
-        }
-    }
 }
 
 /// Whether so long a time passed since then.
-pub(crate) fn has_passed(since: Instant, now: Instant, most: Option<Duration>) -> bool {
+pub(crate) fn has_passed(since: Instant, now: Instant, most: Option<Duration>) -> bool
+    ensures { result ≡ true → most ≢ None }
+{
     match most {
         Some(most) => now.saturating_duration_since(since) >= most,
         None => false,
@@ -60,10 +78,45 @@ pub(crate) fn has_passed(since: Instant, now: Instant, most: Option<Duration>) -
 }
 
 /// Whether a request that began then is late, where there is such a limit.
-pub(crate) fn is_late(begun: Option<Instant>, now: Instant, idle: Option<Duration>) -> bool {
+pub(crate) fn is_late(begun: Option<Instant>, now: Instant, idle: Option<Duration>) -> bool
+    ensures { result ≡ true → idle ≢ None }
+{
     match (begun, idle) {
         (Some(begun), Some(_)) => now.saturating_duration_since(begun)
             >= Duration::from_secs(WHOLE_REQUEST),
         _ => false,
+    }
+}
+
+/// Whether the socket moved no byte for a while, and its connection is not to be closed anyway.
+pub(crate) fn is_rested<S>(socket: &Socket<S>, now: Instant) -> bool
+    ensures { result ≡ true → is_some socket.now.dropped ≡ false }
+{
+    socket.dropped.is_none() && has_passed(socket.moved, now, Some(Duration::from_millis(RESTED)))
+}
+
+/// Whether the request of the connection is not whole for a while, and it is not to be closed anyway.
+pub(crate) fn is_slow<S>(socket: &Socket<S>, now: Instant) -> bool
+    ensures { result ≡ true → is_some socket.now.dropped ≡ false }
+{
+    let Some(begun) = socket.begun else {
+        return false;
+    };
+    socket.dropped.is_none() && has_passed(begun, now, Some(Duration::from_secs(SLOW)))
+}
+
+/// Whether no connection can be accepted for want of file descriptors.
+pub(crate) fn is_short(error: &io::Error) -> bool {
+    match error.raw_os_error() {
+        Some(code) => SHORT.contains(&code),
+        None => false,
+    }
+}
+
+/// Whether a connection may be accepted later where this is the error of now.
+pub(crate) fn passes(error: &io::Error) -> bool {
+    match error.raw_os_error() {
+        Some(code) => PASSING.contains(&code),
+        None => false,
     }
 }

@@ -7,7 +7,7 @@ use Rattle.clap.specs.Words.{Kinds, Row, Text, first_of, one_text, rows_of}
 use Rattle.clap.specs.declared.parser.matches.Found.{Found}
 use Rattle.clap.proofs.WalkLemmas.{one_text-rows}
 use Rattle.book_desk_words.specs.CommandLine.{HasCounts, HasNumber, IsRefused, MatchesNone, MayHaveNumber, ReadsAs, ReadsNone}
-use Rattle.book_desk_words.specs.declared.commands.Command.TheVariants.{Explain, Card, Import, Audit, Migrate, Pipe, Serve, Help}
+use Rattle.book_desk_words.specs.declared.commands.Command.TheVariants.{Explain, Card, Init, Import, Audit, Migrate, Pipe, Serve, Help}
 use Rattle.book_desk_words.specs.declared.commands.WordsFault.{WordsFault}
 use Rattle.book_desk_words.specs.declared.commands.WordsFault.TheVariants.{Usage, Memory}
 use Rattle.book_desk_words.specs.WordsFaults.{IsUsage, serve_wants}
@@ -40,6 +40,9 @@ pub no_count : (rows : List Row) (id : Text) (most : ℕ) → is_some (first_of 
 no_count rows id most is small none None without = not_given (first_of id rows) is without
 no_count rows id most is small none (Some n) has = let within : n ≤ most = has.2 in none n (omega arith) has.0
 
+is_not_init : codes "serve" ≡ codes "init" → ⊥
+is_not_init e = cc (e)
+
 is_not_import : codes "serve" ≡ codes "import" → ⊥
 is_not_import e = cc (e)
 
@@ -58,6 +61,7 @@ module _ (rows : List Row) where
       → ReadsAs (codes "serve") rows (Serve port connections at_once idle store policy existing) → ⊥) → ReadsNone (codes "serve") rows
   serve_lacks none Explain e = cc (e)
   serve_lacks none Card e = cc (e)
+  serve_lacks none (Init folder) r = is_not_init r.0
   serve_lacks none (Import store policy) r = is_not_import r.0
   serve_lacks none (Audit store existing) r = is_not_audit r.0
   serve_lacks none (Migrate store) r = is_not_migrate r.0

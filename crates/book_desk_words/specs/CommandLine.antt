@@ -10,7 +10,7 @@ use Rattle.clap.specs.declared.builder.value_parser.ValueParser.TheVariants as p
 use Rattle.clap.specs.declared.error.kind.ErrorKind.{ErrorKind}
 use Rattle.clap.specs.declared.error.kind.ErrorKind.TheVariants as kind
 use Rattle.book_desk_words.specs.declared.commands.Command.{Command}
-use Rattle.book_desk_words.specs.declared.commands.Command.TheVariants.{Explain, Card, Import, Audit, Migrate, Pipe, Serve, Help}
+use Rattle.book_desk_words.specs.declared.commands.Command.TheVariants.{Explain, Card, Init, Import, Audit, Migrate, Pipe, Serve, Help}
 use Rattle.book_desk_words.specs.declared.commands.WordsFault.{WordsFault}
 use Rattle.book_desk_words.specs.declared.commands.WordsFault.TheVariants.{Usage, Memory}
 use Rattle.book_desk_words.specs.WordsFaults.{IsUsage, serve_wants}
@@ -40,6 +40,9 @@ flag_rule name = record (new_rule name) { long = Some name; action = Some SetTru
 -- a word that is required and follows no option's name
 abbrev pub word_rule : Text → Rule
 word_rule name = record (new_rule name) { value_names = 1; required = true }
+
+abbrev pub init_app : App
+init_app = with_rule (new_app (codes "init")) (word_rule (codes "folder"))
 
 abbrev pub import_app : App
 import_app = with_rule (with_rule (new_app (codes "import")) (required_rule (codes "store"))) (word_rule (codes "policy"))
@@ -76,8 +79,8 @@ top_app = on_top (λ s. record s { no_binary_name = true; subcommand_required = 
 -- the whole command line
 abbrev pub program_app : App
 program_app =
-    with_subcommand (with_subcommand (with_subcommand (with_subcommand (with_subcommand (with_subcommand (with_subcommand top_app
-    (new_app (codes "explain")).top) (new_app (codes "card")).top) import_app.top) audit_app.top) migrate_app.top) pipe_app.top) serve_app.top
+    with_subcommand (with_subcommand (with_subcommand (with_subcommand (with_subcommand (with_subcommand (with_subcommand (with_subcommand top_app
+    (new_app (codes "explain")).top) (new_app (codes "card")).top) init_app.top) import_app.top) audit_app.top) migrate_app.top) pipe_app.top) serve_app.top
 
 -- ---- the command that the matches give
 
@@ -91,7 +94,7 @@ abbrev pub MayHaveNumber : List Row → Text → ℕ → Option ℕ → Type 0
 MayHaveNumber rows id most (Some n) = HasNumber rows id n × (1 ≤ n) × (n ≤ most)
 MayHaveNumber rows id most None = first_of id rows ≡ None
 
--- the file that an option or a word names, if it does
+-- the file or folder that an option or a word names, if it does
 abbrev pub NamesFile : List Row → Text → Option (String Global) → Type 0
 NamesFile rows id file = option_map string_bytes file ≡ first_of id rows
 
@@ -115,6 +118,7 @@ abbrev pub IsHelp : Command → Type 0
 IsHelp (Help text) = Unit {0}
 IsHelp Explain = ⊥
 IsHelp Card = ⊥
+IsHelp (Init folder) = ⊥
 IsHelp (Import store policy) = ⊥
 IsHelp (Audit store existing) = ⊥
 IsHelp (Migrate store) = ⊥
@@ -125,6 +129,7 @@ IsHelp (Serve port connections at_once idle store policy existing) = ⊥
 abbrev pub ReadsAs : Text → List Row → Command → Type 0
 ReadsAs name rows Explain = name ≡ codes "explain"
 ReadsAs name rows Card = name ≡ codes "card"
+ReadsAs name rows (Init folder) = (name ≡ codes "init") × NamesFile rows (codes "folder") (Some folder)
 ReadsAs name rows (Import store policy) =
     (name ≡ codes "import") × NamesFile rows (codes "store") (Some store) × NamesFile rows (codes "policy") (Some policy)
 ReadsAs name rows (Audit store existing) =

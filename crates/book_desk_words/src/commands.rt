@@ -35,6 +35,11 @@ pub enum Command {
     Explain,
     /// Tell what the card on standard input says.
     Card,
+    /// Write a policy and settings to begin with.
+    Init {
+        /// The folder in which they are made.
+        folder: String,
+    },
     /// Adopt a policy in a store.
     Import {
         /// The file of the store.
@@ -256,6 +261,17 @@ fn pipe_of(alloc: Global, found: &ArgMatches<'_>) -> Result<Option<Command>, All
     Ok(Some(Command::Pipe { store, policy }))
 }
 
+/// The command `init` with what the words give it; none where the folder is missing.
+fn init_of(alloc: Global, found: &ArgMatches<'_>) -> Result<Option<Command>, AllocError>
+    ensures read { IfOk result (λ command. IfSome command (ReadsAs (codes "init") (rows_of (found_of found.now)))) }
+    ensures none { IfOk result (λ command. IfNone command (ReadsNone (codes "init") (rows_of (found_of found.now)))) }
+{
+    let Some(folder) = file_in(alloc, found, "folder")? else {
+        return Ok(None);
+    };
+    Ok(Some(Command::Init { folder }))
+}
+
 /// The command `import` with what the words give it; none where a file is missing.
 fn import_of(alloc: Global, found: &ArgMatches<'_>) -> Result<Option<Command>, AllocError>
     ensures read { IfOk result (λ command. IfSome command (ReadsAs (codes "import") (rows_of (found_of found.now)))) }
@@ -312,6 +328,7 @@ fn command_named(
     match name {
         "explain" => Ok(Some(Command::Explain)),
         "card" => Ok(Some(Command::Card)),
+        "init" => init_of(alloc, found),
         "import" => import_of(alloc, found),
         "audit" => audit_of(alloc, found),
         "migrate" => migrate_of(alloc, found),
@@ -379,8 +396,8 @@ pub fn words_not_text(alloc: Global) -> WordsFault
 /// A command that it answers is the one that clap's matches of the words give: the subcommand that was met, its port
 /// from 0 to 65,535, its number of connections from 1 to 10,000 or that there is no end, how many at once from 1 to 1,000
 /// and the seconds from 1 to 3,600 after which an idle one is closed, if they are given, the files of its store and its
-/// policy, if they name them, and whether the store has to be there already. Help is answered only where clap takes the
-/// words to ask for it.
+/// policy, if they name them, whether the store has to be there already, and the folder of `init`. Help is answered only
+/// where clap takes the words to ask for it.
 ///
 /// # Errors
 ///

@@ -3,7 +3,8 @@
 pub(crate) const ABOUT: &str =
     "Shared contact books of an office: WebDAV access lists (RFC 3744) and vCards (RFC 6350)";
 
-pub(crate) const VERSION: &str = "0.1.0";
+/// The number of VERSION, at the top of the repository, which `tools/streams` compares.
+pub(crate) const VERSION: &str = "0.2.0";
 
 /// What follows a text of what is wrong with the words.
 pub(crate) const USAGE_LINES: &str =
@@ -86,6 +87,25 @@ and then
 or at any time memory, at line 0.
 
 Status: 0 valid, 1 refused input, 2 usage, 3 memory, or a failed read or write.
+";
+
+pub(crate) const FOLDER: &str = "The folder, which is made where it is missing";
+
+pub(crate) const INIT: &str = "Writes a policy and settings to begin with";
+
+pub(crate) const INIT_TEXT: &str = "\
+In the folder it makes policy.toml, a policy with an administrator, a group, a book and the person as whom the gateway
+asks, and gateway.toml, settings of the gateway. Only who runs it may read them. As in:
+  book_desk init office
+
+Output: the next commands.
+
+Told on standard error, on a line
+  init: exists          a file of one of these names is there; nothing was made
+  init: write           the folder or a file could not be made; what was made is removed again
+  output: write         they were made, and it could not be told
+
+Status: 0 made, 1 a file is there, 2 usage, 3 a failed write.
 ";
 
 pub(crate) const IMPORT: &str = "Adopts a policy in a store";

@@ -3,12 +3,13 @@
 ghost use Rattle.std.specs.Prelude.{◌≡◌, IfOk, false, codes};
 ghost use Rattle.clap.specs.Words.{app_of, new_app, rule_of};
 ghost use Rattle.clap.specs.declared.builder.command.Command.TheViews.{out-Command};
-ghost use Rattle.book_desk_words.specs.CommandLine.{program_app, top_app, audit_app, import_app, migrate_app, pipe_app, serve_app, flag_rule, option_rule, counted_rule, number_rule, required_rule, with_ends, with_files, with_pace, word_rule};
+ghost use Rattle.book_desk_words.specs.CommandLine.{program_app, top_app, audit_app, import_app, init_app, migrate_app, pipe_app, serve_app, flag_rule, option_rule, counted_rule, number_rule, required_rule, with_ends, with_files, with_pace, word_rule};
 
 use crate::helps::{
     ABOUT, AT_ONCE, AUDIT, AUDIT_TEXT, CARD, CARD_TEXT, CONNECTIONS, EXISTING, EXPLAIN,
-    FIRST_STORE, FOREVER, FOUNDED_STORE, IDLE, IMPORT, IMPORT_TEXT, KEPT_STORE, MIGRATE,
-    MIGRATE_TEXT, PIPE, PIPE_TEXT, POLICY, POLICY_WORD, PORT, QUESTION, SERVE, SERVE_TEXT, VERSION,
+    FIRST_STORE, FOLDER, FOREVER, FOUNDED_STORE, IDLE, IMPORT, IMPORT_TEXT, INIT, INIT_TEXT,
+    KEPT_STORE, MIGRATE, MIGRATE_TEXT, PIPE, PIPE_TEXT, POLICY, POLICY_WORD, PORT, QUESTION, SERVE,
+    SERVE_TEXT, VERSION,
 };
 use clap::{Arg, ArgAction, value_parser};
 use std::alloc::{AllocError, Global};
@@ -99,6 +100,15 @@ fn card<'a>(alloc: Global) -> clap::Command<'a>
     clap::Command::new(alloc, "card")
         .about(CARD)
         .after_help(CARD_TEXT)
+}
+
+fn init<'a>(alloc: Global) -> Result<clap::Command<'a>, AllocError>
+    ensures { IfOk result (λ c. (app_of c ≡ init_app) × ((out-Command c).has_globals ≡ false)) }
+{
+    clap::Command::new(alloc, "init")
+        .about(INIT)
+        .after_help(INIT_TEXT)
+        .arg(word_needed(alloc, "folder", "DIR", FOLDER))
 }
 
 fn import<'a>(alloc: Global) -> Result<clap::Command<'a>, AllocError>
@@ -203,6 +213,7 @@ pub(crate) fn program<'a>(alloc: Global) -> Result<clap::Command<'a>, AllocError
     top(alloc)?
         .subcommand(explain(alloc))?
         .subcommand(card(alloc))?
+        .subcommand(init(alloc)?)?
         .subcommand(import(alloc)?)?
         .subcommand(audit(alloc)?)?
         .subcommand(migrate(alloc)?)?

@@ -21,7 +21,9 @@ use Rattle.book_machine.specs.Finding.{needed_for}
 use Rattle.book_machine.specs.AllowedMethods.{allowed_of}
 use Rattle.book_machine.specs.Stages.{IsListAnswer, IsReportAnswer, put_limits, delete_limits, keeps_limits, card_plan, allow_plan, put_plan, patch_plan, acl_plan, delete_plan, mkcol_plan, AreNamesTold, put_status, copy_plan, move_plan}
 use Rattle.book_office_listings.specs.Verdicts.{IsGrantedBy, IsDeniedBy, IsDeniedAt}
-use Rattle.book_machine.specs.Verdicts.{IsFirstDenial, asks_effective, asks_for, asks_names, is_book, shape_at}
+use Rattle.book_office_values.specs.Paths.{is_kind}
+use Rattle.book_office_values.specs.declared.paths.Kind.TheVariants as kind
+use Rattle.book_machine.specs.Verdicts.{IsFirstDenial, asks_effective, asks_for, asks_names, shape_at}
 use Rattle.book_machine.specs.declared.allowed_methods.AllowedMethods.TheVariants.{OfNewCard}
 use Rattle.book_machine.specs.declared.asked.Asked.TheVariants as asked
 use Rattle.book_machine.specs.declared.messages.Content.TheVariants as content
@@ -339,7 +341,7 @@ module _ (a b : Ready) (alike : outline_of_ready a ≡ outline_of_ready b) where
   needs_is = λ i. needs_of (method_of (asked_is i)) (record {
     target_mapped = mapped_is i;
     destination_mapped = taken_is i;
-    book = is_book (kind_of (path_is i));
+    book = is_kind kind.Book (kind_of (path_is i));
     acl = asks_for property.Acl (asked_is i);
     privileges = asks_for property.CurrentUserPrivilegeSet (asked_is i);
     effective = asks_effective (asked_is i);

@@ -1,11 +1,11 @@
 -- What the path stage lets through is served: a granted request with an accepted body within the limits has a plan.
 use Rattle.book_machine.proofs.Common.{◌≡◌, ◌⊎◌, ℕ, ◌<◌, List, Bool, true, false, Option, Some, None, is_some, option_map, option_and_then, Result, Ok, Err, inl, inr, refl, sym, ap, ◌∙◌, subst, arith, get, same_Some, kind_of, Book, Office, Properties, StoredCard, Kind, Path, CircleOf, Caller, AreRulingsAt, Ruling, Find, node_of, node_at, unnumbered, properties_resource, card_resource, card_in, number_of, Edit, Node, Method, Report, goes_on, method_of, is_late, ◌>>=◌, at_unmapped, replied, text_of, put_edit, delete_edit, mkcol_edit, patch_edit, report_from, report_plan, sync_plan, AreMembersTold, IsListed, IsReportOf, IsSuccess, IsSuccessOf, copy_edit, move_edit, Asked, Destination, Content, ReportKind, Request, SyncRequest, Plan, Ready, Refusal, ValidSyncToken}
 use Rattle.book_office_values.specs.declared.paths.Kind.TheVariants as kind
+use Rattle.book_office_values.specs.Paths.{is_kind}
 use Rattle.book_office_values.specs.declared.paths.Path.TheVariants as path
 use Rattle.book_machine.proofs.FittingPlans.{Passed, answered, bind_ok, book_kind, is_taken, ready_at, same_Ok}
 use Rattle.book_machine.proofs.ReportPlans.{reported_told}
-use Rattle.book_machine.specs.Verdicts.{is_book}
-use Rattle.book_machine.specs.Stages.{suits, put_status, report_suits, rulings_plan, is_card_kind, AreNamesTold}
+use Rattle.book_machine.specs.Stages.{suits, put_status, report_suits, rulings_plan, AreNamesTold}
 use Rattle.book_machine.specs.declared.asked.Asked.TheVariants as asked
 use Rattle.book_machine.specs.declared.messages.Content.TheVariants as content
 use Rattle.book_machine.specs.declared.messages.Patch.TheVariants as patch
@@ -73,7 +73,7 @@ report_served : (report : Option Report) (result : Result Plan Refusal) → repo
 report_served None result is = inr (ValidSyncToken, refl, sym is)
 report_served (Some report) result is = inl (replied 207 (content.Synced report) None, sym is, omega arith)
 
-sync_served : (o : Office) (circle : CircleOf) (asks : SyncRequest) (p : Path) (result : Result Plan Refusal) → is_book (kind_of p) ≡ true → sync_plan o circle asks p ≡ result → IsServed result
+sync_served : (o : Office) (circle : CircleOf) (asks : SyncRequest) (p : Path) (result : Result Plan Refusal) → is_kind kind.Book (kind_of p) ≡ true → sync_plan o circle asks p ≡ result → IsServed result
 sync_served o circle asks path.Root result suited is = absurd (cc (suited))
 sync_served o circle asks path.People result suited is = absurd (cc (suited))
 sync_served o circle asks path.Groups result suited is = absurd (cc (suited))
@@ -84,7 +84,7 @@ sync_served o circle asks (path.Book b) result suited is = report_served (report
 sync_served o circle asks (path.Card b c) result suited is = absurd (cc (suited))
 
 -- the members of a card
-members_reported : (o : Office) (circle : CircleOf) (p : Path) (result : Result Plan Refusal) → is_card_kind (kind_of p) ≡ true → AreMembersTold o circle p result → IsServed result
+members_reported : (o : Office) (circle : CircleOf) (p : Path) (result : Result Plan Refusal) → is_kind kind.Card (kind_of p) ≡ true → AreMembersTold o circle p result → IsServed result
 members_reported o circle path.Root result suited is = absurd (cc (suited))
 members_reported o circle path.People result suited is = absurd (cc (suited))
 members_reported o circle path.Groups result suited is = absurd (cc (suited))
@@ -95,7 +95,7 @@ members_reported o circle (path.Book b) result suited is = absurd (cc (suited))
 members_reported o circle (path.Card b c) result suited is = inl (replied 200 (content.Members b is.0) None, sym is.2, omega arith)
 
 -- the names of a book's cards
-names_reported : (o : Office) (circle : CircleOf) (p : Path) (result : Result Plan Refusal) → is_book (kind_of p) ≡ true → AreNamesTold o circle p result → IsServed result
+names_reported : (o : Office) (circle : CircleOf) (p : Path) (result : Result Plan Refusal) → is_kind kind.Book (kind_of p) ≡ true → AreNamesTold o circle p result → IsServed result
 names_reported o circle path.Root result suited is = absurd (cc (suited))
 names_reported o circle path.People result suited is = absurd (cc (suited))
 names_reported o circle path.Groups result suited is = absurd (cc (suited))

@@ -28,7 +28,7 @@ use Rattle.book_office_values.specs.declared.paths.Kind.{Kind}
 use Rattle.book_office_values.specs.declared.paths.Kind.TheVariants as kind
 use Rattle.book_office_values.specs.declared.paths.Path.{Path}
 use Rattle.book_office_values.specs.declared.paths.Path.TheVariants as path
-use Rattle.book_office_values.specs.Paths.{kind_of}
+use Rattle.book_office_values.specs.Paths.{kind_of, is_kind}
 use Rattle.book_office_members.specs.Members.{AreMembersAt}
 use Rattle.book_office_members.specs.Names.{AreNamesAt}
 use Rattle.book_office_members.specs.declared.names.NamedCard.{NamedCard}
@@ -65,7 +65,6 @@ use Rattle.book_machine.specs.Named.{path_card, path_book, path_group}
 use Rattle.book_machine.specs.Targets.{Ready, Target}
 use Rattle.book_machine.specs.declared.refusals.Refusal.{Refusal}
 use Rattle.book_machine.specs.declared.refusals.Refusal.TheVariants.{UnknownCaller, BadCard, NoProtectedAceConflict, NoInheritedAceConflict, LimitedNumberOfAces, NotSupportedPrivilege, RecognizedPrincipal, ValidSyncToken, NotFound, NotAllowed, NoParent, Overwrite, Full}
-use Rattle.book_machine.specs.Verdicts.{is_book}
 
 -- a stage after one that may refuse
 infixl 10 ◌>>=◌
@@ -119,31 +118,15 @@ target_of o m (Some p) = at_node o m p (option_map unnumbered (node_at o p))
 
 -- what is asked is asked of a resource of this kind: members are set of a group, the reports on changes and on names are
 -- of a book, and the members that a report tells are those of a card
-abbrev pub is_group : Kind → Bool
-is_group kind.Root = false
-is_group kind.Home = false
-is_group kind.Person = false
-is_group kind.Group = true
-is_group kind.Book = false
-is_group kind.Card = false
-
-abbrev pub is_card_kind : Kind → Bool
-is_card_kind kind.Root = false
-is_card_kind kind.Home = false
-is_card_kind kind.Person = false
-is_card_kind kind.Group = false
-is_card_kind kind.Book = false
-is_card_kind kind.Card = true
-
 abbrev pub patch_suits : Patch → Kind → Bool
 patch_suits (patch.DisplayName label) k = true
-patch_suits (patch.GroupMembers members) k = is_group k
+patch_suits (patch.GroupMembers members) k = is_kind kind.Group k
 
 abbrev pub report_suits : ReportKind → Kind → Bool
-report_suits (report.SyncCollection asks) k = is_book k
-report_suits report.GroupMembers k = is_card_kind k
+report_suits (report.SyncCollection asks) k = is_kind kind.Book k
+report_suits report.GroupMembers k = is_kind kind.Card k
 report_suits (report.Effective caller) k = true
-report_suits report.Names k = is_book k
+report_suits report.Names k = is_kind kind.Book k
 
 abbrev pub suits : Asked → Kind → Bool
 suits asked.Get k = true

@@ -5,7 +5,7 @@ use Rattle.book_lists.specs.Callers.{IsCircle}
 use Rattle.book_lists.specs.Circles.{CircleOf}
 use Rattle.book_lists.specs.declared.entries.Here.{Here}
 use Rattle.book_office.specs.Levels.{effective_at}
-use Rattle.book_office_values.specs.Paths.{parent_of, kind_of}
+use Rattle.book_office_values.specs.Paths.{parent_of, kind_of, is_kind}
 use Rattle.book_office.specs.Resources.{node_at, unnumbered}
 use Rattle.book_office.specs.declared.nodes.EffectiveEntry.{EffectiveEntry}
 use Rattle.book_office.specs.declared.nodes.Node.{Node}
@@ -43,14 +43,6 @@ place_path to target at.Parent = or_itself target (parent_of target)
 place_path to target at.Destination = or_itself target (option_map destination_path to)
 place_path to target at.DestinationParent = or_itself target (option_and_then (λ d. parent_of (destination_path d)) to)
 
-abbrev pub is_book : Kind → Bool
-is_book kind.Root = false
-is_book kind.Home = false
-is_book kind.Person = false
-is_book kind.Group = false
-is_book kind.Book = true
-is_book kind.Card = false
-
 -- whether a PROPFIND asks for a property
 abbrev pub asks_for : Property → Asked → Bool
 asks_for p what = is_asked p (parts_of what).properties
@@ -84,7 +76,7 @@ abbrev pub shape_at : Ready → Shape
 shape_at ready = record {
   target_mapped = is_some ready.target.node;
   destination_mapped = ready.target.replaces;
-  book = is_book (kind_of ready.target.path);
+  book = is_kind kind.Book (kind_of ready.target.path);
   acl = asks_for Acl ready.asked;
   privileges = asks_for CurrentUserPrivilegeSet ready.asked;
   effective = asks_effective ready.asked;

@@ -1,7 +1,7 @@
 -- Which texts spell which paths.
 use Rattle.book_office_values.proofs.Common.{◌≡◌, ◌≢◌, ℕ, ◌+◌, ◌<◌, ◌≤◌, ◌⊎◌, inl, inr, false, List, [], ◌∷◌, ◌++◌, length, drop, refl, ap, sym, ◌∙◌, subst, arith, codes, Result, Ok, Err, IsName}
 use Rattle.std.proofs.Common.{get_or, length-append, nat_eq, IfOk, IfErr, IsErrAnd}
-use Rattle.std.proofs.lemmas.Bool.{eqb-false}
+use Rattle.std.proofs.lemmas.Bool.{eqb-false, false≢true}
 use Rattle.std.proofs.lemmas.List.{append_assoc, length-drop}
 use Rattle.book_lists.specs.Principals.{Spells, EndsPlain}
 use Rattle.book_office_values.specs.declared.paths.Path.{Path}
@@ -37,7 +37,7 @@ Sort text p = ((p ≡ path.Root) × (text ≡ codes "/"))
 
 sort_of : (text : List ℕ) (p : Path) → IsPath p → SpellsPath text p → Sort text p
 sort_of text path.Root is (inl e) = inl (refl, e)
-sort_of text path.Root is (inr short) = absurd short.0
+sort_of text path.Root is (inr short) = absurd (false≢true short.0)
 sort_of text path.People is (inl e) = inr (inl ([], e, inl (refl, inl refl)))
 sort_of text path.People is (inr short) = inr (inl (codes "/", short.1, inl (refl, inr refl)))
 sort_of text path.Groups is (inl e) = inr (inr (inl ([], e, inl (refl, inl refl))))
@@ -51,7 +51,7 @@ sort_of text (path.Group name) is (inr short) = inr (inr (inl (codes "/" ++ name
 sort_of text (path.Book name) is (inl e) = inr (inr (inr (codes "/" ++ name, e, inl (inr (name, refl, is, inl refl)))))
 sort_of text (path.Book name) is (inr short) = inr (inr (inr (codes "/" ++ name ++ codes "/", short.1, inl (inr (name, refl, is, inr refl)))))
 sort_of text (path.Card book card) is (inl e) = inr (inr (inr (codes "/" ++ book ++ codes "/" ++ card, e, inr (book, card, refl, is.0, is.1, refl))))
-sort_of text (path.Card book card) is (inr short) = absurd short.0
+sort_of text (path.Card book card) is (inr short) = absurd (false≢true short.0)
 
 -- texts whose second bytes differ are not equal
 apart : (text other : List ℕ) → text ≡ other → nat_eq (get_or text 1 0) (get_or other 1 0) ≡ false → ⊥

@@ -1,5 +1,5 @@
 -- Paths of resources: how they are spelled, and which path is above which (own profile).
-use Rattle.std.specs.Prelude.{◌≡◌, ◌⊎◌, ℕ, ◌++◌, List, [], ◌∷◌, Option, Some, None, codes}
+use Rattle.std.specs.Prelude.{◌≡◌, ◌⊎◌, ℕ, ◌==◌, Bool, true, ◌||◌, ◌++◌, List, [], ◌∷◌, length, slice_get, Option, Some, None, codes}
 use Rattle.book_lists.specs.Names.{IsName}
 use Rattle.book_lists.specs.Principals.{person_path, group_path}
 use Rattle.book_office_values.specs.declared.paths.Path.{Path}
@@ -37,36 +37,6 @@ IsPath (path.Group name) = IsName name
 IsPath (path.Book name) = IsName name
 IsPath (path.Card book name) = IsName book × IsName name
 
--- paths of one or two names, as `/people` and `/people/ann`
-abbrev pub IsShort : Path → Type 0
-IsShort path.Root = ⊥
-IsShort path.People = Unit {0}
-IsShort path.Groups = Unit {0}
-IsShort path.Books = Unit {0}
-IsShort (path.Person name) = Unit {0}
-IsShort (path.Group name) = Unit {0}
-IsShort (path.Book name) = Unit {0}
-IsShort (path.Card book name) = ⊥
-
--- a text spells a path: it is the path's text, or, for a path of one or two names, that text and one slash more
-abbrev pub SpellsPath : List ℕ → Path → Type 0
-SpellsPath text p = (text ≡ path_text p) ⊎ (IsShort p × (text ≡ path_text p ++ codes "/"))
-
--- a text spells no path
-abbrev pub SpellsNone : List ℕ → Type 0
-SpellsNone text = (p : Path) → IsPath p → SpellsPath text p → ⊥
-
--- the path above a path
-abbrev pub parent_of : Path → Option Path
-parent_of path.Root = None
-parent_of path.People = Some path.Root
-parent_of path.Groups = Some path.Root
-parent_of path.Books = Some path.Root
-parent_of (path.Person name) = Some path.People
-parent_of (path.Group name) = Some path.Groups
-parent_of (path.Book name) = Some path.Books
-parent_of (path.Card book name) = Some (path.Book book)
-
 -- a path, the path above it, and so on up to the root
 abbrev pub levels : Path → List Path
 levels path.Root = path.Root ∷ []
@@ -78,6 +48,22 @@ levels (path.Group name) = path.Group name ∷ path.Groups ∷ path.Root ∷ []
 levels (path.Book name) = path.Book name ∷ path.Books ∷ path.Root ∷ []
 levels (path.Card book name) = path.Card book name ∷ path.Book book ∷ path.Books ∷ path.Root ∷ []
 
+-- the path above a path
+abbrev pub parent_of : Path → Option Path
+parent_of p = slice_get (levels p) 1
+
+-- paths of one or two names, as `/people` and `/people/ann`: they have two levels, or three
+abbrev pub IsShort : Path → Type 0
+IsShort p = ((length (levels p) == 2) || (length (levels p) == 3)) ≡ true
+
+-- a text spells a path: it is the path's text, or, for a path of one or two names, that text and one slash more
+abbrev pub SpellsPath : List ℕ → Path → Type 0
+SpellsPath text p = (text ≡ path_text p) ⊎ (IsShort p × (text ≡ path_text p ++ codes "/"))
+
+-- a text spells no path
+abbrev pub SpellsNone : List ℕ → Type 0
+SpellsNone text = (p : Path) → IsPath p → SpellsPath text p → ⊥
+
 -- the kind of the resource at a path, if there is one
 abbrev pub kind_of : Path → Kind
 kind_of path.Root = kind.Root
@@ -88,6 +74,19 @@ kind_of (path.Person name) = kind.Person
 kind_of (path.Group name) = kind.Group
 kind_of (path.Book name) = kind.Book
 kind_of (path.Card book name) = kind.Card
+
+-- the number of a kind
+abbrev pub kind_code : Kind → ℕ
+kind_code kind.Root = 0
+kind_code kind.Home = 1
+kind_code kind.Person = 2
+kind_code kind.Group = 3
+kind_code kind.Book = 4
+kind_code kind.Card = 5
+
+-- whether two kinds are the same
+abbrev pub is_kind : Kind → Kind → Bool
+is_kind a b = kind_code a == kind_code b
 
 -- a text spells at most one path
 abbrev pub TextsSpellOnePath : Type 0

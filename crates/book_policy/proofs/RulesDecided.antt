@@ -1,7 +1,7 @@
 -- Each rule on parts is kept or broken, so that each text has a policy or a fault.
 use Rattle.book_policy.proofs.Common.{◌≡◌, drop, subst, sym, List, ap, refl, ℕ, [], map, ◌∷◌, arith, inl, inr, length, ◌≤◌, Bool, None, Some, true, false, ◌++◌, All, AllByRecursion, Path, NamesPrincipal, NamesForm, BookPart, GroupPart, EntryText, Parts}
 use Rattle.std.proofs.Common.{◌⊎◌, ◌≢◌, Option, codes, filter, if◌then◌else◌}
-use Rattle.std.proofs.lemmas.Bool.{and_parts, cases_lt}
+use Rattle.std.proofs.lemmas.Bool.{and_parts, cases_lt, false≢true}
 use Rattle.std.proofs.lemmas.Slice.Eq.{bytes_eq-Decides}
 use Rattle.std.specs.FinMap.{get}
 use Rattle.std.specs.FinSet as set
@@ -44,14 +44,14 @@ path_or_not (path.Book name) = name_or_not name
 path_or_not (path.Card book name) = both_or_not (name_or_not book) (name_or_not name)
 
 short_or_not : (p : Path) → OrNot (IsShort p)
-short_or_not path.Root = inr (λ h. h)
-short_or_not path.People = inl tt
-short_or_not path.Groups = inl tt
-short_or_not path.Books = inl tt
-short_or_not (path.Person name) = inl tt
-short_or_not (path.Group name) = inl tt
-short_or_not (path.Book name) = inl tt
-short_or_not (path.Card book name) = inr (λ h. h)
+short_or_not path.Root = inr false≢true
+short_or_not path.People = inl refl
+short_or_not path.Groups = inl refl
+short_or_not path.Books = inl refl
+short_or_not (path.Person name) = inl refl
+short_or_not (path.Group name) = inl refl
+short_or_not (path.Book name) = inl refl
+short_or_not (path.Card book name) = inr false≢true
 
 spells_or_not : (text : List ℕ) (p : Path) → OrNot (SpellsPath text p)
 spells_or_not text p = either_or_not (text_or_not text (path_text p)) (both_or_not (short_or_not p) (text_or_not text (path_text p ++ codes "/")))

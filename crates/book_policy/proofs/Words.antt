@@ -39,9 +39,9 @@ spelled_or (x ∷ xs) = one (trimmed_or xs)
 -- ---- principals
 spells_principal : (persons groups : NamesTo (List ℕ)) (text : List ℕ) (p : Path) → Spells text (path_text p) → IsPrincipalOf persons groups p → SpellsPath text p
 spells_principal persons groups text (path.Person name) (inl e) h = inl e
-spells_principal persons groups text (path.Person name) (inr e) h = inr (tt, e)
+spells_principal persons groups text (path.Person name) (inr e) h = inr (refl, e)
 spells_principal persons groups text (path.Group name) (inl e) h = inl e
-spells_principal persons groups text (path.Group name) (inr e) h = inr (tt, e)
+spells_principal persons groups text (path.Group name) (inr e) h = inr (refl, e)
 spells_principal persons groups text path.Root s h = absurd h
 spells_principal persons groups text path.People s h = absurd h
 spells_principal persons groups text path.Groups s h = absurd h
@@ -65,9 +65,9 @@ known_named persons groups text (p, is, e, h) = (p, is, spells_principal persons
 -- the principal whose path a text spells is the text without a slash at its end
 pub principal_is : (text principal : List ℕ) → IsPrincipal principal → Spells text principal → principal ≡ spelled text
 principal_is text principal (inl person) (inl e) = person.2 ∙ spelled_path text (path.Person person.0) person.1 tt (inl (e ∙ person.2))
-principal_is text principal (inl person) (inr e) = person.2 ∙ spelled_path text (path.Person person.0) person.1 tt (inr (tt, e ∙ ap (λ q. q ++ codes "/") person.2))
+principal_is text principal (inl person) (inr e) = person.2 ∙ spelled_path text (path.Person person.0) person.1 tt (inr (refl, e ∙ ap (λ q. q ++ codes "/") person.2))
 principal_is text principal (inr group) (inl e) = group.2 ∙ spelled_path text (path.Group group.0) group.1 tt (inl (e ∙ group.2))
-principal_is text principal (inr group) (inr e) = group.2 ∙ spelled_path text (path.Group group.0) group.1 tt (inr (tt, e ∙ ap (λ q. q ++ codes "/") group.2))
+principal_is text principal (inr group) (inr e) = group.2 ∙ spelled_path text (path.Group group.0) group.1 tt (inr (refl, e ∙ ap (λ q. q ++ codes "/") group.2))
 
 -- ---- forms
 module _ (P : Who → Type 0) (text : List ℕ) where

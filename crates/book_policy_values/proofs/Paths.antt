@@ -41,7 +41,7 @@ IsNoCard (path.Card book name) = ⊥
 
 pub spelled_path : (text : List ℕ) (p : Path) → IsPath p → IsNoCard p → SpellsPath text p → path_text p ≡ spelled text
 spelled_path text path.Root is bare (inl e) = sym (ap spelled e)
-spelled_path text path.Root is bare (inr e) = absurd e.0
+spelled_path text path.Root is bare (inr e) = absurd (false≢true e.0)
 spelled_path text path.People is bare (inl e) = sym (ap spelled e)
 spelled_path text path.People is bare (inr e) = sym (ap spelled e.1)
 spelled_path text path.Groups is bare (inl e) = sym (ap spelled e)

@@ -101,7 +101,7 @@ still_unfounded old new clean survives stays = record {
   stays = stays;
   left = λ x left. elim (survives.crash clean left.0 left.1) [
     | inl kept ↦ inl (left.0, kept, left.2)
-    | inr made ↦ inr (only_left (in_store left.0) empty_office x (kept_stands (in_store left.0) empty_office (founded_stands (in_store left.0) made.book made.rows)) left.2)
+    | inr made ↦ inr (made.was_empty, only_left (in_store left.0) empty_office x (kept_stands (in_store left.0) empty_office (founded_stands (in_store left.0) made.book made.rows)) left.2)
   ];
 }
 

@@ -5,6 +5,7 @@ use Rattle.book_office.specs.Keeping.{broken}
 use Rattle.book_office.proofs.SameOffices.{same_office}
 use Rattle.book_tables_rows.specs.Writes.{IsMeta}
 use Rattle.book_tables_schema.specs.Layout.{tables_of}
+use Rattle.book_tables_schema.specs.declared.layout.Generation.TheVariants.{Second}
 use Rattle.book_tables_schema.specs.OtherReach.{HasBase}
 use Rattle.book_tables_schema.proofs.DroppedReach.{book_beside}
 use Rattle.std.proofs.Common.{true}
@@ -46,7 +47,7 @@ only_left db o broken st by = absurd (by db.schema o st)
 pub base_of : (db : Database) → IsBook db → HasBase db
 base_of db book = record { schema = book_beside db.schema book.schema; rules = book.rules; rising = λ t there. book.rising t (within t there); former = book.former }
   where
-    within : (t : Table) → Has (tables_of true) t → Has book_schema.tables t
+    within : (t : Table) → Has (tables_of Second) t → Has book_schema.tables t
     within t (inl is) = inl is
     within t (inr (inl is)) = inr (inl is)
     within t (inr (inr (inl is))) = inr (inr (inl is))

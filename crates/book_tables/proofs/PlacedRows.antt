@@ -7,7 +7,8 @@ use Rattle.book_tables_rows.specs.Adopting.{add_under, write_found, write_place}
 use Rattle.book_tables_rows.specs.Writes.{insert_node, with_place, set_place}
 use Rattle.book_tables_rows.proofs.Shapes.{put_next}
 use Rattle.book_tables.specs.Adopting.{text_or_empty}
-use Rattle.book_tables.specs.Rows.{kind_code, kind_numbered}
+use Rattle.book_office_values.specs.Paths.{kind_code}
+use Rattle.book_tables.specs.Rows.{kind_numbered}
 use Rattle.book_tables.proofs.Looking.{found_has, find-update_where, has_int}
 use Rattle.book_tables.proofs.RowFacts.{apart, row_added, KeepsNumbers, KeepsRows, kept_node, kept_entry, kept_removed, has_appended, has_updated, all_updated, all_from_has, is_at_found}
 use Rattle.book_tables.proofs.AddedBooks.{none_found}

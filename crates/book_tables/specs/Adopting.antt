@@ -12,9 +12,8 @@ use Rattle.book_office_values.specs.declared.offices.Properties.{Properties}
 use Rattle.book_office_values.specs.declared.paths.Path.{Path}
 use Rattle.book_office_values.specs.declared.paths.Path.TheVariants as path
 use Rattle.book_office_values.specs.Names.{NamesTo}
-use Rattle.book_office_values.specs.Paths.{path_text, parent_of, kind_of}
+use Rattle.book_office_values.specs.Paths.{path_text, parent_of, kind_of, kind_code}
 use Rattle.book_tables_rows.specs.Adopting.{Place, Listed, Joined}
-use Rattle.book_tables.specs.Rows.{kind_code}
 use Rattle.book_tables.specs.Settings.{entry_said}
 
 -- ---- what rows say

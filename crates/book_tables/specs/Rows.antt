@@ -12,7 +12,7 @@ use Rattle.book_lists.specs.declared.entries.Who.TheVariants.{Href, Everyone, Au
 use Rattle.book_lists.specs.declared.memberships.Membership.{Membership}
 use Rattle.book_office_values.specs.declared.paths.Kind.{Kind}
 use Rattle.book_office_values.specs.declared.paths.Kind.TheVariants as kind
-use Rattle.book_office_values.specs.Paths.{book_path}
+use Rattle.book_office_values.specs.Paths.{book_path, kind_code}
 use Rattle.book_office.specs.Resources.{Resource}
 use Rattle.book_tables_rows.specs.Columns.{ace_deny, ace_form, ace_invert, ace_mask, ace_principal, gone_number, member_group_place, member_member_place, node_kind, node_label, node_number, node_owner, node_text}
 use Rattle.book_tables_rows.specs.Nodes.{number_in, text_in}
@@ -24,14 +24,6 @@ use Rattle.book_tables_rows.specs.Writes.{is_at, is_gone, flag, entries_of}
 -- 1 is true
 abbrev pub flag_in : Value → Bool
 flag_in value = nat_eq (number_in value) 1
-
-abbrev pub kind_code : Kind → ℕ
-kind_code kind.Root = 0
-kind_code kind.Home = 1
-kind_code kind.Person = 2
-kind_code kind.Group = 3
-kind_code kind.Book = 4
-kind_code kind.Card = 5
 
 abbrev pub kind_numbered : ℕ → Kind
 kind_numbered zero = kind.Root

@@ -15,7 +15,7 @@ use Rattle.book_lists.specs.declared.memberships.Membership.{Membership}
 use Rattle.book_office_values.specs.declared.offices.Office.{Office}
 use Rattle.book_office_values.specs.declared.paths.Path.{Path}
 use Rattle.book_office_values.specs.declared.paths.Path.TheVariants as path
-use Rattle.book_office_values.specs.Paths.{IsPath, path_text, parent_of, kind_of}
+use Rattle.book_office_values.specs.Paths.{IsPath, path_text, parent_of, kind_of, kind_code}
 use Rattle.book_office.specs.Keeping.{Leftover, whole, broken}
 use Rattle.book_office.specs.Resources.{resource_at, removed_at}
 use Rattle.book_office.specs.Sound.{IsSound}
@@ -25,7 +25,7 @@ use Rattle.book_tables_rows.specs.Rows.{Rows, rows_of, IsBook}
 use Rattle.book_tables_rows.specs.Writes.{IsMeta, flag}
 use Rattle.book_tables_schema.specs.OtherReach.{HasBase}
 use Rattle.book_tables.specs.Reach.{HoldsReach}
-use Rattle.book_tables.specs.Rows.{row_at, kind_code, resource_in, has_member, removed_in, entry_of, entry_values}
+use Rattle.book_tables.specs.Rows.{row_at, resource_in, has_member, removed_in, entry_of, entry_values}
 
 -- ---- the form of a row
 

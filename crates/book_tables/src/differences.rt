@@ -6,11 +6,10 @@ ghost use Rattle.std.specs.Option.{option_copied};
 ghost use Rattle.book_lists.specs.Principals.{group_path};
 ghost use Rattle.book_tables_rows.specs.Adopting.{joined, listed_row, placed_row};
 ghost use Rattle.book_tables_rows.specs.Reach.{pair_said};
-ghost use Rattle.book_office_values.specs.Paths.{parent_of};
+ghost use Rattle.book_office_values.specs.Paths.{kind_code, parent_of};
 ghost use Rattle.book_office_values.specs.declared.paths.Path.TheVariants as path;
 ghost use Rattle.book_tables.specs.Adopting.{Adds, AddsGroups, AddsLists, AddsPlaces, AreDifferences, HasLists, HasPlace, compared_books, compared_homes, compared_in, group_said, lists_said, members_in, place_said, properties_of, text_or_empty};
 ghost use Rattle.book_tables.specs.Reach.{Renews};
-ghost use Rattle.book_tables.specs.Rows.{kind_code};
 
 use crate::renewals::{Renewal, renewal_of};
 use crate::settings::rows_of;

@@ -1,2 +1,3 @@
 mod Making
 mod Seeing
+mod Commits

@@ -1,5 +1,5 @@
 -- What is found in files that were read before.
-use Rattle.std.proofs.Common.{ℕ, ◌≤◌, sym, subst, inl, inr, arith}
+use Rattle.std.proofs.Common.{ℕ, true, ◌≤◌, sym, subst, inl, inr, arith}
 use Rattle.sqlite_disk.specs.declared.Disk.{Ghosts}
 use Rattle.sqlite_disk.specs.declared.Files.{Files}
 use Rattle.sqlite_wal.specs.Recovery.{Image}
@@ -16,7 +16,7 @@ use Rattle.sqlite.specs.declared.file.Leftover.{Leftover}
 use Rattle.sqlite.specs.declared.file.Leftover.TheVariants as left
 use Rattle.sqlite.specs.Files.{AreFoundIn, BeginsWell, Finds, HoldsDatabase, IsEmpty, IsKept, IsNothing, LeavesFiles, NamesSize, SaysSums, file_state, image_of}
 use Rattle.sqlite.proofs.FileLemmas.{same_image}
-use Rattle.book_tables_files.specs.Finding.{FindsStore, IsUnmade, LeavesFirstOpen}
+use Rattle.book_tables_files.specs.Finding.{FindsStore, IsUnmade, LeavesFirstOpen, TellsNew}
 
 -- files that hold a database are none in which it has still to be made
 pub holds_none : (image : Image) (db : Trees) → HoldsDatabase image db → ¬ IsUnmade image
@@ -37,11 +37,11 @@ module _ {D : Type 0} {g : Ghosts D} (old new : Files D) (log : OnlyReads g old.
         reads = subst (λ image. AreFoundIn image (file_state c).committed.trees) same found.reads;
       }
 
-  pub made_there : (c : Held (FileStore D g)) → IsUnmade (image_of g old) → AreClean g new.log new.db → IsEmpty (file_state c).committed.trees → FindsStore old c
-  made_there c blank clean empty = record {
+  pub made_there : (c : Held (FileStore D g)) → TellsNew (image_of g old) true → AreClean g new.log new.db → IsEmpty (file_state c).committed.trees → FindsStore old c
+  made_there c (blank, none) clean empty = record {
     honest = clean_before clean;
     holds = λ trees held. absurd (holds_none (image_of g old) trees held blank);
-    unmade = λ _. empty;
+    unmade = λ _. (empty, none);
   }
 
   pub found_there : (c : Held (FileStore D g)) → (AreClean g new.log new.db → ¬ IsUnmade (image_of g old)) → Finds new c → FindsStore old c

@@ -1,8 +1,9 @@
 -- What is found where the files of a store are opened.
-use Rattle.std.specs.Prelude.{◌≡◌, ◌⊎◌, IsTrue}
+use Rattle.std.specs.Prelude.{◌≡◌, ◌⊎◌, ◌↔◌, ℕ, suc, Bool, true, false, List, IsTrue}
 use Rattle.sqlite_disk.specs.declared.Disk.{Ghosts}
 use Rattle.sqlite_disk.specs.declared.Files.{Files}
-use Rattle.sqlite_wal.specs.Recovery.{Image}
+use Rattle.sqlite_wal.specs.PageSize.{IsPageSize}
+use Rattle.sqlite_wal.specs.Recovery.{Image, IsCommitted, Replays}
 use Rattle.sqlite_wal.specs.Reads.{AreClean}
 use Rattle.sqlite_wal.specs.Files.{outcomes}
 use Rattle.sqlite_pool.specs.Opening.{IsBlankFile}
@@ -20,6 +21,20 @@ use Rattle.sqlite.specs.Files.{file_state, image_of, HoldsDatabase, IsEmpty, Lea
 abbrev pub IsUnmade : Image → Type 0
 IsUnmade = IsBlankFile 512
 
+-- the log holds a commit: its first frames are valid, of pages of some size, and the last of them commits
+abbrev pub HoldsCommit : List ℕ → Type 0
+HoldsCommit log = (page_size : ℕ) × IsPageSize page_size × (last : ℕ) × IsCommitted page_size log (suc last)
+
+-- whether recovery takes a frame of a log
+abbrev pub TellsFrame : ℕ → List ℕ → Bool → Type 0
+TellsFrame page_size log true = (last : ℕ) × IsCommitted page_size log (suc last)
+TellsFrame page_size log false = Replays page_size log 0
+
+-- whether a store is to be made: none was made yet, and the log holds no commit
+abbrev pub TellsNew : Image → Bool → Type 0
+TellsNew image true = IsUnmade image × ¬ (HoldsCommit image.log)
+TellsNew image false = ¬ (IsUnmade image)
+
 -- the files hold a store without a row
 abbrev pub HasNoRow : Image → Type 0
 HasNoRow image = ∥ ((db : Trees) × HoldsDatabase image db × IsEmpty db) ∥₁
@@ -36,11 +51,11 @@ module _ {D : Type 0} {g : Ghosts D} where
     pub is_open : IsTrue (view store).is_open
     pub empty : IsEmpty (view store).trees
 
-  -- the connection has the database that the files hold, and an empty one where none was made yet
+  -- the connection has the database that the files hold, and an empty one where none was made yet, beside a log without a commit
   pub record FindsStore (files : Files D) (c : Held (FileStore D g)) : Type 0 where
     pub honest : AreClean g files.log files.db
     pub holds : (db : Trees) → HoldsDatabase (image_of g files) db → (file_state c).committed.trees ≡ db
-    pub unmade : IsUnmade (image_of g files) → IsEmpty (file_state c).committed.trees
+    pub unmade : IsUnmade (image_of g files) → IsEmpty (file_state c).committed.trees × ¬ (HoldsCommit (image_of g files).log)
 
   -- what a stop may leave where the first open failed
   abbrev pub LeavesFirstOpen : Files D → Leftover D g → Type 0
@@ -48,6 +63,7 @@ module _ {D : Type 0} {g : Ghosts D} where
   LeavesFirstOpen files (left.Unopened now) = (image : Image) → (state_of now).may_leave image → IsBegun g files image
   LeavesFirstOpen files (left.Store now) = (trees : Trees) → recovers now trees → IsEmpty trees
 
-  -- what a stop may leave where an open failed: what `sqlite` says of its own, or what the first open leaves
+  -- what a stop may leave where an open failed: what `sqlite` says of its own, or what the first open leaves, where none was made
+  -- yet and the log holds no commit
   abbrev pub KeepsFiles : Files D → Leftover D g → Type 0
-  KeepsFiles files now = LeavesFiles files now ⊎ (IsUnmade (image_of g files) × LeavesFirstOpen files now)
+  KeepsFiles files now = LeavesFiles files now ⊎ (TellsNew (image_of g files) true × LeavesFirstOpen files now)

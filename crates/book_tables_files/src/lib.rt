@@ -2,8 +2,9 @@
 //!
 //! A store that is not there yet is made with pages of 512 bytes, where `sqlite` by itself makes pages of 4,096: an edit
 //! writes few rows, each in another page, and what it costs is the bytes of those pages, which are summed, logged and
-//! synced. A store that is there keeps its pages. It stands on `sqlite` and its parts alone; the layer above uses
-//! `FindsStore`, and what a stop leaves of the first open is `LeavesFirstOpen`.
+//! synced. A store that is there keeps its pages. No store is made beside a log that holds a commit: the store is both
+//! files, and one of them was lost. It stands on `sqlite` and its parts alone; the layer above uses `FindsStore` and
+//! `HoldsCommit`, and what a stop leaves of the first open is `LeavesFirstOpen`.
 #![tactic(auto)]
 
 ghost use Rattle.std.specs.Prelude.{◌≡◌, ◌↔◌, [], IsTrue, IfOk, IfErr};
@@ -15,14 +16,14 @@ ghost use Rattle.sqlite.specs.State.{HasCleanDisk};
 ghost use Rattle.sqlite.specs.Held.{IsNew};
 ghost use Rattle.sqlite.specs.Opening.{is_open_error};
 ghost use Rattle.sqlite.specs.Files.{file_state, image_of, IsCleanLeft, IsEmpty, IsOpened, Finds, LeavesFiles};
-ghost use Rattle.book_tables_files.specs.Finding.{FindsStore, IsMadeIn, IsUnmade, KeepsFiles, LeavesFirstOpen};
+ghost use Rattle.book_tables_files.specs.Finding.{FindsStore, HoldsCommit, IsMadeIn, IsUnmade, KeepsFiles, LeavesFirstOpen, TellsFrame, TellsNew};
 
 use sqlite::{Connection, Error, ErrorCode, FileStore, Leftover, Options};
-use sqlite_disk::{Disk, Files};
+use sqlite_disk::{Disk, Files, Memory};
 use sqlite_pager::Pager;
 use sqlite_pool::probe_blank;
 use sqlite_store::{OpenError, Unopened};
-use sqlite_wal::{PageSize, probe_page_size};
+use sqlite_wal::{PageSize, probe_frames, probe_page_size};
 use std::alloc::{AllocFailed, Global};
 
 /// The bytes of a page of a store that is made.
@@ -83,6 +84,75 @@ fn is_unmade<D: Disk>(alloc: Global, files: &mut Files<D>, size: PageSize) -> Re
         Ok(is_blank) => Ok(is_blank),
         Err(error) => Err(probe_error(error)),
     }
+}
+
+/// Whether recovery takes a frame of the log, of pages of this size.
+fn has_frame<D: Disk>(alloc: Global, log: &mut D, size: PageSize) -> Result<bool, Error>
+    requires { IsTrue (D.Disk.is_usable log.old) }
+    ensures ok { IfOk result (λ b. IsTrue (D.Disk.is_clean log.new) → TellsFrame (bytes_of size) (D.Disk.seen log.old) b) }
+    ensures named { IfErr result (λ e. IsTrue (is_open_error e)) }
+    ensures same { OnlyReads D.Disk log.old log.new }
+{
+    match probe_frames(alloc, log, size) {
+        Ok(numbers) => Ok(!numbers.is_empty()),
+        Err(error) => Err(probe_error(error)),
+    }
+}
+
+/// Whether the log holds a commit, of pages of whatever size. Nothing is written.
+fn holds_commit<D: Disk>(alloc: Global, files: &mut Files<D>) -> Result<bool, Error>
+    requires log { IsTrue (D.Disk.is_usable files.old.log) }
+    requires db { IsTrue (D.Disk.is_usable files.old.db) }
+    ensures ok { IfOk result (λ b. AreClean D.Disk files.new.log files.new.db
+        → (IsTrue b ↔ HoldsCommit (D.Disk.seen files.old.log))) }
+    ensures named { IfErr result (λ e. IsTrue (is_open_error e)) }
+    ensures log { OnlyReads D.Disk files.old.log files.new.log }
+    ensures db { OnlyReads D.Disk files.old.db files.new.db }
+{
+    match probe_page_size(files) {
+        Ok(Some(size)) => has_frame(alloc, &mut files.log, size),
+        Ok(None) => Ok(false),
+        Err(_) => Err(Error::SqliteFailure(ErrorCode::SystemIoFailure)),
+    }
+}
+
+/// Whether these bytes of a log hold a commit, of pages of whatever size: edits may stand in it that are in no other file.
+///
+/// # Errors
+///
+/// `OutOfMemory` is want of memory; each other error tells a log that recovery refuses.
+pub fn log_holds_commit(alloc: Global, log: &[u8]) -> Result<bool, Error>
+    ensures ok { IfOk result (λ b. IsTrue b ↔ HoldsCommit log.now) }
+    ensures named { IfErr result (λ e. IsTrue (is_open_error e)) }
+{
+    let mut files = Files {
+        log: Memory::new(alloc),
+        db: Memory::new(alloc),
+    };
+    match files.log.write_at(0, log) {
+        Ok(()) => holds_commit(alloc, &mut files),
+        Err(_) => Err(NO_MEMORY),
+    }
+}
+
+/// Whether a store is to be made in the files: none was made yet, and the log holds no commit. Where it holds one the
+/// answer is an error.
+fn is_new<D: Disk>(alloc: Global, files: &mut Files<D>, size: PageSize) -> Result<bool, Error>
+    requires log { IsTrue (D.Disk.is_usable files.old.log) }
+    requires db { IsTrue (D.Disk.is_usable files.old.db) }
+    requires size { bytes_of size ≡ 512 }
+    ensures ok { IfOk result (λ b. AreClean D.Disk files.new.log files.new.db → TellsNew (image_of D.Disk files.old) b) }
+    ensures named { IfErr result (λ e. IsTrue (is_open_error e)) }
+    ensures log { OnlyReads D.Disk files.old.log files.new.log }
+    ensures db { OnlyReads D.Disk files.old.db files.new.db }
+{
+    if !is_unmade(alloc, files, size)? {
+        return Ok(false);
+    }
+    if holds_commit(alloc, files)? {
+        return Err(Error::SqliteFailure(ErrorCode::DatabaseCorrupt));
+    }
+    Ok(true)
 }
 
 /// The files with what is to be read of them, or the files again for want of memory. Nothing is read yet.
@@ -184,12 +254,14 @@ fn reopen<D: Disk + Drop>(
 }
 
 /// Opens the store in these two files: recovers its log, and checks each page, index and rule, as `Connection::open_files`
-/// does. Where no store was made yet, one without a row is made, with pages of 512 bytes; one that is there keeps its
-/// pages. The salts of the log are drawn from the seed, and about so many bytes of pages are kept in memory.
+/// does. Where no store was made yet, one without a row is made, with pages of 512 bytes, if the log holds no commit; one
+/// that is there keeps its pages. The salts of the log are drawn from the seed, and about so many bytes of pages are kept in
+/// memory.
 ///
 /// # Errors
 ///
-/// Those of `Connection::open_files`, with what is left of the files.
+/// Those of `Connection::open_files`, with what is left of the files; and `DatabaseCorrupt` where no store was made yet and
+/// the log holds a commit, so that the database file was lost: nothing is written then.
 pub fn open_store_files<D: Disk + Drop>(
     alloc: Global,
     mut files: Files<D>,
@@ -206,7 +278,7 @@ pub fn open_store_files<D: Disk + Drop>(
     ensures kept { IfErr result (λ e. IsCleanLeft e.1 → KeepsFiles files e.1) }
 {
     let size = PageSize::new(NEW_PAGE).unwrap();
-    match is_unmade(alloc, &mut files, size) {
+    match is_new(alloc, &mut files, size) {
         Ok(true) => create(alloc, files, size, options(size, seed, memory)),
         Ok(false) => reopen(alloc, files, seed, memory),
         Err(error) => Err((error, Leftover::Files(files))),

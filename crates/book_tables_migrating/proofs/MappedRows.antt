@@ -29,6 +29,8 @@ use Rattle.book_tables_rows.specs.Schema.{first_schema, ace_table}
 use Rattle.book_tables_rows.specs.Writes.{by_place, entries_of, is_entry}
 use Rattle.book_tables_schema.specs.Renewing.{renumbered, widened_row}
 use Rattle.book_tables_schema.specs.Tabled.{HasTables}
+use Rattle.book_tables_schema.specs.declared.layout.Generation.TheVariants.{First}
+use Rattle.book_tables_schema.proofs.DroppedReach.{plain_beside}
 use Rattle.book_tables_schema.proofs.WidenedRows.{lists_kept}
 use Rattle.book_tables_renewing.specs.Renewal.{first_rows_of, is_first_mask, HasFirstMask, AreFirstRows, renewed}
 use Rattle.book_tables.specs.Rows.{entry_of, list_in, resource_of, row_at}
@@ -36,7 +38,7 @@ use Rattle.book_tables.specs.Stands.{IsNode, IsEntry, IsRemoved, Gives, Stands}
 use Rattle.book_tables.proofs.OneOffice.{base_of}
 use Rattle.book_tables.proofs.RowFacts.{KeepsNumbers, kept_node, kept_removed}
 use Rattle.book_tables_opening.proofs.RowForms.{table_width, nine}
-use Rattle.book_tables_migrating.specs.Migrating.{HasFirst, StandsFirst}
+use Rattle.book_tables_migrating.specs.Migrating.{HasBefore, StandsFirst}
 use Rattle.book_tables_migrating.specs.Widen.{office_with, widen}
 use Rattle.book_tables_migrating.proofs.MappedOffices.{resource_with, resource_mapped, removed_mapped, sound_still}
 
@@ -290,8 +292,8 @@ module _ (db : Database) (tables : HasTables first_schema db) (are : AreFirstRow
   unfolding narrow
   narrow_sound o sound = sound_still narrowed_entry (λ e. refl) o sound
 
-pub as_first : (db : Database) → HasTables first_schema db → HasFirst db
-as_first db tables = (inl tables.schema, record { schema = refl; rules = tables.rules; rising = λ t there. tables.rising t (subst (λ (s : Schema). Has s.tables t) tables.schema there) })
+pub as_first : (db : Database) → HasTables first_schema db → HasBefore First db
+as_first db tables = (plain_beside First db.schema tables.schema, record { schema = refl; rules = tables.rules; rising = λ t there. tables.rising t (subst (λ (s : Schema). Has s.tables t) tables.schema there) })
 
 -- tables that stood for an Office as those of version 1 stand for the widened one, renewed
 pub widened_stands : (db : Database) → HasTables first_schema db → (o : Office) → StandsFirst db o → (new : Database) → IsBook new → rows_of new.trees ≡ renewed (first_rows_of db.trees) → Stands new (widen o)

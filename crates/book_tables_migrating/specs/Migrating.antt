@@ -1,6 +1,7 @@
--- For which Office the tables of version 1 stand, and what a migration makes of them.
-use Rattle.std.specs.Prelude.{◌≡◌, ◌⊎◌, ℕ, Bool, false, length, map, Option, Some, None, IsTrue}
+-- For which Office the tables of version 1, and those of version 2 in the former order, stand, and what a migration makes of them.
+use Rattle.std.specs.Prelude.{◌≡◌, ◌⊎◌, ℕ, Bool, List, [], length, map, Option, Some, None, IsTrue}
 use Rattle.sqlite.specs.Effect.{Database}
+use Rattle.sqlite.specs.Order.{Row}
 use Rattle.sqlite.specs.Schema.{Schema}
 use Rattle.sqlite.specs.State.{State}
 use Rattle.sqlite.specs.Tree.{Trees}
@@ -15,37 +16,68 @@ use Rattle.book_office.specs.Levels.{effective_at}
 use Rattle.book_office.specs.declared.nodes.EffectiveEntry.{EffectiveEntry}
 use Rattle.book_office.specs.Sound.{IsSound}
 use Rattle.book_tables_rows.specs.Rows.{in_store}
-use Rattle.book_tables_rows.specs.Schema.{ace_tree}
+use Rattle.book_tables_rows.specs.Schema.{ace_tree, ace2_tree}
 use Rattle.book_tables_rows.specs.Steps.{Stays}
 use Rattle.book_tables_schema.specs.Renewing.{renumbered}
 use Rattle.book_tables_schema.specs.OtherReach.{IsBeside}
+use Rattle.book_tables_schema.specs.Layout.{former_tree}
+use Rattle.book_tables_schema.specs.declared.layout.Generation.{Generation}
+use Rattle.book_tables_schema.specs.declared.layout.Generation.TheVariants.{First, Former, Second}
 use Rattle.book_tables_renewing.specs.Renewal.{first_rows_of, AreFirstRows}
+use Rattle.book_tables_renewing.specs.Reordering.{former_rows_of}
 use Rattle.book_tables.specs.Opened.{StandsAlone}
 use Rattle.book_tables.specs.Stands.{Gives, IsKept, Stands}
 use Rattle.book_tables_opening.specs.Reading.{RowsRise}
 use Rattle.book_tables_migrating.specs.Widen.{widen}
 
--- ---- version 1
+-- ---- the tables that a migration takes
 
--- the tables of version 1 are there with their columns and rules, and their rows rise by their numbers: with a table `reach`, of
--- whatever columns and rows, or without one
-abbrev pub HasFirst : Database → Type 0
-HasFirst db = IsBeside false db.schema × RowsRise db
+-- the tables of a generation are there with their columns and rules, and their rows rise by their numbers: with a table `reach`, of
+-- whatever columns and rows, or without one, and with whichever of the indexes that only make look-ups fast
+abbrev pub HasBefore : Generation → Database → Type 0
+HasBefore generation db = IsBeside generation db.schema × RowsRise db
 
 -- tables of version 1 whose rows give a sound Office, but that their version is 1: the sets of its entries are of the eight leaves
 pub record StandsFirst (db : Database) (o : Office) : Type 0 where
-  pub tables : HasFirst db
+  pub tables : HasBefore First db
   pub first : AreFirstRows (first_rows_of db.trees)
   pub gives : Gives (renumbered (first_rows_of db.trees)) o
   pub sound : IsSound o
 
--- a store with these trees stands for it
-abbrev pub StandsFirstBy : Trees → Office → Type 0
-StandsFirstBy trees o = (s : Schema) × StandsFirst (record { schema = s; trees = trees }) o
+-- tables of version 2 in the former order whose rows give a sound Office, and `ace` has none
+pub record StandsFormer (db : Database) (o : Office) : Type 0 where
+  pub tables : HasBefore Former db
+  pub empty : db.trees ace_tree ≡ []
+  pub gives : Gives (former_rows_of db.trees) o
+  pub sound : IsSound o
 
--- the tables of version 1 stand for no Office
-abbrev pub StandsForNoFirst : Database → Type 0
-StandsForNoFirst db = (o : Office) → ¬ (StandsFirst db o)
+-- tables of a generation, and the Office that a migration makes of them: the widened one of what those of version 1 stand for, and
+-- what those in the former order stand for; those of version 2 are not migrated
+abbrev pub StandsBefore : Generation → Database → Office → Type 0
+StandsBefore First db new = (o : Office) × StandsFirst db o × (new ≡ widen o)
+StandsBefore Former db new = StandsFormer db new
+StandsBefore Second db new = ⊥
+
+-- a store with these trees stands so
+abbrev pub StandsBeforeBy : Generation → Trees → Office → Type 0
+StandsBeforeBy generation trees new = (s : Schema) × StandsBefore generation (record { schema = s; trees = trees }) new
+
+-- no migration makes an Office of the tables as those of a generation
+abbrev pub StandsForNoneAs : Generation → Database → Type 0
+StandsForNoneAs generation db = (new : Office) → ¬ (StandsBefore generation db new)
+
+-- the entries of their lists
+abbrev pub entries_before : Generation → Trees → List Row
+entries_before First trees = trees ace_tree
+entries_before Former trees = trees former_tree
+entries_before Second trees = trees ace2_tree
+
+-- which tables a schema has that a migration takes
+abbrev pub TellsGeneration : Schema → Option Generation → Type 0
+TellsGeneration schema None = (¬ (IsBeside First schema)) × (¬ (IsBeside Former schema))
+TellsGeneration schema (Some First) = IsBeside First schema
+TellsGeneration schema (Some Former) = IsBeside Former schema
+TellsGeneration schema (Some Second) = ⊥
 
 -- ---- the law
 
@@ -62,52 +94,57 @@ WidenedOfficesDecideAlike = (db : Database) (o : Office) → StandsFirst db o �
 
 -- ---- a connection
 
--- inside a transaction: the tables of version 1 became those of version 2, with so many entries, and are kept for the widened Office
-pub record Rewritten (old new : State) (count : ℕ) : Type 0 where
+-- inside a transaction: the tables of a generation became those of a store, with so many entries, and are kept for the Office
+pub record Rewritten (generation : Generation) (old new : State) (count : ℕ) : Type 0 where
   pub inside : IsTrue new.in_transaction
   pub was_open : IsTrue old.is_open
-  pub stands : HasFirst old.now → (o : Office) × StandsFirst old.now o × IsKept new.now (widen o)
-  pub counted : HasFirst old.now → count ≡ length (old.now.trees ace_tree)
+  pub stands : HasBefore generation old.now → (o : Office) × StandsBefore generation old.now o × IsKept new.now o
+  pub counted : HasBefore generation old.now → count ≡ length (entries_before generation old.now.trees)
 
 -- whether they did: if not, they stood for no Office
-abbrev pub TellsRewritten : State → State → Option ℕ → Type 0
-TellsRewritten old new (Some count) = Rewritten old new count
-TellsRewritten old new None = StandsForNoFirst old.now
+abbrev pub TellsRewritten : Generation → State → State → Option ℕ → Type 0
+TellsRewritten generation old new (Some count) = Rewritten generation old new count
+TellsRewritten generation old new None = StandsForNoneAs generation old.now
 
--- the tables of a connection became those of version 2, and were committed
+-- the tables of a connection became those of a store, and were committed
 pub record IsMigrated (old new : State) (count : ℕ) : Type 0 where
-  pub schema : IsBeside false old.now.schema
+  pub generation : Generation
+  pub schema : IsBeside generation old.now.schema
   pub was_open : IsTrue old.is_open
   pub is_open : IsTrue new.is_open
   pub committed : new.committed ≡ new.now
-  pub stands : HasFirst old.now → (o : Office) × StandsFirst old.now o × IsKept new.now (widen o)
-  pub counted : HasFirst old.now → count ≡ length (old.now.trees ace_tree)
+  pub stands : HasBefore generation old.now → (o : Office) × StandsBefore generation old.now o × IsKept new.now o
+  pub counted : HasBefore generation old.now → count ≡ length (entries_before generation old.now.trees)
 
 -- what a stop may leave of it
 pub record MayMigrate (old : State) (trees : Trees) : Type 0 where
-  pub schema : IsBeside false old.now.schema
+  pub generation : Generation
+  pub schema : IsBeside generation old.now.schema
   pub was_open : IsTrue old.is_open
-  pub stands : HasFirst old.now → (o : Office) × StandsFirst old.now o × Stands (in_store trees) (widen o)
+  pub stands : HasBefore generation old.now → (o : Office) × StandsBefore generation old.now o × Stands (in_store trees) o
 
 -- whether they did: if not, they stood for no Office, and an open connection shows what it showed
 abbrev pub TellsMigrated : State → State → Option ℕ → Type 0
 TellsMigrated old new (Some count) = IsMigrated old new count
-TellsMigrated old new None = Stays old new × StandsForNoFirst old.now
+TellsMigrated old new None = Stays old new × ((generation : Generation) → StandsForNoneAs generation old.now)
 
 -- ---- a store that is migrated
 
--- the trees that were committed stood for an Office as tables of version 1, and the connection stands for the widened one
+-- the trees that were committed stood for an Office as tables of version 1, and the connection stands for the widened one; or they
+-- stood for one in the former order, and the connection stands for it
 pub record StandsWidened (trees : Trees) (new : State) (count : ℕ) : Type 0 where
+  pub generation : Generation
   pub office : Office
-  pub first : StandsFirstBy trees office
-  pub stands : StandsAlone new (widen office)
-  pub counted : count ≡ length (trees ace_tree)
+  pub before : StandsBeforeBy generation trees office
+  pub stands : StandsAlone new office
+  pub counted : count ≡ length (entries_before generation trees)
 
--- what an open connection shows stands for no Office as tables of version 1
-abbrev pub StandsForNoneFirst : State → Type 0
-StandsForNoneFirst s = IsTrue s.is_open → StandsForNoFirst s.now
+-- what an open connection shows stands for no Office as tables of version 1, and for none in the former order
+abbrev pub StandsForNoneBefore : State → Type 0
+StandsForNoneBefore s = IsTrue s.is_open → (generation : Generation) → StandsForNoneAs generation s.now
 
--- it shows the trees that were committed, and a stop leaves these, or what stands for the widened Office
+-- it shows the trees that were committed, and a stop leaves these, or what stands for the Office that a migration makes of them
 pub record IsUnmigrated (trees : Trees) (new : State) : Type 0 where
   pub shows : IsTrue new.is_open → new.now.trees ≡ trees
-  pub left : (after : Trees) → new.may_leave after → (after ≡ trees) ⊎ ((o : Office) × StandsFirstBy trees o × Stands (in_store after) (widen o))
+  pub left : (after : Trees) → new.may_leave after
+      → (after ≡ trees) ⊎ ((generation : Generation) × (o : Office) × StandsBeforeBy generation trees o × Stands (in_store after) o)

@@ -6,17 +6,18 @@ ghost use Rattle.sqlite.specs.State.{HasCleanDisk, Survives};
 ghost use Rattle.book_tables_rows.specs.Steps.{Keeps, Stays};
 ghost use Rattle.book_tables_schema.specs.Reopening.{IfConnection, IfStore, IsConnectionAnd, IsUnharmed};
 ghost use Rattle.book_tables_opening.specs.Reading.{FaultSays, IsRefused, IsReopened};
-ghost use Rattle.book_tables_migrating.specs.Migrating.{IsUnmigrated, MayMigrate, StandsForNoneFirst, StandsWidened, TellsMigrated, TellsRewritten};
+ghost use Rattle.book_tables_migrating.specs.Migrating.{IsUnmigrated, MayMigrate, StandsForNoneBefore, StandsWidened, TellsGeneration, TellsMigrated, TellsRewritten};
 
 use book_tables::{OpenFault, Tables};
 use book_tables_opening::{open_fault_of, settle_office, tells_other};
-use book_tables_renewing::renew;
-use book_tables_schema::{Unopened, drop_reach, is_beside_reach, reopen};
+use book_tables_renewing::{renew, reorder};
+use book_tables_schema::{Generation, Unopened, drop_derived, is_beside_reach, reopen};
 use sqlite::{Alter, Connection, Error, ErrorCode, Transaction};
-use std::alloc::Global;
+use sqlite_schema::schema::Schema;
+use std::alloc::{AllocError, Global};
 
-/// Renews the tables, without any `reach` that there is, and tells how many entries they have, where their rows are then
-/// those of a sound Office; `reach`, made anew, then holds what chains of its direct members lead to.
+/// Renews the tables of version 1, without any `reach` that there is, and tells how many entries they have, where their
+/// rows are then those of a sound Office; `reach`, made anew, then holds what chains of its direct members lead to.
 fn rewrite<S: Alter>(
     alloc: Global,
     transaction: &mut Transaction<'_, S>,
@@ -27,10 +28,10 @@ fn rewrite<S: Alter>(
     ensures kept { Keeps (state S.Store transaction.old.conn.now) (state S.Store transaction.new.conn.now) }
     ensures told { HasCleanDisk (state S.Store transaction.new.conn.now)
         → IsTrue (state S.Store transaction.old.conn.now).in_transaction
-        → IfOk result (λ count. TellsRewritten (state S.Store transaction.old.conn.now)
+        → IfOk result (λ count. TellsRewritten Generation.First (state S.Store transaction.old.conn.now)
         (state S.Store transaction.new.conn.now) count) }
 {
-    drop_reach(transaction)?;
+    drop_derived(transaction)?;
     let Some(count) = renew(transaction)? else {
         return Ok(None);
     };
@@ -40,9 +41,69 @@ fn rewrite<S: Alter>(
     Ok(Some(count))
 }
 
-/// The same of a connection whose tables are those of version 1, in a transaction of its own: it is committed where
-/// they are, and undone where they are not.
-fn migrate_first<S: Alter>(
+/// Does the same with the tables of version 2 in the former order, whose rows stay.
+fn rearrange<S: Alter>(
+    alloc: Global,
+    transaction: &mut Transaction<'_, S>,
+) -> Result<Option<usize>, Error>
+    ensures same_reference { transaction.new.conn.ghost_name ≡ transaction.old.conn.ghost_name }
+    ensures survives { Survives (state S.Store transaction.old.conn.now) (state S.Store transaction.new.conn.now)
+        (λ _. ⊥) }
+    ensures kept { Keeps (state S.Store transaction.old.conn.now) (state S.Store transaction.new.conn.now) }
+    ensures told { HasCleanDisk (state S.Store transaction.new.conn.now)
+        → IsTrue (state S.Store transaction.old.conn.now).in_transaction
+        → IfOk result (λ count. TellsRewritten Generation.Former (state S.Store transaction.old.conn.now)
+        (state S.Store transaction.new.conn.now) count) }
+{
+    drop_derived(transaction)?;
+    let Some(count) = reorder(transaction)? else {
+        return Ok(None);
+    };
+    let Some(_settled) = settle_office(alloc, transaction)? else {
+        return Ok(None);
+    };
+    Ok(Some(count))
+}
+
+/// Does it with the tables of a generation; those of version 2 are not migrated.
+fn rewrite_from<S: Alter>(
+    alloc: Global,
+    transaction: &mut Transaction<'_, S>,
+    generation: Generation,
+) -> Result<Option<usize>, Error>
+    ensures same_reference { transaction.new.conn.ghost_name ≡ transaction.old.conn.ghost_name }
+    ensures survives { Survives (state S.Store transaction.old.conn.now) (state S.Store transaction.new.conn.now)
+        (λ _. ⊥) }
+    ensures kept { Keeps (state S.Store transaction.old.conn.now) (state S.Store transaction.new.conn.now) }
+    ensures told { HasCleanDisk (state S.Store transaction.new.conn.now)
+        → IsTrue (state S.Store transaction.old.conn.now).in_transaction
+        → IfOk result (λ count. TellsRewritten generation (state S.Store transaction.old.conn.now)
+        (state S.Store transaction.new.conn.now) count) }
+{
+    match generation {
+        Generation::First => rewrite(alloc, transaction),
+        Generation::Former => rearrange(alloc, transaction),
+        Generation::Second => Ok(None),
+    }
+}
+
+/// Which tables a schema has that a migration takes: those of version 1, or those of version 2 in the former order. An
+/// error is want of memory.
+fn generation_of(alloc: Global, schema: &Schema) -> Result<Option<Generation>, AllocError>
+    ensures { IfOk result (λ found. TellsGeneration schema.now found) }
+{
+    if is_beside_reach(alloc, schema, Generation::First)? {
+        return Ok(Some(Generation::First));
+    }
+    if is_beside_reach(alloc, schema, Generation::Former)? {
+        return Ok(Some(Generation::Former));
+    }
+    Ok(None)
+}
+
+/// Rewrites the tables of a connection that a migration takes, in a transaction of its own: it is committed where they
+/// stood for an Office, and undone where they did not.
+fn migrate_tables<S: Alter>(
     alloc: Global,
     connection: &mut Connection<S>,
 ) -> Result<Option<usize>, Error>
@@ -53,27 +114,27 @@ fn migrate_first<S: Alter>(
     ensures left { Survives (state S.Store connection.old) (state S.Store connection.new)
         (MayMigrate (state S.Store connection.old)) }
 {
-    if !is_beside_reach(connection.schema(), false) {
+    let Some(generation) = generation_of(alloc, connection.schema())? else {
         return Ok(None);
-    }
+    };
     if !connection.is_autocommit() {
         return Err(Error::SqliteFailure(ErrorCode::TransactionState));
     }
     let mut transaction = connection.transaction();
-    let Some(count) = rewrite(alloc, &mut transaction)? else {
+    let Some(count) = rewrite_from(alloc, &mut transaction, generation)? else {
         return Ok(None);
     };
     transaction.commit()?;
     Ok(Some(count))
 }
 
-/// Why a connection was not migrated whose tables stand for no Office as those of version 1.
+/// Why a connection was not migrated whose tables stand for no Office as those of version 1, nor in the former order.
 fn refusal_of<S: Alter>(connection: &mut Connection<S>) -> OpenFault
     ensures stays { HasCleanDisk (state S.Store connection.new)
         → Stays (state S.Store connection.old) (state S.Store connection.new) }
     ensures survives { Survives (state S.Store connection.old) (state S.Store connection.new) (λ _. ⊥) }
     ensures says { HasCleanDisk (state S.Store connection.new) → IsTrue (state S.Store connection.new).is_open
-        → FaultSays S.Store 1 (state S.Store connection.new).now result }
+        → FaultSays 1 (state S.Store connection.new).now result }
 {
     match tells_other(connection, 1) {
         Ok(true) => OpenFault::OtherVersion,
@@ -92,15 +153,15 @@ fn migrate_again<S: Alter>(
         × StandsWidened (state S.Store connection).now.trees (state S.Store t.0.connection) t.1) }
     ensures counted { IfOk result (λ t. t.0.failures ≡ 0) }
     ensures refused { IfErr result (λ e. IsRefused e.0 → IsConnectionAnd e.1 (λ c.
-        HasCleanDisk (state S.Store c) → StandsForNoneFirst (state S.Store c))) }
+        HasCleanDisk (state S.Store c) → StandsForNoneBefore (state S.Store c))) }
     ensures other { IfErr result (λ e. IsRefused e.0 → IsConnectionAnd e.1 (λ c. HasCleanDisk (state S.Store c)
-        → IsTrue (state S.Store c).is_open → FaultSays S.Store 1 (state S.Store c).now e.0)) }
+        → IsTrue (state S.Store c).is_open → FaultSays 1 (state S.Store c).now e.0)) }
     ensures kept { IsReopened (state S.Store connection)
         → IfErr result (λ e. IfConnection e.1 (λ c. HasCleanDisk (state S.Store c) → HasCleanDisk (state S.Store connection)
         × IsUnmigrated (state S.Store connection).now.trees (state S.Store c))) }
     ensures connected { IfErr result (λ e. IfStore e.1 (λ _. ⊥)) }
 {
-    match migrate_first(alloc, &mut connection) {
+    match migrate_tables(alloc, &mut connection) {
         Ok(Some(count)) => Ok((Tables::over(connection), count as u64)),
         Ok(None) => {
             let fault = refusal_of(&mut connection);
@@ -110,17 +171,19 @@ fn migrate_again<S: Alter>(
     }
 }
 
-/// Makes the tables of a store of version 1 those of version 2, in one transaction, as its last commit left them, and
-/// opens them; tells how many entries they have. Each entry that has `x-read-texts`, which was `read`, has
-/// `x-read-names` then; nothing else changes: the epoch and all change numbers stay, so tokens stay good. `reach` is
-/// made, behind all other tables, whatever table of that name there was. Every row is read and tested, as `open` does.
+/// Makes the tables of a store of version 1, or of one of version 2 in the former order, those of a store, in one
+/// transaction, as its last commit left them, and opens them; tells how many entries they have. Each entry of version 1
+/// that has `x-read-texts`, which was `read`, has `x-read-names` then; nothing else changes: the epoch and all change
+/// numbers stay, so tokens stay good. `reach` and the indexes are made, behind all other tables, whatever table `reach`
+/// and whichever of these indexes there were. Every row is read and tested, as `open` does.
 ///
 /// # Errors
 ///
-/// `OtherVersion` where the tables stand for no Office as those of version 1, and `meta` has one row, with another
-/// version than 1; `NoStore` where they stand for none else. `Memory` is want of memory, `Store` any other failure of
-/// the store. The connection comes back, and shows what was committed; a stop leaves that, or what is migrated. Where the
-/// store could not be opened again, it comes back itself: a stop leaves what was committed, if the connection was open.
+/// `OtherVersion` where the tables stand for no Office as those of version 1 nor in the former order, and `meta` has one
+/// row, with another version than 1; `NoStore` where they stand for none else. `Memory` is want of memory, `Store` any
+/// other failure of the store. The connection comes back, and shows what was committed; a stop leaves that, or what is
+/// migrated. Where the store could not be opened again, it comes back itself: a stop leaves what was committed, if the
+/// connection was open.
 pub fn migrate<S: Alter + Drop>(
     alloc: Global,
     connection: Connection<S>,
@@ -129,9 +192,9 @@ pub fn migrate<S: Alter + Drop>(
         → StandsWidened (state S.Store connection).committed.trees (state S.Store t.0.connection) t.1) }
     ensures counted { IfOk result (λ t. t.0.failures ≡ 0) }
     ensures refused { IfErr result (λ e. IsRefused e.0 → IsConnectionAnd e.1 (λ c.
-        HasCleanDisk (state S.Store c) → StandsForNoneFirst (state S.Store c))) }
+        HasCleanDisk (state S.Store c) → StandsForNoneBefore (state S.Store c))) }
     ensures other { IfErr result (λ e. IsRefused e.0 → IsConnectionAnd e.1 (λ c. HasCleanDisk (state S.Store c)
-        → IsTrue (state S.Store c).is_open → FaultSays S.Store 1 (state S.Store c).now e.0)) }
+        → IsTrue (state S.Store c).is_open → FaultSays 1 (state S.Store c).now e.0)) }
     ensures kept { IfErr result (λ e. IfConnection e.1 (λ c. HasCleanDisk (state S.Store c)
         → IsUnmigrated (state S.Store connection).committed.trees (state S.Store c))) }
     ensures unharmed { IfErr result (λ e. IfStore e.1 (IsUnharmed S.Store (state S.Store connection))) }

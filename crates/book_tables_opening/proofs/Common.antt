@@ -27,7 +27,7 @@ pub use Rattle.book_office_values.proofs.NameMapLaws.{is_same, same_itself, same
 pub use Rattle.book_office_values.proofs.OneName.{some_apart, by_option}
 pub use Rattle.book_office_values.proofs.Spelling.{one_text}
 pub use Rattle.book_office_values.specs.Names.{NamesTo}
-pub use Rattle.book_office_values.specs.Paths.{path_text, IsPath, book_path, kind_of, parent_of, card_path}
+pub use Rattle.book_office_values.specs.Paths.{path_text, IsPath, book_path, kind_of, kind_code, parent_of, card_path}
 pub use Rattle.book_office_values.specs.declared.offices.Book.{Book}
 pub use Rattle.book_office_values.specs.declared.offices.Office.{Office}
 pub use Rattle.book_office_values.specs.declared.offices.Properties.{Properties}
@@ -51,7 +51,7 @@ pub use Rattle.book_tables.proofs.ChildRows.{its_resource}
 pub use Rattle.book_tables.proofs.Looking.{found_has, has_text, has_int, same_ints}
 pub use Rattle.book_tables.proofs.RowFacts.{number_of_row, all_from_has, same_rowid}
 pub use Rattle.book_tables.proofs.SameLists.{has_map, has_mapped}
-pub use Rattle.book_tables.specs.Rows.{row_at, resource_of, kind_code, flag_in, list_in, is_member, removed_from, entry_of, principal_value}
+pub use Rattle.book_tables.specs.Rows.{row_at, resource_of, flag_in, list_in, is_member, removed_from, entry_of, principal_value}
 pub use Rattle.book_tables.specs.Stands.{Gives, IsNode, IsEntry, IsParent, IsRemoved}
 pub use Rattle.book_tables_opening.specs.Directories.{is_of_kind, first_shown_at, node_numbered, number_at, shown_with, is_int_of, is_text_of}
 pub use Rattle.book_tables_opening.specs.Opening.{AreAtMost, Key, IsNodeRow, same_key, AreOfficeRows, IsEntryRow, IsBelow, IsGoneRow, IsMemberRow, IsWithinBook, IsChangeNumber, IsContent, IsKnown, IsMetaRows, card_changes, change_keys, gone_change, gone_changes, list_keys}

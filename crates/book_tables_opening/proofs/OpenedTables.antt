@@ -3,23 +3,29 @@ use Rattle.book_tables_opening.proofs.Common.{◌≡◌, inl, inr, Bool, true, f
 use Rattle.std.proofs.Common.{◌↔◌, ◌⊎◌}
 use Rattle.std.proofs.lemmas.Bool.{true≢false}
 use Rattle.std.proofs.lemmas.List.Sorted.{IsPermutation-sym}
+use Rattle.sqlite.specs.Held.{Held}
 use Rattle.sqlite.specs.State.{Opens, Survives}
 use Rattle.sqlite.specs.Tree.{Trees}
 use Rattle.sqlite.proofs.StateLemmas.{survives_then}
+use Rattle.sqlite_catalog.proofs.ReadLemmas.{lists_once}
+use Rattle.sqlite_trees.specs.Objects.{catalog_tree}
 use Rattle.book_office_values.specs.declared.offices.Office.{Office}
-use Rattle.book_office.specs.Keeping.{Leftover, whole}
 use Rattle.book_tables_rows.specs.Rows.{Rows, in_store}
 use Rattle.book_tables_rows.specs.Schema.{ace_tree}
 use Rattle.book_tables_rows.specs.Steps.{Looks, Stays}
 use Rattle.book_tables_schema.specs.OtherReach.{IsBeside}
+use Rattle.book_tables_schema.specs.declared.layout.Generation.TheVariants.{Second}
+use Rattle.book_tables_schema.specs.Reopening.{IsConnectionAnd}
 use Rattle.book_tables_schema.specs.Tabled.{IsTabled, book_of}
+use Rattle.book_tables_schema.specs.declared.reopening.Unopened.{Unopened}
+use Rattle.book_tables_schema.specs.declared.reopening.Unopened.TheVariants.{Connection, Store}
 use Rattle.book_tables.specs.Reach.{AreDirect, HoldsReach, IsSettled, Settles}
 use Rattle.book_tables.specs.Reach as reaching
 use Rattle.book_tables.specs.Stands.{Gives, IsKept, LeftBy, Stands}
-use Rattle.book_tables.proofs.OneOffice.{base_of, kept_stands, one_office, only_left}
+use Rattle.book_tables.proofs.OneOffice.{base_of, kept_stands, only_left}
 use Rattle.book_tables.proofs.RenewedReach.{gives_with_reach}
 use Rattle.book_tables_opening.specs.Opening.{AreTextlessRows, HasTextIn}
-use Rattle.book_tables_opening.specs.Reading.{Commits, IsOpened, IsUnopened, LeavesReach, MaySettle, RowsRise, SameRows, Settled, ShowsTables, StandsForOne, StandsForNone, TellsOffice, TellsSettled, TellsStanding, WritesReach}
+use Rattle.book_tables_opening.specs.Reading.{Commits, IsOpened, IsUnopened, LeavesReach, MaySettle, RowsRise, SameRows, Settled, ShowsTables, StandForNone, StandsForOne, TellsOffice, TellsSettled, TellsStanding, WritesReach}
 use Rattle.book_tables_opening.proofs.AnyOrder.{any_order}
 use Rattle.book_tables_opening.proofs.GivenRows.{given_rows}
 use Rattle.book_tables_opening.proofs.NodeTexts.{texts_own, texts_there}
@@ -65,7 +71,7 @@ module _ (s : State) (nodes entries members gone meta : List Row) (shows : Shows
   )
 
 -- tables without the schema of a store stand for none
-pub foreign_none : (db : Database) → ¬ (IsBeside true db.schema) → ¬ (StandsForOne db)
+pub foreign_none : (db : Database) → ¬ (IsBeside Second db.schema) → ¬ (StandsForOne db)
 foreign_none db foreign (o, st) = foreign st.base.schema
 
 -- tables of which the one of version 1 has rows stand for none
@@ -172,48 +178,24 @@ module _ (old new : State) (survives : Survives old new (MaySettle old)) (clean 
     | inr made ↦ inr (made rise)
   ]
 
-  -- what is kept for an Office leaves that one alone
-  one_left : (db : Database) (s : Settled old.now db) (o : Office) → Stands old.now o → (x : Leftover) → LeftBy db.trees x → x ≡ whole o
-  one_left db s o st x left =
-      only_left db s.office x (kept_stands db s.office s.kept) left
-      ∙ ap whole (one_office (rows_of old.now.trees) s.office o s.stood.gives st.gives s.stood.sound st.sound)
-
-  -- a connection that shows what it showed, where that is kept for its Office
-  pub stayed : Stays old new → Settled old.now old.now → IsOpened old.now.trees new
-  stayed stays s = record {
-    stands = (
-      s.office,
-      record {
-        stands = (λ open_now. subst (λ db. IsKept db s.office) (sym (stays open_now).1) s.kept, s.kept.sound);
-        left = λ x left. elim (may_be left.0 left.1) [
-          | inl same ↦ only_left old.now s.office x s.stood (subst (λ trees. LeftBy trees x) same left.2)
-          | inr made ↦ one_left (in_store left.0) made s.office s.stood x left.2
-        ];
-      },
-    );
-    same = λ open_now. subst (λ (db : Database). SameRows old.now.trees db.trees) (sym (stays open_now).1) s.same;
-  }
-
-  -- one that made `reach`
-  pub committed : Commits old new → ((trees : Trees) → IsTrue new.is_open → new.may_leave trees → trees ≡ new.committed.trees) → IsOpened old.now.trees new
-  committed c settles =
+  -- one that made `reach`, or found it so
+  pub opened : Commits old new → ((trees : Trees) → IsTrue new.is_open → new.may_leave trees → trees ≡ new.committed.trees) → IsOpened old.now.trees new
+  opened c settles =
       let s = c.made rise in
       record {
-        stands = (
-          s.office,
-          record {
+        stands = record {
+          office = s.office;
+          stood = (old.now.schema, s.stood);
+          stands = record {
             stands = (λ open_now. s.kept, s.kept.sound);
             left = λ x left.
                 let same : left.0 ≡ new.now.trees = settles left.0 c.is_open left.1 ∙ ap (λ (d : Database). d.trees) c.committed in
                 only_left new.now s.office x (kept_stands new.now s.office s.kept) (subst (λ trees. LeftBy trees x) same left.2);
-          },
-        );
-        same = λ open_now. s.same;
+          };
+          is_open = c.is_open;
+        };
+        same = s.same;
       }
-
-  pub opened : TellsSettled old new true → ((trees : Trees) → IsTrue new.is_open → new.may_leave trees → trees ≡ new.committed.trees) → IsOpened old.now.trees new
-  opened (inl kept) settles = stayed kept.0 (kept.1 rise)
-  opened (inr made) settles = committed made settles
 
   -- one that was not opened
   pub unopened : Stays old new → IsUnopened old.now.trees new
@@ -221,10 +203,17 @@ module _ (old new : State) (survives : Survives old new (MaySettle old)) (clean 
     shows = λ open_now. ap (λ (d : Database). d.trees) (stays open_now).1;
     left = λ after may. elim (may_be after may) [
       | inl same ↦ inl same
-      | inr made ↦ inr (made.same, λ x left. subst (LeftBy old.now.trees) (sym (one_left (in_store after) made made.office made.stood x left)) (old.now.schema, made.stood))
+      | inr made ↦ inr (record { office = made.office; stood = (old.now.schema, made.stood); kept = made.kept; same = made.same })
     ];
   }
 
-  -- one whose tables stood for none stands for none
-  pub refused : TellsSettled old new false → StandsForNone new
-  refused (stays, none) open_now one = none rise (subst StandsForOne (stays open_now).1 one)
+-- tables that stand for no Office under the schema that they list stand for none
+pub refused : (old new : State) → TellsSettled old new false → RowsRise old.now → StandForNone old.now.trees
+refused old new (stays, none) rise schema o st =
+    let same : schema ≡ old.now.schema = lists_once (old.now.trees catalog_tree) schema old.now.schema st.base.rules.lists rise.rules.lists in
+    none rise (o, subst (λ s. Stands (record { schema = s; trees = old.now.trees }) o) same st)
+
+-- what holds of a connection that came back
+pub connected_weaker : {S : Type 0} (P Q : Held S → Type 0) (left : Unopened S) → ((c : Held S) → P c → Q c) → IsConnectionAnd left P → IsConnectionAnd left Q
+connected_weaker P Q (Connection c) f h = f c h
+connected_weaker P Q (Store s) f h = absurd h

@@ -6,9 +6,10 @@ use Rattle.sqlite.proofs.StateLemmas.{survives_then}
 use Rattle.book_office_values.specs.declared.offices.Office.{Office}
 use Rattle.book_tables_rows.specs.Rows.{in_store}
 use Rattle.book_tables_rows.specs.Schema.{ace_tree}
-use Rattle.book_tables_schema.specs.Founding.{GetsReach}
+use Rattle.book_tables_schema.specs.Founding.{GetsDerived}
+use Rattle.book_tables_schema.specs.declared.layout.Generation.TheVariants.{Second}
 use Rattle.book_tables_schema.specs.Layout.{tables_of}
-use Rattle.book_tables_schema.specs.OtherReach.{DropsReach, IsBeside}
+use Rattle.book_tables_schema.specs.OtherReach.{DropsDerived, IsBeside}
 use Rattle.book_tables_schema.specs.Tabled.{IsTabled, book_of}
 use Rattle.book_tables_schema.proofs.DroppedReach.{others_rise}
 use Rattle.book_tables_schema.proofs.RisingRows.{tables_as}
@@ -20,18 +21,18 @@ use Rattle.book_tables_opening.specs.Reading.{Commits, MakesAnew, MaySettle, Row
 
 -- ---- `reach` is made anew
 
-pub made_anew : (old between new : State) → DropsReach old between → GetsReach between new → MakesAnew old new
+pub made_anew : (old between new : State) → DropsDerived old between → GetsDerived between new → MakesAnew old new
 made_anew old between new drops gets = record {
   inside = gets.inside;
   was_open = drops.was_open;
   is_open = gets.is_open;
   made = λ beside rise.
-      let dropped = drops.made true beside rise in
+      let dropped = drops.made Second beside rise in
       let got = gets.made dropped.0 in
-      (got.0, kept_then old.now.trees between.now.trees new.now.trees (tables_of true) dropped.1 got.1, got.2);
+      (got.0, kept_then old.now.trees between.now.trees new.now.trees (tables_of Second) dropped.1 got.1, got.2);
 }
 
-module _ (old mid : State) (gets : MakesAnew old mid) (beside : IsBeside true old.now.schema) (rise : RowsRise old.now) where
+module _ (old mid : State) (gets : MakesAnew old mid) (beside : IsBeside Second old.now.schema) (rise : RowsRise old.now) where
   rows_are : rows_of mid.now.trees ≡ record (rows_of old.now.trees) { reach = [] }
   rows_are =
       let got = gets.made beside rise in
@@ -54,7 +55,7 @@ module _ (old mid : State) (gets : MakesAnew old mid) (beside : IsBeside true ol
       let reach = (rows_of old.now.trees).reach in
       let back : record (rows_of mid.now.trees) { reach = reach } ≡ rows_of old.now.trees = λ i. record (rows_are i) { reach = reach } in
       record {
-        base = record { schema = beside; rules = rise.rules; rising = others_rise true old.now beside rise; former = sym former_are ∙ st.base.former };
+        base = record { schema = beside; rules = rise.rules; rising = others_rise Second old.now beside rise; former = sym former_are ∙ st.base.former };
         gives = subst (λ rows. Gives rows o) back (gives_with_reach (rows_of mid.now.trees) reach o st.gives);
         sound = st.sound;
       }
@@ -110,12 +111,9 @@ module _ (old begun : State) (is : begun ≡ record old { in_transaction = true 
   pub book_none : old.now.schema ≡ book_schema → (inner : State) → TellsOffice begun inner None → RowsRise old.now → ¬ (StandsForOne old.now)
   book_none schema inner none rise = subst (λ db. ¬ (StandsForOne db)) now_is (none (subst IsTabled (sym now_is) (tables_as book_schema old.now rise schema)))
 
-  pub book_stood : old.now.schema ≡ book_schema → (inner : State) → TellsOffice begun inner (Some false) → RowsRise old.now → Settled old.now old.now
-  book_stood schema inner told rise = subst (λ db. Settled db db) now_is (told.made (subst IsTabled (sym now_is) (tables_as book_schema old.now rise schema))).1
-
-  module _ (beside : IsBeside true old.now.schema) (mid : State) (gets : MakesAnew begun mid) where
-    begun_beside : IsBeside true begun.now.schema
-    begun_beside = subst (λ (db : Database). IsBeside true db.schema) (sym now_is) beside
+  module _ (beside : IsBeside Second old.now.schema) (mid : State) (gets : MakesAnew begun mid) where
+    begun_beside : IsBeside Second begun.now.schema
+    begun_beside = subst (λ (db : Database). IsBeside Second db.schema) (sym now_is) beside
 
     pub base_settled : (inner : State) (written : Bool) → TellsOffice mid inner (Some written) → RowsRise old.now → Settled old.now inner.now
     base_settled inner written told rise =

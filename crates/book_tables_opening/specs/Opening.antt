@@ -14,10 +14,10 @@ use Rattle.book_office_values.specs.declared.paths.Kind.{Kind}
 use Rattle.book_office_values.specs.declared.paths.Kind.TheVariants as kind
 use Rattle.book_office_values.specs.declared.paths.Path.{Path}
 use Rattle.book_office_values.specs.Texts.{IsLabel, IsCardText}
-use Rattle.book_office_values.specs.Paths.{IsPath, path_text, parent_of, kind_of}
+use Rattle.book_office_values.specs.Paths.{IsPath, path_text, parent_of, kind_of, kind_code}
 use Rattle.book_tables_rows.specs.Nodes.{number_in, text_in}
 use Rattle.book_tables_rows.specs.Rows.{Rows}
-use Rattle.book_tables.specs.Rows.{kind_code, flag_in}
+use Rattle.book_tables.specs.Rows.{flag_in}
 use Rattle.book_tables_opening.specs.Shown.{shown_gone_book, shown_gone_name, shown_gone_number, shown_group, shown_id, shown_kind, shown_label, shown_member, shown_node, shown_number, shown_owner, shown_parent, shown_path, shown_principal, shown_protected, shown_text}
 use Rattle.book_tables_opening.specs.Directories.{first_shown_at, shown_with, number_at, is_of_kind}
 use Rattle.book_tables_opening.specs.RowTests.{IsSpelledEntry}

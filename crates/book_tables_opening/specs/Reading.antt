@@ -1,22 +1,25 @@
 -- What reads of all tables show, and for what their rows stand.
-use Rattle.std.specs.Prelude.{◌≡◌, ◌↔◌, ◌⊎◌, ℕ, Bool, true, false, List, [], Option, Some, None, IsTrue}
-use Rattle.sqlite.specs.Effect.{Database}
-use Rattle.sqlite.specs.Held.{Held, state}
+use Rattle.std.specs.Prelude.{◌≡◌, ◌↔◌, ◌⊎◌, ℕ, Bool, true, false, List, [], Option, Some, None, Ok, Err, IsTrue}
+use Rattle.sqlite.specs.Effect.{Database, IsDatabase, Reads}
+use Rattle.sqlite.specs.Listing.{IsSourceOf, reads_listing, understood}
 use Rattle.sqlite.specs.Order.{Row}
+use Rattle.sqlite.specs.Schema.{Schema}
 use Rattle.sqlite.specs.State.{State, HasCleanDisk, Opens}
 use Rattle.sqlite.specs.Tree.{Trees}
 use Rattle.sqlite_catalog.specs.Change.{KeepsRows}
-use Rattle.sqlite_trees.specs.declared.store.Store.{Ghosts}
+use Rattle.sqlite_resolve.specs.declared.compiled.Compiled.{Compiled}
+use Rattle.sqlite_resolve.specs.declared.error.CompileError.{CompileError}
 use Rattle.book_office_values.specs.declared.offices.Office.{Office}
-use Rattle.book_office.specs.Keeping.{Leftover}
+use Rattle.book_office.specs.Keeping.{whole, broken}
 use Rattle.book_tables_rows.specs.Lists.{ShowsRows, pairs_of}
 use Rattle.book_tables_rows.specs.Rows.{IsBook, in_store, rows_of}
 use Rattle.book_tables_rows.specs.Schema.{reach_tree}
 use Rattle.book_tables_rows.specs.Steps.{Stays}
 use Rattle.book_tables_schema.specs.Layout.{tables_of}
+use Rattle.book_tables_schema.specs.declared.layout.Generation.TheVariants.{Second}
 use Rattle.book_tables_schema.specs.OtherReach.{IsBeside}
 use Rattle.book_tables_schema.specs.Tabled.{HasTables, IsTabled}
-use Rattle.book_tables_schema.specs.Versions.{SaysOther}
+use Rattle.book_tables_schema.specs.Versions.{is_other, read_version}
 use Rattle.book_tables_schema.specs.Whole.{entries_shown, gone_shown, meta_shown}
 use Rattle.book_tables.specs.Opened.{StandsAlone}
 use Rattle.book_tables.specs.Stands.{IsKept, LeftBy, Stands}
@@ -71,8 +74,8 @@ pub record MakesAnew (old new : State) : Type 0 where
   pub inside : IsTrue new.in_transaction
   pub was_open : IsTrue old.is_open
   pub is_open : IsTrue new.is_open
-  pub made : IsBeside true old.now.schema → RowsRise old.now
-      → IsTabled new.now × KeepsRows (tables_of true) old.now.trees new.now.trees × (new.now.trees reach_tree ≡ [])
+  pub made : IsBeside Second old.now.schema → RowsRise old.now
+      → IsTabled new.now × KeepsRows (tables_of Second) old.now.trees new.now.trees × (new.now.trees reach_tree ≡ [])
 
 -- `reach` was written
 pub record WritesReach (old new : State) : Type 0 where
@@ -103,9 +106,9 @@ pub record Commits (old new : State) : Type 0 where
 abbrev pub MaySettle : State → Trees → Type 0
 MaySettle old trees = RowsRise old.now → Settled old.now (in_store trees)
 
--- whether the tables stand for an Office: they were kept as its tables, or are now; if not, an open connection shows what it showed
+-- whether the tables stand for an Office: they are then kept as its tables; if not, an open connection shows what it showed
 abbrev pub TellsSettled : State → State → Bool → Type 0
-TellsSettled old new true = (Stays old new × (RowsRise old.now → Settled old.now old.now)) ⊎ Commits old new
+TellsSettled old new true = Commits old new
 TellsSettled old new false = Stays old new × (RowsRise old.now → ¬ (StandsForOne old.now))
 
 abbrev pub IsStanding : State → State → Standing → Type 0
@@ -113,18 +116,29 @@ IsStanding old new Whole = TellsSettled old new true
 IsStanding old new Other = TellsSettled old new false
 IsStanding old new Broken = TellsSettled old new false
 
--- the query for the version, on these tables, says whether it is another than this one
-pub record TellsOther {S : Type 0} (store : Ghosts S) (version : ℕ) (db : Database) (other : Bool) : Type 0 where
-  pub before : Held S
-  pub after : Held S
-  pub its : (state store before).now ≡ db
-  pub says : SaysOther version (state store before) (state store after) other
+-- ---- the version that a store says
+
+-- the rows that the query for the version shows of tables
+pub record ShowsVersions (db : Database) (rows : List Row) : Type 0 where
+  pub read : Compiled
+  pub meant : understood db.schema read_version ≡ Ok read
+  pub source : Database
+  pub its : IsSourceOf (reads_listing db.schema read_version) db source
+  pub shown : Reads read.command source [] rows
+
+-- SQL does not understand the query under their schema
+abbrev pub HidesVersions : Database → Type 0
+HidesVersions db = (fault : CompileError) × (understood db.schema read_version ≡ Err fault)
+
+-- whether it shows one row, whose version is not this one
+abbrev pub TellsOther : ℕ → Database → Bool → Type 0
+TellsOther version db other = ((rows : List Row) × ShowsVersions db rows × (other ≡ is_other version rows)) ⊎ (HidesVersions db × (other ≡ false))
 
 -- what the query for the version says of tables with such a standing
-abbrev pub StandingSays : {S : Type 0} → Ghosts S → Database → Standing → Type 0
-StandingSays store db Whole = Unit {0}
-StandingSays store db Other = TellsOther store 2 db true
-StandingSays store db Broken = TellsOther store 2 db false
+abbrev pub StandingSays : Database → Standing → Type 0
+StandingSays db Whole = Unit {0}
+StandingSays db Other = TellsOther 2 db true
+StandingSays db Broken = TellsOther 2 db false
 
 -- ---- a store is opened
 
@@ -132,23 +146,33 @@ StandingSays store db Broken = TellsOther store 2 db false
 abbrev pub IsReopened : State → Type 0
 IsReopened s = HasCleanDisk s → Opens s × RowsRise s.now
 
--- it stands for an Office, and a stop leaves that one alone
-abbrev pub StandsForItsOffice : State → Type 0
-StandsForItsOffice s = (o : Office) × StandsAlone s o
+-- the trees that were committed stood for an Office; an open connection stands for that one, which a stop leaves alone
+pub record StandsAsBefore (trees : Trees) (new : State) : Type 0 where
+  pub office : Office
+  pub stood : LeftBy trees (whole office)
+  pub stands : StandsAlone new office
+  pub is_open : IsTrue new.is_open
 
--- what an open connection shows stands for no Office
-abbrev pub StandsForNone : State → Type 0
-StandsForNone s = IsTrue s.is_open → ¬ (StandsForOne s.now)
-
--- its tables are tested, and left as they are but for `reach`
+-- the tables are tested, and left as they are but for `reach`
 pub record IsOpened (trees : Trees) (new : State) : Type 0 where
-  pub stands : StandsForItsOffice new
-  pub same : IsTrue new.is_open → SameRows trees new.now.trees
+  pub stands : StandsAsBefore trees new
+  pub same : SameRows trees new.now.trees
 
--- it shows the trees that were committed, and a stop leaves these, or the same rows of all tables but `reach`, for the same Office
+-- trees that stood for an Office were left with the same rows of all tables but `reach`, and are kept for that Office
+pub record LeavesOffice (trees after : Trees) : Type 0 where
+  pub office : Office
+  pub stood : LeftBy trees (whole office)
+  pub kept : IsKept (in_store after) office
+  pub same : SameRows trees after
+
+-- it shows the trees that were committed, and a stop leaves these, or the Office that they stood for
 pub record IsUnopened (trees : Trees) (new : State) : Type 0 where
   pub shows : IsTrue new.is_open → new.now.trees ≡ trees
-  pub left : (after : Trees) → new.may_leave after → (after ≡ trees) ⊎ (SameRows trees after × ((x : Leftover) → LeftBy after x → LeftBy trees x))
+  pub left : (after : Trees) → new.may_leave after → (after ≡ trees) ⊎ LeavesOffice trees after
+
+-- a store with these trees stands for no Office
+abbrev pub StandForNone : Trees → Type 0
+StandForNone trees = LeftBy trees broken
 
 -- the tables were read, and stand for no Office
 abbrev pub IsRefused : OpenFault → Type 0
@@ -158,8 +182,14 @@ IsRefused Memory = ⊥
 IsRefused Store = ⊥
 
 -- what the query for the version says of tables that are refused so where this one is wanted
-abbrev pub FaultSays : {S : Type 0} → Ghosts S → ℕ → Database → OpenFault → Type 0
-FaultSays store version db OtherVersion = TellsOther store version db true
-FaultSays store version db NoStore = TellsOther store version db false
-FaultSays store version db Memory = Unit {0}
-FaultSays store version db Store = Unit {0}
+abbrev pub FaultSays : ℕ → Database → OpenFault → Type 0
+FaultSays version db OtherVersion = TellsOther version db true
+FaultSays version db NoStore = TellsOther version db false
+FaultSays version db Memory = Unit {0}
+FaultSays version db Store = Unit {0}
+
+-- the same of trees, with the schema that they list
+pub record FaultSaysOf (version : ℕ) (trees : Trees) (fault : OpenFault) : Type 0 where
+  pub schema : Schema
+  pub listed : IsDatabase (record { schema = schema; trees = trees })
+  pub says : FaultSays version (record { schema = schema; trees = trees }) fault

@@ -2,10 +2,10 @@
 //!
 //! It stands on `book_tables_schema`, which opens a connection again and compares its schema, on `book_tables_rows`,
 //! which reads tables, and on `book_tables`, whose definition says for which Office tables stand. The crate above uses
-//! one promise, that of `open`: where it answers `Ok`, the connection stands for a sound Office, a stop just after
-//! leaves that one alone, and what it shows is what the last commit left, but for `reach`, which holds what chains of
-//! the direct members lead to; where it answers `OtherVersion` or `NoStore`, what the connection shows stands for no
-//! Office. For the migration of an older store it has the parts of `open` that are asked of one: `settle_office` in a
+//! one promise, that of `open`: where it answers `Ok`, the last commit left what stands for a sound Office, the connection
+//! is open and stands for that Office, a stop just after leaves it alone, and what it shows is what the last commit left,
+//! but for `reach`, which holds what chains of the direct members lead to; where it answers `OtherVersion` or `NoStore`,
+//! what the last commit left stands for no Office. For the migration of an older store it has the parts of `open` that are asked of one: `settle_office` in a
 //! transaction, `tells_other` and `open_fault_of`.
 //!
 //! Read `specs/Opening` first: `AreOfficeRows`, the conditions that the rows of the five tables have to meet, as whole

@@ -8,7 +8,7 @@ ghost use Rattle.book_tables_rows.specs.Steps.{Keeps, Spares, Stays};
 ghost use Rattle.book_tables_schema.specs.OtherReach.{IsBeside};
 ghost use Rattle.book_tables_schema.specs.Reopening.{IfConnection, IfStore, IsConnectionAnd, IsUnharmed};
 ghost use Rattle.book_tables.specs.Opened.{open_fault};
-ghost use Rattle.book_tables_opening.specs.Reading.{MakesAnew, MaySettle, SameRows, TellsOffice, TellsOther, TellsSettled, TellsStanding, IsStanding, StandingSays, FaultSays, IsReopened, IsOpened, IsRefused, IsUnopened, StandsForItsOffice, StandsForNone};
+ghost use Rattle.book_tables_opening.specs.Reading.{MakesAnew, MaySettle, SameRows, TellsOffice, TellsOther, TellsSettled, TellsStanding, IsStanding, StandingSays, FaultSaysOf, IsReopened, IsOpened, IsRefused, IsUnopened, StandsAsBefore, StandForNone};
 
 use crate::directories::Directory;
 use crate::office_tests::are_textless_rows;
@@ -16,8 +16,8 @@ use crate::reading::read_tables;
 use crate::text_tests::have_own_texts;
 use book_tables::{OpenFault, Tables, settle_reach};
 use book_tables_schema::{
-    Unopened, drop_reach, has_no_former, is_beside_reach, is_book_schema, make_reach, reopen,
-    says_other_version,
+    Generation, Unopened, drop_derived, has_no_former, is_beside_reach, is_book_schema,
+    make_derived, reopen, says_other_version,
 };
 use sqlite::{Alter, Connection, Error, ErrorCode, Transaction};
 use std::alloc::Global;
@@ -64,13 +64,15 @@ pub fn is_office<S: Alter>(
     have_own_texts(transaction, directory.rows())
 }
 
-/// Whether `meta` has one row with another version than this one, read in a transaction of its own.
+/// Whether `meta` has one row with another version than this one, read in a transaction of its own. Where it is told, the
+/// connection was open, and it is told of the tables that it showed.
 pub fn tells_other<S: Alter>(connection: &mut Connection<S>, version: u32) -> Result<bool, Error>
     ensures stays { HasCleanDisk (state S.Store connection.new)
         → Stays (state S.Store connection.old) (state S.Store connection.new) }
     ensures survives { Survives (state S.Store connection.old) (state S.Store connection.new) (λ _. ⊥) }
     ensures told { HasCleanDisk (state S.Store connection.new)
-        → IfOk result (λ other. TellsOther S.Store version (state S.Store connection.old).now other) }
+        → IfOk result (λ other. IsTrue (state S.Store connection.old).is_open
+        × TellsOther version (state S.Store connection.old).now other) }
 {
     if !connection.is_autocommit() {
         return Err(Error::SqliteFailure(ErrorCode::TransactionState));
@@ -114,12 +116,12 @@ fn make_anew<S: Alter>(transaction: &mut Transaction<'_, S>) -> Result<(), Error
         → IsTrue (state S.Store transaction.old.conn.now).in_transaction
         → OnOk result (MakesAnew (state S.Store transaction.old.conn.now) (state S.Store transaction.new.conn.now)) }
 {
-    drop_reach(transaction)?;
-    make_reach(transaction)
+    drop_derived(transaction)?;
+    make_derived(transaction)
 }
 
-/// Whether the tables stand for an Office, where they have `reach`, in a transaction of its own: it is committed where
-/// `reach` was written.
+/// Whether the tables stand for an Office, where they have `reach`, in a transaction of its own. It is committed where
+/// they do, so that the connection is known to be open; nothing is written by that where `reach` was not.
 fn settle_book<S: Alter>(alloc: Global, connection: &mut Connection<S>) -> Result<bool, Error>
     requires { (state S.Store connection.old).now.schema ≡ book_schema }
     ensures told { HasCleanDisk (state S.Store connection.new)
@@ -133,12 +135,9 @@ fn settle_book<S: Alter>(alloc: Global, connection: &mut Connection<S>) -> Resul
         return Err(Error::SqliteFailure(ErrorCode::TransactionState));
     }
     let mut transaction = connection.transaction();
-    let Some(written) = settle_office(alloc, &mut transaction)? else {
+    let Some(_written) = settle_office(alloc, &mut transaction)? else {
         return Ok(false);
     };
-    if !written {
-        return Ok(true);
-    }
     transaction.commit()?;
     Ok(true)
 }
@@ -146,7 +145,7 @@ fn settle_book<S: Alter>(alloc: Global, connection: &mut Connection<S>) -> Resul
 /// The same where they have no `reach`, as in a store made before it, or one of other columns, which is taken away: it
 /// is made, in the same transaction.
 fn settle_base<S: Alter>(alloc: Global, connection: &mut Connection<S>) -> Result<bool, Error>
-    requires { IsBeside true (state S.Store connection.old).now.schema }
+    requires { IsBeside Generation.Second (state S.Store connection.old).now.schema }
     ensures told { HasCleanDisk (state S.Store connection.new)
         → IfOk result (TellsSettled (state S.Store connection.old) (state S.Store connection.new)) }
     ensures kept { HasCleanDisk (state S.Store connection.new)
@@ -178,7 +177,7 @@ fn is_whole<S: Alter>(alloc: Global, connection: &mut Connection<S>) -> Result<b
     if is_book_schema(connection.schema()) {
         return settle_book(alloc, connection);
     }
-    if is_beside_reach(connection.schema(), true) {
+    if is_beside_reach(alloc, connection.schema(), Generation::Second)? {
         return settle_base(alloc, connection);
     }
     Ok(false)
@@ -192,8 +191,8 @@ fn standing_of<S: Alter>(alloc: Global, connection: &mut Connection<S>) -> Resul
         → OnErr result (Stays (state S.Store connection.old) (state S.Store connection.new)) }
     ensures left { Survives (state S.Store connection.old) (state S.Store connection.new)
         (MaySettle (state S.Store connection.old)) }
-    ensures other { HasCleanDisk (state S.Store connection.new) → IsTrue (state S.Store connection.new).is_open
-        → IfOk result (λ standing. StandingSays S.Store (state S.Store connection.new).now standing) }
+    ensures other { HasCleanDisk (state S.Store connection.new)
+        → IfOk result (λ standing. StandingSays (state S.Store connection.old).now standing) }
 {
     if is_whole(alloc, connection)? {
         return Ok(Standing::Whole);
@@ -224,10 +223,12 @@ fn open_again<S: Alter>(
         → HasCleanDisk (state S.Store connection)
         × IsOpened (state S.Store connection).now.trees (state S.Store t.connection)) }
     ensures counted { IfOk result (λ t. t.failures ≡ 0) }
-    ensures refused { IsReopened (state S.Store connection) → IfErr result (λ e. IsRefused e.0 → IsConnectionAnd e.1 (λ c.
-        HasCleanDisk (state S.Store c) → StandsForNone (state S.Store c))) }
-    ensures other { IfErr result (λ e. IsRefused e.0 → IsConnectionAnd e.1 (λ c. HasCleanDisk (state S.Store c)
-        → IsTrue (state S.Store c).is_open → FaultSays S.Store 2 (state S.Store c).now e.0)) }
+    ensures refused { IsReopened (state S.Store connection)
+        → IfErr result (λ e. IsRefused e.0 → IsConnectionAnd e.1 (λ c. HasCleanDisk (state S.Store c)
+        → HasCleanDisk (state S.Store connection) × StandForNone (state S.Store connection).now.trees)) }
+    ensures other { IsReopened (state S.Store connection)
+        → IfErr result (λ e. IsRefused e.0 → IsConnectionAnd e.1 (λ c. HasCleanDisk (state S.Store c)
+        → HasCleanDisk (state S.Store connection) × FaultSaysOf 2 (state S.Store connection).now.trees e.0)) }
     ensures kept { IsReopened (state S.Store connection)
         → IfErr result (λ e. IfConnection e.1 (λ c. HasCleanDisk (state S.Store c) → HasCleanDisk (state S.Store connection)
         × IsUnopened (state S.Store connection).now.trees (state S.Store c))) }
@@ -241,33 +242,32 @@ fn open_again<S: Alter>(
     }
 }
 
-/// Opens the tables of a store that is there, as its last commit left it. They are given where their rows stand for a
-/// sound Office, and a stop just after leaves that one alone; so its labels and texts are UTF-8. Where `reach` is
-/// missing, as in a store made before it, has other columns, or does not hold what chains of the direct members lead to,
-/// it is made so in one transaction, in which the rows are tested. Every row is read and tested, which takes a number of
-/// comparisons that grows as the number of rows times its logarithm.
+/// Opens the tables of a store that is there, as its last commit left it. They are given where what was committed stands
+/// for a sound Office: the connection is open and stands for that Office, and a stop just after leaves that one alone; so
+/// its labels and texts are UTF-8. Where `reach` is missing, as in a store made before it, has other columns, or does not
+/// hold what chains of the direct members lead to, it is made so in one transaction, in which the rows are tested. Every
+/// row is read and tested, which takes a number of comparisons that grows as the number of rows times its logarithm.
 ///
 /// # Errors
 ///
-/// `OtherVersion` where the rows stand for no Office, and `meta` has one row, with another version than 2; `NoStore`
-/// where they stand for no Office else, as where a label or a text is not UTF-8. `Memory` is want of memory, `Store` any
-/// other failure of the store. The connection comes back, and shows what was committed; a stop leaves that, or the same
-/// Office with `reach` made. Where the store could not be opened again, it comes back itself: a stop leaves what was
-/// committed, if the connection was open.
+/// `OtherVersion` where what was committed stands for no Office, and `meta` has one row, with another version than 2;
+/// `NoStore` where it stands for none else, as where a label or a text is not UTF-8. `Memory` is want of memory, `Store`
+/// any other failure of the store. The connection comes back, and shows what was committed where it is open; a stop
+/// leaves that, or the Office that it stood for, with `reach` made. Where the store could not be opened again, it comes
+/// back itself: a stop leaves what was committed, if the connection was open.
 pub fn open<S: Alter + Drop>(
     alloc: Global,
     connection: Connection<S>,
 ) -> Result<Tables<S>, (OpenFault, Unopened<S>)>
     ensures stands { IfOk result (λ t. HasCleanDisk (state S.Store t.connection)
-        → StandsForItsOffice (state S.Store t.connection)) }
+        → StandsAsBefore (state S.Store connection).committed.trees (state S.Store t.connection)) }
     ensures same { IfOk result (λ t. HasCleanDisk (state S.Store t.connection)
-        → IsTrue (state S.Store t.connection).is_open
         → SameRows (state S.Store connection).committed.trees (state S.Store t.connection).now.trees) }
     ensures counted { IfOk result (λ t. t.failures ≡ 0) }
-    ensures refused { IfErr result (λ e. IsRefused e.0 → IsConnectionAnd e.1 (λ c.
-        HasCleanDisk (state S.Store c) → StandsForNone (state S.Store c))) }
+    ensures refused { IfErr result (λ e. IsRefused e.0 → IsConnectionAnd e.1 (λ c. HasCleanDisk (state S.Store c)
+        → StandForNone (state S.Store connection).committed.trees)) }
     ensures other { IfErr result (λ e. IsRefused e.0 → IsConnectionAnd e.1 (λ c. HasCleanDisk (state S.Store c)
-        → IsTrue (state S.Store c).is_open → FaultSays S.Store 2 (state S.Store c).now e.0)) }
+        → FaultSaysOf 2 (state S.Store connection).committed.trees e.0)) }
     ensures kept { IfErr result (λ e. IfConnection e.1 (λ c. HasCleanDisk (state S.Store c)
         → IsUnopened (state S.Store connection).committed.trees (state S.Store c))) }
     ensures unharmed { IfErr result (λ e. IfStore e.1 (IsUnharmed S.Store (state S.Store connection))) }

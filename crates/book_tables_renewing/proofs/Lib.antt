@@ -3,3 +3,4 @@ mod CopyTexts
 mod CopiedRows
 mod FirstMeta
 mod Renewals
+mod Reorderings

@@ -18,7 +18,7 @@ use Rattle.book_tables_rows.specs.Lists.{ShowsRows}
 use Rattle.book_tables_rows.specs.Rows.{Rows, rows_of, IsBook}
 use Rattle.book_tables_rows.specs.Schema.{first_schema, base_schema, ace_tree, ace2_tree}
 use Rattle.book_tables_rows.specs.Steps.{Looks, BecomesIf}
-use Rattle.book_tables_schema.specs.Founding.{GetsReach, Renews}
+use Rattle.book_tables_schema.specs.Founding.{GetsDerived, Renews}
 use Rattle.book_tables_schema.specs.Renewing.{Empties, IsFirstMeta, renumbered, widened_row}
 use Rattle.book_tables_schema.specs.Tabled.{HasTables}
 use Rattle.book_tables_schema.specs.Whole.{meta_shown}
@@ -29,7 +29,7 @@ use Rattle.book_tables_renewing.proofs.FirstMeta.{version_first, first_version}
 
 -- the tables of version 2 are there but for `reach`, and the one of entries is empty
 module _ (old new : State) (renews : Renews old new) (first : HasTables first_schema old.now) where
-  abbrev made : (new.now.schema ≡ base_schema) × IsDatabase new.now × KeepsRows first_schema.tables old.now.trees new.now.trees × (new.now.trees 13 ≡ [])
+  abbrev made : (new.now.schema ≡ base_schema) × IsDatabase new.now × KeepsRows first_schema.tables old.now.trees new.now.trees × (new.now.trees ace2_tree ≡ [])
   made = renews.made first.schema
 
   kept_of : (t : Table) → Has first_schema.tables t → new.now.trees t.tree ≡ old.now.trees t.tree
@@ -53,7 +53,7 @@ module _ (old new : State) (renews : Renews old new) (first : HasTables first_sc
     ];
   }
 
-pub retabled : (a b r c d : State) → Renews a b → GetsReach b r → Copies r c → Empties c d → Retables a d
+pub retabled : (a b r c d : State) → Renews a b → GetsDerived b r → Copies r c → Empties c d → Retables a d
 retabled a b r c d renews gets copies empties = record {
   inside = empties.inside;
   was_open = renews.was_open;
@@ -109,7 +109,7 @@ all_by_any p (r ∷ rows) = go (p r) (all_by_any p rows)
     go true more = more
     go false more = refl
 
-abbrev mask_of_row : Row → Row
+abbrev pub mask_of_row : Row → Row
 mask_of_row row = ace_mask row ∷ []
 
 abbrev is_mask : Row → Bool
@@ -125,7 +125,7 @@ module _ (rows shown : List Row) (same : IsPermutation (map mask_of_row rows) sh
   first_masks : AllByRecursion HasFirstMask rows → list_all is_mask shown ≡ true
   first_masks all = sym same_test ∙ listed_all mask_of_row is_mask rows all
 
-  as_many : length shown ≡ length rows
+  pub as_many : length shown ≡ length rows
   as_many = length_permutation _ _ same ∙ length-map rows mask_of_row
 
 -- ---- all steps

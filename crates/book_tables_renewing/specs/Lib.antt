@@ -1,1 +1,2 @@
 pub mod Renewal
+pub mod Reordering

@@ -9,6 +9,8 @@ use Rattle.sqlite.specs.Tree.{Trees}
 use Rattle.book_tables_rows.specs.Columns.{ace_mask}
 use Rattle.book_tables_rows.specs.Rows.{Rows, rows_of, IsBook}
 use Rattle.book_tables_rows.specs.Schema.{first_schema, node_tree, ace_tree, ace2_tree, member_tree, gone_tree, meta_tree}
+use Rattle.book_tables_schema.specs.OtherReach.{schema_of}
+use Rattle.book_tables_schema.specs.declared.layout.Generation.TheVariants.{Former}
 use Rattle.book_tables_schema.specs.Renewing.{IsFirstMeta, renumbered, widened_row}
 use Rattle.book_tables_schema.specs.Tabled.{HasTables, IsTabled}
 
@@ -57,11 +59,16 @@ TellsRenewed old new (Some count) = Renewed old new count
 abbrev pub list_masks : List ℕ
 list_masks = codes "SELECT mask FROM ace"
 
--- an open connection shows the masks of the entries of version 1, in some order, and stays
+-- the masks of the rows of `ace` are shown, in some order, and nothing changes
+abbrev pub AreMasks : State → State → List Row → Type 0
+AreMasks old new shown = (new.now ≡ old.now) × IsPermutation (map (λ row. ace_mask row ∷ []) (old.now.trees ace_tree)) shown
+
+-- an open connection shows the masks of the entries of version 1, and stays; and so it does in the former order of version 2
 pub record ShowsMasks (old new : State) (shown : List Row) : Type 0 where
   pub was_open : IsTrue old.is_open
   pub mode : new.in_transaction ≡ old.in_transaction
-  pub rows : old.now.schema ≡ first_schema → (new.now ≡ old.now) × IsPermutation (map (λ row. ace_mask row ∷ []) (old.now.trees ace_tree)) shown
+  pub rows : old.now.schema ≡ first_schema → AreMasks old new shown
+  pub former : old.now.schema ≡ schema_of Former → AreMasks old new shown
 
 abbrev pub copy_text : List ℕ
 copy_text = codes "INSERT INTO ace2 (rowid, node, protected, place, form, principal, invert, deny, mask) SELECT rowid, node, protected, place, form, principal, invert, deny, mask + 256 * (mask % 2) FROM ace ORDER BY rowid"

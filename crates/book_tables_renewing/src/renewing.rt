@@ -9,10 +9,11 @@ ghost use Rattle.book_tables_renewing.specs.Renewal.{Retables, TellsRenewed};
 use crate::copying::copy_entries;
 use crate::masks::{are_first_masks, first_masks};
 use crate::metas::renew_version;
-use book_tables_schema::{empty_former, make_reach, make_second_tables};
+use book_tables_schema::{empty_former, make_derived, make_second_table};
 use sqlite::{Alter, Error, Transaction};
 
-/// Makes the tables of version 2, copies the entries, and empties the table that they were in; `reach` has no row.
+/// Makes the tables and the indexes of version 2, copies the entries, and empties the table that they were in; `reach`
+/// has no row.
 fn renew_tables<S: Alter>(transaction: &mut Transaction<'_, S>) -> Result<(), Error>
     ensures same_reference { transaction.new.conn.ghost_name ≡ transaction.old.conn.ghost_name }
     ensures survives { Survives (state S.Store transaction.old.conn.now) (state S.Store transaction.new.conn.now)
@@ -22,8 +23,8 @@ fn renew_tables<S: Alter>(transaction: &mut Transaction<'_, S>) -> Result<(), Er
         → IsTrue (state S.Store transaction.old.conn.now).in_transaction
         → OnOk result (Retables (state S.Store transaction.old.conn.now) (state S.Store transaction.new.conn.now)) }
 {
-    make_second_tables(transaction)?;
-    make_reach(transaction)?;
+    make_second_table(transaction)?;
+    make_derived(transaction)?;
     copy_entries(transaction)?;
     empty_former(transaction)
 }

@@ -20,6 +20,7 @@ use Rattle.book_tables_rows.proofs.Keys.{path_once}
 use Rattle.book_tables_rows.proofs.Typing.{cast_integer, cast_text, TypedNode, typed_node}
 use Rattle.book_tables_rows.proofs.Shapes.{key, int_of, put_next, updates_one, deletes_each}
 use Rattle.book_tables_rows.proofs.Statements.{Wrote, inserts, updates, deletes, passes, shown_by, simple, answers, map-map}
+use Rattle.book_tables_rows.specs.Schema.{ace2_tree, reach_tree}
 
 -- ---- the other tables stay
 
@@ -49,14 +50,14 @@ module _ (old new : Trees) (edit : Edit) (a : Applies book_schema Enforced old e
       let reach = a.tables.1.1.1.1.1.1.0 (λ same. omega (arith, same, at)) in
       λ i. record { nodes = new 0; entries = entries i; members = members i; gone = gone i; meta = meta i; reach = reach i }
 
-  pub entries_changed : edit.table.tree ≡ 13 → rows_of new ≡ record (rows_of old) { entries = new 13 }
+  pub entries_changed : edit.table.tree ≡ ace2_tree → rows_of new ≡ record (rows_of old) { entries = new ace2_tree }
   entries_changed at =
       let nodes = a.tables.0 (λ same. omega (arith, same, at)) in
       let members = a.tables.1.1.0 (λ same. omega (arith, same, at)) in
       let gone = a.tables.1.1.1.0 (λ same. omega (arith, same, at)) in
       let meta = a.tables.1.1.1.1.0 (λ same. omega (arith, same, at)) in
       let reach = a.tables.1.1.1.1.1.1.0 (λ same. omega (arith, same, at)) in
-      λ i. record { nodes = nodes i; entries = new 13; members = members i; gone = gone i; meta = meta i; reach = reach i }
+      λ i. record { nodes = nodes i; entries = new ace2_tree; members = members i; gone = gone i; meta = meta i; reach = reach i }
 
   pub members_changed : edit.table.tree ≡ 4 → rows_of new ≡ record (rows_of old) { members = new 4 }
   members_changed at =
@@ -85,14 +86,14 @@ module _ (old new : Trees) (edit : Edit) (a : Applies book_schema Enforced old e
       let reach = a.tables.1.1.1.1.1.1.0 (λ same. omega (arith, same, at)) in
       λ i. record { nodes = nodes i; entries = entries i; members = members i; gone = new 6; meta = meta i; reach = reach i }
 
-  pub reach_changed : edit.table.tree ≡ 17 → rows_of new ≡ record (rows_of old) { reach = new 17 }
+  pub reach_changed : edit.table.tree ≡ reach_tree → rows_of new ≡ record (rows_of old) { reach = new reach_tree }
   reach_changed at =
       let nodes = a.tables.0 (λ same. omega (arith, same, at)) in
       let entries = a.tables.1.1.1.1.1.0 (λ same. omega (arith, same, at)) in
       let members = a.tables.1.1.0 (λ same. omega (arith, same, at)) in
       let gone = a.tables.1.1.1.0 (λ same. omega (arith, same, at)) in
       let meta = a.tables.1.1.1.1.0 (λ same. omega (arith, same, at)) in
-      λ i. record { nodes = nodes i; entries = entries i; members = members i; gone = gone i; meta = meta i; reach = new 17 }
+      λ i. record { nodes = nodes i; entries = entries i; members = members i; gone = gone i; meta = meta i; reach = new reach_tree }
 
 -- ---- which foreign keys act
 
@@ -107,7 +108,7 @@ unfolding same_name everything
 works_gone olds = refl
 
 -- nor to an entry
-pub works_entries : (olds : List Row) → works book_schema Enforced 0 13 olds [] ≡ []
+pub works_entries : (olds : List Row) → works book_schema Enforced 0 ace2_tree olds [] ≡ []
 unfolding same_name everything
 works_entries olds = refl
 

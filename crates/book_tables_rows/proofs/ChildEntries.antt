@@ -11,7 +11,7 @@ use Rattle.sqlite.specs.Listing.{reads_listing}
 use Rattle.sqlite_sql.specs.Term.{holds}
 use Rattle.std.specs.List.{list_all}
 use Rattle.book_tables_rows.specs.Columns.{ace_protected, node_number_place}
-use Rattle.book_tables_rows.specs.Schema.{ace2_table, ace_columns}
+use Rattle.book_tables_rows.specs.Schema.{ace2_table, ace_columns, ace2_tree}
 use Rattle.book_tables_rows.specs.Texts as text
 use Rattle.book_tables_rows.specs.Writes.{is_of_some}
 use Rattle.book_tables_rows.specs.Lists.{ShowsChildEntries, ShowsChangedEntries, by_list, is_above, is_at_most, is_changed_between, listed_columns, listed_entries}
@@ -127,16 +127,16 @@ module _ (terms : List Term) (params : Row) (passes : Row → Bool) (tests : (n 
 
   module _ (db : Trees) where
     abbrev picked : List Row
-    picked = filter (is_of_some passes (db 0)) (db 13)
+    picked = filter (is_of_some passes (db 0)) (db ace2_tree)
 
     in_order : (rows : List Row) → IsAnswer query db params rows → IsAscending (AreApart (goes passes)) (db 0) → IsAscending (λ a b. is_eq (by_list a b) ≡ false) picked
         → rows ≡ map listed_columns (sort_by by_list picked)
     in_order rows a nodes apart =
-        let kept : a.kept ≡ map out (joined (goes passes) (db 13) (db 0)) =
-        a.distinct ∙ ap (map (output query)) a.grouped ∙ drawn_are (λ n e. list_all (holds (env n e)) terms) (db 13) env (output query) out (λ n e. refl) (db 0)
-        ∙ (λ i. map out (joined (λ n e. tests n e i) (db 13) (db 0))) in
+        let kept : a.kept ≡ map out (joined (goes passes) (db ace2_tree) (db 0)) =
+        a.distinct ∙ ap (map (output query)) a.grouped ∙ drawn_are (λ n e. list_all (holds (env n e)) terms) (db ace2_tree) env (output query) out (λ n e. refl) (db 0)
+        ∙ (λ i. map out (joined (λ n e. tests n e i) (db ace2_tree) (db 0))) in
         let same : IsPermutation (map out picked) a.ordered =
-        IsPermutation-trans _ _ _ (IsPermutation-sym _ _ (IsPermutation-map out _ _ (joined_are (goes passes) (db 13) (db 0) nodes))) (subst (λ k. IsPermutation k a.ordered) kept a.same) in
+        IsPermutation-trans _ _ _ (IsPermutation-sym _ _ (IsPermutation-map out _ _ (joined_are (goes passes) (db ace2_tree) (db 0) nodes))) (subst (λ k. IsPermutation k a.ordered) kept a.same) in
         let apart_out = ascending-map (λ x y. is_eq (output_cmp query x y) ≡ false) out picked
         (ascending_weaker (λ a b. is_eq (by_list a b) ≡ false) (λ a b. is_eq (output_cmp query (out a) (out b)) ≡ false) (λ a b e. ap is_eq (same_order a b) ∙ e) picked apart) in
         let ordered : a.ordered ≡ map out (sort_by by_list picked) =
@@ -154,10 +154,10 @@ module _ (terms : List Term) (params : Row) (passes : Row → Bool) (tests : (n 
         let shaped = book.rising ace2_table (inr (inr (inr (inr (inr (inl refl)))))) in
         let nodes = book.rising node_table (inl refl) in
         let read = (reads_as sql params old new book_schema book.schema _ is plain unlisted rows h).answer Null in
-        let distinct_rows = all_distinct (1 ∷ 2 ∷ 3 ∷ []) (db 13) (λ row there. keys_are_unique book_schema db _ 0 (1 ∷ 2 ∷ 3 ∷ []) row rules (inr (inr (inr (inr (inr (inl refl)))))) refl there) (db 13) (λ r t. t) shaped.0 shaped.1 in
-        let keys = all_keys (db 13) (rules.obeys.rules NotNull).1.1.1.1.1.0 in
+        let distinct_rows = all_distinct (1 ∷ 2 ∷ 3 ∷ []) (db ace2_tree) (λ row there. keys_are_unique book_schema db _ 0 (1 ∷ 2 ∷ 3 ∷ []) row rules (inr (inr (inr (inr (inr (inl refl)))))) refl there) (db ace2_tree) (λ r t. t) shaped.0 shaped.1 in
+        let keys = all_keys (db ace2_tree) (rules.obeys.rules NotNull).1.1.1.1.1.0 in
         in_order (overlay db []) rows read (nodes_apart passes (db 0) nodes.0 nodes.1)
-        (ascending-filter (λ a b. is_eq (by_list a b) ≡ false) (is_of_some passes (db 0)) (db 13) (lists_apart (db 13) keys distinct_rows))
+        (ascending-filter (λ a b. is_eq (by_list a b) ≡ false) (is_of_some passes (db 0)) (db ace2_tree) (lists_apart (db ace2_tree) keys distinct_rows))
 
 pub shows_child_entries : (old new : State) (id : ℤ) (rows : List Row) → Shown text.list_child_entries (Int id ∷ []) old new rows → ShowsChildEntries old id rows
 shows_child_entries old new id rows h = (

@@ -4,7 +4,7 @@ use Rattle.std.proofs.Common.{◌≢◌}
 use Rattle.sqlite_rules.specs.Action.{Writes as EditWrites}
 use Rattle.sqlite_trees.specs.declared.store.Shape.TheVariants.{Table as TableShape}
 use Rattle.sqlite_trees.proofs.TreeLemmas.{IsShaped-filter}
-use Rattle.book_tables_rows.specs.Schema.{ace2_table}
+use Rattle.book_tables_rows.specs.Schema.{ace2_table, ace2_tree}
 use Rattle.book_tables_rows.specs.Texts as text
 use Rattle.book_tables_rows.specs.Writes as writes
 use Rattle.book_tables_rows.proofs.NodeDeletes.{quiet_nodes}
@@ -61,8 +61,8 @@ becomes_unlisted old new id count h = record {
   is_open = h.1.is_open;
   rows = λ book.
       let db = old.now.trees in
-      let d = deleted old new text.delete_entries (Int id ∷ []) 5 ace2_table refl (inr (inr (inr (inr (inr (inl refl)))))) (λ e. omega (arith, e)) (simple 13 (equals 1 0 ∷ []) (col 1 0 ∷ [])) (has ace_node_place (Int id)) delete_entries_is delete_entries_plain
-      (picks_simple (overlay db []) 13 (equals 1 0 ∷ []) (Int id ∷ []) (has ace_node_place (Int id)) (λ r. and-true (has ace_node_place (Int id) r)))
+      let d = deleted old new text.delete_entries (Int id ∷ []) 5 ace2_table refl (inr (inr (inr (inr (inr (inl refl)))))) (λ e. omega (arith, e)) (simple ace2_tree (equals 1 0 ∷ []) (col 1 0 ∷ [])) (has ace_node_place (Int id)) delete_entries_is delete_entries_plain
+      (picks_simple (overlay db []) ace2_tree (equals 1 0 ∷ []) (Int id ∷ []) (has ace_node_place (Int id)) (λ r. and-true (has ace_node_place (Int id) r)))
       (λ ids same next w. one_step book_schema Enforced db next _ (works_entries (taken_by db (edit_of db ace2_table ids Given 0 []))) w) count h.0 book in
       (d.0, entries_changed db new.now.trees d.1.0 d.1.2 (ap (λ (t : Table). t.tree) d.1.1) ∙ ap (λ e. record (rows_of db) { entries = e }) d.2);
 }

@@ -3,7 +3,7 @@ use Rattle.book_tables_rows.proofs.Common.{and-true, ◌≡◌, ℕ, Bool, true,
 use Rattle.std.proofs.Common.{append-nil, IsPermutation}
 use Rattle.sqlite_keyed.proofs.ListLemmas.{ascending-filter}
 use Rattle.book_tables_rows.specs.Columns.{ace_protected}
-use Rattle.book_tables_rows.specs.Schema.{ace2_table}
+use Rattle.book_tables_rows.specs.Schema.{ace2_table, ace2_tree}
 use Rattle.book_tables_rows.specs.Texts as text
 use Rattle.book_tables_rows.specs.Lists.{ShowsEntriesAt, by_list, listed_columns}
 use Rattle.book_tables_rows.proofs.Keeping.{shown_open}
@@ -68,21 +68,21 @@ module _ (db : Trees) (path : List ℕ) where
       ap (λ o. ordering_then (value_cmp (ace_node a) (ace_node b)) (ordering_then (value_cmp (ace_protected a) (ace_protected b)) o)) (then_equal (value_cmp (ace_place a) (ace_place b)))
 
   module _ (rows : List Row) (a : IsAnswer entries_at_query db params rows) (once : PassesOnce (is_at path) (db 0)) where
-    staged : a.staged ≡ unwrap_or (option_map (λ n. map (env n) (filter (its n) (db 13))) (find (is_at path) (db 0))) []
-    staged = a.grouped ∙ one_joined (is_at path) its env (db 13) (db 0) once
+    staged : a.staged ≡ unwrap_or (option_map (λ n. map (env n) (filter (its n) (db ace2_tree))) (find (is_at path) (db 0))) []
+    staged = a.grouped ∙ one_joined (is_at path) its env (db ace2_tree) (db 0) once
 
     none_shown : find (is_at path) (db 0) ≡ None → rows ≡ []
     none_shown none =
-        let empty : a.kept ≡ [] = a.distinct ∙ ap (map (output entries_at_query)) (staged ∙ ap (λ found. unwrap_or (option_map (λ n. map (env n) (filter (its n) (db 13))) found) []) none) in
+        let empty : a.kept ≡ [] = a.distinct ∙ ap (map (output entries_at_query)) (staged ∙ ap (λ found. unwrap_or (option_map (λ n. map (env n) (filter (its n) (db ace2_tree))) found) []) none) in
         let ordered : a.ordered ≡ [] = empty_permutation a.ordered (subst (λ k. IsPermutation k a.ordered) empty a.same) in
         a.shown ∙ ap (λ xs. page entries_at_query params (map (λ (o : Output). o.1) xs)) ordered
 
-    in_order : (n : Row) → find (is_at path) (db 0) ≡ Some n → IsAscending (λ a b. is_eq (by_list a b) ≡ false) (filter (its n) (db 13))
-        → rows ≡ map listed_columns (sort_by by_list (filter (its n) (db 13)))
+    in_order : (n : Row) → find (is_at path) (db 0) ≡ Some n → IsAscending (λ a b. is_eq (by_list a b) ≡ false) (filter (its n) (db ace2_tree))
+        → rows ≡ map listed_columns (sort_by by_list (filter (its n) (db ace2_tree)))
     in_order n there apart =
-        let picked = filter (its n) (db 13) in
+        let picked = filter (its n) (db ace2_tree) in
         let kept : a.kept ≡ map (out n) picked =
-        a.distinct ∙ ap (map (output entries_at_query)) (staged ∙ ap (λ found. unwrap_or (option_map (λ n. map (env n) (filter (its n) (db 13))) found) []) there)
+        a.distinct ∙ ap (map (output entries_at_query)) (staged ∙ ap (λ found. unwrap_or (option_map (λ n. map (env n) (filter (its n) (db ace2_tree))) found) []) there)
         ∙ map-map (output entries_at_query) (env n) picked in
         let same = subst (λ k. IsPermutation k a.ordered) kept a.same in
         let apart_out = ascending-map (λ x y. is_eq (output_cmp entries_at_query x y) ≡ false) (out n) picked
@@ -93,11 +93,11 @@ module _ (db : Trees) (path : List ℕ) where
         a.shown ∙ ap (λ xs. page entries_at_query params (map (λ (o : Output). o.1) xs)) ordered
         ∙ ap (page entries_at_query params) (map-map (λ (o : Output). o.1) (out n) (sort_by by_list picked))
 
-    pub shown_is : ((n : Row) → IsAscending (λ a b. is_eq (by_list a b) ≡ false) (filter (its n) (db 13)))
-        → rows ≡ unwrap_or (option_map (λ n. map listed_columns (sort_by by_list (filter (its n) (db 13)))) (find (is_at path) (db 0))) []
+    pub shown_is : ((n : Row) → IsAscending (λ a b. is_eq (by_list a b) ≡ false) (filter (its n) (db ace2_tree)))
+        → rows ≡ unwrap_or (option_map (λ n. map listed_columns (sort_by by_list (filter (its n) (db ace2_tree)))) (find (is_at path) (db 0))) []
     shown_is apart = go (find (is_at path) (db 0)) refl
       where
-        go : (found : Option Row) → find (is_at path) (db 0) ≡ found → rows ≡ unwrap_or (option_map (λ n. map listed_columns (sort_by by_list (filter (its n) (db 13)))) found) []
+        go : (found : Option Row) → find (is_at path) (db 0) ≡ found → rows ≡ unwrap_or (option_map (λ n. map listed_columns (sort_by by_list (filter (its n) (db ace2_tree)))) found) []
         go None none = none_shown none
         go (Some n) there = in_order n there (apart n)
 
@@ -110,8 +110,8 @@ shows_entries_at old new path rows h = (
       let shaped = book.rising ace2_table (inr (inr (inr (inr (inr (inl refl)))))) in
       let read = (reads_as text.list_entries_at (Text path ∷ []) old new book_schema book.schema _ list_entries_at_is list_entries_at_plain list_entries_at_unlisted rows h).answer Null in
       let once = path_once path db rules (book.rising node_table (inl refl)) in
-      let distinct_rows = all_distinct (1 ∷ 2 ∷ 3 ∷ []) (db 13) (λ row there. keys_are_unique book_schema db _ 0 (1 ∷ 2 ∷ 3 ∷ []) row rules (inr (inr (inr (inr (inr (inl refl)))))) refl there) (db 13) (λ r t. t) shaped.0 shaped.1 in
-      let keys = all_keys (db 13) (rules.obeys.rules NotNull).1.1.1.1.1.0 in
+      let distinct_rows = all_distinct (1 ∷ 2 ∷ 3 ∷ []) (db ace2_tree) (λ row there. keys_are_unique book_schema db _ 0 (1 ∷ 2 ∷ 3 ∷ []) row rules (inr (inr (inr (inr (inr (inl refl)))))) refl there) (db ace2_tree) (λ r t. t) shaped.0 shaped.1 in
+      let keys = all_keys (db ace2_tree) (rules.obeys.rules NotNull).1.1.1.1.1.0 in
       shown_is (overlay db []) path rows read once
-      (λ n. ascending-filter (λ a b. is_eq (by_list a b) ≡ false) (has ace_node_place (rowid n)) (db 13) (lists_apart (db 13) keys distinct_rows)),
+      (λ n. ascending-filter (λ a b. is_eq (by_list a b) ≡ false) (has ace_node_place (rowid n)) (db ace2_tree) (lists_apart (db ace2_tree) keys distinct_rows)),
 )

@@ -10,7 +10,7 @@ use Rattle.sqlite.specs.State.{KeepsCommit}
 use Rattle.sqlite_schema.specs.Names.{same_name}
 use Rattle.sqlite_tied.specs.Compute.{everything}
 use Rattle.book_tables_rows.specs.Columns.{member_group_place}
-use Rattle.book_tables_rows.specs.Schema.{ace2_table}
+use Rattle.book_tables_rows.specs.Schema.{ace2_table, ace2_tree}
 use Rattle.book_tables_rows.specs.Texts as text
 use Rattle.book_tables_rows.specs.declared.setting.EntryRow.{EntryRow}
 use Rattle.book_tables_rows.specs.Writes as writes
@@ -34,8 +34,8 @@ becomes_disowned old new id count h = record {
   rows = λ book.
       let db = old.now.trees in
       let terms = equals 1 0 ∷ op2 (Compare Eq Binary) (col 1 2) (lit (Int (pos 0))) ∷ [] in
-      let d = deleted old new text.delete_own (Int id ∷ []) 5 ace2_table refl (inr (inr (inr (inr (inr (inl refl)))))) (λ e. omega (arith, e)) (simple 13 terms (col 1 0 ∷ [])) (is_entry (Int id) false) delete_own_is delete_own_plain
-      (picks_simple (overlay db []) 13 terms (Int id ∷ []) (is_entry (Int id) false) (λ r. ap (λ b. has ace_node_place (Int id) r && b) (and-true (has ace_protected_place (flag false) r))))
+      let d = deleted old new text.delete_own (Int id ∷ []) 5 ace2_table refl (inr (inr (inr (inr (inr (inl refl)))))) (λ e. omega (arith, e)) (simple ace2_tree terms (col 1 0 ∷ [])) (is_entry (Int id) false) delete_own_is delete_own_plain
+      (picks_simple (overlay db []) ace2_tree terms (Int id ∷ []) (is_entry (Int id) false) (λ r. ap (λ b. has ace_node_place (Int id) r && b) (and-true (has ace_protected_place (flag false) r))))
       (λ ids same next w. one_step book_schema Enforced db next _ (works_entries (taken_by db (edit_of db ace2_table ids Given 0 []))) w) count h.0 book in
       (d.0, entries_changed db new.now.trees d.1.0 d.1.2 (ap (λ (t : Table). t.tree) d.1.1) ∙ ap (λ e. record (rows_of db) { entries = e }) d.2);
 }

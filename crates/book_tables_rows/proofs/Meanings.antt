@@ -11,7 +11,8 @@ use Rattle.sqlite.specs.Compile.{table_defined_by, index_defined_by}
 use Rattle.sqlite_catalog.specs.Change.{created, indexed}
 use Rattle.sqlite_tied.specs.Compute.{everything}
 use Rattle.sqlite.specs.Listing.{understood, reads_listing}
-use Rattle.book_tables_rows.specs.Schema.{ace2_table, reach_table, plain_index, first_schema, base_schema}
+use Rattle.sqlite.specs.Table.{Table}
+use Rattle.book_tables_rows.specs.Schema.{ace2_table, reach_table, plain_index, first_schema, base_schema, ace2_tree, reach_tree}
 use Rattle.book_tables_rows.specs.Texts as text
 
 -- ---- the tables
@@ -63,8 +64,24 @@ with_gone = created with_member gone_table
 abbrev pub with_meta : Schema
 with_meta = created with_gone meta_table
 
+-- the tables of version 1
+pub first_is : with_meta ≡ first_schema
+unfolding everything
+first_is = refl
+
+abbrev pub with_ace2 : Schema
+with_ace2 = created with_meta ace2_table
+
+-- those of version 2 without `reach`
+pub base_is : with_ace2 ≡ base_schema
+unfolding everything
+base_is = refl
+
+abbrev pub with_reach : Schema
+with_reach = created with_ace2 reach_table
+
 abbrev pub with_parent : Schema
-with_parent = indexed with_meta node_table (plain_index (codes "node_parent") 0 0 (3 ∷ 8 ∷ []))
+with_parent = indexed with_reach node_table (plain_index (codes "node_parent") 0 0 (3 ∷ 8 ∷ []))
 
 abbrev pub with_owner : Schema
 with_owner = indexed with_parent node_table (plain_index (codes "node_owner") 0 0 (5 ∷ []))
@@ -72,32 +89,17 @@ with_owner = indexed with_parent node_table (plain_index (codes "node_owner") 0 
 abbrev pub with_principal : Schema
 with_principal = indexed with_owner ace_table (plain_index (codes "ace_principal") 0 0 (5 ∷ []))
 
-abbrev pub with_first : Schema
-with_first = indexed with_principal member_table (plain_index (codes "member_member") 0 0 (2 ∷ []))
-
--- the schema of version 1
-pub first_is : with_first ≡ first_schema
-unfolding everything
-first_is = refl
-
-abbrev pub with_ace2 : Schema
-with_ace2 = created with_first ace2_table
+abbrev pub with_members : Schema
+with_members = indexed with_principal member_table (plain_index (codes "member_member") 0 0 (2 ∷ []))
 
 abbrev pub with_entries : Schema
-with_entries = indexed with_ace2 ace2_table (plain_index (codes "ace2_principal") 0 0 (5 ∷ []))
+with_entries = indexed with_members ace2_table (plain_index (codes "ace2_principal") 0 0 (5 ∷ []))
 
-abbrev pub with_base : Schema
-with_base = indexed with_entries gone_table (plain_index (codes "gone_book") 0 0 (1 ∷ 3 ∷ []))
-
-pub base_is : with_base ≡ base_schema
-unfolding everything
-base_is = refl
-
-abbrev pub with_reach : Schema
-with_reach = created with_base reach_table
+abbrev pub with_removed : Schema
+with_removed = indexed with_entries gone_table (plain_index (codes "gone_book") 0 0 (1 ∷ 3 ∷ []))
 
 abbrev pub made_schema : Schema
-made_schema = indexed with_reach reach_table (plain_index (codes "reach_grp") 0 0 (1 ∷ []))
+made_schema = indexed with_removed reach_table (plain_index (codes "reach_grp") 0 0 (1 ∷ []))
 
 pub made_is : made_schema ≡ book_schema
 unfolding everything
@@ -191,7 +193,7 @@ pub delete_gone_is : command_of (understood book_schema text.delete_gone) ≡ De
 unfolding understood everything
 delete_gone_is = refl
 
-pub delete_entries_is : command_of (understood book_schema text.delete_entries) ≡ Delete 5 (record { lets = []; body = rows_where 13 (equals 1 0 ∷ []) })
+pub delete_entries_is : command_of (understood book_schema text.delete_entries) ≡ Delete 5 (record { lets = []; body = rows_where ace2_tree (equals 1 0 ∷ []) })
 unfolding understood everything
 delete_entries_is = refl
 
@@ -258,22 +260,24 @@ abbrev pub MakesIndex : Schema → ℕ → List ℕ → Type 0
 MakesIndex schema at sql = (command_of (understood schema sql) ≡ CreateIndex at) × (statement_of sql (understood schema sql) ≡ sql) × IsPlain (understood schema sql)
 
 pub tables_run : MakesTable no_schema text.create_node × MakesTable with_node text.create_ace × MakesTable with_ace text.create_member × MakesTable with_member text.create_gone × MakesTable with_gone text.create_meta
-    × MakesTable with_first text.create_ace2
+    × MakesTable with_meta text.create_ace2 × MakesTable with_ace2 text.create_reach
 unfolding understood everything
-tables_run = ((refl, refl, (refl, refl)), (refl, refl, (refl, refl)), (refl, refl, (refl, refl)), (refl, refl, (refl, refl)), (refl, refl, (refl, refl)), (refl, refl, (refl, refl)))
+tables_run = ((refl, refl, (refl, refl)), (refl, refl, (refl, refl)), (refl, refl, (refl, refl)), (refl, refl, (refl, refl)), (refl, refl, (refl, refl)), (refl, refl, (refl, refl)), (refl, refl, (refl, refl)))
 
-pub indexes_run : MakesIndex with_meta 0 text.index_parent × MakesIndex with_parent 0 text.index_owner × MakesIndex with_owner 1 text.index_principal × MakesIndex with_principal 2 text.index_member
+pub indexes_run : MakesIndex with_reach 0 text.index_parent × MakesIndex with_parent 0 text.index_owner × MakesIndex with_owner 1 text.index_principal × MakesIndex with_principal 2 text.index_member
+    × MakesIndex with_members 5 text.index_entries × MakesIndex with_entries 3 text.index_gone × MakesIndex with_removed 6 text.index_reach
 unfolding understood everything
-indexes_run = ((refl, refl, (refl, refl)), (refl, refl, (refl, refl)), (refl, refl, (refl, refl)), (refl, refl, (refl, refl)))
+indexes_run = ((refl, refl, (refl, refl)), (refl, refl, (refl, refl)), (refl, refl, (refl, refl)), (refl, refl, (refl, refl)), (refl, refl, (refl, refl)), (refl, refl, (refl, refl)), (refl, refl, (refl, refl)))
 
-pub indexes_are : (index_defined_by node_table text.index_parent ≡ Ok (plain_index (codes "node_parent") 0 0 (3 ∷ 8 ∷ []))) × (index_defined_by node_table text.index_owner ≡ Ok (plain_index (codes "node_owner") 0 0 (5 ∷ [])))
-    × (index_defined_by (record ace_table { tree = 2 }) text.index_principal ≡ Ok (plain_index (codes "ace_principal") 0 2 (5 ∷ []))) × (index_defined_by (record member_table { tree = 4 }) text.index_member ≡ Ok (plain_index (codes "member_member") 0 4 (2 ∷ [])))
-unfolding understood everything
-indexes_are = (refl, refl, refl, refl)
+abbrev pub DefinesIndex : Table → List ℕ → List ℕ → List ℕ → Type 0
+DefinesIndex table sql name columns = index_defined_by table sql ≡ Ok (plain_index name 0 table.tree columns)
 
-pub reach_runs : MakesTable with_base text.create_reach × MakesIndex with_reach 6 text.index_reach × (index_defined_by (record reach_table { tree = 17 }) text.index_reach ≡ Ok (plain_index (codes "reach_grp") 0 17 (1 ∷ [])))
+pub indexes_are : DefinesIndex node_table text.index_parent (codes "node_parent") (3 ∷ 8 ∷ []) × DefinesIndex node_table text.index_owner (codes "node_owner") (5 ∷ [])
+    × DefinesIndex ace_table text.index_principal (codes "ace_principal") (5 ∷ []) × DefinesIndex member_table text.index_member (codes "member_member") (2 ∷ [])
+    × DefinesIndex ace2_table text.index_entries (codes "ace2_principal") (5 ∷ []) × DefinesIndex gone_table text.index_gone (codes "gone_book") (1 ∷ 3 ∷ [])
+    × DefinesIndex reach_table text.index_reach (codes "reach_grp") (1 ∷ [])
 unfolding understood everything
-reach_runs = ((refl, refl, (refl, refl)), (refl, refl, (refl, refl)), refl)
+indexes_are = (refl, refl, refl, refl, refl, refl, refl)
 
 -- ---- a node with the number of its children: the count is a column of its own, after the node's
 
@@ -316,7 +320,7 @@ list_children_unlisted = refl
 -- node, list, form, principal, invert, deny and mask of the entries that nodes are joined with, in order of the node, of the list and of the place
 abbrev pub joined_query : List Term → Query
 joined_query terms = record plain_query {
-  from = inner 0 (inner 13 end);
+  from = inner 0 (inner ace2_tree end);
   filter = terms;
   project = col 2 1 ∷ col 2 2 ∷ col 2 4 ∷ col 2 5 ∷ col 2 6 ∷ col 2 7 ∷ col 2 8 ∷ [];
   order = (col 2 1, ascending Binary) ∷ (col 2 2, ascending Binary) ∷ (col 2 3, ascending Binary) ∷ [];
@@ -443,7 +447,7 @@ insert_meta_plain = (refl, refl)
 
 -- ---- the other DELETEs and UPDATEs
 
-pub delete_own_is : command_of (understood book_schema text.delete_own) ≡ Delete 5 (record { lets = []; body = rows_where 13 (equals 1 0 ∷ op2 (Compare Eq Binary) (col 1 2) (lit (Int (pos 0))) ∷ []) })
+pub delete_own_is : command_of (understood book_schema text.delete_own) ≡ Delete 5 (record { lets = []; body = rows_where ace2_tree (equals 1 0 ∷ op2 (Compare Eq Binary) (col 1 2) (lit (Int (pos 0))) ∷ []) })
 unfolding understood everything
 delete_own_is = refl
 
@@ -551,7 +555,7 @@ list_gone_unlisted = refl
 -- ---- the texts of `reach`
 
 pub read_reach_is : command_of (understood book_schema text.read_reach)
-    ≡ Select (record { lets = []; body = record plain_query { from = inner 17 end; project = col 1 1 ∷ col 1 2 ∷ [] } }) (codes "grp" ∷ codes "member" ∷ [])
+    ≡ Select (record { lets = []; body = record plain_query { from = inner reach_tree end; project = col 1 1 ∷ col 1 2 ∷ [] } }) (codes "grp" ∷ codes "member" ∷ [])
 unfolding understood everything
 read_reach_is = refl
 
@@ -564,7 +568,7 @@ unfolding understood everything
 read_reach_unlisted = refl
 
 pub read_reached_is : command_of (understood book_schema text.read_reached)
-    ≡ Select (record { lets = []; body = record plain_query { from = inner 17 end; filter = equals 2 0 ∷ []; project = col 1 1 ∷ [] } }) (codes "grp" ∷ [])
+    ≡ Select (record { lets = []; body = record plain_query { from = inner reach_tree end; filter = equals 2 0 ∷ []; project = col 1 1 ∷ [] } }) (codes "grp" ∷ [])
 unfolding understood everything
 read_reached_is = refl
 
@@ -584,7 +588,7 @@ pub insert_reach_plain : IsPlain (understood book_schema text.insert_reach)
 unfolding understood everything
 insert_reach_plain = (refl, refl)
 
-pub delete_reach_is : command_of (understood book_schema text.delete_reach) ≡ Delete 6 (record { lets = []; body = rows_where 17 (equals 1 0 ∷ equals 2 1 ∷ []) })
+pub delete_reach_is : command_of (understood book_schema text.delete_reach) ≡ Delete 6 (record { lets = []; body = rows_where reach_tree (equals 1 0 ∷ equals 2 1 ∷ []) })
 unfolding understood everything
 delete_reach_is = refl
 
@@ -592,7 +596,7 @@ pub delete_reach_plain : IsPlain (understood book_schema text.delete_reach)
 unfolding understood everything
 delete_reach_plain = (refl, refl)
 
-pub clear_reach_is : command_of (understood book_schema text.clear_reach) ≡ Delete 6 (record { lets = []; body = rows_where 17 [] })
+pub clear_reach_is : command_of (understood book_schema text.clear_reach) ≡ Delete 6 (record { lets = []; body = rows_where reach_tree [] })
 unfolding understood everything
 clear_reach_is = refl
 

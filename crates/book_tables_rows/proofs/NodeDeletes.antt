@@ -14,7 +14,7 @@ use Rattle.sqlite_tied.specs.Compute.{everything}
 use Rattle.sqlite_trees.specs.declared.store.Shape.TheVariants.{Table as TableShape}
 use Rattle.sqlite_keyed.proofs.KeyedLemmas.{same_int}
 use Rattle.book_tables_rows.specs.Columns.{node_parent_place}
-use Rattle.book_tables_rows.specs.Schema.{ace2_table, reach_table, to_node, to_path}
+use Rattle.book_tables_rows.specs.Schema.{ace2_table, reach_table, to_node, to_path, ace2_tree}
 use Rattle.book_tables_rows.proofs.Cascades.{IsIdle, one_step_idle}
 use Rattle.book_tables_rows.proofs.Shapes.{key, key_is, has_key_is, deletes_each}
 
@@ -77,7 +77,7 @@ idle_work mid olds child place apart r there = no_child (work_on olds child plac
 
 pub works_idle : (mid : Trees) (olds : List Row)
     → ((r : Row) → Has (mid 0) r → (old : Row) → Has olds old → has node_parent_place (rowid old) r ≡ false)
-    → ((r : Row) → Has (mid 13) r → (old : Row) → Has olds old → has ace_node_place (rowid old) r ≡ false)
+    → ((r : Row) → Has (mid ace2_tree) r → (old : Row) → Has olds old → has ace_node_place (rowid old) r ≡ false)
     → ((r : Row) → Has (mid 6) r → (old : Row) → Has olds old → has gone_book_place (rowid old) r ≡ false)
     → mid 2 ≡ []
     → AllByRecursion (IsIdle mid) (works book_schema Enforced 0 0 olds [])

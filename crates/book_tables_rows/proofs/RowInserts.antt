@@ -3,7 +3,7 @@ use Rattle.book_tables_rows.proofs.Common.{◌≡◌, inl, inr, ℕ, ℤ, pos, B
 use Rattle.sqlite.specs.Kind.TheVariants as kinds
 use Rattle.sqlite_schema.specs.Names.{same_name}
 use Rattle.sqlite_tied.specs.Compute.{everything}
-use Rattle.book_tables_rows.specs.Schema.{ace2_table}
+use Rattle.book_tables_rows.specs.Schema.{ace2_table, ace2_tree}
 use Rattle.book_tables_rows.specs.Texts as text
 use Rattle.book_tables_rows.specs.Writes as writes
 use Rattle.book_tables_rows.specs.Writes.{gone_row, entry_row}
@@ -17,7 +17,7 @@ works_gone : (row : Row) → works book_schema Enforced 0 6 [] (row ∷ []) ≡ 
 unfolding same_name everything
 works_gone row = refl
 
-works_entries : (row : Row) → works book_schema Enforced 0 13 [] (row ∷ []) ≡ []
+works_entries : (row : Row) → works book_schema Enforced 0 ace2_tree [] (row ∷ []) ≡ []
 unfolding same_name everything
 works_entries row = refl
 
@@ -63,11 +63,11 @@ becomes_listed old new node protected place form principal invert deny mask coun
   rows = λ at.
       let db = old.now.trees in
       let values : Row = Int node ∷ flag protected ∷ Int (pos place) ∷ Int (pos form) ∷ or_null principal ∷ flag invert ∷ flag deny ∷ Int (pos mask) ∷ [] in
-      let row : Row = entry_row (next_rowid (db 13)) (Int node) protected place form principal invert deny mask in
+      let row : Row = entry_row (next_rowid (db ace2_tree)) (Int node) protected place form principal invert deny mask in
       let news : (edit_of db ace2_table [] Chosen 0 ((Null ∷ values) ∷ [])).news ≡ row ∷ [] =
       rw (cast_integer Null refl, cast_integer (Int node) refl, cast_integer (flag protected) (flag_typed protected), cast_integer (Int (pos place)) refl, cast_integer (Int (pos form)) refl, cast_text (or_null principal) (owner_typed principal), cast_integer (flag invert) (flag_typed invert), cast_integer (flag deny) (flag_typed deny), cast_integer (Int (pos mask)) refl) refl in
       let d = inserted old new text.insert_entry values 5 ace2_table refl (inr (inr (inr (inr (inr (inl refl)))))) (λ e. omega (arith, e)) refl entry_terms 9 insert_entry_is insert_entry_plain
-      (Null ∷ values) refl row refl news (λ next w. one_step book_schema Enforced db next _ (ap (λ all. works book_schema Enforced 0 13 [] all) news ∙ works_entries row) w) count h.0 at in
+      (Null ∷ values) refl row refl news (λ next w. one_step book_schema Enforced db next _ (ap (λ all. works book_schema Enforced 0 ace2_tree [] all) news ∙ works_entries row) w) count h.0 at in
       (d.0, entries_changed db new.now.trees d.1.0 d.1.2 (ap (λ (t : Table). t.tree) d.1.1) ∙ ap (λ e. record (rows_of db) { entries = e }) d.2);
 }
 

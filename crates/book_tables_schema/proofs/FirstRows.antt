@@ -11,6 +11,7 @@ use Rattle.book_tables_rows.specs.Rows.{rows_of}
 use Rattle.book_tables_rows.specs.Steps.{Becomes}
 use Rattle.book_tables_rows.proofs.Meanings.{made_is}
 use Rattle.book_tables_schema.specs.Founding.{IsBare, Founds, no_rows, insert_first, first_rows}
+use Rattle.book_tables_rows.specs.Schema.{ace2_tree, reach_tree}
 
 -- the first rows, written one after the other
 pub first_are : insert_first no_rows ≡ first_rows
@@ -28,11 +29,11 @@ module _ (db : Database) (bare : IsBare book_schema db) where
   pub bare_rows : rows_of db.trees ≡ no_rows
   bare_rows =
       let nodes : db.trees 0 ≡ [] = bare.empty.0 in
-      let entries : db.trees 13 ≡ [] = bare.empty.1.1.1.1.1.0 in
+      let entries : db.trees ace2_tree ≡ [] = bare.empty.1.1.1.1.1.0 in
       let members : db.trees 4 ≡ [] = bare.empty.1.1.0 in
       let gone : db.trees 6 ≡ [] = bare.empty.1.1.1.0 in
       let meta : db.trees 8 ≡ [] = bare.empty.1.1.1.1.0 in
-      let reach : db.trees 17 ≡ [] = bare.empty.1.1.1.1.1.1.0 in
+      let reach : db.trees reach_tree ≡ [] = bare.empty.1.1.1.1.1.1.0 in
       λ i. record { nodes = nodes i; entries = entries i; members = members i; gone = gone i; meta = meta i; reach = reach i }
 
 pub founds : (old between new : State) → Extends old between no_schema with_all → Becomes between new insert_first → Founds old new

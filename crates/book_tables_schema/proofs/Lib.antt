@@ -6,5 +6,6 @@ pub mod WholeTables
 pub mod FormerRows
 pub mod SecondVersion
 pub mod WidenedRows
+pub mod DroppedIndexes
 pub mod DroppedReach
 pub mod LeftConnections

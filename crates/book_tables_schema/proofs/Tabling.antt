@@ -16,19 +16,23 @@ use Rattle.sqlite_schema.specs.declared.schema.Index.{Index}
 use Rattle.sqlite_trees.specs.View.{IsShaped}
 use Rattle.sqlite_trees.specs.declared.store.Shape.TheVariants.{Table as TableShape}
 use Rattle.sqlite_tied.specs.Compute.{everything}
-use Rattle.book_tables_rows.proofs.Creating.{creates, AddsIndex}
+use Rattle.book_tables_rows.proofs.Creating.{creates}
 use Rattle.book_tables_rows.proofs.Meanings as meaning
 use Rattle.book_tables_rows.proofs.Meanings.{MakesTable}
 use Rattle.book_tables_rows.proofs.Statements.{went, same_value}
-use Rattle.book_tables_rows.specs.Schema.{node_table, ace_table, member_table, gone_table, meta_table, ace2_table, reach_table, base_schema, book_schema, plain_index}
+use Rattle.book_tables_rows.specs.Schema.{node_table, ace_table, member_table, gone_table, meta_table, ace2_table, reach_table, first_schema, base_schema, book_schema, plain_index, ace2_tree, reach_tree}
 use Rattle.book_tables_rows.specs.Texts as text
 use Rattle.book_tables_rows.proofs.NodeDeletes.{all_append}
-use Rattle.book_tables_schema.specs.Founding.{GetsReach, Renews, Ran, with_node, with_ace, with_member, with_gone, with_meta, with_parent, with_owner, with_principal, with_first, with_ace2, with_entries, with_base, with_reach}
+use Rattle.book_tables_schema.specs.Founding.{GetsDerived, Indexes, Renews, Ran, with_node, with_ace, with_member, with_gone, with_meta, with_ace2, with_reach, with_parent, with_owner, with_principal, with_members, with_entries, with_removed}
 use Rattle.book_tables_schema.specs.Tabled.{HasTables}
 
 still_empty : (old new : Trees) (tables : List Table) → AllByRecursion (λ t. old t.tree ≡ []) tables → KeepsRows tables old new → AllByRecursion (λ t. new t.tree ≡ []) tables
 still_empty old new [] empty kept = tt
 still_empty old new (t ∷ tables) empty kept = (kept.0 ∙ empty.0, still_empty old new tables empty.1 kept.1)
+
+pub kept_then : (a b c : Trees) (tables : List Table) → KeepsRows tables a b → KeepsRows tables b c → KeepsRows tables a c
+kept_then a b c [] first second = tt
+kept_then a b c (t ∷ tables) first second = (second.0 ∙ first.0, kept_then a b c tables first.1 second.1)
 
 pub extends_then : (a b c : State) (s t u : Schema) → Extends a b s t → Extends b c t u → Extends a c s u
 extends_then a b c s t u first second =
@@ -50,30 +54,46 @@ adds_table old new schema sql table makes defined plain ran = record {
 
 -- ---- an index more
 
-indexes : (old new : State) (schema : Schema) (at : ℕ) (sql : List ℕ) (table : Table) (index : Index) → old.now.schema ≡ schema → meaning.MakesIndex schema at sql → slice_get schema.tables at ≡ Some table
-    → index_defined_by table sql ≡ Ok index → (count : ℕ) → Executes sql [] old new (Ok count) → AddsIndex schema table index old.now.trees new.now
-indexes old new schema at sql table index has makes there defined count h =
-    let w = subst (λ t. Writes old new None (CreateIndex at) t [] count) makes.1 (runs_as sql [] old new schema has (CreateIndex at) makes.0 makes.2 count h) in
-    let first = went (subst (λ o. AtPlace (λ t. Defines (mode_of old) (MakesIndex sql old.now t)) o (Ok (w.tally, new.now))) (ap (λ (s : Schema). slice_get s.tables at) has ∙ there) w.changed) in
-    let made = first.1 in
-    let both : Ok made.index ≡ Ok index = sym made.defined ∙ defined in
-    let same : made.index ≡ index = cc in
-    let now : new.now ≡ first.0 = ap (λ (p : Tally × Database). p.1) (same_value first.2) in
-    record {
-      schema_is = ap (λ (d : Database). d.schema) now ∙ made.is ∙ ap (λ s. indexed s table made.index) has ∙ ap (indexed schema table) same;
-      others = subst (λ (d : Database). KeepsRows schema.tables old.now.trees d.trees) (sym now) (subst (λ s. KeepsRows s.tables old.now.trees first.0.trees) has made.rows);
-      sound = w.sound;
-    }
-
-pub adds_index : (old new : State) (schema : Schema) (at : ℕ) (sql : List ℕ) (table : Table) (index : Index) → meaning.MakesIndex schema at sql → slice_get schema.tables at ≡ Some table
-    → index_defined_by table sql ≡ Ok index → Ran sql old new → Extends old new schema (indexed schema table index)
-adds_index old new schema at sql table index makes there defined ran = record {
+pub indexes : (old new : State) (schema : Schema) (at : ℕ) (sql : List ℕ) (table : Table) (index : Index) → meaning.MakesIndex schema at sql → slice_get schema.tables at ≡ Some table
+    → index_defined_by table sql ≡ Ok index → Ran sql old new → Indexes old new schema (indexed schema table index)
+indexes old new schema at sql table index makes there defined ran = record {
   inside = ran.1.1.mode;
   was_open = ran.1.1.was_open;
   is_open = ran.1.1.is_open;
+  made = λ has.
+      let w = subst (λ t. Writes old new None (CreateIndex at) t [] ran.0) makes.1 (runs_as sql [] old new schema has (CreateIndex at) makes.0 makes.2 ran.0 ran.1.0) in
+      let first = went (subst (λ o. AtPlace (λ t. Defines (mode_of old) (MakesIndex sql old.now t)) o (Ok (w.tally, new.now))) (ap (λ (s : Schema). slice_get s.tables at) has ∙ there) w.changed) in
+      let made = first.1 in
+      let both : Ok made.index ≡ Ok index = sym made.defined ∙ defined in
+      let same : made.index ≡ index = cc in
+      let now : new.now ≡ first.0 = ap (λ (p : Tally × Database). p.1) (same_value first.2) in (
+        ap (λ (d : Database). d.schema) now ∙ made.is ∙ ap (λ s. indexed s table made.index) has ∙ ap (indexed schema table) same,
+        w.sound,
+        subst (λ (d : Database). KeepsRows schema.tables old.now.trees d.trees) (sym now) (subst (λ s. KeepsRows s.tables old.now.trees first.0.trees) has made.rows),
+      );
+}
+
+-- indexes leave the tables, so their rows stay through both steps
+pub indexes_then : (a b c : State) (s t u : Schema) → s.tables ≡ t.tables → Indexes a b s t → Indexes b c t u → Indexes a c s u
+indexes_then a b c s t u same first second = record {
+  inside = second.inside;
+  was_open = first.was_open;
+  is_open = second.is_open;
+  made = λ has.
+      let one = first.made has in
+      let two = second.made one.0 in
+      (two.0, two.1, kept_then a.now.trees b.now.trees c.now.trees s.tables one.2 (subst (λ tables. KeepsRows tables b.now.trees c.now.trees) (sym same) two.2));
+}
+
+-- tables without rows have none with more indexes
+pub extends_by : (old new : State) (s t : Schema) → s.tables ≡ t.tables → Indexes old new s t → Extends old new s t
+extends_by old new s t same indexes = record {
+  inside = indexes.inside;
+  was_open = indexes.was_open;
+  is_open = indexes.is_open;
   bare = λ bare.
-      let added = indexes old new schema at sql table index bare.schema_is makes there defined ran.0 ran.1.0 in
-      (record { schema_is = added.schema_is; empty = still_empty old.now.trees new.now.trees schema.tables bare.empty added.others }, added.sound);
+      let made = indexes.made bare.schema_is in
+      (record { schema_is = made.0; empty = subst (λ tables. AllByRecursion (λ u. new.now.trees u.tree ≡ []) tables) same (still_empty old.now.trees new.now.trees s.tables bare.empty made.2) }, made.1);
 }
 
 -- ---- the texts, one by one
@@ -102,88 +122,55 @@ pub adds_meta : (old new : State) → Ran text.create_meta old new → Extends o
 unfolding everything
 adds_meta old new = adds_table old new with_gone text.create_meta (record meta_table { tree = 0 }) meta_runs meaning.meta_is refl
 
-pub adds_parent : (old new : State) → Ran text.index_parent old new → Extends old new with_meta with_parent
+pub adds_ace2 : (old new : State) → Ran text.create_ace2 old new → Extends old new with_meta with_ace2
 unfolding everything
-adds_parent old new = adds_index old new with_meta 0 text.index_parent node_table _ meaning.indexes_run.0 refl meaning.indexes_are.0
+adds_ace2 old new = adds_table old new with_meta text.create_ace2 (record ace2_table { tree = 0 }) meaning.tables_run.5 meaning.ace2_is refl
 
-pub adds_owner : (old new : State) → Ran text.index_owner old new → Extends old new with_parent with_owner
+pub adds_reach : (old new : State) → Ran text.create_reach old new → Extends old new with_ace2 with_reach
 unfolding everything
-adds_owner old new = adds_index old new with_parent 0 text.index_owner node_table _ meaning.indexes_run.1 refl meaning.indexes_are.1
+adds_reach old new = adds_table old new with_ace2 text.create_reach (record reach_table { tree = 0 }) meaning.tables_run.6 meaning.reach_is refl
 
-pub adds_principal : (old new : State) → Ran text.index_principal old new → Extends old new with_owner with_principal
+pub indexes_parent : (old new : State) → Ran text.index_parent old new → Indexes old new with_reach with_parent
 unfolding everything
-adds_principal old new = adds_index old new with_owner 1 text.index_principal (record ace_table { tree = 2 }) _ meaning.indexes_run.2 refl meaning.indexes_are.2
+indexes_parent old new = indexes old new with_reach 0 text.index_parent node_table _ meaning.indexes_run.0 refl meaning.indexes_are.0
 
-member_runs : meaning.MakesIndex with_principal 2 text.index_member
-unfolding understood everything
-member_runs = (refl, refl, (refl, refl))
-
-pub adds_members : (old new : State) → Ran text.index_member old new → Extends old new with_principal with_first
+pub indexes_owner : (old new : State) → Ran text.index_owner old new → Indexes old new with_parent with_owner
 unfolding everything
-adds_members old new = adds_index old new with_principal 2 text.index_member (record member_table { tree = 4 }) _ member_runs refl meaning.indexes_are.3
+indexes_owner old new = indexes old new with_parent 0 text.index_owner node_table _ meaning.indexes_run.1 refl meaning.indexes_are.1
 
-ace2_runs : MakesTable with_first text.create_ace2
-unfolding understood everything
-ace2_runs = (refl, refl, (refl, refl))
-
-pub adds_ace2 : (old new : State) → Ran text.create_ace2 old new → Extends old new with_first with_ace2
+pub indexes_principal : (old new : State) → Ran text.index_principal old new → Indexes old new with_owner with_principal
 unfolding everything
-adds_ace2 old new = adds_table old new with_first text.create_ace2 (record ace2_table { tree = 0 }) ace2_runs meaning.ace2_is refl
+indexes_principal old new = indexes old new with_owner 1 text.index_principal ace_table _ meaning.indexes_run.2 refl meaning.indexes_are.2
 
-entries_run : meaning.MakesIndex with_ace2 5 text.index_entries
-unfolding understood everything
-entries_run = (refl, refl, (refl, refl))
-
-entries_are : index_defined_by (record ace2_table { tree = 13 }) text.index_entries ≡ Ok (plain_index (codes "ace2_principal") 0 13 (5 ∷ []))
-unfolding understood everything
-entries_are = refl
-
-pub adds_entries : (old new : State) → Ran text.index_entries old new → Extends old new with_ace2 with_entries
+pub indexes_members : (old new : State) → Ran text.index_member old new → Indexes old new with_principal with_members
 unfolding everything
-adds_entries old new = adds_index old new with_ace2 5 text.index_entries (record ace2_table { tree = 13 }) _ entries_run refl entries_are
+indexes_members old new = indexes old new with_principal 2 text.index_member member_table _ meaning.indexes_run.3 refl meaning.indexes_are.3
 
-gone_run : meaning.MakesIndex with_entries 3 text.index_gone
-unfolding understood everything
-gone_run = (refl, refl, (refl, refl))
-
-gone_are : index_defined_by gone_table text.index_gone ≡ Ok (plain_index (codes "gone_book") 0 6 (1 ∷ 3 ∷ []))
-unfolding understood everything
-gone_are = refl
-
-pub adds_removed : (old new : State) → Ran text.index_gone old new → Extends old new with_entries with_base
+pub indexes_entries : (old new : State) → Ran text.index_entries old new → Indexes old new with_members with_entries
 unfolding everything
-adds_removed old new = adds_index old new with_entries 3 text.index_gone gone_table _ gone_run refl gone_are
+indexes_entries old new = indexes old new with_members 5 text.index_entries ace2_table _ meaning.indexes_run.4 refl meaning.indexes_are.4
 
--- the same three texts, where the tables of version 1 have rows
-pub renewed : (old between with_index new : State) → Ran text.create_ace2 old between → Ran text.index_entries between with_index → Ran text.index_gone with_index new → Renews old new
+pub indexes_removed : (old new : State) → Ran text.index_gone old new → Indexes old new with_entries with_removed
 unfolding everything
-renewed old between with_index new first second third = record {
-  inside = third.1.1.mode;
-  was_open = first.1.1.was_open;
-  is_open = third.1.1.is_open;
+indexes_removed old new = indexes old new with_entries 3 text.index_gone gone_table _ meaning.indexes_run.5 refl meaning.indexes_are.5
+
+pub indexes_groups : (old new : State) → Ran text.index_reach old new → Indexes old new with_removed with_all
+unfolding everything
+indexes_groups old new = indexes old new with_removed 6 text.index_reach reach_table _ meaning.indexes_run.6 refl meaning.indexes_are.6
+
+-- the table of entries, where the tables of version 1 have rows
+pub renewed : (old new : State) → Ran text.create_ace2 old new → Renews old new
+unfolding everything
+renewed old new ran = record {
+  inside = ran.1.1.mode;
+  was_open = ran.1.1.was_open;
+  is_open = ran.1.1.is_open;
   made = λ has.
-      let table = creates old between with_first text.create_ace2 (record ace2_table { tree = 0 }) (has ∙ sym meaning.first_is) ace2_runs meaning.ace2_is refl first.0 first.1.0 in
-      let index = indexes between with_index with_ace2 5 text.index_entries (record ace2_table { tree = 13 }) _ table.schema_is entries_run refl entries_are second.0 second.1.0 in
-      let last = indexes with_index new with_entries 3 text.index_gone gone_table _ index.schema_is gone_run refl gone_are third.0 third.1.0 in
-      let a = table.others in
-      let b = index.others in
-      let c = last.others in (
-        last.schema_is ∙ meaning.base_is,
-        last.sound,
-        (c.0 ∙ b.0 ∙ a.0, (c.1.0 ∙ b.1.0 ∙ a.1.0, (c.1.1.0 ∙ b.1.1.0 ∙ a.1.1.0, (c.1.1.1.0 ∙ b.1.1.1.0 ∙ a.1.1.1.0, (c.1.1.1.1.0 ∙ b.1.1.1.1.0 ∙ a.1.1.1.1.0, tt))))),
-        c.1.1.1.1.1.0 ∙ b.1.1.1.1.1.0 ∙ table.empty,
-      );
+      let table = creates old new with_meta text.create_ace2 (record ace2_table { tree = 0 }) (has ∙ sym meaning.first_is) meaning.tables_run.5 meaning.ace2_is refl ran.0 ran.1.0 in
+      (table.schema_is ∙ meaning.base_is, table.sound, table.others, table.empty);
 }
 
--- ---- `reach`, behind all others
-
-pub adds_reach : (old new : State) → Ran text.create_reach old new → Extends old new with_base with_reach
-unfolding everything
-adds_reach old new = adds_table old new with_base text.create_reach (record reach_table { tree = 0 }) meaning.reach_runs.0 meaning.reach_is refl
-
-pub adds_reach_index : (old new : State) → Ran text.index_reach old new → Extends old new with_reach with_all
-unfolding everything
-adds_reach_index old new = adds_index old new with_reach 6 text.index_reach (record reach_table { tree = 17 }) _ meaning.reach_runs.1 refl meaning.reach_runs.2
+-- ---- `reach`, behind all other tables, and then the indexes
 
 -- rows that stay rise still
 pub still_rising : (old new : Trees) (tables : List Table) → ((t : Table) → Has tables t → IsShaped TableShape (old t.tree)) → KeepsRows tables old new → (t : Table) → Has tables t → IsShaped TableShape (new t.tree)
@@ -191,12 +178,8 @@ still_rising old new [] rising kept t there = absurd there
 still_rising old new (u ∷ tables) rising kept t (inl is) = subst (λ (x : Table). IsShaped TableShape (new x.tree)) (sym is) (subst (IsShaped TableShape) (sym kept.0) (rising u (inl refl)))
 still_rising old new (u ∷ tables) rising kept t (inr there) = still_rising old new tables (λ x h. rising x (inr h)) kept.1 t there
 
-pub kept_then : (a b c : Trees) (tables : List Table) → KeepsRows tables a b → KeepsRows tables b c → KeepsRows tables a c
-kept_then a b c [] first second = tt
-kept_then a b c (t ∷ tables) first second = (second.0 ∙ first.0, kept_then a b c tables first.1 second.1)
-
 -- of tables with one more behind them
-kept_front : (a b : Trees) (tables : List Table) (last : Table) → KeepsRows (tables ++ last ∷ []) a b → KeepsRows tables a b × (b last.tree ≡ a last.tree)
+pub kept_front : (a b : Trees) (tables : List Table) (last : Table) → KeepsRows (tables ++ last ∷ []) a b → KeepsRows tables a b × (b last.tree ≡ a last.tree)
 kept_front a b [] last kept = (tt, kept.0)
 kept_front a b (t ∷ tables) last kept = let more = kept_front a b tables last kept.1 in ((kept.0, more.0), more.1)
 
@@ -206,7 +189,7 @@ rising_more trees [] last rising empty t (inr there) = absurd there
 rising_more trees (u ∷ tables) last rising empty t (inl is) = rising t (inl is)
 rising_more trees (u ∷ tables) last rising empty t (inr there) = rising_more trees tables last (λ x h. rising x (inr h)) empty t there
 
-base_tables_are : with_base.tables ≡ base_schema.tables
+base_tables_are : with_ace2.tables ≡ base_schema.tables
 unfolding everything
 base_tables_are = refl
 
@@ -214,43 +197,35 @@ reach_tables_are : with_reach.tables ≡ base_schema.tables ++ reach_table ∷ [
 unfolding everything
 reach_tables_are = refl
 
-next_is : next_tree with_base ≡ 17
+next_is : next_tree with_ace2 ≡ reach_tree
 unfolding everything
 next_is = refl
 
-plain_reach : lacks_sequence (created with_base (record reach_table { tree = 0 })) ≡ false
+plain_reach : lacks_sequence (created with_ace2 (record reach_table { tree = 0 })) ≡ false
 unfolding everything
 plain_reach = refl
 
-made_reach : created with_base (record reach_table { tree = 0 }) ≡ with_reach
+made_reach : created with_ace2 (record reach_table { tree = 0 }) ≡ with_reach
 unfolding everything
 made_reach = refl
 
-there_reach : slice_get with_reach.tables 6 ≡ Some (record reach_table { tree = 17 })
-unfolding everything
-there_reach = refl
-
-indexed_reach : indexed with_reach (record reach_table { tree = 17 }) (plain_index (codes "reach_grp") 0 17 (1 ∷ [])) ≡ book_schema
-unfolding everything
-indexed_reach = refl
-
-pub gets_reach : (old mid new : State) → Ran text.create_reach old mid → Ran text.index_reach mid new → GetsReach old new
-gets_reach old mid new first second = record {
-  inside = second.1.1.mode;
+pub gets_derived : (old mid new : State) → Ran text.create_reach old mid → Indexes mid new with_reach with_all → GetsDerived old new
+gets_derived old mid new first second = record {
+  inside = second.inside;
   was_open = first.1.1.was_open;
-  is_open = second.1.1.is_open;
+  is_open = second.is_open;
   made = λ base.
-      let added = creates old mid with_base text.create_reach (record reach_table { tree = 0 }) (base.schema ∙ sym meaning.base_is) meaning.reach_runs.0 meaning.reach_is plain_reach first.0 first.1.0 in
-      let index = indexes mid new with_reach 6 text.index_reach (record reach_table { tree = 17 }) (plain_index (codes "reach_grp") 0 17 (1 ∷ [])) (added.schema_is ∙ made_reach) meaning.reach_runs.1 there_reach meaning.reach_runs.2 second.0 second.1.0 in
+      let added = creates old mid with_ace2 text.create_reach (record reach_table { tree = 0 }) (base.schema ∙ sym meaning.base_is) meaning.tables_run.6 meaning.reach_is plain_reach first.0 first.1.0 in
+      let index = second.made (added.schema_is ∙ made_reach) in
       let others : KeepsRows base_schema.tables old.now.trees mid.now.trees = subst (λ ts. KeepsRows ts old.now.trees mid.now.trees) base_tables_are added.others in
-      let empty : mid.now.trees 17 ≡ [] = subst (λ n. mid.now.trees n ≡ []) next_is added.empty in
-      let kept : KeepsRows (base_schema.tables ++ reach_table ∷ []) mid.now.trees new.now.trees = subst (λ ts. KeepsRows ts mid.now.trees new.now.trees) reach_tables_are index.others in
+      let empty : mid.now.trees reach_tree ≡ [] = subst (λ n. mid.now.trees n ≡ []) next_is added.empty in
+      let kept : KeepsRows (base_schema.tables ++ reach_table ∷ []) mid.now.trees new.now.trees = subst (λ ts. KeepsRows ts mid.now.trees new.now.trees) reach_tables_are index.2 in
       let parts = kept_front mid.now.trees new.now.trees base_schema.tables reach_table kept in
       let both = kept_then old.now.trees mid.now.trees new.now.trees base_schema.tables others parts.0 in
-      let none : new.now.trees 17 ≡ [] = parts.1 ∙ empty in (
+      let none : new.now.trees reach_tree ≡ [] = parts.1 ∙ empty in (
         record {
-          schema = index.schema_is ∙ indexed_reach;
-          rules = index.sound;
+          schema = index.0 ∙ meaning.made_is;
+          rules = index.1;
           rising = rising_more new.now.trees base_schema.tables reach_table (still_rising old.now.trees new.now.trees base_schema.tables base.rising both) none;
         },
         both,

@@ -13,7 +13,7 @@ use Rattle.sqlite.proofs.Callers.{IsPlain, command_of, reads_as}
 use Rattle.sqlite_tied.specs.Compute.{everything}
 use Rattle.book_tables_rows.specs.Lists.{ShowsRows}
 use Rattle.std.proofs.lemmas.List.Sorted.{length_permutation}
-use Rattle.book_tables_rows.specs.Schema.{ace_tree}
+use Rattle.book_tables_rows.specs.Schema.{ace_tree, ace2_tree}
 use Rattle.book_tables_rows.specs.Texts as text
 use Rattle.book_tables_rows.proofs.Becoming.{empty_permutation}
 use Rattle.book_tables_rows.proofs.Keeping.{shown_open}
@@ -42,7 +42,7 @@ list_nodes_unlisted = refl
 abbrev list_all_entries_columns : List Term
 list_all_entries_columns = col 1 1 ∷ col 1 2 ∷ col 1 3 ∷ col 1 4 ∷ col 1 5 ∷ col 1 6 ∷ col 1 7 ∷ col 1 8 ∷ []
 
-list_all_entries_is : command_of (understood book_schema list_all_entries) ≡ Select (record { lets = []; body = simple 13 [] list_all_entries_columns }) (codes "node" ∷ codes "protected" ∷ codes "place" ∷ codes "form" ∷ codes "principal" ∷ codes "invert" ∷ codes "deny" ∷ codes "mask" ∷ [])
+list_all_entries_is : command_of (understood book_schema list_all_entries) ≡ Select (record { lets = []; body = simple ace2_tree [] list_all_entries_columns }) (codes "node" ∷ codes "protected" ∷ codes "place" ∷ codes "form" ∷ codes "principal" ∷ codes "invert" ∷ codes "deny" ∷ codes "mask" ∷ [])
 unfolding understood everything
 list_all_entries_is = refl
 
@@ -84,7 +84,7 @@ pub shows_nodes : (old new : State) (rows : List Row) → Shown list_nodes [] ol
 shows_nodes old new rows h = (shown_open list_nodes _ old new rows h, λ book. shows_whole list_nodes _ 0 list_nodes_columns list_nodes_is list_nodes_plain list_nodes_unlisted (λ db. refl) old new rows h book.schema)
 
 pub shows_entries : (old new : State) (rows : List Row) → Shown list_all_entries [] old new rows → ShowsRows old entries_shown rows
-shows_entries old new rows h = (shown_open list_all_entries _ old new rows h, λ book. shows_whole list_all_entries _ 13 list_all_entries_columns list_all_entries_is list_all_entries_plain list_all_entries_unlisted (λ db. refl) old new rows h book.schema)
+shows_entries old new rows h = (shown_open list_all_entries _ old new rows h, λ book. shows_whole list_all_entries _ ace2_tree list_all_entries_columns list_all_entries_is list_all_entries_plain list_all_entries_unlisted (λ db. refl) old new rows h book.schema)
 
 pub shows_gone : (old new : State) (rows : List Row) → Shown list_all_gone [] old new rows → ShowsRows old gone_shown rows
 shows_gone old new rows h = (shown_open list_all_gone _ old new rows h, λ book. shows_whole list_all_gone _ 6 list_all_gone_columns list_all_gone_is list_all_gone_plain list_all_gone_unlisted (λ db. refl) old new rows h book.schema)

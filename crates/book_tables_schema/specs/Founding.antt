@@ -35,8 +35,16 @@ with_gone = created with_member gone_table
 abbrev pub with_meta : Schema
 with_meta = created with_gone meta_table
 
+abbrev pub with_ace2 : Schema
+with_ace2 = created with_meta ace2_table
+
+abbrev pub with_reach : Schema
+with_reach = created with_ace2 reach_table
+
+-- all tables stand before the indexes that only make look-ups fast
+
 abbrev pub with_parent : Schema
-with_parent = indexed with_meta node_table (plain_index (codes "node_parent") 0 0 (3 ∷ 8 ∷ []))
+with_parent = indexed with_reach node_table (plain_index (codes "node_parent") 0 0 (3 ∷ 8 ∷ []))
 
 abbrev pub with_owner : Schema
 with_owner = indexed with_parent node_table (plain_index (codes "node_owner") 0 0 (5 ∷ []))
@@ -44,23 +52,17 @@ with_owner = indexed with_parent node_table (plain_index (codes "node_owner") 0 
 abbrev pub with_principal : Schema
 with_principal = indexed with_owner ace_table (plain_index (codes "ace_principal") 0 0 (5 ∷ []))
 
-abbrev pub with_first : Schema
-with_first = indexed with_principal member_table (plain_index (codes "member_member") 0 0 (2 ∷ []))
-
-abbrev pub with_ace2 : Schema
-with_ace2 = created with_first ace2_table
+abbrev pub with_members : Schema
+with_members = indexed with_principal member_table (plain_index (codes "member_member") 0 0 (2 ∷ []))
 
 abbrev pub with_entries : Schema
-with_entries = indexed with_ace2 ace2_table (plain_index (codes "ace2_principal") 0 0 (5 ∷ []))
+with_entries = indexed with_members ace2_table (plain_index (codes "ace2_principal") 0 0 (5 ∷ []))
 
-abbrev pub with_base : Schema
-with_base = indexed with_entries gone_table (plain_index (codes "gone_book") 0 0 (1 ∷ 3 ∷ []))
-
-abbrev pub with_reach : Schema
-with_reach = created with_base reach_table
+abbrev pub with_removed : Schema
+with_removed = indexed with_entries gone_table (plain_index (codes "gone_book") 0 0 (1 ∷ 3 ∷ []))
 
 abbrev pub with_all : Schema
-with_all = indexed with_reach reach_table (plain_index (codes "reach_grp") 0 0 (1 ∷ []))
+with_all = indexed with_removed reach_table (plain_index (codes "reach_grp") 0 0 (1 ∷ []))
 
 -- a store has these tables, and no row in them
 pub record IsBare (schema : Schema) (db : Database) : Type 0 where
@@ -74,6 +76,14 @@ pub record Extends (old new : State) (before after : Schema) : Type 0 where
   pub is_open : IsTrue new.is_open
   pub bare : IsBare before old.now → IsBare after new.now × IsDatabase new.now
 
+-- inside a transaction: indexes were added, and all rows stayed
+pub record Indexes (old new : State) (before after : Schema) : Type 0 where
+  pub inside : IsTrue new.in_transaction
+  pub was_open : IsTrue old.is_open
+  pub is_open : IsTrue new.is_open
+  pub made : old.now.schema ≡ before
+      → (new.now.schema ≡ after) × IsDatabase new.now × KeepsRows before.tables old.now.trees new.now.trees
+
 -- a text without parameters has run inside a transaction
 abbrev pub Ran : List ℕ → State → State → Type 0
 Ran sql old new = (count : ℕ) × ExecutesInside 0 sql [] old new (Ok count)
@@ -81,6 +91,9 @@ Ran sql old new = (count : ℕ) × ExecutesInside 0 sql [] old new (Ok count)
 -- a step that answers Ok has added them
 abbrev pub Extending : State → State → Result (Unit {0}) Error → Schema → Schema → Type 0
 Extending old new result before after = HasCleanDisk new → IsTrue old.in_transaction → OnOk result (Extends old new before after)
+
+abbrev pub Indexing : State → State → Result (Unit {0}) Error → Schema → Schema → Type 0
+Indexing old new result before after = HasCleanDisk new → IsTrue old.in_transaction → OnOk result (Indexes old new before after)
 
 -- ---- the first rows
 
@@ -145,8 +158,7 @@ pub record MayFound (old : State) (trees : Trees) : Type 0 where
 
 -- ---- the tables of version 1 are renewed
 
--- inside a transaction: to the tables of version 1 came the one that version 2 has beside them, without a row, and the indexes; all rows
--- stayed
+-- inside a transaction: to the tables of version 1 came the one that version 2 has beside them, without a row; all rows stayed
 pub record Renews (old new : State) : Type 0 where
   pub inside : IsTrue new.in_transaction
   pub was_open : IsTrue old.is_open
@@ -154,10 +166,11 @@ pub record Renews (old new : State) : Type 0 where
   pub made : old.now.schema ≡ first_schema
       → (new.now.schema ≡ base_schema) × IsDatabase new.now × KeepsRows first_schema.tables old.now.trees new.now.trees × (new.now.trees ace2_tree ≡ [])
 
--- ---- `reach` is made
+-- ---- what derives from other tables is made
 
--- inside a transaction: to the tables of a store without `reach` it came, without a row; all rows stayed
-pub record GetsReach (old new : State) : Type 0 where
+-- inside a transaction: to the tables of a store `reach` came, without a row, and the indexes that only make look-ups fast; all rows
+-- stayed
+pub record GetsDerived (old new : State) : Type 0 where
   pub inside : IsTrue new.in_transaction
   pub was_open : IsTrue old.is_open
   pub is_open : IsTrue new.is_open

@@ -1,10 +1,12 @@
 -- Parts of the schema, as they are compared.
-use Rattle.std.specs.Prelude.{Bool, true, false, List, [], ◌∷◌, codes}
+use Rattle.std.specs.Prelude.{ℕ, false, List, [], ◌∷◌, codes}
 use Rattle.sqlite.specs.Kind.TheVariants.{Text}
 use Rattle.sqlite.specs.Table.{Table}
 use Rattle.sqlite_schema.specs.declared.schema.Column.{Column}
 use Rattle.sqlite_schema.specs.declared.schema.Index.{Index}
-use Rattle.book_tables_rows.specs.Schema.{strict_column, number_column, text_column, unique_index, plain_index, node_tree, ace_tree, member_tree, gone_tree, node_table, ace_table, member_table, gone_table, meta_table, ace2_table, second_indexes}
+use Rattle.book_tables_rows.specs.Schema.{strict_column, number_column, text_column, unique_index, node_table, ace_table, member_table, gone_table, meta_table, ace2_table, node_key, ace_key, member_key, gone_key, ace2_key, reach_key, own_indexes}
+use Rattle.book_tables_schema.specs.declared.layout.Generation.{Generation}
+use Rattle.book_tables_schema.specs.declared.layout.Generation.TheVariants.{First, Former, Second}
 
 -- ---- the last columns of `node` and of `ace`
 
@@ -20,30 +22,40 @@ ace_effect = number_column (codes "invert") ∷ number_column (codes "deny") ∷
 abbrev pub ace_content : List Column
 ace_content = number_column (codes "form") ∷ strict_column (codes "principal") Text false ∷ ace_effect
 
--- ---- what version 2 has beside version 1, and the last tables and indexes of both
+-- ---- the tables of each generation, and their keys: the last ones first
 
-abbrev pub more_tables : Bool → List Table
-more_tables true = ace2_table ∷ []
-more_tables false = []
+-- where `ace2` stood in the former order, behind the indexes of version 1
+abbrev pub former_tree : ℕ
+former_tree = 13
 
-abbrev pub last_tables : Bool → List Table
-last_tables second = gone_table ∷ meta_table ∷ more_tables second
+abbrev pub former_table : Table
+former_table = record ace2_table { tree = former_tree }
 
-abbrev pub tables_of : Bool → List Table
-tables_of second = node_table ∷ ace_table ∷ member_table ∷ last_tables second
+abbrev pub former_key : Index
+former_key = unique_index (codes "sqlite_autoindex_ace2_1") 14 former_tree (1 ∷ 2 ∷ 3 ∷ [])
 
-abbrev pub more_indexes : Bool → List Index
-more_indexes true = second_indexes
-more_indexes false = []
+abbrev pub more_tables : Generation → List Table
+more_tables First = []
+more_tables Former = former_table ∷ []
+more_tables Second = ace2_table ∷ []
 
-abbrev pub principal_indexes : Bool → List Index
-principal_indexes second = plain_index (codes "ace_principal") 11 ace_tree (5 ∷ []) ∷ plain_index (codes "member_member") 12 member_tree (2 ∷ []) ∷ more_indexes second
+abbrev pub last_tables : Generation → List Table
+last_tables generation = gone_table ∷ meta_table ∷ more_tables generation
 
-abbrev pub node_indexes : Bool → List Index
-node_indexes second = plain_index (codes "node_parent") 9 node_tree (3 ∷ 8 ∷ []) ∷ plain_index (codes "node_owner") 10 node_tree (5 ∷ []) ∷ principal_indexes second
+abbrev pub tables_of : Generation → List Table
+tables_of generation = node_table ∷ ace_table ∷ member_table ∷ last_tables generation
 
-abbrev pub last_indexes : Bool → List Index
-last_indexes second = unique_index (codes "sqlite_autoindex_member_1") 5 member_tree (1 ∷ 2 ∷ []) ∷ unique_index (codes "sqlite_autoindex_gone_1") 7 gone_tree (1 ∷ 2 ∷ []) ∷ node_indexes second
+abbrev pub more_keys : Generation → List Index
+more_keys First = []
+more_keys Former = former_key ∷ []
+more_keys Second = ace2_key ∷ []
 
-abbrev pub indexes_of : Bool → List Index
-indexes_of second = unique_index (codes "sqlite_autoindex_node_1") 1 node_tree (2 ∷ []) ∷ unique_index (codes "sqlite_autoindex_ace_1") 3 ace_tree (1 ∷ 2 ∷ 3 ∷ []) ∷ last_indexes second
+abbrev pub last_keys : Generation → List Index
+last_keys generation = member_key ∷ gone_key ∷ more_keys generation
+
+abbrev pub keys_of : Generation → List Index
+keys_of generation = node_key ∷ ace_key ∷ last_keys generation
+
+-- behind the keys of version 2: that of `reach`, and the indexes that only make look-ups fast
+abbrev pub rest_indexes : List Index
+rest_indexes = reach_key ∷ own_indexes

@@ -1,6 +1,8 @@
 pub mod Founding
 pub mod Layout
+pub mod OwnIndexes
 pub mod OtherReach
+pub mod FormerOrder
 pub mod Versions
 pub mod Whole
 pub mod Tabled

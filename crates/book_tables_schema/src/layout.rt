@@ -16,6 +16,17 @@ use sqlite_schema::schema::{Action, Index, Reference, Schema, Table};
 use sqlite_value::keys::Order;
 use sqlite_value::value::Bytes;
 
+/// Which tables a store has.
+#[derive(Clone, Copy, Debug, PartialEq, Eq)]
+pub enum Generation {
+    /// Those of version 1.
+    First,
+    /// Those of version 2 in the former order: `ace2` stands behind the indexes of version 1.
+    Former,
+    /// Those of version 2: all tables stand before the indexes that only make look-ups fast.
+    Second,
+}
+
 // ---- references, keys and rules
 
 fn are_places(given: &Items<usize>, places: &[usize]) -> bool
@@ -193,12 +204,12 @@ fn is_meta_table(table: &Table) -> bool
         && table.references.as_slice().is_empty()
 }
 
-fn is_ace2_table(table: &Table) -> bool
-    ensures { IsTrue result ↔ (table.now ≡ wanted.ace2_table) }
+fn is_entry_table(table: &Table, tree: u32) -> bool
+    ensures { IsTrue result ↔ (table.now ≡ record wanted.ace2_table { tree = tree }) }
 {
     is_plain(table)
         && is_name(&table.name, b"ace2")
-        && table.tree == 13
+        && table.tree == tree
         && are_ace_columns(table.columns.as_slice())
         && table.key.is_none()
         && are_places(&table.primary, &[1, 2, 3])
@@ -207,36 +218,37 @@ fn is_ace2_table(table: &Table) -> bool
         && are_to_node_and_path(table.references.as_slice(), 1, 5)
 }
 
-fn are_more_tables(tables: &[Table], second: bool) -> bool
-    ensures { IsTrue result ↔ (tables.now ≡ layout.more_tables second) }
+fn are_more_tables(tables: &[Table], generation: Generation) -> bool
+    ensures { IsTrue result ↔ (tables.now ≡ layout.more_tables generation) }
 {
-    match (tables, second) {
-        ([ace2], true) => is_ace2_table(ace2),
-        ([], false) => true,
+    match (tables, generation) {
+        ([], Generation::First) => true,
+        ([former], Generation::Former) => is_entry_table(former, 13),
+        ([ace2], Generation::Second) => is_entry_table(ace2, 9),
         _ => false,
     }
 }
 
-fn are_last_tables(tables: &[Table], second: bool) -> bool
-    ensures { IsTrue result ↔ (tables.now ≡ layout.last_tables second) }
+fn are_last_tables(tables: &[Table], generation: Generation) -> bool
+    ensures { IsTrue result ↔ (tables.now ≡ layout.last_tables generation) }
 {
     match tables {
         [gone, meta, more @ ..] => {
-            is_gone_table(gone) && is_meta_table(meta) && are_more_tables(more, second)
+            is_gone_table(gone) && is_meta_table(meta) && are_more_tables(more, generation)
         }
         _ => false,
     }
 }
 
-pub(crate) fn are_tables(tables: &[Table], second: bool) -> bool
-    ensures { IsTrue result ↔ (tables.now ≡ layout.tables_of second) }
+pub(crate) fn are_tables(tables: &[Table], generation: Generation) -> bool
+    ensures { IsTrue result ↔ (tables.now ≡ layout.tables_of generation) }
 {
     match tables {
         [node, ace, member, last @ ..] => {
             is_node_table(node)
                 && is_ace_table(ace)
                 && is_member_table(member)
-                && are_last_tables(last, second)
+                && are_last_tables(last, generation)
         }
         _ => false,
     }
@@ -266,89 +278,97 @@ fn is_plain_index(index: &Index, name: &[u8], tree: u32, table: u32, places: &[u
         && !index.is_unique
 }
 
-fn are_second_indexes(indexes: &[Index]) -> bool
-    ensures { IsTrue result ↔ (indexes.now ≡ wanted.second_indexes) }
+fn are_more_keys(indexes: &[Index], generation: Generation) -> bool
+    ensures { IsTrue result ↔ (indexes.now ≡ layout.more_keys generation) }
 {
-    match indexes {
-        [key, principal, gone] => {
-            is_unique_index(key, b"sqlite_autoindex_ace2_1", 14, 13, &[1, 2, 3])
-                && is_plain_index(principal, b"ace2_principal", 15, 13, &[5])
-                && is_plain_index(gone, b"gone_book", 16, 6, &[1, 3])
+    match (indexes, generation) {
+        ([], Generation::First) => true,
+        ([former], Generation::Former) => {
+            is_unique_index(former, b"sqlite_autoindex_ace2_1", 14, 13, &[1, 2, 3])
+        }
+        ([ace2], Generation::Second) => {
+            is_unique_index(ace2, b"sqlite_autoindex_ace2_1", 10, 9, &[1, 2, 3])
         }
         _ => false,
     }
 }
 
-fn are_more_indexes(indexes: &[Index], second: bool) -> bool
-    ensures { IsTrue result ↔ (indexes.now ≡ layout.more_indexes second) }
-{
-    if second {
-        are_second_indexes(indexes)
-    } else {
-        indexes.is_empty()
-    }
-}
-
-fn are_principal_indexes(indexes: &[Index], second: bool) -> bool
-    ensures { IsTrue result ↔ (indexes.now ≡ layout.principal_indexes second) }
+fn are_last_keys(indexes: &[Index], generation: Generation) -> bool
+    ensures { IsTrue result ↔ (indexes.now ≡ layout.last_keys generation) }
 {
     match indexes {
-        [principal, member, last @ ..] => {
-            is_plain_index(principal, b"ace_principal", 11, 2, &[5])
-                && is_plain_index(member, b"member_member", 12, 4, &[2])
-                && are_more_indexes(last, second)
-        }
-        _ => false,
-    }
-}
-
-fn are_node_indexes(indexes: &[Index], second: bool) -> bool
-    ensures { IsTrue result ↔ (indexes.now ≡ layout.node_indexes second) }
-{
-    match indexes {
-        [parent, owner, last @ ..] => {
-            is_plain_index(parent, b"node_parent", 9, 0, &[3, 8])
-                && is_plain_index(owner, b"node_owner", 10, 0, &[5])
-                && are_principal_indexes(last, second)
-        }
-        _ => false,
-    }
-}
-
-fn are_last_indexes(indexes: &[Index], second: bool) -> bool
-    ensures { IsTrue result ↔ (indexes.now ≡ layout.last_indexes second) }
-{
-    match indexes {
-        [member, gone, last @ ..] => {
+        [member, gone, more @ ..] => {
             is_unique_index(member, b"sqlite_autoindex_member_1", 5, 4, &[1, 2])
                 && is_unique_index(gone, b"sqlite_autoindex_gone_1", 7, 6, &[1, 2])
-                && are_node_indexes(last, second)
+                && are_more_keys(more, generation)
         }
         _ => false,
     }
 }
 
-pub(crate) fn are_indexes(indexes: &[Index], second: bool) -> bool
-    ensures { IsTrue result ↔ (indexes.now ≡ layout.indexes_of second) }
+/// Whether the indexes are those that the keys of the tables have.
+pub(crate) fn are_keys(indexes: &[Index], generation: Generation) -> bool
+    ensures { IsTrue result ↔ (indexes.now ≡ layout.keys_of generation) }
 {
     match indexes {
         [node, ace, last @ ..] => {
             is_unique_index(node, b"sqlite_autoindex_node_1", 1, 0, &[2])
                 && is_unique_index(ace, b"sqlite_autoindex_ace_1", 3, 2, &[1, 2, 3])
-                && are_last_indexes(last, second)
+                && are_last_keys(last, generation)
         }
         _ => false,
     }
 }
 
-// ---- `reach`, which stands behind all others
+// ---- the indexes that only make look-ups fast
+
+fn are_last_indexes(indexes: &[Index]) -> bool
+    ensures { IsTrue result ↔ (indexes.now ≡ wanted.last_indexes) }
+{
+    match indexes {
+        [entries, removed, group] => {
+            is_plain_index(entries, b"ace2_principal", 17, 9, &[5])
+                && is_plain_index(removed, b"gone_book", 18, 6, &[1, 3])
+                && is_plain_index(group, b"reach_grp", 19, 11, &[1])
+        }
+        _ => false,
+    }
+}
+
+fn are_principal_indexes(indexes: &[Index]) -> bool
+    ensures { IsTrue result ↔ (indexes.now ≡ wanted.principal_indexes) }
+{
+    match indexes {
+        [principal, member, last @ ..] => {
+            is_plain_index(principal, b"ace_principal", 15, 2, &[5])
+                && is_plain_index(member, b"member_member", 16, 4, &[2])
+                && are_last_indexes(last)
+        }
+        _ => false,
+    }
+}
+
+fn are_own_indexes(indexes: &[Index]) -> bool
+    ensures { IsTrue result ↔ (indexes.now ≡ wanted.own_indexes) }
+{
+    match indexes {
+        [parent, owner, last @ ..] => {
+            is_plain_index(parent, b"node_parent", 13, 0, &[3, 8])
+                && is_plain_index(owner, b"node_owner", 14, 0, &[5])
+                && are_principal_indexes(last)
+        }
+        _ => false,
+    }
+}
+
+// ---- `reach`, which stands behind all other tables
 
 fn is_reach_table(table: &Table) -> bool
     ensures { IsTrue result ↔ (table.now ≡ wanted.reach_table) }
 {
     is_plain(table)
         && is_name(&table.name, b"reach")
-        && table.tree == 17
+        && table.tree == 11
         && are_member_columns(table.columns.as_slice())
         && table.key.is_none()
         && are_places(&table.primary, &[2, 1])
@@ -357,18 +377,23 @@ fn is_reach_table(table: &Table) -> bool
         && are_to_paths(table.references.as_slice(), 1, 2)
 }
 
-fn are_reach_indexes(key: &Index, group: &Index) -> bool
-    ensures { IsTrue result ↔ (key.now ∷ group.now ∷ [] ≡ wanted.reach_indexes) }
+fn are_rest_indexes(indexes: &[Index]) -> bool
+    ensures { IsTrue result ↔ (indexes.now ≡ layout.rest_indexes) }
 {
-    is_unique_index(key, b"sqlite_autoindex_reach_1", 18, 17, &[2, 1])
-        && is_plain_index(group, b"reach_grp", 19, 17, &[1])
+    match indexes {
+        [reach, own @ ..] => {
+            is_unique_index(reach, b"sqlite_autoindex_reach_1", 12, 11, &[2, 1])
+                && are_own_indexes(own)
+        }
+        _ => false,
+    }
 }
 
 fn are_book_tables(tables: &[Table]) -> bool
     ensures { IsTrue result ↔ (tables.now ≡ book_schema.tables) }
 {
     match tables {
-        [base @ .., reach] => are_tables(base, true) && is_reach_table(reach),
+        [base @ .., reach] => are_tables(base, Generation::Second) && is_reach_table(reach),
         _ => false,
     }
 }
@@ -376,14 +401,15 @@ fn are_book_tables(tables: &[Table]) -> bool
 fn are_book_indexes(indexes: &[Index]) -> bool
     ensures { IsTrue result ↔ (indexes.now ≡ book_schema.indexes) }
 {
-    match indexes {
-        [base @ .., key, group] => are_indexes(base, true) && are_reach_indexes(key, group),
-        _ => false,
+    if indexes.len() < 5 {
+        return false;
     }
+    let (keys, rest) = indexes.split_at(5);
+    are_keys(keys, Generation::Second) && are_rest_indexes(rest)
 }
 
-/// Whether a schema is that of a store of version 2: the tables with their columns, keys and references, the indexes,
-/// and no view.
+/// Whether a schema is that of a store of version 2: the tables with their columns, keys and references, then the
+/// indexes, and no view.
 pub fn is_book_schema(schema: &Schema) -> bool
     ensures { IsTrue result ↔ (schema.now ≡ book_schema) }
 {

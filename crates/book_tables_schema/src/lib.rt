@@ -15,7 +15,9 @@
 //! `reopening`, `versions` and `whole` are for a store that is there.
 #![tactic(auto)]
 
+mod bare;
 mod columns;
+mod dropping;
 mod first;
 mod former;
 mod founding;
@@ -27,12 +29,13 @@ mod tables;
 mod versions;
 mod whole;
 
+pub use dropping::{drop_derived, drop_former_entries};
 pub use former::{empty_former, has_no_former, set_second};
 pub use founding::{create, is_empty};
 pub use laws::widened_rows_keep_lists;
-pub use layout::is_book_schema;
+pub use layout::{Generation, is_book_schema};
 pub use reaches::is_beside_reach;
 pub use reopening::{Unopened, reopen};
-pub use tables::{drop_reach, make_reach, make_second_tables};
+pub use tables::{make_derived, make_second_table};
 pub use versions::says_other_version;
 pub use whole::{all_entry_rows, all_gone_rows, all_meta_rows, all_node_rows};

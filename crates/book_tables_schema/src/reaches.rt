@@ -1,13 +1,15 @@
 //! Whether the tables of a store stand there, whatever table `reach` stands behind them.
 
-ghost use Rattle.std.specs.Prelude.{◌≡◌, ◌↔◌, IsTrue};
+ghost use Rattle.std.specs.Prelude.{◌≡◌, ◌↔◌, IfOk, IsTrue, length};
 ghost use Rattle.std.specs.List.{AllByRecursion};
-ghost use Rattle.book_tables_schema.specs.OtherReach.{HasIndexes, HasLast, HasReach, IsBeside, IsReach, IsToOther, free_tree, schema_of};
+ghost use Rattle.book_tables_schema.specs.Layout.{keys_of};
+ghost use Rattle.book_tables_schema.specs.OtherReach.{HasIndexes, HasLast, HasReach, IsBareBeside, IsBeside, IsReach, IsToOther, free_tree, schema_of};
 
-use crate::columns::is_name;
-use crate::layout::{are_indexes, are_tables};
+use crate::bare::bared;
+use crate::layout::{Generation, are_keys, are_tables};
 use sqlite_schema::names::same_name;
 use sqlite_schema::schema::{Index, Reference, Schema, Table};
+use std::alloc::{AllocError, Global};
 
 fn is_to_other(reference: &Reference) -> bool
     ensures { IsTrue result ↔ IsToOther reference.now }
@@ -45,66 +47,95 @@ fn are_of(indexes: &[Index], tree: u32) -> bool
     true
 }
 
-/// The first tree behind those of the tables of a store and of their indexes.
-fn free_tree(second: bool) -> u32
-    ensures { result ≡ free_tree second }
+/// The first tree behind those of the tables of a store and of their keys.
+fn free_tree(generation: Generation) -> u32
+    ensures { result ≡ free_tree generation }
 {
-    if second { 17 } else { 13 }
+    match generation {
+        Generation::First => 9,
+        Generation::Former => 15,
+        Generation::Second => 11,
+    }
 }
 
-fn is_reach(table: &Table, second: bool) -> bool
-    ensures { IsTrue result ↔ IsReach second table.now }
+fn is_reach(table: &Table, generation: Generation) -> bool
+    ensures { IsTrue result ↔ IsReach generation table.now }
 {
-    is_name(&table.name, b"reach")
-        && free_tree(second) <= table.tree
+    same_name(table.name.as_slice(), b"reach")
+        && free_tree(generation) <= table.tree
         && !table.is_counted
         && are_to_others(table.references.as_slice())
 }
 
-fn has_indexes(indexes: &[Index], tree: u32, second: bool) -> bool
-    ensures { IsTrue result ↔ HasIndexes second tree indexes.now }
+/// How many keys the tables have.
+fn count_of_keys(generation: Generation) -> usize
+    ensures { result ≡ length (keys_of generation) }
 {
-    let count = if second { 11 } else { 8 };
+    match generation {
+        Generation::First => 4,
+        Generation::Former | Generation::Second => 5,
+    }
+}
+
+fn has_indexes(indexes: &[Index], tree: u32, generation: Generation) -> bool
+    ensures { IsTrue result ↔ HasIndexes generation tree indexes.now }
+{
+    let count = count_of_keys(generation);
     if indexes.len() < count {
         return false;
     }
-    let (front, more) = indexes.split_at(count);
-    are_indexes(front, second) && are_of(more, tree)
+    let (keys, more) = indexes.split_at(count);
+    are_keys(keys, generation) && are_of(more, tree)
 }
 
-fn has_last(tables: &[Table], indexes: &[Index], second: bool) -> bool
-    ensures { IsTrue result ↔ HasLast second tables.now indexes.now }
+fn has_last(tables: &[Table], indexes: &[Index], generation: Generation) -> bool
+    ensures { IsTrue result ↔ HasLast generation tables.now indexes.now }
 {
     match tables {
         [front @ .., last] => {
-            are_tables(front, second)
-                && is_reach(last, second)
-                && has_indexes(indexes, last.tree, second)
+            are_tables(front, generation)
+                && is_reach(last, generation)
+                && has_indexes(indexes, last.tree, generation)
         }
         _ => false,
     }
 }
 
-fn has_reach(schema: &Schema, second: bool) -> bool
-    ensures { IsTrue result ↔ HasReach second schema.now }
+fn has_reach(schema: &Schema, generation: Generation) -> bool
+    ensures { IsTrue result ↔ HasReach generation schema.now }
 {
-    has_last(schema.tables.as_slice(), schema.indexes.as_slice(), second)
+    has_last(
+        schema.tables.as_slice(),
+        schema.indexes.as_slice(),
+        generation,
+    ) && schema.views.as_slice().is_empty()
+}
+
+fn is_schema_of(schema: &Schema, generation: Generation) -> bool
+    ensures { IsTrue result ↔ (schema.now ≡ schema_of generation) }
+{
+    are_tables(schema.tables.as_slice(), generation)
+        && are_keys(schema.indexes.as_slice(), generation)
         && schema.views.as_slice().is_empty()
 }
 
-fn is_schema_of(schema: &Schema, second: bool) -> bool
-    ensures { IsTrue result ↔ (schema.now ≡ schema_of second) }
+fn is_bare_beside(schema: &Schema, generation: Generation) -> bool
+    ensures { IsTrue result ↔ IsBareBeside generation schema.now }
 {
-    are_tables(schema.tables.as_slice(), second)
-        && are_indexes(schema.indexes.as_slice(), second)
-        && schema.views.as_slice().is_empty()
+    is_schema_of(schema, generation) || has_reach(schema, generation)
 }
 
-/// Whether a schema is that of a store of version 1, or of version 2 (`second`), without `reach`, or with a table
-/// `reach` of any columns and its indexes behind all others, no reference of which is to it and for which no other
-/// table counts.
-pub fn is_beside_reach(schema: &Schema, second: bool) -> bool
-    ensures { IsTrue result ↔ IsBeside second schema.now }
+/// Whether a schema has the tables of a store of this generation with their keys, in their order, without `reach`, or
+/// with a table `reach` of any columns and its indexes behind all others, no reference of which is to it and for which
+/// no other table counts; and beside these no index but those that only make look-ups fast, whichever of them are there
+/// and in whatever order, and no view. An error is want of memory.
+pub fn is_beside_reach(
+    alloc: Global,
+    schema: &Schema,
+    generation: Generation,
+) -> Result<bool, AllocError>
+    ensures { IfOk result (λ is. IsTrue is ↔ IsBeside generation schema.now) }
 {
-    is_schema_of(schema, second) || has_reach(schema, second)
+    let left = bared(alloc, schema)?;
+    Ok(is_bare_beside(&left, generation))
 }

@@ -4,13 +4,12 @@ ghost use Rattle.std.specs.Prelude.{◌≡◌, OnOk, IsTrue};
 ghost use Rattle.sqlite.specs.Held.{state};
 ghost use Rattle.sqlite.specs.State.{HasCleanDisk, Survives};
 ghost use Rattle.book_tables_rows.specs.Steps.{Keeps};
-ghost use Rattle.book_tables_schema.specs.OtherReach.{DropsReach};
-ghost use Rattle.book_tables_schema.specs.Founding.{Extending, GetsReach, Ran, Renews, no_schema, with_member, with_meta, with_owner, with_first, with_base, with_all};
+ghost use Rattle.book_tables_schema.specs.Founding.{Extending, GetsDerived, Indexing, Ran, Renews, no_schema, with_member, with_meta, with_ace2, with_reach, with_owner, with_members, with_all};
 
 use sqlite::{Alter, Error, Transaction};
 
 /// Runs a text that has no parameters.
-fn run<S: Alter>(transaction: &mut Transaction<'_, S>, sql: &str) -> Result<(), Error>
+pub(crate) fn run<S: Alter>(transaction: &mut Transaction<'_, S>, sql: &str) -> Result<(), Error>
     ensures same_reference { transaction.new.conn.ghost_name ≡ transaction.old.conn.ghost_name }
     ensures survives { Survives (state S.Store transaction.old.conn.now) (state S.Store transaction.new.conn.now)
         (λ _. ⊥) }
@@ -65,14 +64,33 @@ fn make_last_tables<S: Alter>(transaction: &mut Transaction<'_, S>) -> Result<()
     )
 }
 
+/// Makes the table of entries that version 2 has beside the tables of version 1. In a store that is founded, and in one
+/// that has rows.
+pub fn make_second_table<S: Alter>(transaction: &mut Transaction<'_, S>) -> Result<(), Error>
+    ensures same_reference { transaction.new.conn.ghost_name ≡ transaction.old.conn.ghost_name }
+    ensures survives { Survives (state S.Store transaction.old.conn.now) (state S.Store transaction.new.conn.now)
+        (λ _. ⊥) }
+    ensures kept { Keeps (state S.Store transaction.old.conn.now) (state S.Store transaction.new.conn.now) }
+    ensures done { Extending (state S.Store transaction.old.conn.now) (state S.Store transaction.new.conn.now) result
+        with_meta with_ace2 }
+    ensures renewed { HasCleanDisk (state S.Store transaction.new.conn.now)
+        → IsTrue (state S.Store transaction.old.conn.now).in_transaction
+        → OnOk result (Renews (state S.Store transaction.old.conn.now) (state S.Store transaction.new.conn.now)) }
+{
+    run(
+        transaction,
+        "CREATE TABLE ace2 (node INTEGER NOT NULL REFERENCES node ON DELETE CASCADE, protected INTEGER NOT NULL, place INTEGER NOT NULL, form INTEGER NOT NULL, principal TEXT REFERENCES node (path), invert INTEGER NOT NULL, deny INTEGER NOT NULL, mask INTEGER NOT NULL, PRIMARY KEY (node, protected, place)) STRICT",
+    )
+}
+
 /// Makes the indexes of children and of owners.
 fn make_node_indexes<S: Alter>(transaction: &mut Transaction<'_, S>) -> Result<(), Error>
     ensures same_reference { transaction.new.conn.ghost_name ≡ transaction.old.conn.ghost_name }
     ensures survives { Survives (state S.Store transaction.old.conn.now) (state S.Store transaction.new.conn.now)
         (λ _. ⊥) }
     ensures kept { Keeps (state S.Store transaction.old.conn.now) (state S.Store transaction.new.conn.now) }
-    ensures done { Extending (state S.Store transaction.old.conn.now) (state S.Store transaction.new.conn.now) result
-        with_meta with_owner }
+    ensures done { Indexing (state S.Store transaction.old.conn.now) (state S.Store transaction.new.conn.now) result
+        with_reach with_owner }
 {
     run(
         transaction,
@@ -81,77 +99,70 @@ fn make_node_indexes<S: Alter>(transaction: &mut Transaction<'_, S>) -> Result<(
     run(transaction, "CREATE INDEX node_owner ON node (owner)")
 }
 
-/// Makes the indexes of principals and of members.
+/// Makes the indexes of principals of version 1 and of members.
 fn make_principal_indexes<S: Alter>(transaction: &mut Transaction<'_, S>) -> Result<(), Error>
     ensures same_reference { transaction.new.conn.ghost_name ≡ transaction.old.conn.ghost_name }
     ensures survives { Survives (state S.Store transaction.old.conn.now) (state S.Store transaction.new.conn.now)
         (λ _. ⊥) }
     ensures kept { Keeps (state S.Store transaction.old.conn.now) (state S.Store transaction.new.conn.now) }
-    ensures done { Extending (state S.Store transaction.old.conn.now) (state S.Store transaction.new.conn.now) result
-        with_owner with_first }
+    ensures done { Indexing (state S.Store transaction.old.conn.now) (state S.Store transaction.new.conn.now) result
+        with_owner with_members }
 {
     run(transaction, "CREATE INDEX ace_principal ON ace (principal)")?;
     run(transaction, "CREATE INDEX member_member ON member (member)")
 }
 
-/// Makes what version 2 has beside the tables of version 1: the table of entries with its index, and the index of
-/// removed names. In a store that is founded, and in one of version 1 that has rows.
-pub fn make_second_tables<S: Alter>(transaction: &mut Transaction<'_, S>) -> Result<(), Error>
+/// Makes the indexes of principals, of removed names and of groups.
+fn make_last_indexes<S: Alter>(transaction: &mut Transaction<'_, S>) -> Result<(), Error>
     ensures same_reference { transaction.new.conn.ghost_name ≡ transaction.old.conn.ghost_name }
     ensures survives { Survives (state S.Store transaction.old.conn.now) (state S.Store transaction.new.conn.now)
         (λ _. ⊥) }
     ensures kept { Keeps (state S.Store transaction.old.conn.now) (state S.Store transaction.new.conn.now) }
-    ensures done { Extending (state S.Store transaction.old.conn.now) (state S.Store transaction.new.conn.now) result
-        with_first with_base }
-    ensures renewed { HasCleanDisk (state S.Store transaction.new.conn.now)
-        → IsTrue (state S.Store transaction.old.conn.now).in_transaction
-        → OnOk result (Renews (state S.Store transaction.old.conn.now) (state S.Store transaction.new.conn.now)) }
+    ensures done { Indexing (state S.Store transaction.old.conn.now) (state S.Store transaction.new.conn.now) result
+        with_members with_all }
 {
-    run(
-        transaction,
-        "CREATE TABLE ace2 (node INTEGER NOT NULL REFERENCES node ON DELETE CASCADE, protected INTEGER NOT NULL, place INTEGER NOT NULL, form INTEGER NOT NULL, principal TEXT REFERENCES node (path), invert INTEGER NOT NULL, deny INTEGER NOT NULL, mask INTEGER NOT NULL, PRIMARY KEY (node, protected, place)) STRICT",
-    )?;
     run(
         transaction,
         "CREATE INDEX ace2_principal ON ace2 (principal)",
     )?;
-    run(transaction, "CREATE INDEX gone_book ON gone (book, number)")
+    run(transaction, "CREATE INDEX gone_book ON gone (book, number)")?;
+    run(transaction, "CREATE INDEX reach_grp ON reach (grp)")
 }
 
-/// Makes the table of the groups that chains of members lead to, and its index, behind all others: in a store that is
-/// founded, and in one made before it.
-pub fn make_reach<S: Alter>(transaction: &mut Transaction<'_, S>) -> Result<(), Error>
+fn make_indexes<S: Alter>(transaction: &mut Transaction<'_, S>) -> Result<(), Error>
+    ensures same_reference { transaction.new.conn.ghost_name ≡ transaction.old.conn.ghost_name }
+    ensures survives { Survives (state S.Store transaction.old.conn.now) (state S.Store transaction.new.conn.now)
+        (λ _. ⊥) }
+    ensures kept { Keeps (state S.Store transaction.old.conn.now) (state S.Store transaction.new.conn.now) }
+    ensures done { Indexing (state S.Store transaction.old.conn.now) (state S.Store transaction.new.conn.now) result
+        with_reach with_all }
+{
+    make_node_indexes(transaction)?;
+    make_principal_indexes(transaction)?;
+    make_last_indexes(transaction)
+}
+
+/// Makes the table of the groups that chains of members lead to, behind all other tables, and then the indexes that only
+/// make look-ups fast: in a store that is founded, and in one that has rows.
+pub fn make_derived<S: Alter>(transaction: &mut Transaction<'_, S>) -> Result<(), Error>
     ensures same_reference { transaction.new.conn.ghost_name ≡ transaction.old.conn.ghost_name }
     ensures survives { Survives (state S.Store transaction.old.conn.now) (state S.Store transaction.new.conn.now)
         (λ _. ⊥) }
     ensures kept { Keeps (state S.Store transaction.old.conn.now) (state S.Store transaction.new.conn.now) }
     ensures done { Extending (state S.Store transaction.old.conn.now) (state S.Store transaction.new.conn.now) result
-        with_base with_all }
+        with_ace2 with_all }
     ensures got { HasCleanDisk (state S.Store transaction.new.conn.now)
         → IsTrue (state S.Store transaction.old.conn.now).in_transaction
-        → OnOk result (GetsReach (state S.Store transaction.old.conn.now) (state S.Store transaction.new.conn.now)) }
+        → OnOk result (GetsDerived (state S.Store transaction.old.conn.now) (state S.Store transaction.new.conn.now)) }
 {
     run(
         transaction,
         "CREATE TABLE reach (grp TEXT NOT NULL REFERENCES node (path), member TEXT NOT NULL REFERENCES node (path), PRIMARY KEY (member, grp)) STRICT",
     )?;
-    run(transaction, "CREATE INDEX reach_grp ON reach (grp)")
+    make_indexes(transaction)
 }
 
-/// Takes a table `reach` of any columns away, with its indexes, where one stands behind all others.
-pub fn drop_reach<S: Alter>(transaction: &mut Transaction<'_, S>) -> Result<(), Error>
-    ensures same_reference { transaction.new.conn.ghost_name ≡ transaction.old.conn.ghost_name }
-    ensures survives { Survives (state S.Store transaction.old.conn.now) (state S.Store transaction.new.conn.now)
-        (λ _. ⊥) }
-    ensures kept { Keeps (state S.Store transaction.old.conn.now) (state S.Store transaction.new.conn.now) }
-    ensures dropped { HasCleanDisk (state S.Store transaction.new.conn.now)
-        → IsTrue (state S.Store transaction.old.conn.now).in_transaction
-        → OnOk result (DropsReach (state S.Store transaction.old.conn.now) (state S.Store transaction.new.conn.now)) }
-{
-    run(transaction, "DROP TABLE IF EXISTS reach")
-}
-
-/// Makes the tables with their indexes.
+/// Makes the tables, and then the indexes that only make look-ups fast.
 pub(crate) fn make_tables<S: Alter>(transaction: &mut Transaction<'_, S>) -> Result<(), Error>
     ensures same_reference { transaction.new.conn.ghost_name ≡ transaction.old.conn.ghost_name }
     ensures survives { Survives (state S.Store transaction.old.conn.now) (state S.Store transaction.new.conn.now)
@@ -162,8 +173,6 @@ pub(crate) fn make_tables<S: Alter>(transaction: &mut Transaction<'_, S>) -> Res
 {
     make_first_tables(transaction)?;
     make_last_tables(transaction)?;
-    make_node_indexes(transaction)?;
-    make_principal_indexes(transaction)?;
-    make_second_tables(transaction)?;
-    make_reach(transaction)
+    make_second_table(transaction)?;
+    make_derived(transaction)
 }

@@ -8,6 +8,7 @@ use std::alloc::{AllocError, Global};
 const COMMANDS: &[(&str, &str)] = &[
     ("explain", "Explain"),
     ("card", "Card"),
+    ("init office", "Init { folder: \"office\" }"),
     (
         "import --store office.db office.toml",
         "Import { store: \"office.db\", policy: \"office.toml\" }",
@@ -68,6 +69,14 @@ const REFUSED: &[(&str, &str)] = &[
     (
         "pipe office.toml",
         "2 error: unexpected argument 'office.toml' found",
+    ),
+    (
+        "init",
+        "2 error: the following required arguments were not provided:",
+    ),
+    (
+        "init office other",
+        "2 error: unexpected argument 'other' found",
     ),
     (
         "import office.toml",

@@ -2,8 +2,11 @@
 
 use crate::checks::check;
 use crate::row_texts::{node, store, whole_rows};
-use book_tables_schema::{create, is_beside_reach, is_book_schema, reopen, says_other_version};
+use book_tables_schema::{
+    Generation, create, is_beside_reach, is_book_schema, reopen, says_other_version,
+};
 use sqlite::{Connection, MemStore};
+use std::alloc::Global;
 use std::process::Abort;
 
 fn run(rt: &impl Abort, connection: &mut Connection<MemStore>, sql: &str) {
@@ -32,18 +35,22 @@ fn schemas_are_told_apart(rt: HostRuntime) {
     let index = "CREATE INDEX reach_grp ON reach (grp)";
     run(&rt, &mut connection, index);
     assert!(rt; is_book_schema(connection.schema()));
-    run(&rt, &mut connection, "DROP TABLE reach");
+    run(&rt, &mut connection, "DROP INDEX node_owner");
+    let index = "CREATE INDEX node_owner ON node (owner)";
+    run(&rt, &mut connection, index);
     assert!(rt; !is_book_schema(connection.schema()));
     drop(connection);
 }
 
-/// What is done to a new store, and whether its tables are then those of a store, whatever table `reach` it has.
+/// What is done to a new store, and whether its tables are then those of a store, whatever table `reach` and whichever
+/// of its own indexes it has.
 const BESIDE: &[(&str, bool)] = &[
     ("", true),
     ("DROP TABLE reach", true),
     ("DROP INDEX reach_grp", true),
     ("CREATE INDEX reach_member ON reach (member)", true),
     ("DROP TABLE reach; CREATE TABLE reach (note TEXT)", true),
+    ("DROP TABLE reach; CREATE TABLE REACH (note TEXT)", true),
     (
         "DROP TABLE reach; CREATE TABLE reach (id INTEGER PRIMARY KEY, above INTEGER REFERENCES reach)",
         false,
@@ -52,27 +59,50 @@ const BESIDE: &[(&str, bool)] = &[
         "DROP TABLE reach; CREATE TABLE reach (id INTEGER PRIMARY KEY AUTOINCREMENT)",
         false,
     ),
+    ("DROP INDEX node_owner", true),
+    (
+        "DROP INDEX node_owner; CREATE INDEX node_owner ON node (owner)",
+        true,
+    ),
+    (
+        "DROP INDEX node_parent; CREATE UNIQUE INDEX Node_Parent ON gone (name, book)",
+        true,
+    ),
+    (
+        "DROP INDEX node_parent; DROP INDEX node_owner; DROP INDEX ace_principal; DROP INDEX member_member; DROP INDEX ace2_principal; DROP INDEX gone_book; DROP INDEX reach_grp",
+        true,
+    ),
     ("CREATE TABLE note (text TEXT)", false),
     ("DROP TABLE reach; CREATE TABLE note (text TEXT)", false),
     ("CREATE INDEX node_label ON node (label)", false),
-    ("DROP INDEX node_owner", false),
     ("CREATE VIEW all_nodes AS SELECT path FROM node", false),
 ];
 
+fn is_beside(
+    rt: &impl Abort,
+    alloc: Global,
+    connection: &Connection<MemStore>,
+    generation: Generation,
+) -> bool {
+    is_beside_reach(alloc, connection.schema(), generation).expect(rt, "memory")
+}
+
 #[test]
-fn tables_stand_beside_any_reach(rt: HostRuntime) {
+fn tables_stand_beside_any_reach_and_indexes(rt: HostRuntime) {
     let alloc = rt.alloc();
     for (sql, wanted) in BESIDE {
         let mut connection = Connection::open_in_memory(alloc).expect(&rt, "memory");
-        assert!(rt; !is_beside_reach(connection.schema(), true), "{sql}");
-        create(&mut connection).expect(&rt, "a new store");
-        connection.execute_batch(sql).expect(&rt, sql);
-        assert_eq!(rt;
-            is_beside_reach(connection.schema(), true),
-            *wanted,
+        assert!(rt;
+            !is_beside(&rt, alloc, &connection, Generation::Second),
             "{sql}"
         );
-        assert!(rt; !is_beside_reach(connection.schema(), false), "{sql}");
+        create(&mut connection).expect(&rt, "a new store");
+        connection.execute_batch(sql).expect(&rt, sql);
+        let is = is_beside(&rt, alloc, &connection, Generation::Second);
+        assert_eq!(rt; is, *wanted, "{sql}");
+        for other in [Generation::First, Generation::Former] {
+            assert!(rt; !is_beside(&rt, alloc, &connection, other), "{sql}");
+        }
         drop(connection);
     }
 }

@@ -1,4 +1,5 @@
-//! Stores of version 1, which are made by the texts that made them then, and what a migration makes of them.
+//! Stores of version 1, and of version 2 in the former order, which are made by the texts that made them then, and what a
+//! migration makes of them.
 
 use crate::checks::check;
 use crate::new_tables::{found, tables};
@@ -33,6 +34,27 @@ INSERT INTO member VALUES ('/groups/staff', '/people/gus');
 INSERT INTO gone VALUES (8, 'a.vcf', 2);
 INSERT INTO ace VALUES (1, 1, 0, 4, NULL, 0, 0, 255), (1, 1, 1, 2, NULL, 0, 0, 9), (1, 0, 0, 1, NULL, 0, 0, 1), (8, 0, 0, 0, '/people/ann', 0, 0, 255), (8, 0, 1, 0, '/groups/staff', 1, 1, 17), (9, 0, 0, 1, NULL, 0, 0, 5);
 DELETE FROM ace WHERE mask = 1";
+
+/// What makes of a store of version 1 one of version 2 in the former order.
+const FORMER_STORE: &str =
+    "CREATE TABLE ace2 (node INTEGER NOT NULL REFERENCES node ON DELETE CASCADE, protected INTEGER NOT NULL, place INTEGER NOT NULL, form INTEGER NOT NULL, principal TEXT REFERENCES node (path), invert INTEGER NOT NULL, deny INTEGER NOT NULL, mask INTEGER NOT NULL, PRIMARY KEY (node, protected, place)) STRICT;
+CREATE INDEX ace2_principal ON ace2 (principal);
+CREATE INDEX gone_book ON gone (book, number);
+CREATE TABLE reach (grp TEXT NOT NULL REFERENCES node (path), member TEXT NOT NULL REFERENCES node (path), PRIMARY KEY (member, grp)) STRICT;
+CREATE INDEX reach_grp ON reach (grp);
+INSERT INTO ace2 (rowid, node, protected, place, form, principal, invert, deny, mask) SELECT rowid, node, protected, place, form, principal, invert, deny, mask + 256 * (mask % 2) FROM ace;
+DELETE FROM ace;
+UPDATE meta SET version = 2;
+INSERT INTO reach VALUES ('/groups/staff', '/people/gus')";
+
+/// A store of version 2 in the former order.
+fn former(rt: &impl Abort, alloc: Global) -> Connection<MemStore> {
+    let mut connection = first(rt, alloc);
+    connection
+        .execute_batch(FORMER_STORE)
+        .expect(rt, FORMER_STORE);
+    connection
+}
 
 /// A store of version 1.
 fn first(rt: &impl Abort, alloc: Global) -> Connection<MemStore> {
@@ -168,8 +190,9 @@ const TOLD: &[(&str, &str)] = &[
         "UPDATE node SET label = CAST(x'ff' AS TEXT) WHERE id = 8",
         "no-store",
     ),
-    ("DROP INDEX node_owner", "no-store"),
-    ("CREATE INDEX gone_book ON gone (book, number)", "no-store"),
+    ("DROP INDEX node_owner", "migrated"),
+    ("CREATE INDEX gone_book ON gone (book, number)", "migrated"),
+    ("CREATE INDEX node_label ON node (label)", "no-store"),
     (
         "CREATE TABLE note (id INTEGER PRIMARY KEY) STRICT",
         "no-store",
@@ -223,4 +246,47 @@ fn rows_that_are_not_of_version_1_are_not_migrated(rt: HostRuntime) {
         told_of(alloc, tables(&rt, alloc).release()),
         "other-version"
     );
+}
+
+/// Statements on a store in the former order, and what is told of its migration.
+const FORMER_TOLD: &[(&str, &str)] = &[
+    ("", "migrated"),
+    ("DROP TABLE reach", "migrated"),
+    (
+        "DROP TABLE reach; CREATE TABLE REACH (note TEXT)",
+        "migrated",
+    ),
+    ("DROP INDEX node_owner; DROP INDEX gone_book", "migrated"),
+    ("UPDATE ace2 SET mask = 256 WHERE node = 9", "migrated"),
+    ("DELETE FROM ace2", "migrated"),
+    ("INSERT INTO ace SELECT * FROM ace2", "other-version"),
+    ("UPDATE ace2 SET mask = 512 WHERE node = 9", "other-version"),
+    ("UPDATE meta SET version = 1", "no-store"),
+    ("CREATE INDEX node_label ON node (label)", "other-version"),
+];
+
+#[test]
+fn a_store_in_the_former_order_is_migrated(rt: HostRuntime) {
+    let alloc = rt.alloc();
+    let closed = open(alloc, former(&rt, alloc)).err().expect(&rt, "a fault");
+    assert_eq!(rt; name_of(closed.0), "no-store");
+    drop(closed.1);
+    let (tables, entries) = migrated(&rt, alloc, former(&rt, alloc));
+    assert_eq!(rt; entries, 5);
+    let mut connection = tables.release();
+    assert!(rt; is_book_schema(connection.schema()));
+    check(
+        &rt,
+        reach(&rt, alloc, &mut connection),
+        "/groups/staff /people/gus",
+    );
+    for (sql, wanted) in MIGRATED {
+        let shown = numbers(&rt, alloc, &mut connection, sql);
+        check(&rt, shown, wanted);
+    }
+    drop(connection);
+    for (sql, wanted) in FORMER_TOLD {
+        let told = told(alloc, former(&rt, alloc), sql);
+        assert_eq!(rt; told, *wanted, "{sql}");
+    }
 }

@@ -187,8 +187,8 @@ const TOLD: &[(&str, &str)] = &[
         "INSERT INTO ace2 VALUES (1, 2, 7, 5, NULL, 0, 1, 255)",
         "no-store",
     ),
-    ("DROP INDEX node_owner", "no-store"),
-    ("DROP INDEX gone_book", "no-store"),
+    ("DROP INDEX node_owner", "opened"),
+    ("DROP INDEX gone_book", "opened"),
     ("CREATE INDEX node_label ON node (label)", "no-store"),
     (
         "CREATE TABLE note (id INTEGER PRIMARY KEY) STRICT",

@@ -8,7 +8,7 @@ use book_lists::{Caller, Circle, Principal};
 use book_office_values::Items;
 use book_tables::{Tables, reached};
 use book_tables_opening::open;
-use book_tables_schema::{Unopened, is_beside_reach, is_book_schema};
+use book_tables_schema::{Generation, Unopened, is_beside_reach, is_book_schema};
 use sqlite::{Connection, MemStore};
 use std::alloc::Global;
 use std::process::Abort;
@@ -112,7 +112,7 @@ fn members_are_set_with_reach(rt: HostRuntime) {
     drop(connection);
 }
 
-/// What is done to `reach`, which is then made anew.
+/// What is done to `reach` or to the indexes, which are then made anew.
 const DONE: &[&str] = &[
     "",
     "DELETE FROM reach",
@@ -122,10 +122,15 @@ const DONE: &[&str] = &[
     "DROP INDEX reach_grp",
     "DROP TABLE reach; CREATE TABLE reach (note TEXT); INSERT INTO reach VALUES ('one')",
     "DROP TABLE reach; CREATE TABLE reach (id INTEGER PRIMARY KEY, note TEXT UNIQUE); CREATE INDEX notes ON reach (note)",
+    "DROP TABLE reach; CREATE TABLE REACH (note TEXT)",
+    "DROP INDEX node_parent",
+    "DROP INDEX node_parent; CREATE INDEX node_parent ON node (parent, number)",
+    "DROP INDEX gone_book; CREATE UNIQUE INDEX Gone_Book ON gone (name, book, number)",
+    "DROP INDEX node_parent; DROP INDEX node_owner; DROP INDEX ace_principal; DROP INDEX member_member; DROP INDEX ace2_principal; DROP INDEX gone_book; DROP TABLE reach",
 ];
 
 #[test]
-fn a_store_is_opened_whatever_reach_has(rt: HostRuntime) {
+fn a_store_is_opened_whatever_reach_and_indexes_it_has(rt: HostRuntime) {
     let alloc = rt.alloc();
     for sql in DONE {
         let mut connection = staffed(&rt, alloc);
@@ -151,7 +156,8 @@ fn a_store_of_no_office_gets_no_reach(rt: HostRuntime) {
         }
     }
     .expect(&rt, "the connection");
-    assert!(rt; is_beside_reach(connection.schema(), true));
+    let is = is_beside_reach(alloc, connection.schema(), Generation::Second);
+    assert!(rt; is.expect(&rt, "memory"));
     assert!(rt; !is_book_schema(connection.schema()));
     drop(connection);
 }

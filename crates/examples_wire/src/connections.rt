@@ -1,7 +1,7 @@
 //! Connections over loopback, one after the other: one that is cut or fails ends no other, and each that fails is told.
 
 use crate::offices::{POLICY, machine};
-use book_desk_app::serve_connections;
+use book_desk_app::{Noting, serve_connections};
 use std::cell::Cell;
 use std::io;
 use std::io::{ErrorKind, Read, Write};
@@ -160,11 +160,11 @@ fn check_served(rt: &(impl Abort + AllocGlobal + Clock), doors: &Doors<'_>, row:
     let (_, count, sound, told) = *row;
     let alloc = rt.alloc();
     let mut machine = machine(rt, alloc, POLICY);
-    let mut errors = Vec::new(alloc);
+    let mut errors = Noting::new(Vec::new(alloc));
     let served = serve_connections(rt, alloc, &mut machine, doors, count, &mut errors);
     drop(machine);
     assert_eq!(rt; served.ok(), sound);
-    assert_eq!(rt; errors.as_slice(), told.as_bytes());
+    assert_eq!(rt; errors.into_inner().as_slice(), told.as_bytes());
 }
 
 /// Reads what a client is sent.

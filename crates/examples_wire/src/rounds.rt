@@ -1,7 +1,9 @@
 //! Connections at once over loopback, by a clock of the test's own: whose turn it is, which is closed, and when.
 
 use crate::offices::{POLICY, machine};
-use book_desk_loop::{Faults, Limits, Readiness, close_in_stages, serve_at_once};
+use book_desk_loop::{Faults, Limits, Readiness, Stop, close_in_stages, serve_at_once};
+use book_machine::Machine;
+use book_office_faults::Fused;
 use book_wire::StreamFault;
 use std::cell::Cell;
 use std::io;
@@ -27,8 +29,13 @@ struct Row<'a> {
     /// The time-out, in seconds.
     idle: Option<u64>,
     clients: &'a [Client<'a>],
-    /// The error of the first call that is to accept one, as the system numbers them; 0 where it has none.
+    /// Whether a connection gives its place to one that waits.
+    gives_way: bool,
+    /// The error of calls that are to accept one, as the system numbers them; 0 where it has none.
     refused: i32,
+    /// How many calls are not refused before, and how many then are.
+    before: u64,
+    times: u64,
     /// Whether the loop came to its end.
     served: bool,
     /// How many connections had a fault.
@@ -41,6 +48,9 @@ const ALL: u64 = u64::MAX;
 
 const ABSENT: &str =
     "HTTP/1.1 404 Not Found\r\nContent-Type: application/json\r\nContent-Length: 21\r\n\r\n{\"error\":\"not-found\"}";
+
+const TWICE_UNAVAILABLE: &str =
+    "HTTP/1.1 503 Service Unavailable\r\nContent-Type: application/json\r\nContent-Length: 23\r\n\r\n{\"error\":\"unavailable\"}HTTP/1.1 503 Service Unavailable\r\nContent-Type: application/json\r\nContent-Length: 23\r\n\r\n{\"error\":\"unavailable\"}";
 
 /// One that sends nothing.
 const IDLE: Client<'static> = Client {
@@ -83,7 +93,10 @@ const PLAIN: Row<'static> = Row {
     at_once: 2,
     idle: None,
     clients: &[],
+    gives_way: true,
     refused: 0,
+    before: 0,
+    times: 1,
     served: true,
     faults: 0,
     seconds: 0,
@@ -102,12 +115,27 @@ const ROWS: &[Row<'static>] = &[
         clients: &[IDLE, ENDS],
         ..PLAIN
     },
-    // One that waits within a request is not idle, and the other waits until its time is up.
+    // One whose request is not whole for a second is closed for the other.
     Row {
         at_once: 1,
         idle: Some(5),
         clients: &[CUT, ENDS],
+        seconds: 1,
+        ..PLAIN
+    },
+    // Where none gives its place away, the other waits until its time is up.
+    Row {
+        at_once: 1,
+        idle: Some(5),
+        clients: &[CUT, ENDS],
+        gives_way: false,
         seconds: 5,
+        ..PLAIN
+    },
+    // One that is only read to its end is closed for the other.
+    Row {
+        at_once: 1,
+        clients: &[LONG, ENDS],
         ..PLAIN
     },
     // A request has 30 seconds.
@@ -133,6 +161,14 @@ const ROWS: &[Row<'static>] = &[
     Row {
         clients: &[ENDS],
         refused: 24,
+        ..PLAIN
+    },
+    // Where two calls find none left, the idle one is closed for the other.
+    Row {
+        clients: &[IDLE, ENDS],
+        refused: 24,
+        before: 1,
+        times: 2,
         ..PLAIN
     },
     // Any other error (22) ends it.
@@ -188,23 +224,33 @@ impl Readiness<Peer> for Script<'_> {
     }
 }
 
-/// A listener whose first call may fail.
+/// A listener some of whose calls fail.
 #[derive(Drop)]
 struct Doors<'a> {
     listener: &'a TcpListener,
     clients: &'a [Client<'a>],
-    refused: Cell<i32>,
+    refused: i32,
+    before: u64,
+    times: u64,
+    calls: Cell<u64>,
     next: Cell<usize>,
+}
+
+impl Doors<'_> {
+    /// Whether this call fails. It is counted.
+    fn refuses(&self) -> bool {
+        let calls = self.calls.get();
+        self.calls.set(calls.saturating_add(1));
+        self.refused != 0 && calls >= self.before && calls.saturating_sub(self.before) < self.times
+    }
 }
 
 impl OpenListener for Doors<'_> {
     type Stream = Peer;
 
     fn accept(&self) -> io::Result<(Peer, SocketAddr)> {
-        let refused = self.refused.get();
-        if refused != 0 {
-            self.refused.set(0);
-            return Err(io::Error::from_raw_os_error(refused));
+        if self.refuses() {
+            return Err(io::Error::from_raw_os_error(self.refused));
         }
         let next = self.next.get();
         let Some(client) = self.clients.get(next) else {
@@ -264,6 +310,8 @@ struct Told {
 }
 
 impl Faults for Told {
+    ghost tells = { λ old fault new. Unit {0} };
+
     fn tell(&mut self, _fault: StreamFault) {
         self.faults = self.faults.saturating_add(1);
     }
@@ -296,6 +344,7 @@ fn check_served(rt: &(impl Abort + AllocGlobal), doors: &Doors<'_>, row: &Row<'_
             Some(seconds) => Some(Duration::from_secs(seconds)),
             None => None,
         },
+        gives_way: row.gives_way,
     };
     let (machine, served) = serve_at_once(
         alloc,
@@ -340,7 +389,10 @@ fn check(
     let doors = Doors {
         listener,
         clients: row.clients,
-        refused: Cell::new(row.refused),
+        refused: row.refused,
+        before: row.before,
+        times: row.times,
+        calls: Cell::new(0),
         next: Cell::new(0),
     };
     check_served(rt, &doors, row);
@@ -361,6 +413,58 @@ fn each_is_served_or_closed_in_time(rt: HostRuntime) {
         }
         check(&rt, &listener, &streams, row);
     }
+}
+
+/// A store that fails: each whole request is answered so, and then it ends.
+#[test]
+fn a_store_that_fails_ends_it(rt: HostRuntime) {
+    let alloc = rt.alloc();
+    let listener = TcpListener::bind(&rt, "127.0.0.1:0").expect(&rt, "a listener");
+    let address = listener.local_addr().expect(&rt, "an address");
+    let stream = TcpStream::connect(&rt, address).expect(&rt, "a connection");
+    let client = Client {
+        sent: "GET /books/none HTTP/1.1\r\n\r\nGET /books/none HTTP/1.1\r\n\r\nGET /books/",
+        told: TWICE_UNAVAILABLE,
+        ..IDLE
+    };
+    send(&rt, &stream, &client);
+    let clients = [client];
+    let doors = Doors {
+        listener: &listener,
+        clients: &clients,
+        refused: 0,
+        before: 0,
+        times: 0,
+        calls: Cell::new(0),
+        next: Cell::new(0),
+    };
+    let time = Time {
+        passed: Cell::new(Duration::ZERO),
+    };
+    let mut script = Script {
+        time: &time,
+        watched: Vec::new(alloc),
+    };
+    let mut told = Told { faults: 0 };
+    let limits = Limits {
+        at_once: 1,
+        total: None,
+        idle: None,
+        gives_way: false,
+    };
+    let keeper = Fused::new(machine(&rt, alloc, POLICY).release(), 0);
+    let (machine, served) = serve_at_once(
+        alloc,
+        Machine::new(keeper),
+        &doors,
+        &mut script,
+        limits,
+        &mut told,
+    );
+    drop(machine);
+    assert_eq!(rt; served, Err(Stop::Store));
+    assert_eq!(rt; told.faults, 0);
+    check_told(&rt, &stream, &client);
 }
 
 /// Bytes that a client sends after its last reply: they are read, and the client is told that no more comes.

@@ -33,6 +33,9 @@ const CLIENTS: &[Client<'static>] = &[
 /// A piece that a client sends, by its place, and what it is sent then.
 type Step<'a> = (usize, &'a str, &'a str);
 
+const ABSENT: &str =
+    "HTTP/1.1 404 Not Found\r\nContent-Type: application/json\r\nContent-Length: 21\r\n\r\n{\"error\":\"not-found\"}";
+
 const CREATED: &str = "HTTP/1.1 201 Created\r\nContent-Length: 0\r\n\r\n";
 
 /// Two clients whose requests alternate, each cut where the other has its turn.
@@ -75,8 +78,8 @@ fn opened(rt: &(impl Abort + AllocGlobal), clients: usize) -> Connections<Memory
     connections
 }
 
-/// The client at the place sends a piece, if its connection takes one.
-fn bring(
+/// The client at the place sends a piece, if its connection takes one. One request is answered.
+fn bring_one(
     rt: &(impl Abort + AllocGlobal),
     connections: &mut Connections<MemoryKeeper>,
     place: usize,
@@ -85,6 +88,19 @@ fn bring(
     if connections.takes_bytes(place) {
         let fed = connections.feed(rt.alloc(), place, piece);
         fed.ok().expect(rt, "memory");
+    }
+}
+
+/// The client at the place sends a piece, if its connection takes one. Each of up to four requests is answered.
+fn bring(
+    rt: &(impl Abort + AllocGlobal),
+    connections: &mut Connections<MemoryKeeper>,
+    place: usize,
+    piece: &[u8],
+) {
+    bring_one(rt, connections, place, piece);
+    for _ in 0..3 {
+        bring_one(rt, connections, place, &[]);
     }
 }
 
@@ -124,6 +140,19 @@ fn each_cut_is_answered_four_at_once(rt: HostRuntime) {
     for at in 0..160 {
         check_cut(&rt, at);
     }
+}
+
+#[test]
+fn one_request_is_answered_at_a_time(rt: HostRuntime) {
+    let mut connections = opened(&rt, 1);
+    let request = b"GET /books/none HTTP/1.1\r\n\r\nGET /books/none HTTP/1.1\r\n\r\n";
+    bring_one(&rt, &mut connections, 0, request);
+    check_told(&rt, &mut connections, 0, ABSENT);
+    bring_one(&rt, &mut connections, 0, &[]);
+    check_told(&rt, &mut connections, 0, ABSENT);
+    bring_one(&rt, &mut connections, 0, &[]);
+    check_told(&rt, &mut connections, 0, "");
+    drop(connections);
 }
 
 #[test]

@@ -9,11 +9,12 @@
 //! Which Offices are wanted is told by a keeper in memory. The first open of a store, which makes its files, is stopped
 //! alike: its line is `first open: N stops, A taken, W wrong`, where what is left opens and takes the tables. The
 //! migration of a store of version 1 is tried where no kind or the word `migrate` is given: before it is of version 1
-//! and can be migrated. The open of a store without `reach` is tried where no kind or the word `open` is given: before
-//! it has none.
+//! and can be migrated; that of a store in the former order by the word `reorder`. The open of a store without `reach`
+//! is tried where no kind or the word `open` is given: before it has none; that of a store without its own indexes by
+//! the word `indexes`.
 //!
 //! Read `cases` for what is edited, `crate::disks` for the files, `texts` for what is compared, and then `trials`;
-//! `beginnings` has the first open, and `renewals` the migration and the open of a store without `reach`.
+//! `beginnings` has the first open, and `renewals` the migrations and the opens of a store that lacks `reach` or indexes.
 
 mod beginnings;
 mod cases;
@@ -33,17 +34,24 @@ use sqlite_disk::Files;
 use std::alloc::Global;
 use trials::{start_files, stops_of};
 
-/// The word for the migration of a store of version 1.
-const MIGRATE: &str = "migrate";
+/// The words for what is done to a store that was made by an earlier program, or changed by another one.
+const RENEWALS: &[(&str, Renewal)] = &[
+    ("migrate", Renewal::Migration),
+    ("reorder", Renewal::Reordering),
+    ("open", Renewal::Opening),
+    ("indexes", Renewal::Indexing),
+];
 
-/// The word for the open of a store without `reach`.
-const OPEN: &str = "open";
+/// Whether a word is one of these.
+fn is_renewal(word: &str) -> bool {
+    RENEWALS.iter().any(|renewal| renewal.0 == word)
+}
 
 /// The kinds of edits that the words name.
 fn asked_cases(alloc: Global, words: &[&str]) -> Result<Vec<Case>> {
     let mut asked = Vec::new(alloc);
     for word in words {
-        if *word != MIGRATE && *word != OPEN {
+        if !is_renewal(word) {
             asked.push(Case::named(word).context("no such kind of edit")?)?;
         }
     }
@@ -93,6 +101,15 @@ fn print_renewal_stops(
     Ok(count)
 }
 
+/// Tries the stops of each renewal where the words ask for it.
+fn print_renewals(rt: &(impl AllocGlobal + Print), words: &[&str]) -> Result<Count> {
+    let mut all = Count::none();
+    for (word, renewal) in RENEWALS {
+        all = all.plus(print_renewal_stops(rt, words, word, *renewal)?);
+    }
+    Ok(all)
+}
+
 /// Tries the stops of each of these kinds.
 fn print_each(
     rt: &(impl AllocGlobal + Print),
@@ -120,10 +137,9 @@ fn print_asked(rt: &(impl AllocGlobal + Print), words: &[&str], asked: &[Case]) 
 pub(crate) fn try_stops(rt: &(impl AllocGlobal + Print), words: &[&str]) -> Result<bool> {
     let asked = asked_cases(rt.alloc(), words)?;
     let first = print_first_stops(rt)?;
-    let migration = print_renewal_stops(rt, words, MIGRATE, Renewal::Migration)?;
-    let opening = print_renewal_stops(rt, words, OPEN, Renewal::Opening)?;
+    let renewals = print_renewals(rt, words)?;
     let asked = print_asked(rt, words, asked.as_slice())?;
-    let all = first.plus(migration).plus(opening).plus(asked);
+    let all = first.plus(renewals).plus(asked);
     let (stops, wrong) = (all.stops, all.wrong);
     println!(rt; "{stops} stops, {wrong} wrong")?;
     Ok(wrong == 0)

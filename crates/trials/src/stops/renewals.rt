@@ -1,5 +1,5 @@
-//! The stops of a migration of a store of version 1, and of the open of a store without `reach`: what is left tells the
-//! wanted Office, at once or once it is migrated.
+//! The stops of a migration of a store of version 1 or in the former order, and of the open of a store without `reach` or
+//! without its own indexes: what is left tells the wanted Office, at once or once it is migrated.
 
 use crate::disks::{
     Disk, Side, Store, close, connect, crash, files_of, fused_files, is_spent, kept_files,
@@ -37,13 +37,41 @@ INSERT INTO member VALUES ('/groups/staff', '/people/ann');
 INSERT INTO gone VALUES (7, 'a.vcf', 2);
 INSERT INTO ace VALUES (1, 1, 0, 4, NULL, 0, 0, 255), (7, 0, 0, 0, '/groups/staff', 0, 0, 9), (8, 0, 0, 1, NULL, 0, 1, 5)";
 
-/// What is done to a store that was made by an earlier program.
+/// What makes the tables of a store of version 2 those of the former order, with the same rows: `ace2` stands behind the
+/// indexes of version 1, and `reach` behind all.
+const FORMER_ORDER: &str = "INSERT INTO ace SELECT * FROM ace2;
+DROP TABLE reach;
+DROP TABLE ace2;
+DROP INDEX node_parent;
+DROP INDEX node_owner;
+DROP INDEX ace_principal;
+DROP INDEX member_member;
+DROP INDEX gone_book;
+CREATE INDEX node_parent ON node (parent, number);
+CREATE INDEX node_owner ON node (owner);
+CREATE INDEX ace_principal ON ace (principal);
+CREATE INDEX member_member ON member (member);
+CREATE TABLE ace2 (node INTEGER NOT NULL REFERENCES node ON DELETE CASCADE, protected INTEGER NOT NULL, place INTEGER NOT NULL, form INTEGER NOT NULL, principal TEXT REFERENCES node (path), invert INTEGER NOT NULL, deny INTEGER NOT NULL, mask INTEGER NOT NULL, PRIMARY KEY (node, protected, place)) STRICT;
+CREATE INDEX ace2_principal ON ace2 (principal);
+CREATE INDEX gone_book ON gone (book, number);
+INSERT INTO ace2 SELECT * FROM ace;
+DELETE FROM ace";
+
+/// Takes the own indexes of a store away.
+const NO_INDEXES: &str =
+    "DROP INDEX node_parent; DROP INDEX node_owner; DROP INDEX ace_principal; DROP INDEX member_member; DROP INDEX ace2_principal; DROP INDEX gone_book; DROP INDEX reach_grp";
+
+/// What is done to a store that was made by an earlier program, or changed by another one.
 #[derive(Clone, Copy)]
 pub(crate) enum Renewal {
     /// A migration of a store of version 1.
     Migration,
+    /// A migration of a store in the former order.
+    Reordering,
     /// An open of a store without `reach`.
     Opening,
+    /// An open of a store without its own indexes.
+    Indexing,
 }
 
 /// What a renewal left, where a file may have failed.
@@ -60,19 +88,24 @@ fn filled<S: Alter + Drop>(mut store: Connection<S>) -> Result<Connection<S>> {
     Ok(store)
 }
 
-/// Takes `reach` out of a store.
-fn without_reach<S: Alter + Drop>(mut store: Connection<S>) -> Result<Connection<S>> {
-    store.execute_batch("DROP TABLE reach")?;
+/// Changes a store as another program does.
+fn changed<S: Alter + Drop>(mut store: Connection<S>, sql: &str) -> Result<Connection<S>> {
+    store.execute_batch(sql)?;
     Ok(store)
+}
+
+/// The files of a store that was changed so.
+fn changed_files(alloc: Global, sql: &str) -> Result<Files<Disk>> {
+    files_of(changed(store_of(alloc, start_files(alloc)?, SEEDS[3])?, sql)?)
 }
 
 /// The files of a store that was made by an earlier program.
 fn first_files(alloc: Global, renewal: Renewal) -> Result<Files<Disk>> {
     match renewal {
         Renewal::Migration => files_of(filled(new_store(alloc, SEEDS[0])?)?),
-        Renewal::Opening => {
-            files_of(without_reach(store_of(alloc, start_files(alloc)?, SEEDS[3])?)?)
-        }
+        Renewal::Reordering => changed_files(alloc, FORMER_ORDER),
+        Renewal::Opening => changed_files(alloc, "DROP TABLE reach"),
+        Renewal::Indexing => changed_files(alloc, NO_INDEXES),
     }
 }
 
@@ -103,8 +136,8 @@ fn left_files(left: Unopened<Store>) -> Files<Disk> {
 /// Renews a store that was opened, and closes it.
 fn renewed(alloc: Global, store: Connection<Store>, renewal: Renewal) -> Trial {
     let (left, is_done) = match renewal {
-        Renewal::Migration => migrated_over(alloc, store),
-        Renewal::Opening => opened_over(alloc, store),
+        Renewal::Migration | Renewal::Reordering => migrated_over(alloc, store),
+        Renewal::Opening | Renewal::Indexing => opened_over(alloc, store),
     };
     Trial {
         files: left_files(left),
@@ -141,26 +174,46 @@ fn text_migrated<S: Alter + Drop>(alloc: Global, store: Connection<S>) -> Option
     }
 }
 
-/// What a store of the one or the other version is: `After` where it opens, `Before` where it opens once it is
-/// migrated, with its Office then.
-fn told_migrated<S: Alter + Drop>(alloc: Global, store: Connection<S>) -> Option<(Left, String)> {
-    match open(alloc, store) {
-        Ok(tables) => Some((Left::After, text_of(alloc, tables)?)),
-        Err((OpenFault::OtherVersion, Unopened::Connection(store))) => {
-            Some((Left::Before, text_migrated(alloc, store)?))
+/// The Office of a store that was not opened, once it is migrated; none where it was not to be one.
+fn told_before<S: Alter + Drop>(
+    alloc: Global,
+    is_before: bool,
+    left: Unopened<S>,
+) -> Option<(Left, String)> {
+    match left {
+        Unopened::Connection(store) => {
+            if is_before {
+                Some((Left::Before, text_migrated(alloc, store)?))
+            } else {
+                drop(store);
+                None
+            }
         }
-        Err((_fault, store)) => {
+        Unopened::Store(store) => {
             drop(store);
             None
         }
     }
 }
 
-/// What a store with `reach` or without it is: `After` where it has it, `Before` where it gets it, with its Office
-/// then.
+/// What a store is, of the earlier program or migrated: `After` where it opens, `Before` where it does not, by this fault,
+/// and opens once it is migrated, with its Office then.
+fn told_migrated<S: Alter + Drop>(
+    alloc: Global,
+    store: Connection<S>,
+    before: OpenFault,
+) -> Option<(Left, String)> {
+    match open(alloc, store) {
+        Ok(tables) => Some((Left::After, text_of(alloc, tables)?)),
+        Err((fault, left)) => told_before(alloc, fault == before, left),
+    }
+}
+
+/// What a store is that has all its tables and indexes, or lacks some: `After` where it has them, `Before` where it gets
+/// them, with its Office then.
 fn told_opened<S: Alter + Drop>(alloc: Global, store: Connection<S>) -> Option<(Left, String)> {
-    let has_reach = is_book_schema(store.schema());
-    let left = if has_reach { Left::After } else { Left::Before };
+    let has_all = is_book_schema(store.schema());
+    let left = if has_all { Left::After } else { Left::Before };
     match open(alloc, store) {
         Ok(tables) => Some((left, text_of(alloc, tables)?)),
         Err((_fault, store)) => {
@@ -174,8 +227,9 @@ fn told_opened<S: Alter + Drop>(alloc: Global, store: Connection<S>) -> Option<(
 fn told(alloc: Global, files: Files<Disk>, renewal: Renewal) -> Option<(Left, String)> {
     let store = store_of(alloc, files, SEEDS[2]).ok()?;
     match renewal {
-        Renewal::Migration => told_migrated(alloc, store),
-        Renewal::Opening => told_opened(alloc, store),
+        Renewal::Migration => told_migrated(alloc, store, OpenFault::OtherVersion),
+        Renewal::Reordering => told_migrated(alloc, store, OpenFault::NoStore),
+        Renewal::Opening | Renewal::Indexing => told_opened(alloc, store),
     }
 }
 

@@ -1,15 +1,15 @@
 use Rattle.book_desk_app.proofs.Common.{◌≡◌, [], ◌∷◌, ◌++◌, ◌∙◌, true, length, refl, sym, ap, Keeps-refl}
 use Rattle.std.proofs.Common.{rules, ◌+◌, Bool, cond, false}
-use Rattle.std.proofs.KnownBytes.{Keeps-trans}
+use Rattle.std.proofs.KnownBytes.{Appends-nil, Keeps-trans}
 use Rattle.std.proofs.lemmas.Bool.{true≢false}
 use Rattle.std.proofs.lemmas.List.{length-append}
 use Rattle.book_desk_app.specs.Connections.{ServedConnection, none_had_a_fault, outcomes_of}
-use Rattle.book_desk_app.proofs.InTurn.{connections_run, one_more, outcomes_more, sound_after}
+use Rattle.book_desk_app.proofs.InTurn.{connections_run, one_more, outcomes_more, sound_after, told_after}
 use Rattle.book_desk_app.proofs.connections.serve_connections.Goals as goal
 use Rattle.book_desk_app.proofs.connections.serve_connections.Goals.{then-not-is_sound, else-not-is_sound}
 
 pub loop-init : goal.loop-init
-loop-init g c = (([], refl, refl, refl), λ sound. Keeps-refl (g.E.Write.contents c.args.errors.now))
+loop-init g c = (([], refl, record { before = λ whole. whole; told = λ whole. Appends-nil (g.E.Write.contents c.args.errors.now) }, refl, refl), λ sound. Keeps-refl (g.E.Write.contents c.args.errors.now))
 
 pub loop-preserved : goal.loop-preserved
 loop-preserved g c =
@@ -22,30 +22,32 @@ loop-preserved g c =
       outcome = c.serve_one-outcome.result;
     } in
     let turns = one_more g.S.Read.remaining g.S.Write.contents g.K.Keeper.standing c.args.machine.now.keeper c.loop.machine.keeper c.serve_one-outcome.new.machine.keeper so_far.0.0 last so_far.0.1 c.serve_one-outcome.ensures.served in
-    let count : length (so_far.0.0 ++ last ∷ []) ≡ c.loop.counter + 1 = length-append so_far.0.0 (last ∷ []) ∙ ap (λ n. n + 1) so_far.0.2 in
-    let sound = sound_after (outcomes_of so_far.0.0) c.serve_one-outcome.result c.loop.sound c.is_sound.result so_far.0.3 c.is_sound.ensures ∙ ap none_had_a_fault (sym (outcomes_more so_far.0.0 last)) in
+    let told = told_after (outcomes_of so_far.0.0) c.serve_one-outcome.result (outcomes_of (so_far.0.0 ++ last ∷ [])) _ _ _ _ _ _
+    (outcomes_more so_far.0.0 last) so_far.0.2 c.serve_one-outcome.ensures.told in
+    let count : length (so_far.0.0 ++ last ∷ []) ≡ c.loop.counter + 1 = length-append so_far.0.0 (last ∷ []) ∙ ap (λ n. n + 1) so_far.0.3 in
+    let sound = sound_after (outcomes_of so_far.0.0) c.serve_one-outcome.result c.loop.sound c.is_sound.result so_far.0.4 c.is_sound.ensures ∙ ap none_had_a_fault (sym (outcomes_more so_far.0.0 last)) in
     elim c.if-not-is_sound.branch [
       | then-not-is_sound w ↦
           let failed : c.is_sound.result ≡ false = search rules in (
-            (so_far.0.0 ++ last ∷ [], turns, count, w.sound-is ∙ sym (ap (λ (b : Bool). cond b c.loop.sound false) failed) ∙ sound),
+            (so_far.0.0 ++ last ∷ [], turns, told, count, w.sound-is ∙ sym (ap (λ (b : Bool). cond b c.loop.sound false) failed) ∙ sound),
             λ t. absurd (true≢false (sym t ∙ w.sound-is)),
           )
       | else-not-is_sound w ↦
           let passed : c.is_sound.result ≡ true = search rules in (
-            (so_far.0.0 ++ last ∷ [], turns, count, w.sound-is ∙ sym (ap (λ (b : Bool). cond b c.loop.sound false) passed) ∙ sound),
+            (so_far.0.0 ++ last ∷ [], turns, told, count, w.sound-is ∙ sym (ap (λ (b : Bool). cond b c.loop.sound false) passed) ∙ sound),
             λ t. Keeps-trans (g.E.Write.contents c.args.errors.now) (g.E.Write.contents c.loop.errors) (g.E.Write.contents c.serve_one-outcome.new.errors)
                 (so_far.1 (sym w.sound-is ∙ t)) (c.serve_one-outcome.ensures.silent (sym c.is_sound.ensures ∙ passed)),
           )
     ]
 
 pub returns-in_err-writer-clause-served : goal.returns-in_err-writer-clause-served
-returns-in_err-writer-clause-served g c = let so_far = c.loop.invariant.0 in (so_far.0, so_far.1, search rules)
+returns-in_err-writer-clause-served g c = let so_far = c.loop.invariant.0 in (so_far.0, so_far.1, so_far.2, search rules)
 
 pub returns-in_err-writer-clause-runs : goal.returns-in_err-writer-clause-runs
 returns-in_err-writer-clause-runs g c = let so_far = c.loop.invariant.0 in connections_run g.S.Read.remaining g.S.Write.contents g.K.Keeper.standing _ _ so_far.0 so_far.1
 
 pub returns-in_err-reader-clause-served : goal.returns-in_err-reader-clause-served
-returns-in_err-reader-clause-served g c = let so_far = c.loop.invariant.0 in (so_far.0, so_far.1, search rules)
+returns-in_err-reader-clause-served g c = let so_far = c.loop.invariant.0 in (so_far.0, so_far.1, so_far.2, search rules)
 
 pub returns-in_err-reader-clause-runs : goal.returns-in_err-reader-clause-runs
 returns-in_err-reader-clause-runs g c = let so_far = c.loop.invariant.0 in connections_run g.S.Read.remaining g.S.Write.contents g.K.Keeper.standing _ _ so_far.0 so_far.1
@@ -54,7 +56,7 @@ pub returns-clause-served : goal.returns-clause-served
 returns-clause-served g c =
     let so_far = c.loop.invariant.0 in
     let end : c.loop.counter ≡ c.args.count = search rules in
-    (so_far.0, so_far.1, (so_far.2 ∙ end, so_far.3))
+    (so_far.0, so_far.1, so_far.2, (so_far.3 ∙ end, so_far.4))
 
 pub returns-clause-runs : goal.returns-clause-runs
 returns-clause-runs g c = let so_far = c.loop.invariant.0 in connections_run g.S.Read.remaining g.S.Write.contents g.K.Keeper.standing _ _ so_far.0 so_far.1

@@ -20,13 +20,13 @@ pub returns-in-Ok-clause-silent : goal.returns-in-Ok-clause-silent
 returns-in-Ok-clause-silent g c = λ _. Keeps-refl (g.E.Write.contents c.args.errors.now)
 
 pub returns-in-Err-clause-ended : goal.returns-in-Err-clause-ended
-returns-in-Err-clause-ended g c = λ other. absurd (other c.tell.ensures.status)
+returns-in-Err-clause-ended g c = λ other. absurd (other c.tell_line.ensures.status)
 
 pub returns-in-Err-clause-stopped : goal.returns-in-Err-clause-stopped
 returns-in-Err-clause-stopped g c = λ _.
     let of = c.in-Err.ensures in
     let s = stopped _ _ _ _ _ _ c.in-Err.fault (λ e. of.memory (ap Err e)) (λ e. of.read (ap Err e)) (λ e. of.write (ap Err e)) in
-    (c.in-Err.fault, s.0, s.1, s.2, s.3, s.4)
+    (c.in-Err.fault, s.0, s.1, s.2, s.3, s.4, c.tell_line.ensures.told)
 
 pub returns-in-Err-clause-silent : goal.returns-in-Err-clause-silent
-returns-in-Err-clause-silent g c = λ other. absurd (other c.tell.ensures.status)
+returns-in-Err-clause-silent g c = λ other. absurd (other c.tell_line.ensures.status)

@@ -9,7 +9,7 @@ returns-in-Ok-open-clause-opened g c = (
   λ clean. record {
     made = λ bare. absurd (false≢true (c.if-is_empty.ensures.1 bare));
     opened = λ _. c.in-Ok-open.ensures.stands clean;
-    same = λ _ is_open. c.in-Ok-open.ensures.same clean is_open;
+    same = λ _. c.in-Ok-open.ensures.same clean;
   },
 )
 

@@ -9,7 +9,7 @@ pub returns-in-Ok-clause-silent : goal.returns-in-Ok-clause-silent
 returns-in-Ok-clause-silent g c = λ done. c.pipe.ensures.silent (λ stopped. omega (arith, done, stopped))
 
 pub returns-in-Err-clause-ends : goal.returns-in-Err-clause-ends
-returns-in-Err-clause-ends g c = inl (c.in-Err.failure, c.tell.ensures.status, c.in-Err.ensures.refused, Keeps-refl _, Keeps-refl _)
+returns-in-Err-clause-ends g c = inl (c.in-Err.failure, c.tell_line.ensures.status, c.in-Err.ensures.refused, Keeps-refl _, Keeps-refl _, c.tell_line.ensures.told)
 
 pub returns-in-Err-clause-silent : goal.returns-in-Err-clause-silent
-returns-in-Err-clause-silent g c = λ done. absurd (not_done c.in-Err.failure (sym c.tell.ensures.status ∙ done))
+returns-in-Err-clause-silent g c = λ done. absurd (not_done c.in-Err.failure (sym c.tell_line.ensures.status ∙ done))

@@ -1,8 +1,11 @@
-use Rattle.book_desk_loop.proofs.Common.{ℕ, List, [], ◌++◌, take, map, ap, sym, subst, History, Entry, AreServed, answered_in, receives}
+use Rattle.book_desk_loop.proofs.Common.{ℕ, List, [], ◌++◌, take, map, ap, sym, subst, History, Entry, AreServed, entries, receives}
 use Rattle.std.specs.Io.KnownBytes.{Consumes}
 use Rattle.std.proofs.KnownBytes.{Consumes-kept, Consumes-nil}
 use Rattle.book_wire.specs.Serving.{Runs}
+use Rattle.book_wire.specs.Stream.{Exchange, answered_of}
+use Rattle.std.proofs.Common.{refl}
 use Rattle.book_desk_loop.proofs.Histories.{receives_none, number_held}
+use Rattle.book_desk_loop.proofs.Streams.{still_held}
 use Rattle.book_desk_loop.proofs.moves.read_once.Goals as goal
 
 pub returns-in-Ok-eq0-clause-served : goal.returns-in-Ok-eq0-clause-served
@@ -23,8 +26,8 @@ returns-in-Ok-feed-clause-served g c =
     let places = c.args.connections.now.places.items in
     let bytes : List ℕ = take c.in-Ok.count c.read.new.buf in
     let Q : ℕ → Type 0 = λ k. (histories : ℕ → History) (log : List Entry) → AreServed histories log c.args.connections.now.opened places
-    → (more : List Entry) × AreServed (receives histories k bytes) (log ++ more) c.feed.new.self.opened c.feed.new.self.places.items
-    × Runs (g.K.Keeper.standing c.args.connections.now.machine.keeper) (g.K.Keeper.standing c.feed.new.self.machine.keeper) (map answered_in more) in (
+    → (more : List Exchange) × AreServed (receives histories k bytes) (log ++ entries k more) c.feed.new.self.opened c.feed.new.self.places.items
+    × Runs (g.K.Keeper.standing c.args.connections.now.machine.keeper) (g.K.Keeper.standing c.feed.new.self.machine.keeper) (map answered_of more) in (
       bytes,
       c.in-Ok.ensures.bytes.0,
       subst Q (sym (number_held places c.args.place r.0 r.1)) (λ histories log s. c.feed.ensures.served r.0 r.1 histories log s),
@@ -36,9 +39,21 @@ returns-in-Err-feed-clause-served g c =
     let places = c.args.connections.now.places.items in
     let bytes : List ℕ = take c.in-Ok.count c.read.new.buf in
     let Q : ℕ → Type 0 = λ k. (histories : ℕ → History) (log : List Entry) → AreServed histories log c.args.connections.now.opened places
-    → (more : List Entry) × AreServed (receives histories k bytes) (log ++ more) c.feed.new.self.opened c.feed.new.self.places.items
-    × Runs (g.K.Keeper.standing c.args.connections.now.machine.keeper) (g.K.Keeper.standing c.feed.new.self.machine.keeper) (map answered_in more) in (
+    → (more : List Exchange) × AreServed (receives histories k bytes) (log ++ entries k more) c.feed.new.self.opened c.feed.new.self.places.items
+    × Runs (g.K.Keeper.standing c.args.connections.now.machine.keeper) (g.K.Keeper.standing c.feed.new.self.machine.keeper) (map answered_of more) in (
       bytes,
       c.in-Ok.ensures.bytes.0,
       subst Q (sym (number_held places c.args.place r.0 r.1)) (λ histories log s. c.feed.ensures.served r.0 r.1 histories log s),
     )
+
+pub returns-then-is_empty-clause-served : goal.returns-then-is_empty-clause-served
+returns-then-is_empty-clause-served g c = ([], Consumes-nil _, λ histories log s. receives_none _ histories log _ _ _ s)
+
+pub returns-in-Ok-feed-clause-there : goal.returns-in-Ok-feed-clause-there
+returns-in-Ok-feed-clause-there g c sound =
+    let r = c.requires in
+    let x = c.in-Ok-feed.ensures.there r.0 r.1 in
+    still_held c.args.place c.args.connections.now.places.items c.feed.new.self.places.items r.0 r.1 (x.0, x.1, x.2)
+
+pub returns-in-Err-feed-clause-there : goal.returns-in-Err-feed-clause-there
+returns-in-Err-feed-clause-there g c sound = absurd (sound c.in-Err-feed.fault refl)

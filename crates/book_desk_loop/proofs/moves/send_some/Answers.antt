@@ -1,5 +1,12 @@
-use Rattle.book_desk_loop.proofs.Histories.{since_same}
+use Rattle.book_desk_loop.proofs.Streams.{serves_sent}
 use Rattle.book_desk_loop.proofs.moves.send_some.Goals as goal
 
 pub returns-clause-served : goal.returns-clause-served
-returns-clause-served g c before s = rw c.write_once.ensures.machine (since_same _ _ _ _ _ _ _ s (c.write_once.ensures.sent.2 s.histories s.log s.served))
+returns-clause-served g c =
+    let w = c.write_once.ensures in
+    let old = c.args.connections.now in
+    let new = c.write_once.new.connections in (
+      w.sent.0,
+      serves_sent g.K.Keeper.standing g.S.Read.remaining g.S.Write.contents c.args.place old new c.args.stream.now c.write_once.new.writer w.sent.0
+          w.sent.1 w.opened w.others w.machine w.sent.2,
+    )

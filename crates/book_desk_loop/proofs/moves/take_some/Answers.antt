@@ -1,7 +1,12 @@
-use Rattle.book_desk_loop.proofs.Histories.{since_more}
+use Rattle.book_desk_loop.proofs.Streams.{serves_read}
 use Rattle.book_desk_loop.proofs.moves.take_some.Goals as goal
 
 pub returns-clause-served : goal.returns-clause-served
-returns-clause-served g c before s =
-    let x = c.read_once.ensures.served.2 s.histories s.log s.served in
-    since_more _ _ _ _ _ _ _ _ x.0 s x.1 x.2
+returns-clause-served g c =
+    let r = c.read_once.ensures in
+    let old = c.args.connections.now in
+    let new = c.read_once.new.connections in (
+      r.served.0,
+      serves_read g.K.Keeper.standing g.S.Read.remaining g.S.Write.contents c.args.place old new c.args.stream.now c.read_once.new.reader r.served.0
+          r.served.1 r.opened r.others r.served.2,
+    )

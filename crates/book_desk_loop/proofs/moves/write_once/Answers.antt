@@ -1,7 +1,9 @@
 use Rattle.book_desk_loop.proofs.Common.{ℕ, List, [], take, ap, sym, subst, AreServed, is_sent}
 use Rattle.std.specs.Io.KnownBytes.{Appends}
 use Rattle.std.proofs.KnownBytes.{Appends-kept, Appends-nil}
+use Rattle.std.proofs.Common.{refl}
 use Rattle.book_desk_loop.proofs.Histories.{sends_none, number_held, taken_of}
+use Rattle.book_desk_loop.proofs.Streams.{still_held}
 use Rattle.book_desk_loop.proofs.moves.write_once.Goals as goal
 
 pub returns-in-None-clause-sent : goal.returns-in-None-clause-sent
@@ -44,3 +46,12 @@ returns-in-Ok-eq0-clause-sent g c =
       subst P (ap (λ (n : ℕ). take n c.in-Some.bytes.now) c.in-Ok-eq0.field-0-test) c.in-Ok-eq0.ensures.bytes,
       λ histories log s. sends_none histories log _ _ _ s,
     )
+
+pub returns-in-Ok-did_send-clause-there : goal.returns-in-Ok-did_send-clause-there
+returns-in-Ok-did_send-clause-there g c sound =
+    let h = c.in-Some.ensures.there in
+    let x = c.in-Ok-did_send.ensures.left h.0 h.1 in
+    still_held c.args.place c.args.connections.now.places.items c.did_send.new.self.places.items h.0 h.1 (x.0, x.1, x.2)
+
+pub returns-in-Err-did_send-clause-there : goal.returns-in-Err-did_send-clause-there
+returns-in-Err-did_send-clause-there g c sound = absurd (sound c.in-Err-did_send.fault refl)

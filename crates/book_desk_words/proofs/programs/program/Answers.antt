@@ -11,9 +11,10 @@ pub returns : goal.returns
 returns c =
     let one = c.in_ok-subcommand.ensures.shape c.explain.ensures.local ∙ ap₂ with_subcommand c.in_ok-top.ensures.0 (ap top_of c.explain.ensures.app) in
     let two = c.in_ok-subcommand-2.ensures.shape c.card.ensures.local ∙ ap₂ with_subcommand one (ap top_of c.card.ensures.app) in
-    let three = c.in_ok-subcommand-3.ensures.shape c.in_ok-import.ensures.1 ∙ ap₂ with_subcommand two (ap top_of c.in_ok-import.ensures.0) in
-    let four = c.in_ok-subcommand-4.ensures.shape c.in_ok-audit.ensures.1 ∙ ap₂ with_subcommand three (ap top_of c.in_ok-audit.ensures.0) in
-    let five = c.in_ok-subcommand-5.ensures.shape c.in_ok-migrate.ensures.1 ∙ ap₂ with_subcommand four (ap top_of c.in_ok-migrate.ensures.0) in
-    let six = c.in_ok-subcommand-6.ensures.shape c.in_ok-pipe.ensures.1 ∙ ap₂ with_subcommand five (ap top_of c.in_ok-pipe.ensures.0) in
-    IfOk-weaker c.subcommand-7.result _ _
-    (λ r h. h.shape c.in_ok-serve.ensures.1 ∙ ap₂ with_subcommand six (ap top_of c.in_ok-serve.ensures.0)) c.subcommand-7.ensures
+    let three = c.in_ok-subcommand-3.ensures.shape c.in_ok-init.ensures.1 ∙ ap₂ with_subcommand two (ap top_of c.in_ok-init.ensures.0) in
+    let four = c.in_ok-subcommand-4.ensures.shape c.in_ok-import.ensures.1 ∙ ap₂ with_subcommand three (ap top_of c.in_ok-import.ensures.0) in
+    let five = c.in_ok-subcommand-5.ensures.shape c.in_ok-audit.ensures.1 ∙ ap₂ with_subcommand four (ap top_of c.in_ok-audit.ensures.0) in
+    let six = c.in_ok-subcommand-6.ensures.shape c.in_ok-migrate.ensures.1 ∙ ap₂ with_subcommand five (ap top_of c.in_ok-migrate.ensures.0) in
+    let seven = c.in_ok-subcommand-7.ensures.shape c.in_ok-pipe.ensures.1 ∙ ap₂ with_subcommand six (ap top_of c.in_ok-pipe.ensures.0) in
+    IfOk-weaker c.subcommand-8.result _ _
+    (λ r h. h.shape c.in_ok-serve.ensures.1 ∙ ap₂ with_subcommand seven (ap top_of c.in_ok-serve.ensures.0)) c.subcommand-8.ensures

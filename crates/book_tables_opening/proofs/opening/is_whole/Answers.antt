@@ -1,10 +1,15 @@
-use Rattle.book_tables_opening.proofs.Common.{true, rules, refl, state}
+use Rattle.book_tables_opening.proofs.Common.{◌∙◌, true, true≢false, refl, sym, subst, state}
 use Rattle.book_tables_schema.specs.OtherReach.{IsBeside}
+use Rattle.book_tables_schema.specs.declared.layout.Generation.TheVariants.{Second}
 use Rattle.book_tables_opening.proofs.OpenedTables.{foreign_none}
 use Rattle.book_tables_opening.proofs.opening.is_whole.Goals as goal
+
+pub settle_base-requires : goal.settle_base-requires
+settle_base-requires g c = subst (IsBeside Second) c.schema-2.ensures.value (c.in_ok-is_beside_reach.ensures.0 c.if-branch.true)
 
 pub returns-clause-told : goal.returns-clause-told
 returns-clause-told g c clean =
     let old = state g.S.Store c.args.connection.now in
-    let foreign : ¬ (IsBeside true old.now.schema) = search rules in
+    let foreign : ¬ (IsBeside Second old.now.schema) = λ beside.
+    true≢false (sym (c.in_ok-is_beside_reach.ensures.1 (subst (IsBeside Second) (sym c.schema-2.ensures.value) beside)) ∙ c.if-branch.false) in
     ((λ open_now. (open_now, refl)), λ rise. foreign_none old.now foreign)

@@ -22,7 +22,7 @@ returns-in-Ok-Other-clause-refused g c reopened refused clean =
     let new = state g.S.Store c.standing_of.new.connection in
     let was : HasCleanDisk old = omega (arith, clean, c.standing_of.ensures.left.clean) in
     let both = reopened was in
-    tables.refused old new c.standing_of.ensures.left clean both.0 both.1 (g.met.S.Store.settled c.args.connection.store) (subst (IsStanding old new) c.in-Ok-Other.field-0-is (c.in-Ok-Other.ensures.told clean))
+    (was, tables.refused old new (subst (IsStanding old new) c.in-Ok-Other.field-0-is (c.in-Ok-Other.ensures.told clean)) both.1)
 
 pub returns-in-Ok-Broken-clause-refused : goal.returns-in-Ok-Broken-clause-refused
 returns-in-Ok-Broken-clause-refused g c reopened refused clean =
@@ -30,7 +30,7 @@ returns-in-Ok-Broken-clause-refused g c reopened refused clean =
     let new = state g.S.Store c.standing_of.new.connection in
     let was : HasCleanDisk old = omega (arith, clean, c.standing_of.ensures.left.clean) in
     let both = reopened was in
-    tables.refused old new c.standing_of.ensures.left clean both.0 both.1 (g.met.S.Store.settled c.args.connection.store) (subst (IsStanding old new) c.in-Ok-Broken.field-0-is (c.in-Ok-Broken.ensures.told clean))
+    (was, tables.refused old new (subst (IsStanding old new) c.in-Ok-Broken.field-0-is (c.in-Ok-Broken.ensures.told clean)) both.1)
 
 pub returns-in-Ok-Other-clause-kept : goal.returns-in-Ok-Other-clause-kept
 returns-in-Ok-Other-clause-kept g c reopened clean =
@@ -57,9 +57,15 @@ returns-in-Err-clause-kept g c reopened clean =
     (was, tables.unopened old new c.standing_of.ensures.left clean both.0 both.1 (g.met.S.Store.settled c.args.connection.store) (c.in-Err.ensures.kept clean))
 
 pub returns-in-Ok-Other-clause-other : goal.returns-in-Ok-Other-clause-other
-returns-in-Ok-Other-clause-other g c refused clean open_now =
-    subst (StandingSays g.S.Store (state g.S.Store c.standing_of.new.connection).now) c.in-Ok-Other.field-0-is (c.in-Ok-Other.ensures.other clean open_now)
+returns-in-Ok-Other-clause-other g c reopened refused clean =
+    let old = state g.S.Store c.args.connection in
+    let was : HasCleanDisk old = omega (arith, clean, c.standing_of.ensures.left.clean) in
+    let rise = (reopened was).1 in
+    (was, record { schema = old.now.schema; listed = rise.rules; says = subst (StandingSays old.now) c.in-Ok-Other.field-0-is (c.in-Ok-Other.ensures.other clean) })
 
 pub returns-in-Ok-Broken-clause-other : goal.returns-in-Ok-Broken-clause-other
-returns-in-Ok-Broken-clause-other g c refused clean open_now =
-    subst (StandingSays g.S.Store (state g.S.Store c.standing_of.new.connection).now) c.in-Ok-Broken.field-0-is (c.in-Ok-Broken.ensures.other clean open_now)
+returns-in-Ok-Broken-clause-other g c reopened refused clean =
+    let old = state g.S.Store c.args.connection in
+    let was : HasCleanDisk old = omega (arith, clean, c.standing_of.ensures.left.clean) in
+    let rise = (reopened was).1 in
+    (was, record { schema = old.now.schema; listed = rise.rules; says = subst (StandingSays old.now) c.in-Ok-Broken.field-0-is (c.in-Ok-Broken.ensures.other clean) })

@@ -1,4 +1,4 @@
-use Rattle.book_tables_opening.proofs.Common.{◌≡◌, ◌≤◌, inr, true, Some, None, IsTrue, rules, arith, sym, ap, subst, State, state, HasCleanDisk}
+use Rattle.book_tables_opening.proofs.Common.{◌≡◌, ◌≤◌, true, Some, None, IsTrue, rules, arith, sym, ap, subst, State, state, HasCleanDisk}
 use Rattle.sqlite.specs.State.{Survives}
 use Rattle.sqlite_trees.specs.View.{doubt}
 use Rattle.book_tables_rows.proofs.Keeping.{unseen_then}
@@ -23,8 +23,8 @@ returns-clause-told g c clean =
     let inside : IsTrue begun.in_transaction = ap (λ (s : State). s.in_transaction) is in
     let gets : MakesAnew begun mid = c.in_ok-make_anew.ensures.made clean_mid inside in
     let told : TellsOffice mid inner (Some c.in-Some._written) = subst (TellsOffice mid inner) c.in-Some.is (c.in_ok-_written.ensures.told clean_inner gets.inside) in
-    inr (subst (λ s. Commits old (state g.S.Store s)) same
-    (committed_by old inner new (base_settled old begun is c.requires mid gets inner c.in-Some._written told) (c.in_ok-commit.ensures.ok clean_new).1))
+    subst (λ s. Commits old (state g.S.Store s)) same
+    (committed_by old inner new (base_settled old begun is c.requires mid gets inner c.in-Some._written told) (c.in_ok-commit.ensures.ok clean_new).1)
 
 pub returns-in_err-commit-clause-left : goal.returns-in_err-commit-clause-left
 returns-in_err-commit-clause-left g c =

@@ -1,8 +1,8 @@
-use Rattle.book_tables_opening.proofs.Common.{◌≡◌, ◌≤◌, inl, inr, true, Some, None, IsTrue, rules, arith, sym, ap, subst, State, state, HasCleanDisk}
+use Rattle.book_tables_opening.proofs.Common.{◌≡◌, ◌≤◌, true, Some, None, IsTrue, rules, arith, sym, ap, subst, State, state, HasCleanDisk}
 use Rattle.sqlite_trees.specs.View.{doubt}
 use Rattle.book_tables_rows.specs.Steps.{Stays}
 use Rattle.book_tables_opening.specs.Reading.{Commits, RowsRise, Settled, TellsOffice}
-use Rattle.book_tables_opening.proofs.SettledStores.{book_none, book_settled, book_stood, committed_by, leaves_settled}
+use Rattle.book_tables_opening.proofs.SettledStores.{book_none, book_settled, committed_by, leaves_settled}
 use Rattle.book_tables_opening.proofs.opening.settle_book.Goals as goal
 
 pub returns-clause-told : goal.returns-clause-told
@@ -17,8 +17,8 @@ returns-clause-told g c clean =
     let survived : doubt inner.is_clean ≤ doubt new.is_clean = c.commit.ensures.survives.clean in
     let clean_inner : HasCleanDisk inner = omega (arith, survived, clean_new) in
     let inside : IsTrue begun.in_transaction = ap (λ (s : State). s.in_transaction) is in
-    inr (subst (λ s. Commits old (state g.S.Store s)) same
-    (committed_by old inner new (book_settled old begun is c.requires inner c.in-Some.written (subst (TellsOffice begun inner) c.in-Some.is (c.in_ok-written.ensures.told clean_inner inside))) (c.in_ok-commit.ensures.ok clean_new).1))
+    subst (λ s. Commits old (state g.S.Store s)) same
+    (committed_by old inner new (book_settled old begun is c.requires inner c.in-Some._written (subst (TellsOffice begun inner) c.in-Some.is (c.in_ok-_written.ensures.told clean_inner inside))) (c.in_ok-commit.ensures.ok clean_new).1)
 
 pub returns-in_err-commit-clause-left : goal.returns-in_err-commit-clause-left
 returns-in_err-commit-clause-left g c =
@@ -27,7 +27,7 @@ returns-in_err-commit-clause-left g c =
     let inner = state g.S.Store c.settle_office.new.transaction.conn.now in
     let is : begun ≡ record old { in_transaction = true } = ap (state g.S.Store) c.transaction-transaction.ensures.begun in
     let made : HasCleanDisk inner → IsTrue begun.in_transaction → RowsRise old.now → Settled old.now inner.now = λ clean inside.
-    book_settled old begun is c.requires inner c.in-Some.written (subst (TellsOffice begun inner) c.in-Some.is (c.in_ok-written.ensures.told clean inside)) in
+    book_settled old begun is c.requires inner c.in-Some._written (subst (TellsOffice begun inner) c.in-Some.is (c.in_ok-_written.ensures.told clean inside)) in
     let left = leaves_settled old begun inner _ is c.settle_office.ensures.survives made c.commit.ensures.survives in
     search (rules, left)
 
@@ -38,7 +38,7 @@ returns-clause-left g c =
     let inner = state g.S.Store c.settle_office.new.transaction.conn.now in
     let is : begun ≡ record old { in_transaction = true } = ap (state g.S.Store) c.transaction-transaction.ensures.begun in
     let made : HasCleanDisk inner → IsTrue begun.in_transaction → RowsRise old.now → Settled old.now inner.now = λ clean inside.
-    book_settled old begun is c.requires inner c.in-Some.written (subst (TellsOffice begun inner) c.in-Some.is (c.in_ok-written.ensures.told clean inside)) in
+    book_settled old begun is c.requires inner c.in-Some._written (subst (TellsOffice begun inner) c.in-Some.is (c.in_ok-_written.ensures.told clean inside)) in
     let left = leaves_settled old begun inner _ is c.settle_office.ensures.survives made c.commit.ensures.survives in
     search (rules, left)
 
@@ -54,20 +54,5 @@ returns-in_default-clause-told g c clean =
     let clean_inner : HasCleanDisk inner = omega (arith, survived, dropped) in
     let inside : IsTrue begun.in_transaction = ap (λ (s : State). s.in_transaction) is in
     let stays : Stays old (state g.S.Store c.connection-in_default-1.given.0) = search rules in
-    let none : c.in_ok-written.field-0 ≡ None = search rules in
-    (stays, book_none old begun is c.requires inner (subst (TellsOffice begun inner) none (c.in_ok-written.ensures.told clean_inner inside)))
-
-pub returns-then-not-written-clause-told : goal.returns-then-not-written-clause-told
-returns-then-not-written-clause-told g c clean =
-    let old = state g.S.Store c.args.connection.now in
-    let begun = state g.S.Store c.transaction-transaction.result.conn.now in
-    let inner = state g.S.Store c.settle_office.new.transaction.conn.now in
-    let is : begun ≡ record old { in_transaction = true } = ap (state g.S.Store) c.transaction-transaction.ensures.begun in
-    let survived : doubt inner.is_clean ≤ doubt (state g.S.Store c.drop-transaction-then-not-written.new.self.0).is_clean = c.drop-transaction-then-not-written.ensures.survives.clean in
-    let same : c.drop-transaction-then-not-written.new.self.0 ≡ c.connection-then-not-written-1.given.0 = search rules in
-    let dropped : HasCleanDisk (state g.S.Store c.drop-transaction-then-not-written.new.self.0) = subst (λ s. HasCleanDisk (state g.S.Store s)) (sym same) clean in
-    let clean_inner : HasCleanDisk inner = omega (arith, survived, dropped) in
-    let inside : IsTrue begun.in_transaction = ap (λ (s : State). s.in_transaction) is in
-    let stays : Stays old (state g.S.Store c.connection-then-not-written-1.given.0) = search rules in
-    let told : TellsOffice begun inner (Some c.in-Some.written) = subst (TellsOffice begun inner) c.in-Some.is (c.in_ok-written.ensures.told clean_inner inside) in
-    inl (stays, book_stood old begun is c.requires inner (subst (λ w. TellsOffice begun inner (Some w)) c.if-not-written.true told))
+    let none : c.in_ok-_written.field-0 ≡ None = search rules in
+    (stays, book_none old begun is c.requires inner (subst (TellsOffice begun inner) none (c.in_ok-_written.ensures.told clean_inner inside)))

@@ -9,5 +9,5 @@ returns-clause-told g c clean =
     let same : c.drop-transaction.new.self.0 ≡ c.connection-1.given.0 = search rules in
     let dropped : HasCleanDisk (state g.S.Store c.drop-transaction.new.self.0) = subst (λ s. HasCleanDisk (state g.S.Store s)) (sym same) clean in
     let read : HasCleanDisk (state g.S.Store c.says_other_version.new.transaction.conn.now) = omega (arith, survived, dropped) in
-    version_told g.S.Store c.args.version c.transaction-transaction.result.conn.now c.says_other_version.new.transaction.conn.now _
-    (ap (λ h. (state g.S.Store h).now) c.transaction-transaction.ensures.begun) c.says_other_version.result (c.says_other_version.ensures.told read)
+    version_told c.args.version (state g.S.Store c.args.connection.now) (state g.S.Store c.transaction-transaction.result.conn.now) (state g.S.Store c.says_other_version.new.transaction.conn.now)
+    (ap (state g.S.Store) c.transaction-transaction.ensures.begun) c.says_other_version.result (c.says_other_version.ensures.told read)

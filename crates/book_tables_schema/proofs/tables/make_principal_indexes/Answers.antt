@@ -1,6 +1,6 @@
-use Rattle.book_tables_schema.proofs.Common.{arith, state, HasCleanDisk, on_ok, Extends}
-use Rattle.book_tables_schema.specs.Founding.{with_owner, with_principal}
-use Rattle.book_tables_schema.proofs.Tabling.{extends_then, adds_principal, adds_members}
+use Rattle.book_tables_schema.proofs.Common.{arith, refl, state, HasCleanDisk, on_ok}
+use Rattle.book_tables_schema.specs.Founding.{Indexes, with_owner, with_principal}
+use Rattle.book_tables_schema.proofs.Tabling.{indexes_then, indexes_principal, indexes_members}
 use Rattle.book_tables_schema.proofs.tables.make_principal_indexes.Goals as goal
 
 pub returns-clause-done : goal.returns-clause-done
@@ -9,5 +9,5 @@ returns-clause-done g c clean inside =
     let between = state g.S.Store c.run.new.transaction.conn.now in
     let new = state g.S.Store c.run-2.new.transaction.conn.now in
     let clean_between : HasCleanDisk between = omega (arith, c.run-2.ensures.survives.clean) in
-    let one : Extends old between with_owner with_principal = adds_principal old between (c.in_ok-run.ensures.done clean_between inside) in
-    on_ok c.run-2.result _ _ (λ ran. extends_then old between new _ _ _ one (adds_members between new ran)) (c.run-2.ensures.done clean one.inside)
+    let one : Indexes old between with_owner with_principal = indexes_principal old between (c.in_ok-run.ensures.done clean_between inside) in
+    on_ok c.run-2.result _ _ (λ ran. indexes_then old between new _ _ _ refl one (indexes_members between new ran)) (c.run-2.ensures.done clean one.inside)

@@ -17,7 +17,7 @@ returns-in-Ok-clause-sent g c l at histories log s =
     let shrunk = c.shrink.ensures in
     let x = sends histories log opened places i n was now s here refl
     (ap (λ (v : View). v.unsent) shrunk ∙ c.in-Ok.ensures.unsent) (ap (λ (v : View). v.unread) shrunk ∙ c.did_send.ensures.unread)
-    (ap (λ (v : View). v.closing) shrunk ∙ c.did_send.ensures.closing) in
+    (ap (λ (v : View). v.closing) shrunk ∙ c.did_send.ensures.closing) (ap (λ (v : View). v.stalled) shrunk ∙ c.did_send.ensures.stalled) in
     let P : Accepted → Type 0 = λ t. AreServed (is_sent histories t.number (take n t.connection.unsent)) log opened (slice_set places i (Some now)) in
     let Q : List (Option Accepted) → Type 0 = λ t. AreServed (is_sent histories l.number (take n l.connection.unsent)) log opened t in
     subst Q (sym (set_again places i c.replace.new.dest (Some now))) (subst P (holds_one places i was l here at) x)
@@ -39,6 +39,7 @@ returns-in-Ok-clause-left g c l at =
     (omega (arith, at.0, length-set places i (Some now)), get_or-set_same places i (Some now) None at.0) in (
       now,
       subst Q (sym (set_again places i c.replace.new.dest (Some now))) put,
+      ap (λ (a : Accepted). a.number) (holds_one places i was l here at),
       ap (λ (v : View). v.unsent) c.shrink.ensures ∙ c.in-Ok.ensures.unsent ∙ ap (λ (t : Accepted). drop n t.connection.unsent) (holds_one places i was l here at),
     )
 

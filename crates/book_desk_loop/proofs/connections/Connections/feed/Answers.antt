@@ -1,7 +1,7 @@
-use Rattle.book_desk_loop.proofs.Common.{◌≡◌, List, ◌++◌, map, Option, Some, None, refl, sym, ap, subst, ◌∙◌, arith, length, Accepted, Entry, AreServed, Holds, answered_in, receives}
+use Rattle.book_desk_loop.proofs.Common.{◌≡◌, ◌<◌, List, ◌++◌, map, Option, Some, None, refl, sym, ap, subst, ◌∙◌, arith, length, Accepted, Entry, AreServed, Holds, entries, receives}
 use Rattle.std.proofs.Common.{◌≤◌, ◌⊎◌, inl, inr, true, false, Err, slice_set}
 use Rattle.book_wire.specs.Connection.{View}
-use Rattle.book_wire.specs.Stream.{IsPartial}
+use Rattle.book_wire.specs.Stream.{Exchange, IsPartial, answered_of}
 use Rattle.std.proofs.lemmas.List.{get_or-set_same, length-set}
 use Rattle.book_wire.specs.Serving.{Runs}
 use Rattle.book_wire.specs.declared.stream.StreamFault.TheVariants.{Memory, Read, Write}
@@ -20,10 +20,10 @@ returns-in-Ok-clause-served g c l at histories log s =
     let holds : Holds places i was = holds_read places i _ _ was r.1.0 c.index_mut.ensures.value c.replace.ensures.value c.in-Some.is in
     let fed = c.in-Ok.ensures.ok in
     let x = feeds _ _ histories log opened places i was now bytes fed.0 fed.1 s holds (same_closing places i r.0 was r.1 holds r.2) refl fed.3 fed.4 in
-    let P : List (Option Accepted) → Type 0 = λ t. AreServed (receives histories was.number bytes) (log ++ x.0) opened t in
+    let P : List (Option Accepted) → Type 0 = λ t. AreServed (receives histories was.number bytes) (log ++ entries was.number x.0) opened t in
     let again = sym (set_again places i c.replace.new.dest (Some now)) in
-    let Q : Accepted → Type 0 = λ t. (later : List Entry) × AreServed (receives histories t.number bytes) (log ++ later) opened (slice_set (slice_set places i c.replace.new.dest) i (Some now))
-    × Runs (g.K.Keeper.standing c.args.self.now.machine.keeper) (g.K.Keeper.standing c.feed.new.machine.keeper) (map answered_in later) in
+    let Q : Accepted → Type 0 = λ t. (later : List Exchange) × AreServed (receives histories t.number bytes) (log ++ entries t.number later) opened (slice_set (slice_set places i c.replace.new.dest) i (Some now))
+    × Runs (g.K.Keeper.standing c.args.self.now.machine.keeper) (g.K.Keeper.standing c.feed.new.machine.keeper) (map answered_of later) in
     subst Q (holds_one places i was l holds at) (x.0, subst P again x.1, x.2)
 
 pub returns-in-Err-clause-served : goal.returns-in-Err-clause-served
@@ -36,10 +36,10 @@ returns-in-Err-clause-served g c l at histories log s =
     let r = c.requires in
     let holds : Holds places i was = holds_read places i _ _ was r.1.0 c.index_mut.ensures.value c.replace.ensures.value c.in-Some.is in
     let stayed = same_closing places i r.0 was r.1 holds r.2 in
-    let P : Option Accepted → Type 0 = λ t. (later : List Entry) × AreServed (receives histories was.number bytes) (log ++ later) opened (slice_set places i t)
-    × Runs (g.K.Keeper.standing c.args.self.now.machine.keeper) (g.K.Keeper.standing c.feed.new.machine.keeper) (map answered_in later) in
-    let Q : Accepted → Type 0 = λ t. (later : List Entry) × AreServed (receives histories t.number bytes) (log ++ later) opened (slice_set places i c.replace.new.dest)
-    × Runs (g.K.Keeper.standing c.args.self.now.machine.keeper) (g.K.Keeper.standing c.feed.new.machine.keeper) (map answered_in later) in
+    let P : Option Accepted → Type 0 = λ t. (later : List Exchange) × AreServed (receives histories was.number bytes) (log ++ entries was.number later) opened (slice_set places i t)
+    × Runs (g.K.Keeper.standing c.args.self.now.machine.keeper) (g.K.Keeper.standing c.feed.new.machine.keeper) (map answered_of later) in
+    let Q : Accepted → Type 0 = λ t. (later : List Exchange) × AreServed (receives histories t.number bytes) (log ++ entries t.number later) opened (slice_set places i c.replace.new.dest)
+    × Runs (g.K.Keeper.standing c.args.self.now.machine.keeper) (g.K.Keeper.standing c.feed.new.machine.keeper) (map answered_of later) in
     let e = c.in-Err.ensures in
     subst Q (holds_one places i was l holds at)
     (subst P (sym c.replace.ensures.after) (elim c.in-Err.fault as (λ f. c.in-Err.fault ≡ f → P None) [
@@ -49,21 +49,25 @@ returns-in-Err-clause-served g c l at histories log s =
     ] refl))
 
 pub returns-in-Ok-clause-there : goal.returns-in-Ok-clause-there
-returns-in-Ok-clause-there g c =
+returns-in-Ok-clause-there g c l at =
     let places = c.args.self.now.places.items in
     let i = c.args.place in
     let v : View = c.feed.new.self in
     let now : Accepted = record { number = c.in-Some.accepted.number; connection = v } in
     let within = c.requires.1.0 in
+    let was = c.in-Some.accepted in
+    let holds : Holds places i was = holds_read places i _ _ was within c.index_mut.ensures.value c.replace.ensures.value c.in-Some.is in
     let Q : List (Option Accepted) → Type 0 = λ t. Holds t i now in
     let put : Holds (slice_set places i (Some now)) i now =
     (omega (arith, within, length-set places i (Some now)), get_or-set_same places i (Some now) None within) in
     let fed = c.in-Ok.ensures.ok.4 in
+    let some = c.most_of_one-most.ensures.some in
     let many = c.in-Ok.ensures.stalled in (
       now,
       subst Q (sym (set_again places i c.replace.new.dest (Some now))) put,
-      λ open_still. (elim v.stalled as (λ b. v.stalled ≡ b → IsPartial v.unread ⊎ (8192 ≤ length v.unsent)) [
-        | true ↦ λ e. inr (many e)
+      ap (λ (a : Accepted). a.number) (holds_one places i was l holds at),
+      λ open_still. (elim v.stalled as (λ b. v.stalled ≡ b → IsPartial v.unread ⊎ (0 < length v.unsent)) [
+        | true ↦ λ e. inr (omega (arith, many e, some))
         | false ↦ λ e. inl (fed.waits open_still e)
       ]) refl,
     )

@@ -1,7 +1,5 @@
-use Rattle.book_desk_loop.specs.ManyConnections.{GoesOn}
+use Rattle.book_desk_loop.specs.Serving.{GoesOn}
 use Rattle.book_desk_loop.proofs.looping.Server.give_ready.Given as goal
 
 abbrev pub invariant-loop-place : goal.invariant-loop-place
-invariant-loop-place g l =
-    GoesOn g.K.Keeper.standing l.fn.self.connections.machine.keeper l.fn.self.connections.opened l.fn.self.connections.places.items
-    l.self.connections.machine.keeper l.self.connections.opened l.self.connections.places.items
+invariant-loop-place g l = GoesOn g.S.Read.remaining g.S.Write.contents g.K.Keeper.standing g.F.Faults.tells l.fn.self l.fn.faults l.self l.faults

@@ -19,6 +19,14 @@ Both o both = Persons o both.0 × Groups o both.1
 abbrev All : Office → Places → Type 0
 All o places = places ≡ places_of o
 
+pub returns-in_err-groups : goal.returns-in_err-groups
+returns-in_err-groups g c =
+    let old : Standing = standing_of (state g.S.Store c.args.self.now.connection) c.args.self.now.failures in
+    let first : Standing = standing_of (state g.S.Store c.read_persons.new.self.connection) c.read_persons.new.self.failures in
+    let new : Standing = standing_of (state g.S.Store c.read_groups.new.self.connection) c.read_groups.new.self.failures in
+    let fails : Reads {A = Places} old new (Err c.in_err-groups.field-0.0) All = then_fails old first c.in_ok-persons.persons Persons c.in_ok-persons.ensures new c.in_err-groups.field-0.0 Groups All c.in_err-groups.ensures in
+    passed_on old new c.in_err-groups.field-0.0 c.from_residual-in_err-groups.result All All c.from_residual-in_err-groups.ensures.1 fails
+
 pub returns-in_err-books : goal.returns-in_err-books
 returns-in_err-books g c =
     let old : Standing = standing_of (state g.S.Store c.args.self.now.connection) c.args.self.now.failures in

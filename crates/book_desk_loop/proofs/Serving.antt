@@ -1,0 +1,1209 @@
+-- The loop, a change at a time.
+use Rattle.std.proofs.Common.{zero, suc, slice_set, ◌≡◌, ◌≢◌, ◌⊎◌, ℕ, ◌+◌, ◌<◌, ◌≤◌, inl, inr, Bool, true, false, is_some, List, [], ◌∷◌, ◌++◌, length, get_or, map, Option, Some, None, Result, Ok, Err, refl, sym, ap, subst, ◌∙◌, arith, append_assoc, append-nil, length-append}
+use Rattle.std.proofs.lemmas.Bool.{cases_eq, cases_lt, false≢true}
+use Rattle.std.proofs.lemmas.List.{get_or_default, get_or_past, get_or-set_same, get_or-set_other, map-append}
+use Rattle.std.specs.Prelude.{IfOk, IfSome, OnOk}
+use Rattle.book_office.specs.Keeping.{Standing}
+use Rattle.book_wire.specs.Connection.{View, fresh}
+use Rattle.book_wire.specs.Serving.{Answered, Runs}
+use Rattle.book_wire.specs.Stream.{Exchange, IsPartial, Waits, answered_of}
+use Rattle.book_wire.specs.declared.stream.StreamFault.{StreamFault}
+use Rattle.book_wire.proofs.Servings.{runs_none, runs_then, stays}
+use Rattle.book_desk_loop.specs.Closing.{DropsSome}
+use Rattle.book_desk_loop.specs.ManyConnections.{History, nothing, Entry, AreServed, IsThere, Holds, AllStay, OthersStay, answered_in, entries, grows, own, number_at}
+use Rattle.book_desk_loop.specs.Streams.{HasNoWhole, IsMoved, WasAtEnd, IsDoneAt, IsIdleAt, IsAnsweredAt, IsStillAt, IsWithinAt, TakesATurn}
+use Rattle.book_desk_loop.specs.Streams.IsMoved.{rests, moves_on}
+use Rattle.book_desk_loop.specs.Serving.{Line, line_at, line_of, LinesStay, OtherLinesStay, ToldFault, told_of, count_unopened, HaveCome, IsOneFewer, count_held, IsCarriedBy, MayGiveWayAt, MayGo, MayGoAt, WasLetGo, AreKept, IsKept, KeepsOn, GoesOn, RestStays, LetsGo, TurnsAt, Begins, BeginsAt, BeginsNone, EndsSo, StoreHasFailed, AreServedAtOnce}
+use Rattle.book_desk_loop.specs.declared.connections.Accepted.{Accepted}
+use Rattle.book_desk_loop.specs.declared.connections.Connections.{Connections}
+use Rattle.book_desk_loop.specs.declared.moves.Turn.{Turn}
+use Rattle.book_desk_loop.specs.declared.moves.Turn.TheVariants.{Waits as Waiting, Again as Going, Done, Ended, Failed}
+use Rattle.book_desk_loop.specs.declared.limits.Limits.{Limits}
+use Rattle.book_desk_loop.specs.declared.limits.Ended.{Ended as Rounds}
+use Rattle.book_desk_loop.specs.declared.limits.Ended.TheVariants as rounds
+use Rattle.book_desk_loop.specs.declared.limits.Stop.{Stop}
+use Rattle.book_desk_loop.specs.declared.limits.Stop.TheVariants.{Failed as StopsFailed, Store as StopsForStore}
+use Rattle.book_desk_loop.specs.declared.looping.Server.{Server}
+use Rattle.book_desk_loop.specs.declared.sockets.Socket.{Socket}
+use Rattle.book_desk_loop.proofs.Histories.{entries_run, history_here, history_there, own_there, holds_one, number_held, nobody}
+use Rattle.book_desk_loop.proofs.Drops.{drops_none, drops_then}
+use Rattle.book_desk_loop.proofs.Told.{told_twice, one_told, told_here, told_there, told_elsewhere, unopened_one}
+
+pub some_any : {A : Type 0} (P : Type 0) (o : Option A) → P → IfSome o (λ x. P)
+some_any {A} P None p = tt
+some_any {A} P (Some x) p = p
+
+-- ---- places and lines
+
+nobody_there : (l : Accepted) → (◌≡◌) {A = Option Accepted} None (Some l) → ⊥
+nobody_there l e = cc
+
+pub holds_of : (places : List (Option Accepted)) (i : ℕ) (l : Accepted) → get_or places i None ≡ Some l → Holds places i l
+holds_of places i l e = elim (cases_lt i (length places)) [
+  | inl within ↦ (within, e)
+  | inr past ↦ absurd (nobody_there l (sym (get_or_past places i None past) ∙ e))
+]
+
+pub held_or_not : (places : List (Option Accepted)) (i : ℕ) → (get_or places i None ≡ None) ⊎ ((l : Accepted) × Holds places i l)
+held_or_not places i = (elim (get_or places i None) as (λ x. get_or places i None ≡ x → (get_or places i None ≡ None) ⊎ ((l : Accepted) × Holds places i l)) [
+  | None ↦ λ e. inl e
+  | Some l ↦ λ e. inr (l, holds_of places i l e)
+]) refl
+
+pub no_line : {S : Type 0} (m : Line S) → (◌≡◌) {A = Option (Line S)} None (Some m) → ⊥
+no_line {S} m e = cc
+
+pub same_line : {S : Type 0} (a b : Line S) (x : Option (Line S)) → x ≡ Some a → x ≡ Some b → a ≡ b
+same_line {S} a b x e f = some_same (sym e ∙ f)
+  where
+    some_same : (◌≡◌) {A = Option (Line S)} (Some a) (Some b) → a ≡ b
+    some_same e = cc
+
+still_holds : (i j : ℕ) (old new : List (Option Accepted)) (l : Accepted) → OthersStay i old new → (j ≡ i → ⊥) → Holds new j l → Holds old j l
+still_holds i j old new l stays far h = holds_of old j l (sym (stays.stay j far) ∙ h.1)
+
+then_holds : (i j : ℕ) (old new : List (Option Accepted)) (l : Accepted) → OthersStay i old new → (j ≡ i → ⊥) → Holds old j l → Holds new j l
+then_holds i j old new l stays far h = holds_of new j l (stays.stay j far ∙ h.1)
+
+-- held at a place where nobody is
+not_at : (i j : ℕ) (places : List (Option Accepted)) (l : Accepted) → get_or places i None ≡ None → Holds places j l → j ≡ i → ⊥
+not_at i j places l none h at =
+    let P : ℕ → Type 0 = λ n. get_or places n None ≡ Some l in
+    nobody_there l (sym none ∙ subst P at h.1)
+
+-- ---- one connection's share of what was done
+
+-- the number of one that could not be served
+abbrev pub number_unbegun : (old new : ℕ) → (new ≡ old) ⊎ (new ≡ old + 1) → Option ℕ
+number_unbegun old new (inl same) = None
+number_unbegun old new (inr more) = Some old
+
+share_there : (j k : ℕ) (log : List Entry) (more : List Exchange) (histories : ℕ → History) (came went : List ℕ) → (j ≡ k → ⊥)
+    → (own j (log ++ entries k more) ≡ own j log) × (grows histories k came went j ≡ histories j)
+share_there j k log more histories came went far = (
+  own_there j k log more far,
+  history_there histories j k (record { received = (histories k).received ++ came; sent = (histories k).sent ++ went }) far,
+)
+
+share_here : (k : ℕ) (histories : ℕ → History) (came went : List ℕ)
+    → grows histories k came went k ≡ record { received = (histories k).received ++ came; sent = (histories k).sent ++ went }
+share_here k histories came went = history_here histories k (record { received = (histories k).received ++ came; sent = (histories k).sent ++ went })
+
+module _ {S : Type 0} (remaining contents : S → Option (List ℕ)) where
+  -- one that may give its place may go
+  pub way_goes : (limits : Limits) (places : List (Option Accepted)) (sockets : List (Option (Socket S))) (place : ℕ)
+      → MayGiveWayAt places sockets place → MayGoAt remaining contents limits places sockets place
+  way_goes limits places sockets place x = (x.0, x.1, reason x.2)
+    where
+      reason : (x.0.lingers ≡ true) ⊎ ((x.0.lingers ≡ false) × IsIdleAt places place) ⊎ ((x.0.lingers ≡ false) × IsWithinAt places place)
+          → (x.0.lingers ≡ true)
+          ⊎ ((x.0.lingers ≡ false) × IsIdleAt places place)
+          ⊎ ((x.0.lingers ≡ false) × (x.0.at_end ≡ true) × IsAnsweredAt places place)
+          ⊎ ((x.0.lingers ≡ false) × (limits.idle ≢ None))
+          ⊎ ((x.0.lingers ≡ false) × IsWithinAt places place)
+      reason (inl lingers) = inl lingers
+      reason (inr (inl idle)) = inr (inl idle)
+      reason (inr (inr within)) = inr (inr (inr (inr within)))
+
+  was_let_go_as : (limits : Limits) (faults : List StreamFault) (es fs : List Exchange) (p q : History) → fs ≡ es → q ≡ p
+      → WasLetGo remaining contents limits faults es p → WasLetGo remaining contents limits faults fs q
+  was_let_go_as limits faults es fs p q e f x =
+      let P : List Exchange → Type 0 = λ t. WasLetGo remaining contents limits faults t q in
+      let Q : History → Type 0 = λ t. WasLetGo remaining contents limits faults es t in
+      subst P (sym e) (subst Q (sym f) x)
+
+  told_as : (limits : Limits) (faults others : List StreamFault) (es : List Exchange) (history : History) → others ≡ faults
+      → WasLetGo remaining contents limits faults es history → WasLetGo remaining contents limits others es history
+  told_as limits faults others es history e x =
+      let P : List StreamFault → Type 0 = λ t. WasLetGo remaining contents limits t es history in
+      subst P (sym e) x
+
+  -- it might go, and went as it was
+  went_as_it_was : (limits : Limits) (faults : List StreamFault) (es : List Exchange) (history : History) (l : Accepted) (line : Line S)
+      (places : List (Option Accepted)) (sockets : List (Option (Socket S))) (place : ℕ)
+      → faults ≡ [] → Holds places place l → IsThere es history l.connection → line_at sockets place ≡ Some line → IsCarriedBy remaining contents history l.connection line
+      → MayGoAt remaining contents limits places sockets place → WasLetGo remaining contents limits faults es history
+  went_as_it_was limits faults es history l line places sockets place none holds there at carried may = record {
+    accepted = carried.accepted;
+    replied = carried.replied;
+    left = line.stream;
+    moved = carried.moved;
+    why = inl (none, l.connection, there, reason);
+  }
+    where
+      is : may.0 ≡ line
+      is = same_line may.0 line (line_at sockets place) may.1 at
+
+      serves : may.0.lingers ≡ false → line.lingers ≡ false
+      serves e = ap (λ (t : Line S). t.lingers) (sym is) ∙ e
+
+      no_whole : (m : Accepted) → HasNoWhole m.connection → m.connection.closing ≡ false → IsThere es history m.connection → Waits m.connection.unread
+      no_whole m (inl free) stayed is_there = is_there.waits stayed free
+      no_whole m (inr empty) stayed is_there = inl empty
+
+      partial_of : (unread : List ℕ) → Waits unread → unread ≢ [] → IsPartial unread
+      partial_of unread (inl empty) begun = absurd (begun empty)
+      partial_of unread (inr part) begun = part
+
+      reason : MayGo remaining contents limits l.connection carried.replied line.stream
+      reason = elim may.2 [
+        | inl lingers ↦ inl (carried.lingers (ap (λ (t : Line S). t.lingers) (sym is) ∙ lingers))
+        | inr (inl idle) ↦
+            let same : idle.1.0 ≡ l = holds_one places place idle.1.0 l idle.1.1 holds in
+            inr (inl (
+              ap (λ (t : Accepted). t.connection.unread) (sym same) ∙ idle.1.2,
+              ap (λ (t : Accepted). t.connection.unsent) (sym same) ∙ idle.1.3,
+              carried.served (serves idle.0),
+            ))
+        | inr (inr (inl ended)) ↦
+            let same : ended.2.0 ≡ l = holds_one places place ended.2.0 l ended.2.1 holds in
+            let N : Accepted → Type 0 = λ t. HasNoWhole t.connection in
+            let stayed : l.connection.closing ≡ false = ap (λ (t : Accepted). t.connection.closing) (sym same) ∙ ended.2.2 in
+            inr (inr (inl (
+              stayed,
+              no_whole l (subst N same ended.2.3) stayed there,
+              ap (λ (t : Accepted). t.connection.unsent) (sym same) ∙ ended.2.4,
+              carried.at_end (serves ended.0) (ap (λ (t : Line S). t.at_end) (sym is) ∙ ended.1),
+              carried.served (serves ended.0),
+            )))
+        | inr (inr (inr (inl late))) ↦ inr (inr (inr (inl (late.1, carried.served (serves late.0)))))
+        | inr (inr (inr (inr within))) ↦
+            let same : within.1.0 ≡ l = holds_one places place within.1.0 l within.1.1 holds in
+            let stayed : l.connection.closing ≡ false = ap (λ (t : Accepted). t.connection.closing) (sym same) ∙ within.1.2 in
+            let begun : l.connection.unread ≢ [] = λ e. within.1.4 (ap (λ (t : Accepted). t.connection.unread) same ∙ e) in
+            inr (inr (inr (inr (
+              stayed,
+              partial_of l.connection.unread (there.waits stayed (ap (λ (t : Accepted). t.connection.stalled) (sym same) ∙ within.1.3)) begun,
+              carried.served (serves within.0),
+            ))))
+      ]
+
+  module _ {K : Type 0} (standing : K → Standing) (limits : Limits) (first : K) where
+    -- the streams stay where they are
+    pub kept_lines : (faults : List ToldFault) (connections : Connections K) (sockets others : List (Option (Socket S))) (left : Option ℕ) (held : Option S)
+        → AreKept remaining contents standing limits first faults connections sockets left held → LinesStay sockets others
+        → AreKept remaining contents standing limits first faults connections others left held
+    kept_lines faults connections sockets others left held x s = record {
+      histories = x.histories;
+      log = x.log;
+      served = x.served;
+      runs = x.runs;
+      here = λ i l h. (let y = x.here i l h in (y.0, s.stay i ∙ y.1, y.2));
+      sound = x.sound;
+      later = x.later;
+      nobody = λ i e. s.stay i ∙ x.nobody i e;
+      gone = x.gone;
+      came = x.came;
+    }
+
+    -- one stream went on
+    pub kept_at : (faults : List ToldFault) (connections : Connections K) (sockets others : List (Option (Socket S))) (left : Option ℕ) (held : Option S)
+        (place : ℕ) (line line_then : Line S)
+        → AreKept remaining contents standing limits first faults connections sockets left held
+        → line_at sockets place ≡ Some line → line_at others place ≡ Some line_then → OtherLinesStay place sockets others
+        → ((history : History) (l : Accepted) → Holds connections.places.items place l → IsCarriedBy remaining contents history l.connection line
+        → IsCarriedBy remaining contents history l.connection line_then)
+        → AreKept remaining contents standing limits first faults connections others left held
+    kept_at faults connections sockets others left held place line line_then x was is stay carry = record {
+      histories = x.histories;
+      log = x.log;
+      served = x.served;
+      runs = x.runs;
+      here = here;
+      sound = x.sound;
+      later = x.later;
+      nobody = nobody_at;
+      gone = x.gone;
+      came = x.came;
+    }
+      where
+        here : (i : ℕ) (l : Accepted) → Holds connections.places.items i l
+            → (m : Line S) × (line_at others i ≡ Some m) × IsCarriedBy remaining contents (x.histories l.number) l.connection m
+        here i l h = elim (cases_eq i place) [
+          | inl at ↦
+              let P : ℕ → Type 0 = λ n. line_at others n ≡ Some line_then in
+              let Q : ℕ → Type 0 = λ n. Holds connections.places.items n l in
+              let R : ℕ → Type 0 = λ n. line_at sockets n ≡ Some line in
+              let y = x.here i l h in
+              let same : y.0 ≡ line = same_line y.0 line (line_at sockets i) y.1 (subst R (sym at) was) in
+              let C : Line S → Type 0 = λ t. IsCarriedBy remaining contents (x.histories l.number) l.connection t in
+              (line_then, subst P (sym at) is, carry (x.histories l.number) l (subst Q at h) (subst C same y.2))
+          | inr far ↦ (let y = x.here i l h in (y.0, stay.stay i far ∙ y.1, y.2))
+        ]
+
+        nobody_at : (i : ℕ) → get_or connections.places.items i None ≡ None → line_at others i ≡ None
+        nobody_at i e = elim (cases_eq i place) [
+          | inl at ↦
+              let R : ℕ → Type 0 = λ n. line_at sockets n ≡ Some line in
+              absurd (no_line line (sym (x.nobody i e) ∙ subst R (sym at) was))
+          | inr far ↦ stay.stay i far ∙ x.nobody i e
+        ]
+
+    -- a connection that may go is let go
+    pub kept_let_go : (faults : List ToldFault) (place : ℕ) (old new : Server K S)
+        → AreKept remaining contents standing limits first faults old.connections old.sockets.items old.left old.held
+        → LetsGo remaining contents standing place old new
+        → MayGoAt remaining contents limits old.connections.places.items old.sockets.items place
+        → AreKept remaining contents standing limits first faults new.connections new.sockets.items old.left old.held
+    kept_let_go faults place old new x goes may = record {
+      histories = x.histories;
+      log = x.log;
+      served = goes.served x.histories x.log x.served;
+      runs = rw goes.machine x.runs;
+      here = λ i l h.
+          let far : i ≡ place → ⊥ = not_at place i new.connections.places.items l goes.gone h in
+          let y = x.here i l (still_holds place i old.connections.places.items new.connections.places.items l goes.others far h) in
+          (y.0, goes.lines.stay i far ∙ y.1, y.2);
+      sound = λ i l h.
+          let far : i ≡ place → ⊥ = not_at place i new.connections.places.items l goes.gone h in
+          x.sound i l (still_holds place i old.connections.places.items new.connections.places.items l goes.others far h);
+      later = λ k above. (let P : ℕ → Type 0 = λ n. n ≤ k in x.later k (subst P goes.opened above));
+      nobody = nobody_at;
+      gone = gone;
+      came = rw goes.opened x.came;
+    }
+      where
+        nobody_at : (i : ℕ) → get_or new.connections.places.items i None ≡ None → line_at new.sockets.items i ≡ None
+        nobody_at i e = elim (cases_eq i place) [
+          | inl at ↦ (let P : ℕ → Type 0 = λ n. line_at new.sockets.items n ≡ None in subst P (sym at) goes.line)
+          | inr far ↦ goes.lines.stay i far ∙ x.nobody i (sym (goes.others.stay i far) ∙ e)
+        ]
+
+        gone : (k : ℕ) → k < new.connections.opened
+            → ((i : ℕ) (l : Accepted) → Holds new.connections.places.items i l → l.number ≢ k)
+            → WasLetGo remaining contents limits (told_of k faults) (own k x.log) (x.histories k)
+        gone k within none =
+            let below : k < old.connections.opened = (let P : ℕ → Type 0 = λ n. k < n in subst P goes.opened within) in
+            elim (held_or_not old.connections.places.items place) [
+              | inl e ↦ absurd (no_line may.0 (sym (x.nobody place e) ∙ may.1))
+              | inr held ↦
+                  let l = held.0 in
+                  elim (cases_eq l.number k) [
+                    | inl is ↦
+                        let y = x.here place l held.1 in
+                        let P : ℕ → Type 0 = λ n. WasLetGo remaining contents limits (told_of n faults) (own n x.log) (x.histories n) in
+                        subst P is (went_as_it_was limits (told_of l.number faults) (own l.number x.log) (x.histories l.number) l y.0
+                        old.connections.places.items old.sockets.items place (x.sound place l held.1) held.1 (x.served.here place l held.1).1 y.1 y.2 may)
+                    | inr differs ↦ x.gone k below (λ i m h e.
+                        elim (cases_eq i place) [
+                          | inl at ↦
+                              let P : ℕ → Type 0 = λ n. Holds old.connections.places.items n m in
+                              let same : l ≡ m = holds_one old.connections.places.items place l m held.1 (subst P at h) in
+                              differs (ap (λ (t : Accepted). t.number) same ∙ e)
+                          | inr far ↦ none i m (then_holds place i old.connections.places.items new.connections.places.items m goes.others far h) e
+                        ])
+                  ]
+            ]
+
+    -- a turn of a connection that is served: it is there afterwards
+    pub kept_turn : (faults : List ToldFault) (place k : ℕ) (old new : Connections K) (sockets others : List (Option (Socket S))) (left : Option ℕ) (held : Option S)
+        (l : Accepted) (line line_then : Line S) (came went : List ℕ) (more : List Exchange)
+        (x : AreKept remaining contents standing limits first faults old sockets left held)
+        → Holds old.places.items place l → l.number ≡ k
+        → line_at sockets place ≡ Some line → line.lingers ≡ false
+        → line_at others place ≡ Some line_then → line_then.lingers ≡ false → OtherLinesStay place sockets others
+        → OthersStay place old.places.items new.places.items → new.opened ≡ old.opened
+        → IsMoved remaining contents line.stream came went line_then.stream
+        → (line_then.at_end ≡ true → (line.at_end ≡ true → WasAtEnd remaining contents line.stream) → WasAtEnd remaining contents line_then.stream)
+        → AreServed (grows x.histories k came went) (x.log ++ entries k more) new.opened new.places.items
+        → Runs (standing old.machine.keeper) (standing new.machine.keeper) (map answered_of more)
+        → IsStillAt place old.places.items new.places.items
+        → AreKept remaining contents standing limits first faults new others left held
+    kept_turn faults place k old new sockets others left held l line line_then came went more x holds is_k was serves is serves_then stay elsewhere opened moved ended served runs still = record {
+      histories = grows x.histories k came went;
+      log = x.log ++ entries k more;
+      served = served;
+      runs =
+          let P : List Answered → Type 0 = λ t. Runs (standing first) (standing new.machine.keeper) t in
+          subst P (sym (map-append answered_in x.log (entries k more)))
+          (runs_then _ _ _ (map answered_in x.log) (map answered_in (entries k more)) x.runs (entries_run _ _ k more runs));
+      here = here;
+      sound = sound;
+      later = λ j above. (let P : ℕ → Type 0 = λ n. n ≤ j in x.later j (subst P opened above));
+      nobody = nobody_at;
+      gone = gone;
+      came = (let P : ℕ → Type 0 = λ n. HaveCome limits.total left (n + (count_unopened faults + count_held held)) in subst P (sym opened) x.came);
+    }
+      where
+        number_is : (m : Accepted) → Holds new.places.items place m → m.number ≡ k
+        number_is m h = sym (number_held new.places.items place m h) ∙ still.number ∙ number_held old.places.items place l holds ∙ is_k
+
+        sound : (i : ℕ) (m : Accepted) → Holds new.places.items i m → told_of m.number faults ≡ []
+        sound i m h = elim (cases_eq i place) [
+          | inl at ↦
+              let Q : ℕ → Type 0 = λ n. Holds new.places.items n m in
+              let R : ℕ → Type 0 = λ n. told_of n faults ≡ [] in
+              subst R (is_k ∙ sym (number_is m (subst Q at h))) (x.sound place l holds)
+          | inr far ↦ x.sound i m (still_holds place i old.places.items new.places.items m elsewhere far h)
+        ]
+
+        carried_before : IsCarriedBy remaining contents (x.histories k) l.connection line
+        carried_before =
+            let y = x.here place l holds in
+            let C : Line S → Type 0 = λ t. IsCarriedBy remaining contents (x.histories l.number) l.connection t in
+            let D : ℕ → Type 0 = λ n. IsCarriedBy remaining contents (x.histories n) l.connection line in
+            subst D is_k (subst C (same_line y.0 line (line_at sockets place) y.1 was) y.2)
+
+        carried_now : (m : Accepted) → IsCarriedBy remaining contents (grows x.histories k came went k) m.connection line_then
+        carried_now m =
+            let before = carried_before in
+            let had = x.histories k in
+            let M : S → Type 0 = λ t. IsMoved remaining contents before.accepted had.received had.sent t in
+            let grown : History = record { received = had.received ++ came; sent = had.sent ++ went } in
+            let C : History → Type 0 = λ t. IsCarriedBy remaining contents t m.connection line_then in
+            let now : IsCarriedBy remaining contents grown m.connection line_then = record {
+              accepted = before.accepted;
+              replied = line_then.stream;
+              moved = moves_on before.accepted line.stream line_then.stream had.received had.sent came went (subst M (sym (before.served serves)) before.moved) moved;
+              served = λ e. refl;
+              lingers = λ e. absurd (false≢true (sym serves_then ∙ e));
+              at_end = λ e f. ended f (λ h. before.at_end serves h);
+            } in
+            subst C (sym (share_here k x.histories came went)) now
+
+        here : (i : ℕ) (m : Accepted) → Holds new.places.items i m
+            → (n : Line S) × (line_at others i ≡ Some n) × IsCarriedBy remaining contents (grows x.histories k came went m.number) m.connection n
+        here i m h = elim (cases_eq i place) [
+          | inl at ↦
+              let Q : ℕ → Type 0 = λ n. Holds new.places.items n m in
+              let R : ℕ → Type 0 = λ n. line_at others n ≡ Some line_then in
+              let C : ℕ → Type 0 = λ n. IsCarriedBy remaining contents (grows x.histories k came went n) m.connection line_then in
+              (line_then, subst R (sym at) is, subst C (sym (number_is m (subst Q at h))) (carried_now m))
+          | inr far ↦
+              let before = still_holds place i old.places.items new.places.items m elsewhere far h in
+              let other : m.number ≡ k → ⊥ = λ e. far (x.served.apart i place m l before holds (e ∙ sym is_k)) in
+              let y = x.here i m before in
+              let C : History → Type 0 = λ t. IsCarriedBy remaining contents t m.connection y.0 in
+              (y.0, stay.stay i far ∙ y.1, subst C (sym (share_there m.number k x.log more x.histories came went other).1) y.2)
+        ]
+
+        nobody_at : (i : ℕ) → get_or new.places.items i None ≡ None → line_at others i ≡ None
+        nobody_at i e = elim (cases_eq i place) [
+          | inl at ↦
+              let P : ℕ → Type 0 = λ n. get_or new.places.items n None ≡ None in
+              let m = still.there l holds in
+              absurd (nobody_there m.0 (sym (subst P at e) ∙ m.1.1))
+          | inr far ↦ stay.stay i far ∙ x.nobody i (sym (elsewhere.stay i far) ∙ e)
+        ]
+
+        gone : (j : ℕ) → j < new.opened → ((i : ℕ) (m : Accepted) → Holds new.places.items i m → m.number ≢ j)
+            → WasLetGo remaining contents limits (told_of j faults) (own j (x.log ++ entries k more)) (grows x.histories k came went j)
+        gone j within none =
+            let below : j < old.opened = (let P : ℕ → Type 0 = λ n. j < n in subst P opened within) in
+            let m = still.there l holds in
+            let other : j ≡ k → ⊥ = λ e. none place m.0 m.1 (number_is m.0 m.1 ∙ sym e) in
+            let share = share_there j k x.log more x.histories came went other in
+            was_let_go_as limits (told_of j faults) (own j x.log) (own j (x.log ++ entries k more)) (x.histories j) (grows x.histories k came went j) share.0 share.1
+            (x.gone j below (λ i n h e.
+            elim (cases_eq i place) [
+              | inl at ↦
+                  let P : ℕ → Type 0 = λ t. Holds old.places.items t n in
+                  let same : l ≡ n = holds_one old.places.items place l n holds (subst P at h) in
+                  other (sym e ∙ sym (ap (λ (t : Accepted). t.number) same) ∙ is_k)
+              | inr far ↦ none i n (then_holds place i old.places.items new.places.items n elsewhere far h) e
+            ]))
+
+    -- a turn of a connection that has a fault: it is let go, and the fault is told
+    pub kept_fault : (faults : List ToldFault) (fault : StreamFault) (place k : ℕ) (old new : Connections K) (sockets others : List (Option (Socket S))) (left : Option ℕ) (held : Option S)
+        (l : Accepted) (line line_then : Line S) (came went : List ℕ) (more : List Exchange)
+        (x : AreKept remaining contents standing limits first faults old sockets left held)
+        → Holds old.places.items place l → l.number ≡ k
+        → line_at sockets place ≡ Some line → line.lingers ≡ false
+        → line_at others place ≡ None → OtherLinesStay place sockets others
+        → get_or new.places.items place None ≡ None → OthersStay place old.places.items new.places.items → new.opened ≡ old.opened
+        → IsMoved remaining contents line.stream came went line_then.stream
+        → AreServed (grows x.histories k came went) (x.log ++ entries k more) new.opened new.places.items
+        → Runs (standing old.machine.keeper) (standing new.machine.keeper) (map answered_of more)
+        → AreKept remaining contents standing limits first (faults ++ one_told (Some k) fault) new others left held
+    kept_fault faults fault place k old new sockets others left held l line line_then came went more x holds is_k was serves is stay empty elsewhere opened moved served runs = record {
+      histories = grows x.histories k came went;
+      log = x.log ++ entries k more;
+      served = served;
+      runs =
+          let P : List Answered → Type 0 = λ t. Runs (standing first) (standing new.machine.keeper) t in
+          subst P (sym (map-append answered_in x.log (entries k more)))
+          (runs_then _ _ _ (map answered_in x.log) (map answered_in (entries k more)) x.runs (entries_run _ _ k more runs));
+      here = here;
+      sound = λ i m h. told_there m.number k faults fault (apart i m h) ∙ x.sound i m (before i m h);
+      later = λ j above.
+          let P : ℕ → Type 0 = λ n. n ≤ j in
+          let past : old.opened ≤ j = subst P opened above in
+          let number : l.number < old.opened = (x.served.here place l holds).0 in
+          let other : j ≡ k → ⊥ = λ e. absurd (omega (arith, past, number, is_k, e)) in
+          told_there j k faults fault other ∙ x.later j past;
+      nobody = nobody_at;
+      gone = gone;
+      came =
+          let P : ℕ → ℕ → Type 0 = λ n m. HaveCome limits.total left (n + (m + count_held held)) in
+          let one : count_unopened (faults ++ one_told (Some k) fault) ≡ count_unopened faults + 0 = unopened_one faults (Some k) fault in
+          let same : count_unopened faults ≡ count_unopened (faults ++ one_told (Some k) fault) = omega (arith, one) in
+          subst (λ m. P new.opened m) same (subst (λ n. P n (count_unopened faults)) (sym opened) x.came);
+    }
+      where
+        elsewhere_is : (i : ℕ) (m : Accepted) → Holds new.places.items i m → i ≡ place → ⊥
+        elsewhere_is i m h = not_at place i new.places.items m empty h
+
+        before : (i : ℕ) (m : Accepted) → Holds new.places.items i m → Holds old.places.items i m
+        before i m h = still_holds place i old.places.items new.places.items m elsewhere (elsewhere_is i m h) h
+
+        apart : (i : ℕ) (m : Accepted) → Holds new.places.items i m → m.number ≡ k → ⊥
+        apart i m h e = elsewhere_is i m h (x.served.apart i place m l (before i m h) holds (e ∙ sym is_k))
+
+        here : (i : ℕ) (m : Accepted) → Holds new.places.items i m
+            → (n : Line S) × (line_at others i ≡ Some n) × IsCarriedBy remaining contents (grows x.histories k came went m.number) m.connection n
+        here i m h =
+            let y = x.here i m (before i m h) in
+            let C : History → Type 0 = λ t. IsCarriedBy remaining contents t m.connection y.0 in
+            (y.0, stay.stay i (elsewhere_is i m h) ∙ y.1, subst C (sym (share_there m.number k x.log more x.histories came went (apart i m h)).1) y.2)
+
+        nobody_at : (i : ℕ) → get_or new.places.items i None ≡ None → line_at others i ≡ None
+        nobody_at i e = elim (cases_eq i place) [
+          | inl at ↦ (let P : ℕ → Type 0 = λ n. line_at others n ≡ None in subst P (sym at) is)
+          | inr far ↦ stay.stay i far ∙ x.nobody i (sym (elsewhere.stay i far) ∙ e)
+        ]
+
+        lost : WasLetGo remaining contents limits (told_of k (faults ++ one_told (Some k) fault)) (own k (x.log ++ entries k more)) (grows x.histories k came went k)
+        lost =
+            let y = x.here place l holds in
+            let C : Line S → Type 0 = λ t. IsCarriedBy remaining contents (x.histories l.number) l.connection t in
+            let D : ℕ → Type 0 = λ n. IsCarriedBy remaining contents (x.histories n) l.connection line in
+            let was_carried = subst D is_k (subst C (same_line y.0 line (line_at sockets place) y.1 was) y.2) in
+            let had = x.histories k in
+            let M : S → Type 0 = λ t. IsMoved remaining contents was_carried.accepted had.received had.sent t in
+            let grown : History = record { received = had.received ++ came; sent = had.sent ++ went } in
+            let R : ℕ → Type 0 = λ n. told_of n faults ≡ [] in
+            let W : History → Type 0 = λ t. WasLetGo remaining contents limits (told_of k (faults ++ one_told (Some k) fault)) (own k (x.log ++ entries k more)) t in
+            let now : WasLetGo remaining contents limits (told_of k (faults ++ one_told (Some k) fault)) (own k (x.log ++ entries k more)) grown = record {
+              accepted = was_carried.accepted;
+              replied = line_then.stream;
+              left = line_then.stream;
+              moved = moves_on was_carried.accepted line.stream line_then.stream had.received had.sent came went (subst M (sym (was_carried.served serves)) was_carried.moved) moved;
+              why = inr (fault, told_here k faults fault (subst R is_k (x.sound place l holds)), refl);
+            } in
+            subst W (sym (share_here k x.histories came went)) now
+
+        gone : (j : ℕ) → j < new.opened → ((i : ℕ) (m : Accepted) → Holds new.places.items i m → m.number ≢ j)
+            → WasLetGo remaining contents limits (told_of j (faults ++ one_told (Some k) fault)) (own j (x.log ++ entries k more)) (grows x.histories k came went j)
+        gone j within none = elim (cases_eq j k) [
+          | inl at ↦
+              let W : ℕ → Type 0 = λ n. WasLetGo remaining contents limits (told_of n (faults ++ one_told (Some k) fault)) (own n (x.log ++ entries k more)) (grows x.histories k came went n) in
+              subst W (sym at) lost
+          | inr other ↦
+              let below : j < old.opened = (let P : ℕ → Type 0 = λ n. j < n in subst P opened within) in
+              let share = share_there j k x.log more x.histories came went other in
+              told_as limits (told_of j faults) (told_of j (faults ++ one_told (Some k) fault)) (own j (x.log ++ entries k more)) (grows x.histories k came went j)
+              (told_there j k faults fault other)
+              (was_let_go_as limits (told_of j faults) (own j x.log) (own j (x.log ++ entries k more)) (x.histories j) (grows x.histories k came went j) share.0 share.1
+              (x.gone j below (λ i n h e.
+              elim (cases_eq i place) [
+                | inl at ↦
+                    let P : ℕ → Type 0 = λ t. Holds old.places.items t n in
+                    let same : l ≡ n = holds_one old.places.items place l n holds (subst P at h) in
+                    other (sym e ∙ sym (ap (λ (t : Accepted). t.number) same) ∙ is_k)
+                | inr far ↦ none i n (then_holds place i old.places.items new.places.items n elsewhere far h) e
+              ])))
+        ]
+
+    -- a connection begins with the stream that was held
+    pub kept_begin : (faults : List ToldFault) (place : ℕ) (stream : S) (old new : Server K S)
+        → AreKept remaining contents standing limits first faults old.connections old.sockets.items old.left (Some stream)
+        → Begins remaining contents standing old new → BeginsAt remaining contents standing place stream old new
+        → AreKept remaining contents standing limits first faults new.connections new.sockets.items old.left None
+    kept_begin faults place stream old new x begins at_place = record {
+      histories = x.histories;
+      log = x.log;
+      served = begins.served x.histories x.log x.served;
+      runs = rw begins.machine x.runs;
+      here = here;
+      sound = sound;
+      later = λ k above. (let opened = at_place.opened in x.later k (omega (arith, above, opened)));
+      nobody = nobody_at;
+      gone = gone;
+      came =
+          let P : ℕ → Type 0 = λ n. HaveCome limits.total old.left n in
+          let opened = at_place.opened in
+          let same : old.connections.opened + (count_unopened faults + 1) ≡ new.connections.opened + (count_unopened faults + 0) = omega (arith, opened) in
+          subst P same x.came;
+    }
+      where
+        there : Accepted
+        there = at_place.there.0
+
+        sound : (i : ℕ) (m : Accepted) → Holds new.connections.places.items i m → told_of m.number faults ≡ []
+        sound i m h = elim (cases_eq i place) [
+          | inl at ↦
+              let Q : ℕ → Type 0 = λ n. Holds new.connections.places.items n m in
+              let R : ℕ → Type 0 = λ n. told_of n faults ≡ [] in
+              let same : at_place.there.0 ≡ m = holds_one new.connections.places.items place at_place.there.0 m at_place.there.1 (subst Q at h) in
+              subst R (sym at_place.there.2 ∙ ap (λ (t : Accepted). t.number) same) (x.later old.connections.opened (omega arith))
+          | inr far ↦ x.sound i m (still_holds place i old.connections.places.items new.connections.places.items m at_place.others far h)
+        ]
+
+        here : (i : ℕ) (m : Accepted) → Holds new.connections.places.items i m
+            → (n : Line S) × (line_at new.sockets.items i ≡ Some n) × IsCarriedBy remaining contents (x.histories m.number) m.connection n
+        here i m h = elim (cases_eq i place) [
+          | inl at ↦
+              let Q : ℕ → Type 0 = λ n. Holds new.connections.places.items n m in
+              let line : Line S = record { stream = stream; at_end = false; lingers = false } in
+              let R : ℕ → Type 0 = λ n. line_at new.sockets.items n ≡ Some line in
+              let same : at_place.there.0 ≡ m = holds_one new.connections.places.items place at_place.there.0 m at_place.there.1 (subst Q at h) in
+              let number : old.connections.opened ≡ m.number = sym at_place.there.2 ∙ ap (λ (t : Accepted). t.number) same in
+              let none : nothing ≡ x.histories m.number =
+              (let P : ℕ → Type 0 = λ n. nothing ≡ x.histories n in
+              subst P number (sym (x.served.later old.connections.opened (omega arith)).1)) in
+              let C : History → Type 0 = λ t. IsCarriedBy remaining contents t m.connection line in
+              let fresh_one : IsCarriedBy remaining contents nothing m.connection line = record {
+                accepted = stream;
+                replied = stream;
+                moved = rests stream;
+                served = λ e. refl;
+                lingers = λ e. absurd (false≢true e);
+                at_end = λ e f. absurd (false≢true f);
+              } in
+              (line, subst R (sym at) at_place.line, subst C none fresh_one)
+          | inr far ↦
+              let y = x.here i m (still_holds place i old.connections.places.items new.connections.places.items m at_place.others far h) in
+              (y.0, at_place.lines.stay i far ∙ y.1, y.2)
+        ]
+
+        nobody_at : (i : ℕ) → get_or new.connections.places.items i None ≡ None → line_at new.sockets.items i ≡ None
+        nobody_at i e = elim (cases_eq i place) [
+          | inl at ↦
+              let P : ℕ → Type 0 = λ n. get_or new.connections.places.items n None ≡ None in
+              absurd (nobody_there at_place.there.0 (sym (subst P at e) ∙ at_place.there.1.1))
+          | inr far ↦ at_place.lines.stay i far ∙ x.nobody i (sym (at_place.others.stay i far) ∙ e)
+        ]
+
+        gone : (k : ℕ) → k < new.connections.opened
+            → ((i : ℕ) (m : Accepted) → Holds new.connections.places.items i m → m.number ≢ k)
+            → WasLetGo remaining contents limits (told_of k faults) (own k x.log) (x.histories k)
+        gone k within none =
+            let last : old.connections.opened ≡ k → ⊥ = λ e. none place at_place.there.0 at_place.there.1 (at_place.there.2 ∙ e) in
+            let opened = at_place.opened in
+            x.gone k (omega (arith, within, opened, last)) (λ i m h e.
+            none i m (then_holds place i old.connections.places.items new.connections.places.items m at_place.others
+            (not_at place i old.connections.places.items m at_place.free h) h) e)
+
+    -- none begins with the stream that was held, and a fault is told: it has no number
+    kept_unopened : (faults : List ToldFault) (fault : StreamFault) (stream : S) (old new : Server K S)
+        → AreKept remaining contents standing limits first faults old.connections old.sockets.items old.left (Some stream)
+        → Begins remaining contents standing old new → BeginsNone remaining contents standing old new
+        → new.connections.opened ≡ old.connections.opened
+        → AreKept remaining contents standing limits first (faults ++ one_told None fault) new.connections new.sockets.items old.left None
+    kept_unopened faults fault stream old new x begins none opened = record {
+      histories = x.histories;
+      log = x.log;
+      served = begins.served x.histories x.log x.served;
+      runs = rw begins.machine x.runs;
+      here = λ i m h. (let y = x.here i m (before i m h) in (y.0, none.lines.stay i ∙ y.1, y.2));
+      sound = λ i m h. told_elsewhere m.number faults fault ∙ x.sound i m (before i m h);
+      later = λ k above. told_elsewhere k faults fault ∙ x.later k (omega (arith, above, opened));
+      nobody = λ i e. none.lines.stay i ∙ x.nobody i (sym (none.places.stay i) ∙ e);
+      gone = λ k within nobody_is.
+          told_as limits (told_of k faults) (told_of k (faults ++ one_told None fault)) (own k x.log) (x.histories k) (told_elsewhere k faults fault)
+          (x.gone k (omega (arith, within, opened)) (λ i m h e.
+          nobody_is i m (holds_of new.connections.places.items i m (none.places.stay i ∙ h.1)) e));
+      came =
+          let P : ℕ → Type 0 = λ n. HaveCome limits.total old.left n in
+          let one : count_unopened (faults ++ one_told None fault) ≡ count_unopened faults + 1 = unopened_one faults None fault in
+          let e : old.connections.opened + (count_unopened faults + 1) ≡ new.connections.opened + (count_unopened (faults ++ one_told None fault) + 0) = omega (arith, opened, one) in
+          subst P e x.came;
+    }
+      where
+        before : (i : ℕ) (m : Accepted) → Holds new.connections.places.items i m → Holds old.connections.places.items i m
+        before i m h = holds_of old.connections.places.items i m (sym (none.places.stay i) ∙ h.1)
+
+    -- it has a number
+    kept_unserved : (faults : List ToldFault) (fault : StreamFault) (stream : S) (old new : Server K S)
+        → AreKept remaining contents standing limits first faults old.connections old.sockets.items old.left (Some stream)
+        → Begins remaining contents standing old new → BeginsNone remaining contents standing old new
+        → new.connections.opened ≡ old.connections.opened + 1
+        → AreKept remaining contents standing limits first (faults ++ one_told (Some old.connections.opened) fault) new.connections new.sockets.items old.left None
+    kept_unserved faults fault stream old new x begins none opened = record {
+      histories = x.histories;
+      log = x.log;
+      served = begins.served x.histories x.log x.served;
+      runs = rw begins.machine x.runs;
+      here = λ i m h. (let y = x.here i m (before i m h) in (y.0, none.lines.stay i ∙ y.1, y.2));
+      sound = λ i m h.
+          let within : m.number < k = (x.served.here i m (before i m h)).0 in
+          let other : m.number ≡ k → ⊥ = λ e. absurd (omega (arith, within, e)) in
+          told_there m.number k faults fault other ∙ x.sound i m (before i m h);
+      later = λ j above.
+          let other : j ≡ k → ⊥ = λ e. absurd (omega (arith, above, opened, e)) in
+          told_there j k faults fault other ∙ x.later j (omega (arith, above, opened));
+      nobody = λ i e. none.lines.stay i ∙ x.nobody i (sym (none.places.stay i) ∙ e);
+      gone = gone;
+      came =
+          let P : ℕ → Type 0 = λ n. HaveCome limits.total old.left n in
+          let one : count_unopened (faults ++ one_told (Some k) fault) ≡ count_unopened faults + 0 = unopened_one faults (Some k) fault in
+          let e : old.connections.opened + (count_unopened faults + 1) ≡ new.connections.opened + (count_unopened (faults ++ one_told (Some k) fault) + 0) = omega (arith, opened, one) in
+          subst P e x.came;
+    }
+      where
+        k : ℕ
+        k = old.connections.opened
+
+        before : (i : ℕ) (m : Accepted) → Holds new.connections.places.items i m → Holds old.connections.places.items i m
+        before i m h = holds_of old.connections.places.items i m (sym (none.places.stay i) ∙ h.1)
+
+        unserved : WasLetGo remaining contents limits (told_of k (faults ++ one_told (Some k) fault)) (own k x.log) (x.histories k)
+        unserved =
+            let after = x.served.later k (omega arith) in
+            let W : History → Type 0 = λ t. WasLetGo remaining contents limits (told_of k (faults ++ one_told (Some k) fault)) (own k x.log) t in
+            let now : WasLetGo remaining contents limits (told_of k (faults ++ one_told (Some k) fault)) (own k x.log) nothing = record {
+              accepted = stream;
+              replied = stream;
+              left = stream;
+              moved = rests stream;
+              why = inr (fault, told_here k faults fault (x.later k (omega arith)), refl);
+            } in
+            subst W (sym after.1) now
+
+        gone : (j : ℕ) → j < new.connections.opened
+            → ((i : ℕ) (m : Accepted) → Holds new.connections.places.items i m → m.number ≢ j)
+            → WasLetGo remaining contents limits (told_of j (faults ++ one_told (Some k) fault)) (own j x.log) (x.histories j)
+        gone j within nobody_is = elim (cases_eq j k) [
+          | inl is ↦
+              let W : ℕ → Type 0 = λ n. WasLetGo remaining contents limits (told_of n (faults ++ one_told (Some k) fault)) (own n x.log) (x.histories n) in
+              subst W (sym is) unserved
+          | inr other ↦
+              told_as limits (told_of j faults) (told_of j (faults ++ one_told (Some k) fault)) (own j x.log) (x.histories j) (told_there j k faults fault other)
+              (x.gone j (omega (arith, within, opened, other)) (λ i m h e.
+              nobody_is i m (holds_of new.connections.places.items i m (none.places.stay i ∙ h.1)) e))
+        ]
+
+    pub kept_unbegun : (faults : List ToldFault) (fault : StreamFault) (stream : S) (old new : Server K S)
+        → AreKept remaining contents standing limits first faults old.connections old.sockets.items old.left (Some stream)
+        → Begins remaining contents standing old new → BeginsNone remaining contents standing old new
+        → (opened : (new.connections.opened ≡ old.connections.opened) ⊎ (new.connections.opened ≡ old.connections.opened + 1))
+        → AreKept remaining contents standing limits first (faults ++ one_told (number_unbegun old.connections.opened new.connections.opened opened) fault)
+        new.connections new.sockets.items old.left None
+    kept_unbegun faults fault stream old new x begins none (inl same) = kept_unopened faults fault stream old new x begins none same
+    kept_unbegun faults fault stream old new x begins none (inr more) = kept_unserved faults fault stream old new x begins none more
+
+    -- a stream is taken from the listener, and held
+    pub kept_take : (faults : List ToldFault) (connections : Connections K) (sockets : List (Option (Socket S))) (left left_then : Option ℕ) (held : Option S) (stream : S)
+        → AreKept remaining contents standing limits first faults connections sockets left held → held ≡ None → IsOneFewer left left_then
+        → AreKept remaining contents standing limits first faults connections sockets left_then (Some stream)
+    kept_take faults connections sockets left left_then held stream x none fewer = record {
+      histories = x.histories;
+      log = x.log;
+      served = x.served;
+      runs = x.runs;
+      here = x.here;
+      sound = x.sound;
+      later = x.later;
+      nobody = x.nobody;
+      gone = x.gone;
+      came =
+          let P : Option S → Type 0 = λ t. HaveCome limits.total left (connections.opened + (count_unopened faults + count_held t)) in
+          one_more limits.total left left_then connections.opened (count_unopened faults) (subst P none x.came) fewer;
+    }
+      where
+        one_more : (total a b : Option ℕ) (n m : ℕ) → HaveCome total a (n + (m + 0)) → IsOneFewer a b → HaveCome total b (n + (m + 1))
+        one_more None None b n m h f = f
+        one_more None (Some a) b n m h f = absurd (some_none a h)
+          where
+            some_none : (a : ℕ) → (◌≡◌) {A = Option ℕ} (Some a) None → ⊥
+            some_none a e = cc
+        one_more (Some total) None b n m h f = absurd h
+        one_more (Some total) (Some a) None n m h f = absurd f
+        one_more (Some total) (Some a) (Some b) n m h f = omega (arith, h, f)
+
+-- ---- lines
+
+pub set_line : {S : Type 0} (sockets : List (Option (Socket S))) (i : ℕ) (x : Option (Socket S)) → i < length sockets
+    → line_at (slice_set sockets i x) i ≡ line_of x
+set_line {S} sockets i x within = ap (λ (t : Option (Socket S)). line_of t) (get_or-set_same sockets i x None within)
+
+pub set_lines : {S : Type 0} (sockets : List (Option (Socket S))) (i : ℕ) (x : Option (Socket S)) → OtherLinesStay i sockets (slice_set sockets i x)
+set_lines {S} sockets i x = record { stay = λ j far. ap (λ (t : Option (Socket S)). line_of t) (get_or-set_other sockets i j x None far) }
+
+-- what is written is the same stream
+pub set_same : {S : Type 0} (sockets : List (Option (Socket S))) (i : ℕ) (x : Option (Socket S)) → i < length sockets → line_of x ≡ line_at sockets i
+    → LinesStay sockets (slice_set sockets i x)
+set_same {S} sockets i x within same = record {
+  stay = λ j. elim (cases_eq j i) [
+    | inl at ↦ (let P : ℕ → Type 0 = λ n. line_at (slice_set sockets i x) n ≡ line_at sockets n in subst P (sym at) (set_line sockets i x within ∙ same))
+    | inr far ↦ (set_lines sockets i x).stay j far
+  ];
+}
+
+-- what was read of a place
+pub line_got : {S : Type 0} (sockets : List (Option (Socket S))) (i : ℕ) (x : Option (Socket S)) → i < length sockets → x ≡ get_or sockets i x
+    → line_at sockets i ≡ line_of x
+line_got {S} sockets i x within e = ap (λ (t : Option (Socket S)). line_of t) (get_or_default sockets i None x within ∙ sym e)
+
+pub lines_same : {S : Type 0} (sockets : List (Option (Socket S))) → LinesStay sockets sockets
+lines_same {S} sockets = record { stay = λ j. refl }
+
+pub lines_then : {S : Type 0} (a b c : List (Option (Socket S))) → LinesStay a b → LinesStay b c → LinesStay a c
+lines_then {S} a b c x y = record { stay = λ j. y.stay j ∙ x.stay j }
+
+-- one more place, with nothing in it
+pub lines_pushed : {S : Type 0} (a b : List (Option (Socket S))) → b ≡ a ++ None ∷ [] → LinesStay a b
+lines_pushed {S} a b e = record {
+  stay = λ j. ap (λ (t : List (Option (Socket S))). line_at t j) e ∙ ap (λ (t : Option (Socket S)). line_of t) (get_or_pushed a j);
+}
+  where
+    get_or_pushed : (xs : List (Option (Socket S))) (j : ℕ) → get_or (xs ++ None ∷ []) j None ≡ get_or xs j None
+    get_or_pushed [] zero = refl
+    get_or_pushed [] (suc j) = refl
+    get_or_pushed (x ∷ xs) zero = refl
+    get_or_pushed (x ∷ xs) (suc j) = get_or_pushed xs j
+
+-- that of a stream that came now
+pub line_fresh : {S : Type 0} (s : Socket S) (stream : S) → s.stream ≡ stream → s.at_end ≡ false → s.dropped ≡ None
+    → line_of (Some s) ≡ Some (record { stream = stream; at_end = false; lingers = false })
+line_fresh {S} s stream a b d =
+    let G : S → Bool → Option ℕ → Option (Line S) = λ x y z. Some (record { stream = x; at_end = y; lingers = is_some z }) in
+    ap (λ (x : S). G x s.at_end s.dropped) a ∙ ap (λ (y : Bool). G stream y s.dropped) b ∙ ap (λ (z : Option ℕ). G stream false z) d
+
+pub line_or_not : {S : Type 0} (x : Option (Line S)) → (x ≡ None) ⊎ ((line : Line S) × (x ≡ Some line))
+line_or_not None = inl refl
+line_or_not (Some line) = inr (line, refl)
+
+-- one stays where the others do
+lines_all : {S : Type 0} (i : ℕ) (a b : List (Option (Socket S))) → line_at b i ≡ line_at a i → OtherLinesStay i a b → LinesStay a b
+lines_all {S} i a b same others = record {
+  stay = λ j. elim (cases_eq j i) [
+    | inl at ↦ (let P : ℕ → Type 0 = λ n. line_at b n ≡ line_at a n in subst P (sym at) same)
+    | inr far ↦ others.stay j far
+  ];
+}
+
+ended_waits : Ended ≡ Waiting → ⊥
+ended_waits e = cc
+
+failed_waits : (fault : StreamFault) → Failed fault ≡ Waiting → ⊥
+failed_waits fault e = cc
+
+pub waits_sound : (fault : StreamFault) (turn : Turn) → turn ≡ Waiting → turn ≡ Failed fault → ⊥
+waits_sound fault turn e f = cc
+
+pub again_sound : (fault : StreamFault) (turn : Turn) → turn ≡ Going → turn ≡ Failed fault → ⊥
+again_sound fault turn e f = cc
+
+pub done_sound : (fault : StreamFault) (turn : Turn) → turn ≡ Done → turn ≡ Failed fault → ⊥
+done_sound fault turn e f = cc
+
+pub ended_sound : (fault : StreamFault) (turn : Turn) → turn ≡ Ended → turn ≡ Failed fault → ⊥
+ended_sound fault turn e f = cc
+
+-- ---- the server
+
+module _ {S K : Type 0} (remaining contents : S → Option (List ℕ)) (standing : K → Standing) where
+  rest_kept : (limits : Limits) (first : K) (faults : List ToldFault) (old new : Server K S) (connections : Connections K) (sockets : List (Option (Socket S)))
+      → RestStays remaining contents standing old new
+      → AreKept remaining contents standing limits first faults connections sockets old.left old.held
+      → AreKept remaining contents standing limits first faults connections sockets new.left new.held
+  rest_kept limits first faults old new connections sockets rest x =
+      let P : Option ℕ → Type 0 = λ t. AreKept remaining contents standing limits first faults connections sockets t old.held in
+      let Q : Option S → Type 0 = λ t. AreKept remaining contents standing limits first faults connections sockets new.left t in
+      subst Q (sym rest.held) (subst P (sym rest.left) x)
+
+  -- its streams stay where they are
+  pub keeps_lines : (old new : Server K S) → RestStays remaining contents standing old new → new.connections ≡ old.connections
+      → LinesStay old.sockets.items new.sockets.items → KeepsOn remaining contents standing old new
+  keeps_lines old new rest connections lines limits first faults y =
+      let P : Connections K → Type 0 = λ t. AreKept remaining contents standing limits first faults t new.sockets.items old.left old.held in (
+        rest.limits ∙ y.0,
+        rest_kept limits first faults old new new.connections new.sockets.items rest
+            (subst P (sym connections)
+            (kept_lines remaining contents standing limits first faults old.connections old.sockets.items new.sockets.items old.left old.held y.1 lines)),
+      )
+
+  -- one stream goes on
+  pub keeps_at : (place : ℕ) (old new : Server K S) (line line_then : Line S) → RestStays remaining contents standing old new → new.connections ≡ old.connections
+      → line_at old.sockets.items place ≡ Some line → line_at new.sockets.items place ≡ Some line_then
+      → OtherLinesStay place old.sockets.items new.sockets.items
+      → ((history : History) (l : Accepted) → Holds old.connections.places.items place l → IsCarriedBy remaining contents history l.connection line
+      → IsCarriedBy remaining contents history l.connection line_then)
+      → KeepsOn remaining contents standing old new
+  keeps_at place old new line line_then rest connections was is stay carry limits first faults y =
+      let P : Connections K → Type 0 = λ t. AreKept remaining contents standing limits first faults t new.sockets.items old.left old.held in (
+        rest.limits ∙ y.0,
+        rest_kept limits first faults old new new.connections new.sockets.items rest
+            (subst P (sym connections)
+            (kept_at remaining contents standing limits first faults old.connections old.sockets.items new.sockets.items old.left old.held place line line_then y.1 was is stay carry)),
+      )
+
+  pub keeps_release : (place : ℕ) (old new : Server K S) → LetsGo remaining contents standing place old new
+      → MayGoAt remaining contents old.limits old.connections.places.items old.sockets.items place → KeepsOn remaining contents standing old new
+  keeps_release place old new goes may limits first faults y =
+      let P : Limits → Type 0 = λ t. MayGoAt remaining contents t old.connections.places.items old.sockets.items place in (
+        goes.rest.limits ∙ y.0,
+        rest_kept limits first faults old new new.connections new.sockets.items goes.rest
+            (kept_let_go remaining contents standing limits first faults place old new y.1 goes (subst P y.0 may)),
+      )
+
+  pub keeps_turn : (place : ℕ) (old new : Server K S) (line line_then : Line S) → TurnsAt remaining contents standing place old new line line_then
+      → line.lingers ≡ false → IsStillAt place old.connections.places.items new.connections.places.items → KeepsOn remaining contents standing old new
+  keeps_turn place old new line line_then turns serves still limits first faults y =
+      elim (held_or_not old.connections.places.items place) [
+        | inl e ↦ absurd (no_line line (sym (y.1.nobody place e) ∙ turns.was))
+        | inr held ↦
+            let x = y.1 in
+            let t = turns.turn in
+            let served = t.serves.served x.histories x.log x.served in (
+              turns.rest.limits ∙ y.0,
+              rest_kept limits first faults old new new.connections new.sockets.items turns.rest
+                  (kept_turn remaining contents standing limits first faults place (number_at old.connections.places.items place) old.connections new.connections
+                  old.sockets.items new.sockets.items old.left old.held held.0 line line_then t.came t.went served.0 x held.1
+                  (sym (number_held old.connections.places.items place held.0 held.1)) turns.was serves turns.is (turns.lingers ∙ serves) turns.lines
+                  t.serves.others t.serves.opened t.serves.moved turns.at_end served.1 served.2 still),
+            )
+      ]
+
+  -- the Office was looked at
+  pub keeps_read : (old new : Server K S) → RestStays remaining contents standing old new
+      → Runs (standing old.connections.machine.keeper) (standing new.connections.machine.keeper) []
+      → new.connections.places.items ≡ old.connections.places.items → new.connections.opened ≡ old.connections.opened
+      → new.sockets.items ≡ old.sockets.items → KeepsOn remaining contents standing old new
+  keeps_read old new rest runs places opened sockets limits first faults y =
+      let x = y.1 in
+      let P : List (Option (Socket S)) → Type 0 = λ t. AreKept remaining contents standing limits first faults new.connections t old.left old.held in (
+        rest.limits ∙ y.0,
+        rest_kept limits first faults old new new.connections new.sockets.items rest (subst P (sym sockets) (record {
+          histories = x.histories;
+          log = x.log;
+          served =
+              let Q : ℕ → Type 0 = λ n. AreServed x.histories x.log n new.connections.places.items in
+              let R : List (Option Accepted) → Type 0 = λ t. AreServed x.histories x.log old.connections.opened t in
+              subst Q (sym opened) (subst R (sym places) x.served);
+          runs =
+              let Q : List Answered → Type 0 = λ t. Runs (standing first) (standing new.connections.machine.keeper) t in
+              subst Q (append-nil (map answered_in x.log)) (runs_then _ _ _ (map answered_in x.log) [] x.runs runs);
+          here = λ i l h. (let Q : List (Option Accepted) → Type 0 = λ t. Holds t i l in x.here i l (subst Q places h));
+          sound = λ i l h. (let Q : List (Option Accepted) → Type 0 = λ t. Holds t i l in x.sound i l (subst Q places h));
+          later = λ k above. (let Q : ℕ → Type 0 = λ n. n ≤ k in x.later k (subst Q opened above));
+          nobody = λ i e. (let Q : List (Option Accepted) → Type 0 = λ t. get_or t i None ≡ None in x.nobody i (subst Q places e));
+          gone = λ k within none.
+              let Q : ℕ → Type 0 = λ n. k < n in
+              x.gone k (subst Q opened within) (λ i l h. (let R : List (Option Accepted) → Type 0 = λ t. Holds t i l in none i l (subst R (sym places) h)));
+          came = rw opened x.came;
+        })),
+      )
+
+  pub keeps_then : (a b c : Server K S) → KeepsOn remaining contents standing a b → KeepsOn remaining contents standing b c → KeepsOn remaining contents standing a c
+  keeps_then a b c x y limits first faults s = y limits first faults (x limits first faults s)
+
+  -- one whose last reply is sent begins to close
+  pub closes_at : (place : ℕ) (old new : Server K S) → RestStays remaining contents standing old new → new.connections ≡ old.connections
+      → IsDoneAt old.connections.places.items place
+      → ((line : Line S) → line_at old.sockets.items place ≡ Some line → line.lingers ≡ false)
+      → ((line : Line S) → line_at old.sockets.items place ≡ Some line
+      → line_at new.sockets.items place ≡ Some (record { stream = line.stream; at_end = line.at_end; lingers = true }))
+      → (line_at old.sockets.items place ≡ None → line_at new.sockets.items place ≡ None)
+      → OtherLinesStay place old.sockets.items new.sockets.items → KeepsOn remaining contents standing old new
+  closes_at place old new rest connections done serves there none lines =
+      elim (line_or_not (line_at old.sockets.items place)) [
+        | inl e ↦ keeps_lines old new rest connections (lines_all place old.sockets.items new.sockets.items (none e ∙ sym e) lines)
+        | inr at ↦
+            let line = at.0 in
+            keeps_at place old new line (record { stream = line.stream; at_end = line.at_end; lingers = true }) rest connections at.1 (there line at.1) lines
+            (λ history l h carried.
+            let same : done.0 ≡ l = holds_one old.connections.places.items place done.0 l done.1 h in
+            record {
+              accepted = carried.accepted;
+              replied = carried.replied;
+              moved = carried.moved;
+              served = λ e. absurd (false≢true (sym e));
+              lingers = λ e. (
+                ap (λ (t : Accepted). t.connection.closing) (sym same) ∙ done.2,
+                ap (λ (t : Accepted). t.connection.unsent) (sym same) ∙ done.3,
+                (let D : S → Type 0 = λ t. DropsSome (remaining carried.replied) (remaining t) in
+                    subst D (sym (carried.served (serves line at.1))) (drops_none (remaining carried.replied))),
+              );
+              at_end = λ e f. absurd (false≢true (sym e));
+            })
+      ]
+
+  -- what comes to one whose last reply is sent is dropped
+  pub drops_at : (place : ℕ) (old new : Server K S) → RestStays remaining contents standing old new → new.connections ≡ old.connections
+      → ((line : Line S) → line_at old.sockets.items place ≡ Some line → line.lingers ≡ true)
+      → ((line : Line S) → line_at old.sockets.items place ≡ Some line → (line_then : Line S) × (line_at new.sockets.items place ≡ Some line_then)
+      × DropsSome (remaining line.stream) (remaining line_then.stream) × (line_then.lingers ≡ true))
+      → (line_at old.sockets.items place ≡ None → line_at new.sockets.items place ≡ None)
+      → OtherLinesStay place old.sockets.items new.sockets.items → KeepsOn remaining contents standing old new
+  drops_at place old new rest connections lingering there none lines =
+      elim (line_or_not (line_at old.sockets.items place)) [
+        | inl e ↦ keeps_lines old new rest connections (lines_all place old.sockets.items new.sockets.items (none e ∙ sym e) lines)
+        | inr at ↦
+            let line = at.0 in
+            let x = there line at.1 in
+            let lingers_then : x.0.lingers ≡ true = x.3 in
+            keeps_at place old new line x.0 rest connections at.1 x.1 lines
+            (λ history l h carried.
+            let was = carried.lingers (lingering line at.1) in
+            record {
+              accepted = carried.accepted;
+              replied = carried.replied;
+              moved = carried.moved;
+              served = λ e. absurd (false≢true (sym e ∙ lingers_then));
+              lingers = λ e. (was.0, was.1, drops_then (remaining carried.replied) (remaining line.stream) (remaining x.0.stream) was.2 x.2);
+              at_end = λ e f. absurd (false≢true (sym e ∙ lingers_then));
+            })
+      ]
+
+  pub lingers_at : (place : ℕ) (old new : Server K S) (turn : Turn) → turn ≡ Ended
+      → ((line : Line S) → line_at old.sockets.items place ≡ Some line → line.lingers ≡ true)
+      → ((line : Line S) → line_at old.sockets.items place ≡ Some line → (line_then : Line S) × (line_at new.sockets.items place ≡ Some line_then)
+      × DropsSome (remaining line.stream) (remaining line_then.stream) × (line_then.lingers ≡ true))
+      → (line_at old.sockets.items place ≡ None → turn ≡ Waiting)
+      → MayGoAt remaining contents new.limits new.connections.places.items new.sockets.items place
+  lingers_at place old new turn ended lingering there none =
+      elim (line_or_not (line_at old.sockets.items place)) [
+        | inl e ↦ absurd (ended_waits (sym ended ∙ none e))
+        | inr at ↦ (let x = there at.0 at.1 in (x.0, x.1, inl x.3))
+      ]
+
+  module _ {F : Type 0} (tells : F → StreamFault → F → Type 0) where
+    pub goes_keeps : (old new : Server K S) (f : F) → KeepsOn remaining contents standing old new → GoesOn remaining contents standing tells old f new f
+    goes_keeps old new f k = record {
+      told = [];
+      tells_them = refl;
+      keeps = λ limits first before y.
+          let P : List ToldFault → Type 0 = λ t. IsKept remaining contents standing limits first t new in
+          subst P (sym (append-nil before)) (k limits first before y);
+    }
+
+    pub goes_none : (old : Server K S) (f : F) → GoesOn remaining contents standing tells old f old f
+    goes_none old f = goes_keeps old old f (λ limits first faults y. y)
+
+    pub goes_then : (a b c : Server K S) (f g h : F) → GoesOn remaining contents standing tells a f b g → GoesOn remaining contents standing tells b g c h
+        → GoesOn remaining contents standing tells a f c h
+    goes_then a b c f g h x y = record {
+      told = x.told ++ y.told;
+      tells_them = told_twice tells f g h x.told y.told x.tells_them y.tells_them;
+      keeps = λ limits first before s.
+          let P : List ToldFault → Type 0 = λ t. IsKept remaining contents standing limits first t c in
+          subst P (append_assoc before x.told y.told) (y.keeps limits first (before ++ x.told) (x.keeps limits first before s));
+    }
+
+    pub then_keeps : (a b c : Server K S) (f g : F) → GoesOn remaining contents standing tells a f b g → KeepsOn remaining contents standing b c
+        → GoesOn remaining contents standing tells a f c g
+    then_keeps a b c f g x k = goes_then a b c f g g x (goes_keeps b c g k)
+
+    pub keeps_goes : (a b c : Server K S) (f g : F) → KeepsOn remaining contents standing a b → GoesOn remaining contents standing tells b f c g
+        → GoesOn remaining contents standing tells a f c g
+    keeps_goes a b c f g k x = goes_then a b c f f g (goes_keeps a b f k) x
+
+    -- a turn that has a fault
+    pub goes_fault : (place : ℕ) (old mid new : Server K S) (line line_then : Line S) (fault : StreamFault) (f g : F)
+        → TurnsAt remaining contents standing place old mid line line_then → line.lingers ≡ false
+        → tells f fault g → LetsGo remaining contents standing place mid new → GoesOn remaining contents standing tells old f new g
+    goes_fault place old mid new line line_then fault f g turns serves told goes = record {
+      told = one_told (Some (number_at old.connections.places.items place)) fault;
+      tells_them = (g, told, refl);
+      keeps = λ limits first before y.
+          elim (held_or_not old.connections.places.items place) [
+            | inl e ↦ absurd (no_line line (sym (y.1.nobody place e) ∙ turns.was))
+            | inr held ↦
+                let x = y.1 in
+                let t = turns.turn in
+                let served = t.serves.served x.histories x.log x.served in
+                let k = number_at old.connections.places.items place in (
+                  goes.rest.limits ∙ turns.rest.limits ∙ y.0,
+                  rest_kept limits first (before ++ one_told (Some k) fault) mid new new.connections new.sockets.items goes.rest
+                      (rest_kept limits first (before ++ one_told (Some k) fault) old mid new.connections new.sockets.items turns.rest
+                      (kept_fault remaining contents standing limits first before fault place k old.connections new.connections
+                      old.sockets.items new.sockets.items old.left old.held held.0 line line_then t.came t.went served.0 x held.1
+                      (sym (number_held old.connections.places.items place held.0 held.1)) turns.was serves goes.line
+                      (record { stay = λ j far. goes.lines.stay j far ∙ turns.lines.stay j far })
+                      goes.gone (record { stay = λ j far. goes.others.stay j far ∙ t.serves.others.stay j far })
+                      (goes.opened ∙ t.serves.opened) t.serves.moved
+                      (goes.served (grows x.histories k t.came t.went) (x.log ++ entries k served.0) served.1)
+                      (rw goes.machine served.2))),
+                )
+          ];
+    }
+
+    -- the stream that was held begins
+    pub goes_begun : (place : ℕ) (stream : S) (old mid new : Server K S) (f : F)
+        → ((limits : Limits) (first : K) (faults : List ToldFault) → IsKept remaining contents standing limits first faults old
+        → (mid.limits ≡ limits) × AreKept remaining contents standing limits first faults mid.connections mid.sockets.items mid.left (Some stream))
+        → mid.held ≡ None → RestStays remaining contents standing mid new
+        → Begins remaining contents standing mid new → BeginsAt remaining contents standing place stream mid new
+        → GoesOn remaining contents standing tells old f new f
+    goes_begun place stream old mid new f held none rest begins at_place = goes_keeps old new f (λ limits first faults y.
+        let x = held limits first faults y in
+        let P : Option S → Type 0 = λ t. AreKept remaining contents standing limits first faults new.connections new.sockets.items mid.left t in (
+          rest.limits ∙ x.0,
+          rest_kept limits first faults mid new new.connections new.sockets.items rest
+              (subst P (sym none) (kept_begin remaining contents standing limits first faults place stream mid new x.1 begins at_place)),
+        ))
+
+    -- it does not, and a fault is told
+    pub goes_unbegun : (fault : StreamFault) (stream : S) (old mid new : Server K S) (f g : F)
+        → ((limits : Limits) (first : K) (faults : List ToldFault) → IsKept remaining contents standing limits first faults old
+        → (mid.limits ≡ limits) × AreKept remaining contents standing limits first faults mid.connections mid.sockets.items mid.left (Some stream))
+        → mid.held ≡ None → RestStays remaining contents standing mid new
+        → Begins remaining contents standing mid new → BeginsNone remaining contents standing mid new → tells f fault g
+        → GoesOn remaining contents standing tells old f new g
+    goes_unbegun fault stream old mid new f g held none rest begins at_none told = record {
+      told = one_told (number_unbegun mid.connections.opened new.connections.opened at_none.opened) fault;
+      tells_them = (g, told, refl);
+      keeps = λ limits first before y.
+          let x = held limits first before y in
+          let number = number_unbegun mid.connections.opened new.connections.opened at_none.opened in
+          let P : Option S → Type 0 = λ t. AreKept remaining contents standing limits first (before ++ one_told number fault) new.connections new.sockets.items mid.left t in (
+            rest.limits ∙ x.0,
+            rest_kept limits first (before ++ one_told number fault) mid new new.connections new.sockets.items rest
+                (subst P (sym none) (kept_unbegun remaining contents standing limits first before fault stream mid new x.1 begins at_none at_none.opened)),
+          );
+    }
+
+  -- ---- a turn at a place
+
+  -- what the turn of the connection at a place says
+  abbrev pub TurnSays : (place : ℕ) (old new : Server K S) → Turn → Type 0
+  TurnSays place old new turn = (line : Line S) → line_at old.sockets.items place ≡ Some line
+      → (line_then : Line S) × TurnsAt remaining contents standing place old new line line_then
+      × (((fault : StreamFault) → turn ≢ Failed fault) → IsStillAt place old.connections.places.items new.connections.places.items)
+      × (turn ≡ Ended → line_then.at_end ≡ true)
+
+  -- there is no connection at the place
+  abbrev pub SaysNone : (place : ℕ) (old new : Server K S) → Turn → Type 0
+  SaysNone place old new turn = line_at old.sockets.items place ≡ None → (turn ≡ Waiting)
+      × RestStays remaining contents standing old new × (new.connections ≡ old.connections) × LinesStay old.sockets.items new.sockets.items
+
+  pub serving_at : (place : ℕ) (old new : Server K S) (turn : Turn) → TurnSays place old new turn
+      → SaysNone place old new turn
+      → ((line : Line S) → line_at old.sockets.items place ≡ Some line → line.lingers ≡ false)
+      → (line : Line S) → line_at new.sockets.items place ≡ Some line → line.lingers ≡ false
+  serving_at place old new turn says none serves line at =
+      elim (line_or_not (line_at old.sockets.items place)) [
+        | inl e ↦
+            absurd (no_line line (sym ((none e).3.stay place ∙ e) ∙ at))
+        | inr was ↦
+            let x = says was.0 was.1 in
+            ap (λ (t : Line S). t.lingers) (sym (same_line x.0 line (line_at new.sockets.items place) x.1.is at)) ∙ x.1.lingers ∙ serves was.0 was.1
+      ]
+
+  pub ended_at : (place : ℕ) (old new : Server K S) (turn : Turn) → TurnSays place old new turn
+      → SaysNone place old new turn
+      → ((line : Line S) → line_at old.sockets.items place ≡ Some line → line.lingers ≡ false)
+      → turn ≡ Ended → IsAnsweredAt new.connections.places.items place
+      → MayGoAt remaining contents new.limits new.connections.places.items new.sockets.items place
+  ended_at place old new turn says none serves ended answered =
+      elim (line_or_not (line_at old.sockets.items place)) [
+        | inl e ↦ absurd (ended_waits (sym ended ∙ (none e).0))
+        | inr was ↦
+            let x = says was.0 was.1 in
+            (x.0, x.1.is, inr (inr (inl (x.1.lingers ∙ serves was.0 was.1, x.3 ended, answered))))
+      ]
+
+  pub turned_at : (place : ℕ) (old new : Server K S) (turn : Turn) → TurnSays place old new turn
+      → SaysNone place old new turn
+      → ((line : Line S) → line_at old.sockets.items place ≡ Some line → line.lingers ≡ false)
+      → ((fault : StreamFault) → turn ≢ Failed fault) → KeepsOn remaining contents standing old new
+  turned_at place old new turn says none serves sound =
+      elim (line_or_not (line_at old.sockets.items place)) [
+        | inl e ↦ keeps_lines old new (none e).1 (none e).2 (none e).3
+        | inr was ↦ (let x = says was.0 was.1 in keeps_turn place old new was.0 x.0 x.1 (serves was.0 was.1) (x.2 sound))
+      ]
+
+  -- one that has a fault is let go, and the fault is told
+  pub failed_at : {F : Type 0} (tells : F → StreamFault → F → Type 0) (place : ℕ) (old mid new : Server K S) (turn : Turn) (fault : StreamFault) (f g : F)
+      → TurnSays place old mid turn → SaysNone place old mid turn
+      → ((line : Line S) → line_at old.sockets.items place ≡ Some line → line.lingers ≡ false)
+      → turn ≡ Failed fault → tells f fault g → LetsGo remaining contents standing place mid new
+      → GoesOn remaining contents standing tells old f new g
+  failed_at {F} tells place old mid new turn fault f g says none serves failed told goes =
+      elim (line_or_not (line_at old.sockets.items place)) [
+        | inl e ↦ absurd (failed_waits fault (sym failed ∙ (none e).0))
+        | inr was ↦
+            (let x = says was.0 was.1 in
+            goes_fault tells place old mid new was.0 x.0 fault f g x.1 (serves was.0 was.1) told goes)
+      ]
+
+  -- ---- the whole
+
+  kept_none : (limits : Limits) (first : K) (connections : Connections K) → connections.machine.keeper ≡ first → connections.opened ≡ 0
+      → connections.places.items ≡ [] → AreKept remaining contents standing limits first [] connections [] limits.total None
+  kept_none limits first connections keeper opened places = record {
+    histories = λ k. nothing;
+    log = [];
+    served =
+        let P : ℕ → Type 0 = λ n. AreServed (λ k. nothing) [] n connections.places.items in
+        let Q : List (Option Accepted) → Type 0 = λ t. AreServed (λ k. nothing) [] 0 t in
+        subst P (sym opened) (subst Q (sym places) nobody);
+    runs = rw keeper (runs_none _ _ (stays _));
+    here = λ i l h. (let P : List (Option Accepted) → Type 0 = λ t. i < length t in let below : i < 0 = subst P places h.0 in absurd (omega (arith, below)));
+    sound = λ i l h. (let P : List (Option Accepted) → Type 0 = λ t. i < length t in let below : i < 0 = subst P places h.0 in absurd (omega (arith, below)));
+    later = λ k above. refl;
+    nobody = λ i e. ap (λ (t : Option (Socket S)). line_of t) (get_or_past [] i None (omega arith));
+    gone = λ k within none. absurd (omega (arith, within, opened));
+    came = all_to_come limits.total;
+  }
+    where
+      all_to_come : (total : Option ℕ) → HaveCome total total (connections.opened + (0 + 0))
+      all_to_come None = refl
+      all_to_come (Some n) = omega (arith, opened)
+
+  pub kept_none_in : (limits : Limits) (first : K) (connections : Connections K) (sockets : List (Option (Socket S)))
+      → connections.machine.keeper ≡ first → connections.opened ≡ 0 → connections.places.items ≡ [] → sockets ≡ []
+      → AreKept remaining contents standing limits first [] connections sockets limits.total None
+  kept_none_in limits first connections sockets keeper opened places none =
+      let P : List (Option (Socket S)) → Type 0 = λ t. AreKept remaining contents standing limits first [] connections t limits.total None in
+      subst P (sym none) (kept_none limits first connections keeper opened places)
+
+  pub served_at_once : {E : Type 0} (limits : Limits) (first : K) (faults : List ToldFault) (server : Server K S) (ended : Result Rounds E)
+      (result : Result (Unit {0}) Stop) (last : K) (failures : ℕ)
+      → IsKept remaining contents standing limits first faults server → last ≡ server.connections.machine.keeper → failures ≡ (standing first).failures
+      → IfOk ended (λ e. EndsSo remaining contents standing e server failures)
+      → OnOk result (ended ≡ Ok rounds.Done) → (result ≡ Err StopsForStore → ended ≡ Ok rounds.StoreFailed)
+      → AreServedAtOnce remaining contents standing limits first faults result last
+  served_at_once {E} limits first faults server ended result last failures y keeper count ends done store = record {
+    histories = y.1.histories;
+    log = y.1.log;
+    opened = server.connections.opened;
+    all = y.1.served.all;
+    runs = rw keeper y.1.runs;
+    done = by result done;
+    store = λ e.
+        let x = subst Ends (store e) ends in
+        let P : ℕ → Type 0 = λ n. StoreHasFailed remaining contents standing limits n last in
+        let Q : K → Type 0 = λ t. StoreHasFailed remaining contents standing limits failures t in
+        let R : Limits → Type 0 = λ t. StoreHasFailed remaining contents standing t failures server.connections.machine.keeper in
+        subst P count (subst Q (sym keeper) (subst R y.0 x));
+  }
+    where
+      Ends : Result Rounds E → Type 0
+      Ends r = IfOk r (λ e. EndsSo remaining contents standing e server failures)
+
+      by : (r : Result (Unit {0}) Stop) → OnOk r (ended ≡ Ok rounds.Done)
+          → OnOk r (((k : ℕ) → k < server.connections.opened → WasLetGo remaining contents limits (told_of k faults) (own k y.1.log) (y.1.histories k))
+          × (limits.total ≡ Some (server.connections.opened + count_unopened faults)))
+      by (Err e) is = tt
+      by (Ok u) is =
+          let x = y.1 in
+          let d = subst Ends is ends in
+          let P : Option ℕ → Type 0 = λ t. HaveCome limits.total t (server.connections.opened + (count_unopened faults + count_held server.held)) in
+          let Q : Option S → Type 0 = λ t. HaveCome limits.total (Some 0) (server.connections.opened + (count_unopened faults + count_held t)) in (
+            λ k within. x.gone k within (λ i l h e. absurd (let z = x.here i l h in no_line z.0 (sym (d.2 i) ∙ z.1))),
+            all_came limits.total server.connections.opened (count_unopened faults) (subst Q d.1 (subst P d.0 x.came)),
+          )
+        where
+          none_some : (n : ℕ) → (◌≡◌) {A = Option ℕ} (Some n) None → ⊥
+          none_some n e = cc
+
+          all_came : (total : Option ℕ) (n m : ℕ) → HaveCome total (Some 0) (n + (m + 0)) → total ≡ Some (n + m)
+          all_came None n m h = absurd (none_some 0 h)
+          all_came (Some t) n m h = (let e : t ≡ n + m = omega (arith, h) in ap (λ (k : ℕ). Some k) e)
+
+  pub served_none : (limits : Limits) (first : K) → AreServedAtOnce remaining contents standing limits first [] (Err StopsFailed) first
+  served_none limits first = record {
+    histories = λ k. nothing;
+    log = [];
+    opened = 0;
+    all = nobody.all;
+    runs = runs_none _ _ (stays _);
+    done = tt;
+    store = λ e. absurd (differ e);
+  }
+    where
+      differ : (◌≡◌) {A = Result (Unit {0}) Stop} (Err StopsFailed) (Err StopsForStore) → ⊥
+      differ e = cc

@@ -1,0 +1,10 @@
+use Rattle.std.proofs.Common.{refl}
+use Rattle.book_desk_loop.proofs.Serving.{keeps_read}
+use Rattle.book_desk_loop.proofs.looping.Server.fails.Goals as goal
+
+pub returns : goal.returns
+returns g c =
+    let s = c.args.self.now in
+    let r = c.shows_nothing.ensures in
+    keeps_read g.S.Read.remaining g.S.Write.contents g.K.Keeper.standing s (record s { connections = c.shows_nothing.new.self; failures = c.failures-failures.result })
+    (record { limits = refl; left = refl; held = refl }) r.runs r.places.0 r.places.1 refl

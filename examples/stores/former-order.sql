@@ -1,0 +1,24 @@
+-- A store of version 2 in the former order of its tables, that has adopted examples/policies/two-books.toml: the tables as that
+-- program made them, each with the indexes that came with it, and their rows. tools/vacuumed makes it, and migrates it.
+CREATE TABLE node (id INTEGER PRIMARY KEY, path TEXT NOT NULL UNIQUE, parent INTEGER REFERENCES node ON DELETE CASCADE, kind INTEGER NOT NULL, owner TEXT REFERENCES node (path), label TEXT NOT NULL, text TEXT, number INTEGER NOT NULL) STRICT;
+CREATE TABLE ace (node INTEGER NOT NULL REFERENCES node ON DELETE CASCADE, protected INTEGER NOT NULL, place INTEGER NOT NULL, form INTEGER NOT NULL, principal TEXT REFERENCES node (path), invert INTEGER NOT NULL, deny INTEGER NOT NULL, mask INTEGER NOT NULL, PRIMARY KEY (node, protected, place)) STRICT;
+CREATE TABLE member (grp TEXT NOT NULL REFERENCES node (path), member TEXT NOT NULL REFERENCES node (path), PRIMARY KEY (grp, member)) STRICT;
+CREATE TABLE gone (book INTEGER NOT NULL REFERENCES node ON DELETE CASCADE, name TEXT NOT NULL, number INTEGER NOT NULL, PRIMARY KEY (book, name)) STRICT;
+CREATE TABLE meta (version INTEGER NOT NULL, epoch INTEGER NOT NULL) STRICT;
+CREATE INDEX node_parent ON node (parent, number);
+CREATE INDEX node_owner ON node (owner);
+CREATE INDEX ace_principal ON ace (principal);
+CREATE INDEX member_member ON member (member);
+CREATE TABLE ace2 (node INTEGER NOT NULL REFERENCES node ON DELETE CASCADE, protected INTEGER NOT NULL, place INTEGER NOT NULL, form INTEGER NOT NULL, principal TEXT REFERENCES node (path), invert INTEGER NOT NULL, deny INTEGER NOT NULL, mask INTEGER NOT NULL, PRIMARY KEY (node, protected, place)) STRICT;
+CREATE INDEX ace2_principal ON ace2 (principal);
+CREATE INDEX gone_book ON gone (book, number);
+CREATE TABLE reach (grp TEXT NOT NULL REFERENCES node (path), member TEXT NOT NULL REFERENCES node (path), PRIMARY KEY (member, grp)) STRICT;
+CREATE INDEX reach_grp ON reach (grp);
+INSERT INTO meta VALUES (2, 1);
+INSERT INTO node VALUES (1, '/', NULL, 0, NULL, '', NULL, 0), (2, '/people', 1, 1, NULL, '', NULL, 0), (3, '/groups', 1, 1, NULL, '', NULL, 0), (4, '/books', 1, 1, NULL, '', NULL, 0);
+INSERT INTO node VALUES (5, '/people/ann', 2, 2, NULL, '', NULL, 0), (6, '/people/bob', 2, 2, NULL, '', NULL, 0), (7, '/people/gus', 2, 2, NULL, '', NULL, 0), (8, '/groups/staff', 3, 3, NULL, '', NULL, 0);
+INSERT INTO node VALUES (9, '/books/law', 4, 4, '/people/ann', '', NULL, 0), (10, '/books/sales', 4, 4, '/people/ann', 'Sales', NULL, 0);
+INSERT INTO member VALUES ('/groups/staff', '/people/ann'), ('/groups/staff', '/people/bob');
+INSERT INTO ace2 VALUES (3, 1, 0, 0, '/people/ann', 0, 0, 261), (9, 1, 0, 4, NULL, 0, 0, 511), (9, 0, 0, 0, '/people/bob', 0, 0, 273), (10, 1, 0, 0, '/people/ann', 0, 0, 511);
+INSERT INTO ace2 VALUES (10, 0, 0, 0, '/groups/staff', 0, 0, 265);
+INSERT INTO reach VALUES ('/groups/staff', '/people/ann'), ('/groups/staff', '/people/bob')
