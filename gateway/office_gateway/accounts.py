@@ -1,10 +1,10 @@
 """What persons keep of their accounts themselves: their own password, and one password for each
 device.
 
-A device's password is made by the gateway: 120 random bits, told once. Its digest is kept. It serves
-for CardDAV and JSON, and signs nobody in at the page, so that a lost phone changes no password and
-makes no other. A password that a person set stands in place of the one in the file of passwords for
-as long as that one stays as it was: who sets it anew there wins.
+A device's password is made by the gateway: 120 random bits, told once. Its digest is kept. It
+serves for CardDAV and JSON, and signs nobody in at the page, so that a lost phone changes no
+password and makes no other. A password that a person set stands in place of the one in the file of
+passwords for as long as that one stays as it was: who sets it anew there wins.
 """
 from __future__ import annotations
 

@@ -249,7 +249,9 @@ def check(settings: Settings) -> None:
     check_listen(settings.listen)
     check_people(settings.people)
     if settings.people.name_field and settings.listen.certificate:
-        raise ConfigFault("[people] name_field is for a gateway behind a proxy, without a certificate")
+        raise ConfigFault(
+            "[people] name_field is for a gateway behind a proxy, without a certificate"
+        )
     if not is_loopback(settings.server.host):
         raise ConfigFault("[server] host: the server is reached on loopback alone")
     if settings.server.connections < 1:

@@ -13,7 +13,7 @@ from dataclasses import dataclass
 from . import dates
 from .vcard import (
     BadLine, Line, decoded_parameter, encoded_parameter, escaped, folded, parsed, unescaped,
-    unfolded, version_of,
+    unfolded, version_in,
 )
 
 # What 4.0 has and 3.0 lacks, with the name that it has in 3.0. Kind and members have the names that
@@ -59,9 +59,15 @@ DROPPED = {"ADR": POST, "LABEL": POST, "EMAIL": {"internet"}}
 OLD_KINDS = ("ptext", "phone-number", "binary")
 
 # A line of 4.0 that says the same in 3.0 as it stands: most lines of most cards.
-SAME = re.compile(
+SAME_LINE = (
     r"(FN|N|ORG|TITLE|ROLE|NOTE|NICKNAME|CATEGORIES|EMAIL|TEL|ADR|URL|UID)(?:;TYPE=[a-z]+)*:"
-    r"[^\x00-\x08\x0a-\x1f\x7f]*\Z"
+    r"[^\x00-\x08\x0a-\x1f\x7f]*"
+)
+SAME = re.compile(SAME_LINE + r"\Z")
+# A card of such lines, of which none is folded or is to be: each has at most 75 bytes.
+SHORT = r"(?=[\t -~]{0,75}\r|[\t -~\x80-\u07ff]{0,37}\r|[^\r\n]{0,18}\r)"
+SAME_CARD = re.compile(
+    rf"BEGIN:VCARD\r\nVERSION:4\.0(\r\n(?:{SHORT}{SAME_LINE}\r\n)*END:VCARD\r\n)"
 )
 
 
@@ -82,9 +88,9 @@ class Converted:
 
 def to_four(text: str) -> Converted | None:
     """The card of 3.0 as one of 4.0; None where the text does not say that it is of 3.0."""
-    if version_of(text) != "3.0":
-        return None
     source = unfolded(text)
+    if version_in(source) != "3.0":
+        return None
     lines = [line_or_text(line, number) for number, line in enumerate(source, 1)]
     end = next((at for at, line in enumerate(lines) if is_end(line)), len(lines))
     body = [line for line in lines[1:end] if line != ""]
@@ -107,10 +113,19 @@ def to_four(text: str) -> Converted | None:
 
 def to_three(text: str) -> str:
     """The card of 4.0 as one of 3.0. A text that is no card of 4.0 stays as it is."""
-    if version_of(text) != "4.0":
+    found = SAME_CARD.fullmatch(text)
+    if found is not None and ("\nN:" in text or "\nN;" in text):
+        return f"BEGIN:VCARD\r\nVERSION:3.0{found[1]}"
+    return line_by_line_to_three(text)
+
+
+def line_by_line_to_three(text: str) -> str:
+    """The same, of any card."""
+    lines = unfolded(text)
+    if version_in(lines) != "4.0":
         return text
     result, names = ["BEGIN:VCARD", "VERSION:3.0"], set()
-    for number, source in enumerate(unfolded(text), 1):
+    for number, source in enumerate(lines, 1):
         same = SAME.match(source)
         if same is not None:
             names.add(same[1])
@@ -123,7 +138,7 @@ def to_three(text: str) -> str:
             names.add(line.name.upper())
             result += [made.text() for made in three_of(line)]
     if "N" not in names:
-        result.append(name_made_of(unfolded(text)))
+        result.append(name_made_of(lines))
     return "".join(folded(line) for line in [*result, "END:VCARD"])
 
 

@@ -83,7 +83,9 @@ class Passwords:
         if login not in self._filed:
             raise Refusal(403, "no-own-password")
         loop = asyncio.get_running_loop()
-        await loop.run_in_executor(self._workers, self._changed.change, login, self._filed[login], new)
+        await loop.run_in_executor(
+            self._workers, self._changed.change, login, self._filed[login], new
+        )
         self._hashes = self._changed.over(self._filed)
 
     async def check(self, login: str, password: str, address: str = "") -> str | None:

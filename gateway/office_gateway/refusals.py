@@ -30,7 +30,7 @@ PHRASES = {
     "weak-password": "A password has 10 characters or more, and at most 72 bytes.",
     "no-own-password": "This name has no password here that can be changed.",
     "device-password": "The password of a device serves for its contacts, and not for the page.",
-    "foreign-origin": "The request comes from a page of another place.",
+    "foreign-origin": "The host, or the page that asks, is not among `listen.origins`.",
     "too-slow": "The request did not arrive in time.",
     "valid-sync-token": "The token is no longer valid. Read the whole book again.",
     "no-protected-ace-conflict": "A protected entry says the opposite.",

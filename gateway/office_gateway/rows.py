@@ -15,14 +15,13 @@ from typing import Any
 
 from .copies import Copies
 from .server import Server
-from .vcard import components, unescaped
+from .vcard import components, unescaped, unfolded_text
 
 SAID = re.compile(
     r"^(?:[A-Z0-9-]+\.)?(FN|N|NICKNAME|ORG|TEL|EMAIL|KIND|UID|MEMBER)"
     r'((?:;[^:"\n]*(?:"[^"\n]*"[^:"\n]*)*)?):(.*)$',
     re.IGNORECASE | re.MULTILINE,
 )
-FOLD = re.compile(r"\r?\n[ \t]")
 DIGITS = re.compile(r"\D")
 # Letters that have no form without an accent in Unicode, and how German writes vowels without one.
 PLAIN = {"ø": "o", "ł": "l", "đ": "d", "æ": "ae", "œ": "oe", "ð": "d", "þ": "th", "ı": "i"}
@@ -146,8 +145,7 @@ class Rows:
 def row_of(path: str, text: str, tag: str = "", label: str = "") -> Row:
     """The row of a card."""
     said: dict[str, list[str]] = {}
-    folds = "\n " in text or "\n\t" in text
-    for name, _, value in SAID.findall(FOLD.sub("", text) if folds else text):
+    for name, _, value in SAID.findall(unfolded_text(text)):
         said.setdefault(name.upper(), []).append(value.rstrip("\r"))
     shown = unescaped(said.get("FN", [""])[0]).strip()
     parts = components(said["N"][0]) if "N" in said else [""]
@@ -191,7 +189,10 @@ def searched(texts: list[str], phones: list[str]) -> str:
     text = "\n".join(texts)
     parts = [plain(text)]
     if not text.isascii():
-        parts.append(plain(written_as(unicodedata.normalize("NFC", text.casefold()), GERMAN)))
+        small = unicodedata.normalize("NFC", text.casefold())
+        german = written_as(small, GERMAN)
+        if german != small:
+            parts.append(plain(german))
     return "\n".join(parts + [DIGITS.sub("", phone) for phone in phones])
 
 

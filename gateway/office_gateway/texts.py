@@ -55,6 +55,8 @@ class Texts:
         self._base = sqlite3.connect("", isolation_level=None)
         for line in ("journal_mode = off", "synchronous = off", f"cache_size = -{MEMORY}"):
             self._base.execute(f"pragma {line}")
+        # One transaction that never ends: nothing of the file outlasts the process.
+        self._base.execute("begin")
         self._base.execute("create table text (row integer primary key, body blob not null)")
         self._known: WeakValueDictionary[tuple[str, str, int, str], Held] = WeakValueDictionary()
         self._gone: list[int] = []

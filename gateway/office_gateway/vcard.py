@@ -11,6 +11,7 @@ PARAMETER_NAME = re.compile(WORD)
 PLAIN_VALUE = re.compile(r'[^";:,]*')
 QUOTED_VALUE = re.compile(r'"([^"]*)"')
 CONTROL = re.compile(r"[\x00-\x08\x0a-\x1f\x7f]")
+VERSION = re.compile(r"version(?:;[^:]*)?:(.*)", re.IGNORECASE)
 FORMATTED = re.compile(
     r"^(?:[A-Za-z0-9-]+\.)?FN(?:;[^:\n]*)?:(.*)$", re.IGNORECASE | re.MULTILINE
 )
@@ -77,9 +78,23 @@ def unfolded(text: str) -> list[str]:
 
     A line end is CRLF or LF; one that a space or a tab follows is no end.
     """
-    *lines, last = re.sub(r"\r?\n[ \t]", "", text).split("\n")
+    *lines, last = unfolded_text(text).split("\n")
     lines = [line.removesuffix("\r") for line in lines]
     return [*lines, last] if last else lines
+
+
+def unfolded_text(text: str) -> str:
+    """The text without its folds. Line by line: a regular expression is slow over pictures."""
+    if "\n " not in text and "\n\t" not in text:
+        return text
+    kept: list[str] = []
+    for part in text.split("\n"):
+        if kept and part[:1] in (" ", "\t"):
+            kept[-1] = kept[-1].removesuffix("\r")
+            kept.append(part[1:])
+        else:
+            kept += ["\n", part] if kept else [part]
+    return "".join(kept)
 
 
 def parsed(text: str, number: int) -> Line:
@@ -120,7 +135,7 @@ def read(text: str) -> list[Line]:
 
 def formatted(text: str) -> str:
     """The first FN as people read it, or an empty text."""
-    found = FORMATTED.search(re.sub(r"\r?\n[ \t]", "", text))
+    found = FORMATTED.search(unfolded_text(text))
     return unescaped(found.group(1).rstrip("\r")) if found else ""
 
 
@@ -129,6 +144,9 @@ def folded(line: str, width: int = 75) -> str:
 
     No fold is inside a character.
     """
+    if line.isascii():
+        starts = range(width, len(line), width - 1)
+        return "\r\n ".join([line[:width], *(line[at : at + width - 1] for at in starts)]) + "\r\n"
     data = line.encode("utf-8", "surrogatepass")
     parts, at, size = [], 0, width
     while len(data) - at > size:
@@ -148,8 +166,13 @@ def written(lines: Iterable[Line]) -> str:
 
 def version_of(text: str) -> str:
     """The value of the first VERSION line, or an empty text."""
-    for line in unfolded(text):
-        found = re.fullmatch(r"version(?:;[^:]*)?:(.*)", line, re.IGNORECASE)
+    return version_in(unfolded(text))
+
+
+def version_in(lines: Iterable[str]) -> str:
+    """The value of the first VERSION line of unfolded lines, or an empty text."""
+    for line in lines:
+        found = VERSION.fullmatch(line)
         if found:
             return found.group(1).strip()
     return ""

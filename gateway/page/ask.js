@@ -32,16 +32,28 @@ export async function ask(method, path, body, fields = {}) {
   const reading = method === "GET" || method === "PROPFIND" || method === "REPORT";
   const signal = reading ? visit.signal : undefined;
   const reply = await sent(method, path, body, fields, signal);
-  if (reply.status !== 401 || path === "/page/session" || signedIn.person === null) return answerOf(reply, method, path);
+  if (reply.status !== 401 || path === "/page/session" || signedIn.person === null) {
+    return answerOf(reply, method, path);
+  }
   await signInAgain();
   return answerOf(await sent(method, path, body, fields, signal), method, path);
 }
 
 async function sent(method, path, body, fields, signal) {
   const json = body !== undefined && typeof body !== "string";
-  const headers = { "x-office-page": "1", ...(json ? { "Content-Type": "application/json" } : {}), ...fields };
+  const headers = {
+    "x-office-page": "1",
+    ...(json ? { "Content-Type": "application/json" } : {}),
+    ...fields
+  };
   try {
-    return await fetch(path, { method, headers, body: json ? JSON.stringify(body) : body, signal, credentials: "same-origin" });
+    return await fetch(path, {
+      method,
+      headers,
+      body: json ? JSON.stringify(body) : body,
+      signal,
+      credentials: "same-origin"
+    });
   } catch (fault) {
     if (fault.name === "AbortError") throw new Gone();
     throw new Refused(503, { error: "unavailable" }, method, path);
@@ -56,8 +68,14 @@ async function answerOf(reply, method, path) {
     if (fault.name === "AbortError") throw new Gone();
     throw new Refused(503, { error: "unavailable" }, method, path);
   }
-  const value = (reply.headers.get("Content-Type") || "").startsWith("application/json") && text ? JSON.parse(text) : text;
-  if (reply.status >= 400) throw new Refused(reply.status, typeof value === "object" ? value : { error: "unavailable" }, method, path);
+  const value = (reply.headers.get("Content-Type") || "").startsWith("application/json") && text
+    ? JSON.parse(text)
+    : text;
+  if (reply.status >= 400) {
+    throw new Refused(
+      reply.status, typeof value === "object" ? value : { error: "unavailable" }, method, path
+    );
+  }
   return { status: reply.status, value, tag: reply.headers.get("ETag") };
 }
 
@@ -71,16 +89,28 @@ function signInAgain() {
 }
 
 async function passwordDialog() {
-  const password = make("input", { type: "password", autocomplete: "current-password", required: true, autofocus: true });
+  const password = make(
+    "input",
+    { type: "password", autocomplete: "current-password", required: true, autofocus: true }
+  );
   const name = textInput(signedIn.login, { readonly: true, autocomplete: "username" });
-  const done = await dialogOf(t("sessionEnded"), [make("p", {}, t("sessionEndedMore")), field(t("loginName"), name), field(t("password"), password)],
-    t("signIn"), async (failed) => {
-      const reply = await sent("POST", "/page/session", { name: signedIn.login, password: password.value }, {});
+  const done = await dialogOf(
+    t("sessionEnded"),
+    [
+      make("p", {}, t("sessionEndedMore")), field(t("loginName"), name),
+      field(t("password"), password)
+    ],
+    t("signIn"),
+    async (failed) => {
+      const reply = await sent(
+        "POST", "/page/session", { name: signedIn.login, password: password.value }, {}
+      );
       if (reply.ok) return true;
       failed.textContent = t(reply.status === 401 ? "error.no-password" : "error.unavailable");
       password.value = "";
       return undefined;
-    });
+    }
+  );
   if (done) return;
   signedIn.person = null;
   window.dispatchEvent(new Event("signedout"));
@@ -93,13 +123,16 @@ export const readCard = async (path) => (await ask("GET", `/page${path}`)).value
 
 const TEXT = { "Content-Type": "text/vcard; charset=utf-8" };
 
-export const putCard = (path, text, tag) => ask("PUT", `/page${path}`, text, { ...TEXT, "If-Match": tag });
+export const putCard = (path, text, tag) =>
+  ask("PUT", `/page${path}`, text, { ...TEXT, "If-Match": tag });
 
 // A new card. In a book that is not read nobody is told whether a name is taken, so that no
 // condition is sent.
-export const putNewCard = (path, text, read = true) => ask("PUT", `/page${path}`, text, read ? { ...TEXT, "If-None-Match": "*" } : TEXT);
+export const putNewCard = (path, text, read = true) =>
+  ask("PUT", `/page${path}`, text, read ? { ...TEXT, "If-None-Match": "*" } : TEXT);
 
-export const removeCard = (path, tag) => ask("DELETE", `/page${path}`, undefined, tag ? { "If-Match": tag } : {});
+export const removeCard = (path, tag) =>
+  ask("DELETE", `/page${path}`, undefined, tag ? { "If-Match": tag } : {});
 
 export const saveLabel = (path, text) => ask("PROPPATCH", path, { set: { displayname: text } });
 

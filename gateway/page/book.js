@@ -1,7 +1,10 @@
 // A book: its cards in slices, sorted and filtered; what may be done with some of them; and the
 // cards that are denied.
 import { ask, saveLabel } from "./ask.js";
-import { button, checkbox, choice, details, field, form, link, make, say, section, show, textInput, tryButton } from "./elements.js";
+import {
+  button, checkbox, choice, details, field, form, link, make, say, section, show, textInput,
+  tryButton,
+} from "./elements.js";
 import { nameOf, readBooks, who, isSelf } from "./names.js";
 import { firstWords, moreWords } from "./refusal.js";
 import { may } from "./rights.js";
@@ -11,7 +14,8 @@ import { exportCards, selectionTools } from "./transfer.js";
 const SLICE = 100;
 let order = "family";
 
-const slice = (path, start, words = "", count = SLICE) => ask("POST", "/page/book", { path, order, start, count, words }).then((reply) => reply.value);
+const slice = (path, start, words = "", count = SLICE) =>
+  ask("POST", "/page/book", { path, order, start, count, words }).then((reply) => reply.value);
 
 export async function showBook(path) {
   const book = await slice(path, 0);
@@ -20,17 +24,27 @@ export async function showBook(path) {
     may(book, "bind") ? link(`/new${path}`, t("newCard")) : null,
     may(book, "bind") && book.sees === "cards" ? link(`/newgroup${path}`, t("newGroup")) : null,
     may(book, "bind") ? link(`/import${path}`, t("import")) : null,
-    book.sees === "cards" && book.cards ? button(t("export"), () => exportCards(path, []), { class: "link" }) : null,
-    book.sees === "cards" ? link(`/access${path}`, may(book, "write-acl") ? t("shareAndAccess") : t("access")) : null,
+    book.sees === "cards" && book.cards
+      ? button(t("export"), () => exportCards(path, []), { class: "link" })
+      : null,
+    book.sees === "cards"
+      ? link(`/access${path}`, may(book, "write-acl") ? t("shareAndAccess") : t("access"))
+      : null,
     book.sees === "cards" ? tryButton(book, () => showBook(path)) : null,
   ].filter(Boolean);
-  const owner = book.owner ? (isSelf(book.owner) ? t("yourBook") : t("ofOwner", { who: who(book.owner) })) : "";
-  show(book.label || nameOf(path),
-    make("p", { class: "soft" }, [owner, t("cardCount", { count: book.cards }), book.sees === "names" ? t("namesOnly") : ""].filter(Boolean).join(" · ")),
+  const owner = book.owner
+    ? (isSelf(book.owner) ? t("yourBook") : t("ofOwner", { who: who(book.owner) }))
+    : "";
+  const notes = [
+    owner, t("cardCount", { count: book.cards }), book.sees === "names" ? t("namesOnly") : ""
+  ];
+  show(
+    book.label || nameOf(path),
+    make("p", { class: "soft" }, notes.filter(Boolean).join(" · ")),
     tools.length ? make("p", { class: "tools" }, tools) : null,
     book.cards ? list.parts() : make("p", { class: "empty" }, t("noCard")),
-    make("div", { id: "denied" }),
-    may(book, "write-properties") ? labelForm(path, book) : null);
+    make("div", { id: "denied" }), may(book, "write-properties") ? labelForm(path, book) : null
+  );
   if (book.sees === "cards") showDenied(path);
 }
 
@@ -46,11 +60,17 @@ function labelForm(path, book) {
 
 // The cards that may not be read: each by its name in the book, with the cause.
 async function showDenied(path) {
-  const { denied } = (await ask("GET", `/page${path}`).catch(() => ({ value: { denied: [] } }))).value;
+  const none = { value: { denied: [] } };
+  const { denied } = (await ask("GET", `/page${path}`).catch(() => none)).value;
   const place = document.getElementById("denied");
   if (!denied.length || !place) return;
-  place.replaceChildren(section(t("deniedCards", { count: denied.length }), make("ul", { class: "rows" }, denied.slice(0, SLICE).map((one) => make("li", {},
-    make("div", {}, make("strong", {}, one.path.split("/").pop()), make("p", { class: "soft" }, firstWords(one.denial)), moreWords(one.denial)))))));
+  const rows = denied.slice(0, SLICE).map((one) => make("li", {}, make(
+    "div", {}, make("strong", {}, one.path.split("/").pop()),
+    make("p", { class: "soft" }, firstWords(one.denial)), moreWords(one.denial)
+  )));
+  place.replaceChildren(
+    section(t("deniedCards", { count: denied.length }), make("ul", { class: "rows" }, rows))
+  );
 }
 
 // The rows of a book. More are asked for as the end comes into view.
@@ -68,21 +88,33 @@ class CardList {
     this.end = make("div", { class: "end" });
     this.bar = make("div", { class: "bar", hidden: true });
     this.add(book.rows);
-    new IntersectionObserver((seen) => { if (seen.some((one) => one.isIntersecting)) this.more(); }, { rootMargin: "600px" }).observe(this.end);
+    new IntersectionObserver((seen) => {
+      if (seen.some((one) => one.isIntersecting)) this.more();
+    }, { rootMargin: "600px" }).observe(this.end);
   }
 
   parts() {
-    const find = textInput("", { type: "search", "aria-label": t("filter"), placeholder: t("filter"), autocomplete: "off" });
+    const find = textInput(
+      "",
+      { type: "search", "aria-label": t("filter"), placeholder: t("filter"), autocomplete: "off" }
+    );
     let wait = 0;
     find.addEventListener("input", () => {
       clearTimeout(wait);
       wait = setTimeout(() => this.again(find.value), 150);
     });
-    const sort = choice([["family", t("byName")], ["organisation", t("byOrganisation")]], order, { "aria-label": t("sortedBy") });
+    const sort = choice(
+      [["family", t("byName")], ["organisation", t("byOrganisation")]], order,
+      { "aria-label": t("sortedBy") }
+    );
     sort.addEventListener("change", () => { order = sort.value; this.again(find.value); });
-    const picks = this.book.sees === "cards" ? checkbox(t("select"), false, { id: "select" }) : null;
+    const picks =
+      this.book.sees === "cards" ? checkbox(t("select"), false, { id: "select" }) : null;
     picks?.addEventListener("change", () => this.picking(picks.querySelector("input").checked));
-    return [make("div", { class: "filter" }, find, sort, picks), this.bar, this.count, this.list, this.end];
+    return [
+      make("div", { class: "filter" }, find, sort, picks), this.bar, this.count, this.list,
+      this.end
+    ];
   }
 
   picking(on) {
@@ -103,15 +135,30 @@ class CardList {
 
   row(card) {
     const name = card.name || card.path.split("/").pop();
-    const box = make("input", { type: "checkbox", class: "pick", "aria-label": t("pick", { name }), onchange: () => {
-      if (box.checked) this.chosen.set(card.path, card);
-      else this.chosen.delete(card.path);
-      this.tell();
-    } });
-    const title = this.book.sees === "cards" ? link(card.path, name) : make("span", { class: "name" }, name);
-    const notes = [card.organisation !== name ? card.organisation : "", card.label, card.group ? t("isGroup") : ""].filter(Boolean).join(" · ");
-    return make("li", {}, this.book.sees === "cards" ? box : null, make("span", { class: "title" }, title, notes ? make("span", { class: "soft" }, notes) : null),
-      make("span", { class: "soft reach" }, card.phone || card.mail));
+    const box = make("input", {
+      type: "checkbox",
+      class: "pick",
+      "aria-label": t("pick", { name }),
+      onchange: () => {
+        if (box.checked) this.chosen.set(card.path, card);
+        else this.chosen.delete(card.path);
+        this.tell();
+      }
+    });
+    const title =
+      this.book.sees === "cards" ? link(card.path, name) : make("span", { class: "name" }, name);
+    const all = [
+      card.organisation !== name ? card.organisation : "", card.label,
+      card.group ? t("isGroup") : ""
+    ];
+    const notes = all.filter(Boolean).join(" · ");
+    return make(
+      "li", {}, this.book.sees === "cards" ? box : null,
+      make(
+        "span", { class: "title" }, title, notes ? make("span", { class: "soft" }, notes) : null
+      ),
+      make("span", { class: "soft reach" }, card.phone || card.mail)
+    );
   }
 
   add(rows) {

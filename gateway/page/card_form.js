@@ -1,7 +1,10 @@
 // The form of a person's entry, and the form of its text.
 import { Refused, putCard, putNewCard, readCard } from "./ask.js";
 import { button, choice, field, form, go, link, make, say, show, textInput } from "./elements.js";
-import { ORDER, PROPERTIES, added, changed, composed, fieldsOf, isEmpty, newCard, newUuid, pictureOf, removed, same, textOfProperty, withPicture } from "./entry.js";
+import {
+  ORDER, PROPERTIES, added, changed, composed, fieldsOf, isEmpty, newCard, newUuid, pictureOf,
+  removed, same, textOfProperty, withPicture,
+} from "./entry.js";
 import { isDate } from "./dates.js";
 import { clean, linesOf, textOf } from "./lines.js";
 import { showConflict } from "./conflict.js";
@@ -10,19 +13,32 @@ import { readPicture } from "./picture.js";
 import { has, language, t } from "./texts.js";
 
 const LONG = new Set(["NOTE"]);
-const WANTED = ["N", "FN", "ORG", "TITLE", "TEL", "EMAIL", "ADR", "URL", "BDAY", "CATEGORIES", "NOTE"];
+const WANTED =
+  ["N", "FN", "ORG", "TITLE", "TEL", "EMAIL", "ADR", "URL", "BDAY", "CATEGORIES", "NOTE"];
 // Which parts of a value have an input, in order, and the width of each in a row of six.
-const PARTS = { N: [[1, 3], [0, 3], [2, 2], [3, 2], [4, 2]], ORG: [[0, 3], [1, 3]], ADR: [[2, 6], [5, 2], [3, 4], [4, 3], [6, 3], [0, 3], [1, 3]] };
+const PARTS = {
+  N: [[1, 3], [0, 3], [2, 2], [3, 2], [4, 2]],
+  ORG: [[0, 3], [1, 3]],
+  ADR: [[2, 6], [5, 2], [3, 4], [4, 3], [6, 3], [0, 3], [1, 3]]
+};
 const RARE = { N: [2, 3, 4], ADR: [4, 0, 1] };
 
 export async function showEdit(path) {
   const card = await readCard(path);
   const entry = new EntryForm(linesOf(card.text));
-  show(t("editOf", { name: textOfProperty(entry.start, "FN") || last(path) }), form(t("save"), async () => {
-    const text = entry.text();
-    if (text !== card.text) await saved(path, text, card);
-    go(path, t("cardSaved"));
-  }, entry.parts()), make("p", {}, link(path, t("cancel"))));
+  show(
+    t("editOf", { name: textOfProperty(entry.start, "FN") || last(path) }),
+    form(
+      t("save"),
+      async () => {
+        const text = entry.text();
+        if (text !== card.text) await saved(path, text, card);
+        go(path, t("cardSaved"));
+      },
+      entry.parts()
+    ),
+    make("p", {}, link(path, t("cancel")))
+  );
   entry.focus();
 }
 
@@ -53,11 +69,19 @@ export async function showText(path) {
   const card = await readCard(path);
   const text = make("textarea", { spellcheck: "false", rows: "20", class: "code" });
   text.value = card.text;
-  show(t("textOf", { name: textOfProperty(linesOf(card.text), "FN") || last(path) }), form(t("save"), async () => {
-    const ends = card.text.includes("\r\n") || !card.text.includes("\n") ? "\r\n" : "\n";
-    await saved(path, text.value.replace(/\r?\n/g, ends), card);
-    go(path, t("cardSaved"));
-  }, field(t("textLines"), text, t("textHint"))), make("p", {}, link(path, t("cancel"))));
+  show(
+    t("textOf", { name: textOfProperty(linesOf(card.text), "FN") || last(path) }),
+    form(
+      t("save"),
+      async () => {
+        const ends = card.text.includes("\r\n") || !card.text.includes("\n") ? "\r\n" : "\n";
+        await saved(path, text.value.replace(/\r?\n/g, ends), card);
+        go(path, t("cardSaved"));
+      },
+      field(t("textLines"), text, t("textHint"))
+    ),
+    make("p", {}, link(path, t("cancel")))
+  );
 }
 
 // The inputs of a card's fields. `text` gives the card as they have it: what nobody changed keeps
@@ -146,8 +170,12 @@ class EntryForm {
 function withName(lines) {
   const fields = fieldsOf(lines);
   if (fields.some((one) => one.property === "FN" && !isEmpty(one.value))) return lines;
-  const found = ["N", "ORG", "EMAIL", "TEL"].map((property) => fields.find((one) => one.property === property)).find((one) => one && !isEmpty(one.value));
-  const name = !found ? "" : found.property === "N" ? composed(found.value) : [found.value].flat()[0];
+  const first = ["N", "ORG", "EMAIL", "TEL"].map(
+    (property) => fields.find((one) => one.property === property)
+  );
+  const found = first.find((one) => one && !isEmpty(one.value));
+  const own = found?.property === "N" ? composed(found.value) : [found?.value].flat()[0];
+  const name = found ? own : "";
   return name ? added(lines.filter((line) => line.name !== "FN"), "FN", name) : lines;
 }
 
@@ -158,21 +186,44 @@ class Row {
     this.field = fieldOfLine;
     this.gone = false;
     const known = PROPERTIES[property];
-    const value = fieldOfLine?.value ?? { parts: Array(known.count ?? 0).fill(""), list: [], date: { year: null, month: null, day: null, rest: "" } }[known.kind] ?? "";
+    const empty = {
+      parts: Array(known.count ?? 0).fill(""),
+      list: [],
+      date: { year: null, month: null, day: null, rest: "" }
+    };
+    const value = fieldOfLine?.value ?? empty[known.kind] ?? "";
     this.types = known.types ? typeChoice(property, fieldOfLine) : null;
-    this.element = { parts: () => this.partInputs(value), date: () => this.dateInputs(value) }[known.kind]?.() ?? this.oneInput(value, known);
-    if (this.types || (fieldOfLine && known.several && property !== "ORG")) this.element.append(this.takeAway());
+    const inputs = {
+      parts: () => this.partInputs(value),
+      date: () => this.dateInputs(value)
+    };
+    this.element = inputs[known.kind]?.() ?? this.oneInput(value, known);
+    if (this.types || (fieldOfLine && known.several && property !== "ORG")) {
+      this.element.append(this.takeAway());
+    }
   }
 
   oneInput(value, known) {
     const shown = Array.isArray(value) ? value.join(", ") : value;
-    this.input = LONG.has(this.property) ? make("textarea", { rows: "4" }) : textInput("", { autocomplete: "off" });
+    this.input = LONG.has(this.property)
+      ? make("textarea", { rows: "4" })
+      : textInput("", { autocomplete: "off" });
     this.input.value = shown;
     this.shown = this.input.value;
-    this.value = () => (known.kind === "list" ? (this.input.value === this.shown ? value : this.input.value.split(",").map((word) => word.trim()).filter(Boolean))
-      : this.input.value === this.shown ? value : clean(this.input.value));
-    if (["TEL", "EMAIL", "URL"].includes(this.property)) this.input.setAttribute("inputmode", { TEL: "tel", EMAIL: "email", URL: "url" }[this.property]);
-    return make("div", { class: "line" }, field(t(`field.${this.property}`), this.input), this.typeField());
+    this.value = () => {
+      const now = this.input.value;
+      if (now === this.shown) return value;
+      if (known.kind !== "list") return clean(now);
+      return now.split(",").map((word) => word.trim()).filter(Boolean);
+    };
+    if (["TEL", "EMAIL", "URL"].includes(this.property)) {
+      this.input.setAttribute(
+        "inputmode", { TEL: "tel", EMAIL: "email", URL: "url" }[this.property]
+      );
+    }
+    return make(
+      "div", { class: "line" }, field(t(`field.${this.property}`), this.input), this.typeField()
+    );
   }
 
   partInputs(value) {
@@ -188,24 +239,55 @@ class Row {
     const seldom = all.filter(([at]) => rare(at)).map(([, part]) => part);
     this.value = () => value.map((old, at) => (inputs[at] ? inputs[at].value : old));
     this.input = inputs[PARTS[this.property][0][0]];
-    return make("fieldset", { class: "parts" }, make("legend", {}, t(`field.${this.property}`)), make("div", { class: "six" }, usual), this.typeField(),
-      seldom.length ? make("details", { class: "inner" }, make("summary", {}, t("moreParts")), make("div", { class: "six" }, seldom)) : null);
+    return make(
+      "fieldset", { class: "parts" }, make("legend", {}, t(`field.${this.property}`)),
+      make("div", { class: "six" }, usual), this.typeField(),
+      seldom.length
+        ? make(
+            "details", { class: "inner" }, make("summary", {}, t("moreParts")),
+            make("div", { class: "six" }, seldom)
+          )
+        : null
+    );
   }
 
   dateInputs(value) {
-    const number = (held, title, most) => textInput(held ?? "", { inputmode: "numeric", "aria-label": title, maxlength: most, class: "short", placeholder: title });
+    const number = (held, title, most) => textInput(held ?? "", {
+      inputmode: "numeric",
+      "aria-label": title,
+      maxlength: most,
+      class: "short",
+      placeholder: title
+    });
     const [year, day] = [number(value.year, t("year"), 4), number(value.day, t("day"), 2)];
-    const months = Array.from({ length: 12 }, (_, at) => [String(at + 1), new Intl.DateTimeFormat(language, { month: "long", timeZone: "UTC" }).format(Date.UTC(2000, at, 1))]);
-    const month = choice([["", t("month")], ...months], String(value.month ?? ""), { "aria-label": t("month") });
+    const form = new Intl.DateTimeFormat(language, { month: "long", timeZone: "UTC" });
+    const months = Array.from(
+      { length: 12 }, (_, at) => [String(at + 1), form.format(Date.UTC(2000, at, 1))]
+    );
+    const month = choice(
+      [["", t("month")], ...months], String(value.month ?? ""), { "aria-label": t("month") }
+    );
     const read = (input) => (/^\d+$/.test(input.value.trim()) ? Number(input.value) : null);
-    const date = () => ({ year: read(year), month: read(month), day: read(day), rest: value.rest ?? "" });
+    const date = () =>
+      ({ year: read(year), month: read(month), day: read(day), rest: value.rest ?? "" });
     for (const input of [year, day, month]) {
-      input.addEventListener("input", () => day.setCustomValidity(isDate(date()) && (!date().day || date().month || this.field) && (date().year === null || date().month || !date().day) ? "" : t("noDate")));
+      input.addEventListener(
+        "input",
+        () => day.setCustomValidity(
+          isDate(date()) && (!date().day || date().month || this.field) &&
+              (date().year === null || date().month || !date().day)
+            ? ""
+            : t("noDate")
+        )
+      );
     }
     this.value = () => (same({ ...value }, { ...date() }) ? value : date());
     this.input = day;
     const inOrder = language === "en" ? [month, day, year] : [day, month, year];
-    return make("fieldset", { class: "parts" }, make("legend", {}, t(`field.${this.property}`)), make("div", { class: "row" }, inOrder), make("p", { class: "hint" }, t("dateHint")));
+    return make(
+      "fieldset", { class: "parts" }, make("legend", {}, t(`field.${this.property}`)),
+      make("div", { class: "row" }, inOrder), make("p", { class: "hint" }, t("dateHint"))
+    );
   }
 
   typeField() {
@@ -216,15 +298,23 @@ class Row {
     return button("×", () => {
       this.gone = true;
       this.element.hidden = true;
-    }, { class: "away", "aria-label": t("takeAway", { what: t(`field.${this.property}`) }), title: t("takeAway", { what: t(`field.${this.property}`) }) });
+    }, {
+      class: "away",
+      "aria-label": t("takeAway", { what: t(`field.${this.property}`) }),
+      title: t("takeAway", { what: t(`field.${this.property}`) })
+    });
   }
 
   // The lines with what these inputs say.
   applied(lines) {
     const value = this.value();
     const types = this.types?.value ? this.types.value.split(",") : [];
-    if (!this.field) return this.gone || isEmpty(value) ? lines : added(lines, this.property, value, types);
-    if (this.gone || (isEmpty(value) && !isEmpty(this.field.value))) return removed(lines, this.field);
+    if (!this.field) {
+      return this.gone || isEmpty(value) ? lines : added(lines, this.property, value, types);
+    }
+    if (this.gone || (isEmpty(value) && !isEmpty(this.field.value))) {
+      return removed(lines, this.field);
+    }
     return changed(lines, this.field, value, this.types ? types : this.field.types);
   }
 }
@@ -232,9 +322,14 @@ class Row {
 // The types that a line can be given, in words; those that it has stay where they are no usual
 // ones.
 function typeChoice(property, held) {
-  const types = held?.types.join(",") ?? { TEL: "work", EMAIL: "work", ADR: "work", URL: "" }[property];
-  const words = (key) => key.split(",").map((type) => (has(`type.${type}`) ? t(`type.${type}`) : type)).join(", ");
-  const options = [["", held?.label && !types ? held.label : t("noKind")], ...PROPERTIES[property].types.map((type) => [type, words(type)])];
+  const types =
+    held?.types.join(",") ?? { TEL: "work", EMAIL: "work", ADR: "work", URL: "" }[property];
+  const words = (key) =>
+    key.split(",").map((type) => (has(`type.${type}`) ? t(`type.${type}`) : type)).join(", ");
+  const options = [
+    ["", held?.label && !types ? held.label : t("noKind")],
+    ...PROPERTIES[property].types.map((type) => [type, words(type)])
+  ];
   if (types && !options.some(([key]) => key === types)) options.push([types, words(types)]);
   return choice(options, types);
 }

@@ -15,7 +15,8 @@ export function dateOf(value) {
   const found = FORMS.map((form) => form.exec(value)).find(Boolean);
   if (!found) return null;
   const part = (name) => (found.groups[name] ? Number(found.groups[name]) : null);
-  const date = { year: part("year"), month: part("month"), day: part("day"), rest: found.groups.rest || "" };
+  const date =
+    { year: part("year"), month: part("month"), day: part("day"), rest: found.groups.rest || "" };
   return isDate(date) ? date : null;
 }
 
@@ -29,8 +30,12 @@ export function isDate({ year, month, day }) {
 // The value that says a date.
 export function writtenDate({ year, month, day, rest = "" }) {
   const two = (number) => String(number).padStart(2, "0");
-  if (year !== null && month !== null && day !== null) return String(year).padStart(4, "0") + two(month) + two(day) + rest;
-  if (year !== null) return String(year).padStart(4, "0") + (month !== null ? `-${two(month)}` : "");
+  if (year !== null && month !== null && day !== null) {
+    return String(year).padStart(4, "0") + two(month) + two(day) + rest;
+  }
+  if (year !== null) {
+    return String(year).padStart(4, "0") + (month !== null ? `-${two(month)}` : "");
+  }
   if (month !== null) return `--${two(month)}${day !== null ? two(day) + rest : ""}`;
   return `---${two(day)}${rest}`;
 }

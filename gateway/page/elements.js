@@ -13,9 +13,13 @@ export function make(tag, attributes = {}, ...content) {
   for (const [name, value] of Object.entries(attributes)) {
     if (name.startsWith("on")) element.addEventListener(name.slice(2), value);
     else if (value === true) element.setAttribute(name, "");
-    else if (value !== false && value !== null && value !== undefined) element.setAttribute(name, value);
+    else if (value !== false && value !== null && value !== undefined) {
+      element.setAttribute(name, value);
+    }
   }
-  element.append(...content.flat().filter((item) => item !== null && item !== undefined && item !== false));
+  element.append(
+    ...content.flat().filter((item) => item !== null && item !== undefined && item !== false)
+  );
   return element;
 }
 
@@ -38,7 +42,9 @@ export function textInput(value = "", attributes = {}) {
 }
 
 export function choice(options, value, attributes = {}) {
-  const select = make("select", attributes, options.map(([key, title]) => make("option", { value: key }, title)));
+  const select = make(
+    "select", attributes, options.map(([key, title]) => make("option", { value: key }, title))
+  );
   select.value = value;
   return select;
 }
@@ -58,7 +64,10 @@ export function link(path, ...content) {
 }
 
 export function form(title, work, ...content) {
-  return make("form", { onsubmit: guarded(work) }, ...content, make("p", { class: "row" }, make("button", { type: "submit", class: "main" }, title)));
+  return make(
+    "form", { onsubmit: guarded(work) }, ...content,
+    make("p", { class: "row" }, make("button", { type: "submit", class: "main" }, title))
+  );
 }
 
 export function section(title, ...content) {
@@ -148,7 +157,13 @@ export function ask(title, content, title2, work) {
   return new Promise((resolve, reject) => {
     const heading = make("h2", {}, title);
     const failed = make("p", { role: "alert", class: "failed" });
-    const dialog = make("dialog", { "aria-labelledby": idOf(heading), onclose: () => { dialog.remove(); resolve(null); } });
+    const dialog = make("dialog", {
+      "aria-labelledby": idOf(heading),
+      onclose: () => {
+        dialog.remove();
+        resolve(null);
+      }
+    });
     const submit = async (event) => {
       event.preventDefault();
       failed.textContent = "";
@@ -162,8 +177,13 @@ export function ask(title, content, title2, work) {
         dialog.close();
       }
     };
-    dialog.append(make("form", { onsubmit: submit }, heading, ...[content].flat(), failed, make("p", { class: "row" },
-      make("button", { type: "submit", class: "main" }, title2), make("button", { type: "button", onclick: () => dialog.close() }, t("cancel")))));
+    dialog.append(make(
+      "form", { onsubmit: submit }, heading, ...[content].flat(), failed,
+      make(
+        "p", { class: "row" }, make("button", { type: "submit", class: "main" }, title2),
+        make("button", { type: "button", onclick: () => dialog.close() }, t("cancel"))
+      )
+    ));
     document.body.append(dialog);
     dialog.showModal();
   });

@@ -1,6 +1,8 @@
 // A card as a person's entry: its fields, each of one line, and what changing one writes. Whatever
 // has no field here is kept as it stands, and shown under "more".
-import { clean, escaped, newLine, paramOf, partsOf, unescaped, withParams, withValue } from "./lines.js";
+import {
+  clean, escaped, newLine, paramOf, partsOf, unescaped, withParams, withValue,
+} from "./lines.js";
 import { dateOf, writtenDate } from "./dates.js";
 
 // What each property is: its kind, and whether a card may have several lines of it that people
@@ -22,8 +24,10 @@ export const PROPERTIES = {
   NOTE: { kind: "text", several: true },
 };
 // In which order the fields are shown.
-export const ORDER = ["N", "FN", "NICKNAME", "ORG", "TITLE", "ROLE", "TEL", "EMAIL", "ADR", "URL", "BDAY", "ANNIVERSARY",
-  "CATEGORIES", "NOTE"];
+export const ORDER = [
+  "N", "FN", "NICKNAME", "ORG", "TITLE", "ROLE", "TEL", "EMAIL", "ADR", "URL", "BDAY",
+  "ANNIVERSARY", "CATEGORIES", "NOTE"
+];
 const FRAME = new Set(["BEGIN", "VERSION", "END", ""]);
 const LABEL = "X-ABLABEL";
 // Types that say nothing which people ask for.
@@ -40,8 +44,15 @@ export function fieldsOf(lines) {
     const value = valueOf(line, known);
     if (value === null) continue;
     seen.add(line.name);
-    fields.push({ line, property: line.name, kind: known.kind, value, types: typesOf(line), label: labelOf(lines, line),
-      preferred: isPreferred(line) });
+    fields.push({
+      line,
+      property: line.name,
+      kind: known.kind,
+      value,
+      types: typesOf(line),
+      label: labelOf(lines, line),
+      preferred: isPreferred(line)
+    });
   }
   return fields.sort((one, other) => ORDER.indexOf(one.property) - ORDER.indexOf(other.property));
 }
@@ -50,16 +61,22 @@ export function fieldsOf(lines) {
 export function othersOf(lines) {
   const held = new Set(fieldsOf(lines).map((field) => field.line));
   const picture = pictureOf(lines);
-  return lines.filter((line) => !FRAME.has(line.name) && !held.has(line) && line.name !== "MEMBER" && line.name !== LABEL
-    && !(picture && line.name === "PHOTO" && line.value === picture));
+  return lines.filter(
+    (line) => !FRAME.has(line.name) && !held.has(line) && line.name !== "MEMBER" &&
+      line.name !== LABEL && !(picture && line.name === "PHOTO" && line.value === picture)
+  );
 }
 
 // The value of a line as its field has it; null where it has another form.
 function valueOf(line, known) {
   if (known.kind === "phone") return phoneOf(line);
   if (known.kind === "address") return line.value;
-  if (known.kind === "date") return paramOf(line, "VALUE").includes("text") ? null : dateOf(line.value);
-  if (known.kind === "list") return partsOf(line.value, ",").map((part) => unescaped(part).trim()).filter(Boolean);
+  if (known.kind === "date") {
+    return paramOf(line, "VALUE").includes("text") ? null : dateOf(line.value);
+  }
+  if (known.kind === "list") {
+    return partsOf(line.value, ",").map((part) => unescaped(part).trim()).filter(Boolean);
+  }
   if (known.kind === "parts") {
     const parts = partsOf(line.value, ";").map((part) => shownPart(part, known));
     while (parts.length < known.count) parts.push("");
@@ -73,7 +90,9 @@ function shownPart(part, known) {
 }
 
 function writtenPart(text, known) {
-  return known.lists ? text.split(",").map((word) => escaped(word.trim())).join(",") : escaped(text.trim());
+  return known.lists
+    ? text.split(",").map((word) => escaped(word.trim())).join(",")
+    : escaped(text.trim());
 }
 
 // A telephone number as people read it: a text, or a URI without its scheme.
@@ -82,20 +101,27 @@ function phoneOf(line) {
 }
 
 function isUri(line) {
-  return paramOf(line, "VALUE").map((word) => word.toLowerCase()).includes("uri") || /^tel:/i.test(line.value);
+  return paramOf(line, "VALUE").map((word) => word.toLowerCase()).includes("uri") ||
+    /^tel:/i.test(line.value);
 }
 
 export function typesOf(line) {
-  return paramOf(line, "TYPE").map((word) => word.toLowerCase()).filter((word) => word && !SILENT.has(word));
+  return paramOf(line, "TYPE")
+    .map((word) => word.toLowerCase())
+    .filter((word) => word && !SILENT.has(word));
 }
 
 function isPreferred(line) {
-  return paramOf(line, "PREF").length > 0 || paramOf(line, "TYPE").some((word) => word.toLowerCase() === "pref");
+  return paramOf(line, "PREF").length > 0 ||
+    paramOf(line, "TYPE").some((word) => word.toLowerCase() === "pref");
 }
 
 // The name that programs of Apple give a line: a line of the same group.
 function labelOf(lines, line) {
-  const found = line.group && lines.find((other) => other.name === LABEL && other.group.toUpperCase() === line.group.toUpperCase());
+  const found = line.group &&
+    lines.find(
+      (other) => other.name === LABEL && other.group.toUpperCase() === line.group.toUpperCase()
+    );
   return found ? unescaped(found.value).replace(/^_\$!<(.*)>!\$_$/, "$1") : "";
 }
 
@@ -119,7 +145,9 @@ function rewritten(line, field, value) {
   const known = PROPERTIES[field.property];
   if (field.kind === "phone") return withPhone(line, value);
   if (field.kind === "address") return withValue(line, clean(value).trim());
-  if (field.kind === "date") return withValue(withoutParam(line, "X-APPLE-OMIT-YEAR"), writtenDate(value));
+  if (field.kind === "date") {
+    return withValue(withoutParam(line, "X-APPLE-OMIT-YEAR"), writtenDate(value));
+  }
   if (field.kind === "list") return withValue(line, value.map(escaped).join(","));
   if (field.kind === "text") return withValue(line, escaped(value));
   const parts = partsOf(line.value, ";");
@@ -140,7 +168,9 @@ function withoutParam(line, ...names) {
 function withPhone(line, value) {
   const text = clean(value).trim();
   if (!isUri(line)) return withValue(line, escaped(text));
-  if (/^\+?[0-9 ().-]+$/.test(text)) return withValue(line, `tel:${text.replace(/[ ().]+/g, "-").replace(/-+/g, "-")}`);
+  if (/^\+?[0-9 ().-]+$/.test(text)) {
+    return withValue(line, `tel:${text.replace(/[ ().]+/g, "-").replace(/-+/g, "-")}`);
+  }
   return withValue(withoutParam(line, "VALUE"), escaped(text));
 }
 
@@ -154,13 +184,21 @@ function withTypes(line, types) {
 }
 
 function withoutLabel(lines, line) {
-  return lines.filter((other) => !(other.name === LABEL && other.group && other.group.toUpperCase() === line.group.toUpperCase()));
+  return lines.filter(
+    (other) =>
+      !(other.name === LABEL && other.group &&
+        other.group.toUpperCase() === line.group.toUpperCase())
+  );
 }
 
 // The lines with a new one for this property: after the last of its kind, else before the end.
 export function added(lines, property, value, types = []) {
   const known = PROPERTIES[property];
-  const line = newLine({ name: property, params: types.length ? [["TYPE", types]] : [], value: firstValue(known, value) });
+  const line = newLine({
+    name: property,
+    params: types.length ? [["TYPE", types]] : [],
+    value: firstValue(known, value)
+  });
   return inserted(lines, line);
 }
 
@@ -184,8 +222,11 @@ function firstValue(known, value) {
 
 // The lines without a field, and without the name that its group gives it.
 export function removed(lines, field) {
-  const alone = field.line.group && lines.filter((line) => line.group.toUpperCase() === field.line.group.toUpperCase()
-    && line.name !== LABEL).length === 1;
+  const group = field.line.group.toUpperCase();
+  const together = lines.filter(
+    (line) => line.group.toUpperCase() === group && line.name !== LABEL
+  );
+  const alone = group && together.length === 1;
   return (alone ? withoutLabel(lines, field.line) : lines).filter((line) => line !== field.line);
 }
 
@@ -228,7 +269,10 @@ export function membersOf(lines) {
 export function withMembers(lines, members) {
   const kept = lines.filter((line) => line.name !== "MEMBER" || members.includes(line.value));
   const held = membersOf(kept);
-  return members.filter((one) => !held.includes(one)).reduce((all, one) => inserted(all, newLine({ name: "MEMBER", value: one })), kept);
+  const fresh = members.filter((one) => !held.includes(one));
+  return fresh.reduce(
+    (all, one) => inserted(all, newLine({ name: "MEMBER", value: one })), kept
+  );
 }
 
 // The URI that names the card of a UID in a group (RFC 6350, section 6.6.5).
@@ -238,7 +282,8 @@ export function memberUri(uid) {
 
 // The text of a new card. `uid` is a UUID.
 export function newCard(uid, { kind = "" } = {}) {
-  return `BEGIN:VCARD\r\nVERSION:4.0\r\nUID:urn:uuid:${uid}\r\n${kind ? `KIND:${kind}\r\n` : ""}END:VCARD\r\n`;
+  const more = kind ? `KIND:${kind}\r\n` : "";
+  return `BEGIN:VCARD\r\nVERSION:4.0\r\nUID:urn:uuid:${uid}\r\n${more}END:VCARD\r\n`;
 }
 
 // The name that a person's parts make.

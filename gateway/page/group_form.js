@@ -1,7 +1,9 @@
 // A group of cards (RFC 6350, KIND:group), made by picking cards of its book.
 import { ask, putCard, putNewCard, readCard } from "./ask.js";
 import { button, field, form, go, link, make, show, textInput } from "./elements.js";
-import { added, changed, fieldsOf, memberUri, membersOf, newCard, newUuid, textOfProperty, withMembers } from "./entry.js";
+import {
+  added, changed, fieldsOf, memberUri, membersOf, newCard, newUuid, textOfProperty, withMembers,
+} from "./entry.js";
 import { linesOf, textOf } from "./lines.js";
 import { last, nameOf } from "./names.js";
 import { t } from "./texts.js";
@@ -13,14 +15,23 @@ export async function showGroupForm(book, path) {
   const lines = linesOf(card ? card.text : newCard(uid, { kind: "group" }));
   const name = textInput(textOfProperty(lines, "FN"), { required: true, autocomplete: "off" });
   const picker = new Picker(book, lines, card?.names ?? {});
-  show(path ? t("editOf", { name: name.value || last(path) }) : t("newGroupIn", { book: nameOf(book) }),
-    form(t(path ? "save" : "makeGroup"), async () => {
-      const text = textOf(withMembers(named(lines, name.value), picker.members()));
-      const target = path ?? `${book}/${uid}.vcf`;
-      if (!path) await putNewCard(target, text);
-      else if (text !== card.text) await putCard(target, text, card.tag);
-      go(target, path ? t("cardSaved") : "");
-    }, field(t("groupName"), name), picker.parts()), make("p", {}, link(path ?? book, t("cancel"))));
+  show(
+    path
+      ? t("editOf", { name: name.value || last(path) })
+      : t("newGroupIn", { book: nameOf(book) }),
+    form(
+      t(path ? "save" : "makeGroup"),
+      async () => {
+        const text = textOf(withMembers(named(lines, name.value), picker.members()));
+        const target = path ?? `${book}/${uid}.vcf`;
+        if (!path) await putNewCard(target, text);
+        else if (text !== card.text) await putCard(target, text, card.tag);
+        go(target, path ? t("cardSaved") : "");
+      },
+      field(t("groupName"), name), picker.parts()
+    ),
+    make("p", {}, link(path ?? book, t("cancel")))
+  );
   name.focus();
 }
 
@@ -55,15 +66,31 @@ class Picker {
   }
 
   parts() {
-    return [make("fieldset", {}, make("legend", {}, t("members")), this.list, field(t("findMember"), this.find, t("findMemberHint")), this.found)];
+    return [make(
+      "fieldset", {}, make("legend", {}, t("members")), this.list,
+      field(t("findMember"), this.find, t("findMemberHint")), this.found
+    )];
   }
 
   tell() {
-    this.list.replaceChildren(...[...this.chosen].map(([uri, name]) => make("li", {}, make("span", { class: "title" }, name), button("×", () => {
-      this.chosen.delete(uri);
-      this.tell();
-      this.find.focus();
-    }, { class: "away", "aria-label": t("takeAway", { what: name }), title: t("takeAway", { what: name }) }))));
+    this.list.replaceChildren(...[...this.chosen].map(
+      ([uri, name]) => make(
+        "li", {}, make("span", { class: "title" }, name),
+        button(
+          "×",
+          () => {
+            this.chosen.delete(uri);
+            this.tell();
+            this.find.focus();
+          },
+          {
+            class: "away",
+            "aria-label": t("takeAway", { what: name }),
+            title: t("takeAway", { what: name })
+          }
+        )
+      )
+    ));
   }
 
   async search() {
@@ -74,13 +101,25 @@ class Picker {
     const words = this.find.value;
     const { value } = await ask("POST", "/page/members", { path: this.book, words });
     if (words !== this.find.value) return;
-    this.found.replaceChildren(...value.rows.filter((row) => !this.chosen.has(memberUri(row.uid))).slice(0, 8).map((row) => make("li", {},
-      button(t("addOne", { name: row.name || last(row.path) }), () => {
-        this.chosen.set(memberUri(row.uid), row.name);
-        this.find.value = "";
-        this.found.replaceChildren();
-        this.tell();
-        this.find.focus();
-      }, { class: "link" }), make("span", { class: "soft" }, row.organisation))));
+    this.found.replaceChildren(...value.rows
+                                 .filter((row) => !this.chosen.has(memberUri(row.uid)))
+                                 .slice(0, 8)
+                                 .map(
+                                   (row) => make(
+                                     "li", {},
+                                     button(
+                                       t("addOne", { name: row.name || last(row.path) }),
+                                       () => {
+                                         this.chosen.set(memberUri(row.uid), row.name);
+                                         this.find.value = "";
+                                         this.found.replaceChildren();
+                                         this.tell();
+                                         this.find.focus();
+                                       },
+                                       { class: "link" }
+                                     ),
+                                     make("span", { class: "soft" }, row.organisation)
+                                   )
+                                 ));
   }
 }

@@ -58,8 +58,11 @@ export async function showImport(path) {
     place.replaceChildren(...previewParts(path, cards, told));
     place.querySelector("h2")?.scrollIntoView({ block: "nearest" });
   });
-  show(t("importInto", { book: nameOf(path) }), make("p", { class: "tools" }, link(path, t("backToBook", { book: nameOf(path) }))),
-    field(t("fileOfCards"), input, t("fileHint")), place);
+  show(
+    t("importInto", { book: nameOf(path) }),
+    make("p", { class: "tools" }, link(path, t("backToBook", { book: nameOf(path) }))),
+    field(t("fileOfCards"), input, t("fileHint")), place
+  );
 }
 
 // What would be done with each card. Of a large one its picture is not sent: it is made smaller as
@@ -69,7 +72,9 @@ async function previewOf(path, cards) {
   let batch = [];
   let size = 0;
   const send = async () => {
-    if (batch.length) told.push(...(await ask("POST", "/page/preview", { path, texts: batch })).value.cards);
+    if (batch.length) {
+      told.push(...(await ask("POST", "/page/preview", { path, texts: batch })).value.cards);
+    }
     batch = [];
     size = 0;
   };
@@ -81,7 +86,10 @@ async function previewOf(path, cards) {
     size += bytes;
   }
   await send();
-  return told.map((one, at) => (cards[at].length > LARGE && one.state !== "refused" ? { ...one, notes: [...one.notes, t("photoSmaller")] } : one));
+  return told.map((one, at) => {
+    const isLarge = cards[at].length > LARGE && one.state !== "refused";
+    return isLarge ? { ...one, notes: [...one.notes, t("photoSmaller")] } : one;
+  });
 }
 
 function withoutPicture(card) {
@@ -90,21 +98,51 @@ function withoutPicture(card) {
 
 function previewParts(path, cards, told) {
   const count = (state) => told.filter((one) => one.state === state).length;
-  const lines = ["new", "other", "same", "refused"].filter(count).map((state) => make("li", {}, t(`import.${state}`, { count: count(state) })));
+  const states = ["new", "other", "same", "refused"].filter(count);
+  const lines = states.map(
+    (state) => make("li", {}, t(`import.${state}`, { count: count(state) }))
+  );
   const replace = checkbox(t("replaceOthers"), false, { id: "replace" });
-  const rows = told.map((one, at) => ({ ...one, text: cards[at] })).filter((one) => one.state !== "same");
+  const rows =
+    told.map((one, at) => ({ ...one, text: cards[at] })).filter((one) => one.state !== "same");
   const start = button(t("importNow"), async () => {
     start.disabled = true;
-    await importAll(path, rows.filter((one) => one.state === "new" || (one.state === "other" && replace.querySelector("input").checked)), rows.filter((one) => one.state === "refused"));
+    await importAll(
+      path,
+      rows.filter(
+        (one) => one.state === "new" ||
+          (one.state === "other" && replace.querySelector("input").checked)
+      ),
+      rows.filter((one) => one.state === "refused")
+    );
   }, { class: "main" });
-  return [section(t("preview"), cards.length ? make("ul", { class: "plain", id: "counts" }, lines) : make("p", {}, t("noCardInFile")),
-    count("other") ? make("p", {}, replace) : null, count("new") + count("other") ? make("p", {}, start) : null,
-    make("ul", { class: "rows", id: "imported" }, rows.slice(0, SHOWN).map((one) => make("li", {}, make("span", { class: "title" }, one.name || t("noName"),
-      make("span", { class: "soft" }, stateWords(one)))))), rows.length > SHOWN ? make("p", { class: "soft" }, t("firstOf", { count: SHOWN })) : null)];
+  return [section(
+    t("preview"),
+    cards.length
+      ? make("ul", { class: "plain", id: "counts" }, lines)
+      : make("p", {}, t("noCardInFile")),
+    count("other") ? make("p", {}, replace) : null,
+    count("new") + count("other") ? make("p", {}, start) : null,
+    make(
+      "ul", { class: "rows", id: "imported" },
+      rows.slice(0, SHOWN).map(
+        (one) => make(
+          "li", {},
+          make(
+            "span", { class: "title" }, one.name || t("noName"),
+            make("span", { class: "soft" }, stateWords(one))
+          )
+        )
+      )
+    ),
+    rows.length > SHOWN ? make("p", { class: "soft" }, t("firstOf", { count: SHOWN })) : null
+  )];
 }
 
 function stateWords(one) {
-  if (one.state === "refused") return firstWords({ error: "bad-card", fault: one.fault, line: one.line });
+  if (one.state === "refused") {
+    return firstWords({ error: "bad-card", fault: one.fault, line: one.line });
+  }
   return [t(`state.${one.state}`), ...one.notes].join(" · ");
 }
 
@@ -117,23 +155,40 @@ async function importAll(path, rows, refusedBefore) {
     while (next < rows.length) {
       const one = rows[next++];
       try {
-        const condition = one.state !== "new" ? { "If-Match": one.tag } : readsCards(path) ? { "If-None-Match": "*" } : {};
-        await ask("PUT", `/dav${one.path}`, one.text, { "Content-Type": "text/vcard; charset=utf-8", ...condition });
+        const fresh = readsCards(path) ? { "If-None-Match": "*" } : {};
+        const condition = one.state !== "new" ? { "If-Match": one.tag } : fresh;
+        await ask(
+          "PUT", `/dav${one.path}`, one.text,
+          { "Content-Type": "text/vcard; charset=utf-8", ...condition }
+        );
         done += 1;
       } catch (fault) {
         if (!(fault instanceof Refused)) throw fault;
         refused.push({ ...one, cause: shortWords(fault) });
       }
-      if ((done + refused.length) % 25 === 0) say(t("importedSoFar", { count: done, all: rows.length }));
+      if ((done + refused.length) % 25 === 0) {
+        say(t("importedSoFar", { count: done, all: rows.length }));
+      }
     }
   };
   await Promise.all(Array.from({ length: TOGETHER }, work));
-  go(path, make("p", { class: "first" }, t("importedCount", { count: done })), ...refusedParts(refused));
+  go(
+    path, make("p", { class: "first" }, t("importedCount", { count: done })),
+    ...refusedParts(refused)
+  );
 }
 
 function refusedParts(refused) {
   if (!refused.length) return [];
-  const address = URL.createObjectURL(new Blob(refused.map((one) => one.text), { type: "text/vcard" }));
-  return [make("p", {}, t("refusedCount", { count: refused.length }), " ", make("a", { href: address, download: "refused.vcf" }, t("refusedFile"))),
-    make("ul", { class: "plain" }, refused.slice(0, SHOWN).map((one) => make("li", {}, `${one.name || t("noName")}: ${one.cause}`)))];
+  const address =
+    URL.createObjectURL(new Blob(refused.map((one) => one.text), { type: "text/vcard" }));
+  return [
+    make(
+      "p", {}, t("refusedCount", { count: refused.length }), " ",
+      make("a", { href: address, download: "refused.vcf" }, t("refusedFile"))
+    ),
+    make("ul", { class: "plain" }, refused.slice(0, SHOWN).map(
+      (one) => make("li", {}, `${one.name || t("noName")}: ${one.cause}`)
+    ))
+  ];
 }

@@ -24,12 +24,22 @@ function lineOf(raw) {
   const unfolded = raw.slice(0, raw.length - end.length).replace(/\r?\n[ \t]/g, "");
   const head = HEAD.exec(unfolded);
   if (!head) return { raw, end, group: "", name: "", params: [], value: unfolded };
-  const params = [...head[3].matchAll(PARAMETER)].map(([, name, values]) => [name.toUpperCase(), valuesOf(values)]);
-  return { raw, end, group: head[1] || "", name: head[2].toUpperCase(), params, value: unfolded.slice(head[0].length) };
+  const params = [...head[3].matchAll(PARAMETER)].map(
+    ([, name, values]) => [name.toUpperCase(), valuesOf(values)]
+  );
+  return {
+    raw,
+    end,
+    group: head[1] || "",
+    name: head[2].toUpperCase(),
+    params,
+    value: unfolded.slice(head[0].length)
+  };
 }
 
 function valuesOf(text) {
-  return (text.match(new RegExp(`${VALUE}(?=,|$)`, "g")) || []).map((value) => value.replace(/^"|"$/g, ""))
+  return (text.match(new RegExp(`${VALUE}(?=,|$)`, "g")) || [])
+    .map((value) => value.replace(/^"|"$/g, ""))
     .filter((value, at, all) => value !== "" || all.length === 1);
 }
 
@@ -61,7 +71,9 @@ function nameAsWritten(line) {
 
 // All values of a parameter. A value with commas in quotes is several, as TYPE has them.
 export function paramOf(line, name) {
-  return line.params.filter(([key]) => key === name).flatMap(([, values]) => values).flatMap((value) => value.split(","));
+  return line.params.filter(([key]) => key === name)
+    .flatMap(([, values]) => values)
+    .flatMap((value) => value.split(","));
 }
 
 function quoted(value) {
@@ -99,7 +111,9 @@ export function sizeOf(text) {
 
 // A text value as people read it, and the value that says a text.
 export function unescaped(value) {
-  return value.replace(/\\([\\,;:nN])/g, (_, character) => ("nN".includes(character) ? "\n" : character));
+  return value.replace(
+    /\\([\\,;:nN])/g, (_, character) => ("nN".includes(character) ? "\n" : character)
+  );
 }
 
 export function escaped(text) {

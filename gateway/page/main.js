@@ -32,7 +32,10 @@ const VIEWS = [
   [/^\/newgroup(\/books\/[^/]+)$/, (_, path) => showGroupForm(path, null)],
   [/^\/edit(\/books\/[^/]+\/[^/]+)$/, (_, path) => showEdit(path)],
   [/^\/text(\/books\/[^/]+\/[^/]+)$/, (_, path) => showText(path)],
-  [/^\/members(\/books\/[^/]+)\/([^/]+)$/, (_, book, name) => showGroupForm(book, `${book}/${name}`)],
+  [
+    /^\/members(\/books\/[^/]+)\/([^/]+)$/,
+    (_, book, name) => showGroupForm(book, `${book}/${name}`)
+  ],
   [/^\/books\/[^/]+$/, (path) => showBook(path)],
   [/^\/books\/[^/]+\/[^/]+$/, (path) => showCard(path)],
 ];
@@ -65,18 +68,23 @@ async function viewed(path) {
     if (fault instanceof Gone || signedIn.person === null) return false;
     if (!(fault instanceof Refused)) throw fault;
     learnRefusal(fault.detail);
-    show(t("notShown"), make("div", { class: "refusal", id: "cause" }, refusalParts(fault)), make("p", {}, link("/", t("books"))));
+    show(
+      t("notShown"), make("div", { class: "refusal", id: "cause" }, refusalParts(fault)),
+      make("p", {}, link("/", t("books")))
+    );
     return true;
   }
 }
 
 // Marks the part of the office that is shown.
 function mark(path) {
-  const part = /^\/(people|groups)/.exec(path)?.[1] ?? (path === "/account" || path === "/search" ? "" : "");
+  const part = /^\/(people|groups)/.exec(path)?.[1] ??
+    (path === "/account" || path === "/search" ? "" : "");
   for (const one of nav.querySelectorAll("nav a")) {
     const own = one.getAttribute("href").slice(2);
-    if (own === part && (own || /^\/(books|edit|text|new|newgroup|members|import|$)/.test(path))) one.setAttribute("aria-current", "page");
-    else one.removeAttribute("aria-current");
+    if (own === part && (own || /^\/(books|edit|text|new|newgroup|members|import|$)/.test(path))) {
+      one.setAttribute("aria-current", "page");
+    } else one.removeAttribute("aria-current");
   }
 }
 
@@ -102,8 +110,12 @@ function end() {
 }
 
 function writeHeader() {
-  for (const element of document.querySelectorAll("[data-text]")) element.textContent = t(element.dataset.text);
-  for (const element of document.querySelectorAll("[data-label]")) element.setAttribute("aria-label", t(element.dataset.label));
+  for (const element of document.querySelectorAll("[data-text]")) {
+    element.textContent = t(element.dataset.text);
+  }
+  for (const element of document.querySelectorAll("[data-label]")) {
+    element.setAttribute("aria-label", t(element.dataset.label));
+  }
   document.getElementById("find").placeholder = t("searchHint");
 }
 

@@ -49,13 +49,18 @@ export function who(principal) {
   return isGroupPath(principal) ? t("groupNamed", { name: nameOf(principal) }) : nameOf(principal);
 }
 
-export const whoOf = (entry) => (entry.invert !== undefined ? t("allBut", { who: who(entry.invert) }) : who(entry.principal));
+export const whoOf = (entry) =>
+  (entry.invert !== undefined ? t("allBut", { who: who(entry.invert) }) : who(entry.principal));
 
 export const isSelf = (path) => path === `/people/${signedIn.person}`;
 
 // The book of a path where the person may read it; else null.
-export const readableBook = (path) => books.find((book) => book.path === bookOf(path) && book.sees === "cards") ?? null;
+export const readableBook = (path) =>
+  books.find((book) => book.path === bookOf(path) && book.sees === "cards") ?? null;
 
 // Whether the cards of a path's book are read: not where it is known that names alone are seen, or
 // nothing.
-export const readsCards = (path) => [undefined, "cards"].includes(books.find((book) => book.path === bookOf(path))?.sees);
+export function readsCards(path) {
+  const sees = books.find((book) => book.path === bookOf(path))?.sees;
+  return sees === undefined || sees === "cards";
+}

@@ -2,11 +2,18 @@
 // that denies.
 import { Gone, Refused, readList, unlessDenied } from "./ask.js";
 import { complain, handleFaults, make } from "./elements.js";
-import { bookOf, isCard, isBook, isSelf, isGroupPath, nameOf, readableBook, who, whoOf } from "./names.js";
+import {
+  bookOf, isCard, isBook, isSelf, isGroupPath, nameOf, readableBook, who, whoOf,
+} from "./names.js";
 import { learnRefusal } from "./rights.js";
 import { has, t } from "./texts.js";
 
-const kindOf = (path) => (isCard(path) ? "card" : isBook(path) ? "book" : path === "/books" ? "books" : isGroupPath(path) ? "group" : "place");
+function kindOf(path) {
+  if (isCard(path)) return "card";
+  if (isBook(path)) return "book";
+  if (path === "/books") return "books";
+  return isGroupPath(path) ? "group" : "place";
+}
 
 // What is denied, in one sentence.
 function deniedSentence(detail) {
@@ -35,7 +42,11 @@ export function firstWords(detail, method = "") {
 // The smaller words of a denial: an element that is filled as soon as it is known what may be told.
 export function moreWords(detail) {
   if (!detail.privilege) return null;
-  const wanted = t("wanted", { what: t(`privilege.${detail.privilege}`), privilege: detail.privilege, place: detail.resource });
+  const wanted = t("wanted", {
+    what: t(`privilege.${detail.privilege}`),
+    privilege: detail.privilege,
+    place: detail.resource
+  });
   const place = make("p", { class: "cause" }, `${wanted} ${entrySentence(detail)}`);
   if (detail.entry) {
     unlessDenied(readList(detail.resource)).then((list) => {
@@ -56,15 +67,23 @@ function entrySentence(detail) {
 // place.
 export function knownEntry(detail, list, entry) {
   const from = entry.inherited || detail.resource;
-  const same = (one) => (one.inherited || detail.resource) === from && Boolean(one.protected) === Boolean(entry.protected);
+  const same = (one) => (one.inherited || detail.resource) === from &&
+    Boolean(one.protected) === Boolean(entry.protected);
   const number = list.slice(0, detail.entry.number).filter(same).length;
-  const words = { number, from, who: whoOf(entry), names: (entry.deny || entry.grant).map((name) => t(`privilege.${name}`)).join(", ") };
+  const words = {
+    number,
+    from,
+    who: whoOf(entry),
+    names: (entry.deny || entry.grant).map((name) => t(`privilege.${name}`)).join(", ")
+  };
   return t(entry.protected ? "entryProtected" : "entryOwn", words);
 }
 
 // The elements that show a refusal in a view.
 export function refusalParts(fault) {
-  return [make("p", { class: "first" }, firstWords(fault.detail, fault.method)), moreWords(fault.detail)].filter(Boolean);
+  return [
+    make("p", { class: "first" }, firstWords(fault.detail, fault.method)), moreWords(fault.detail)
+  ].filter(Boolean);
 }
 
 // Shows the fault of some work in the live region; whether it is one that is known.

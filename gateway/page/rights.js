@@ -1,8 +1,10 @@
 // Privileges, and the few words that people use for sets of them. What is granted the server
 // decides; here it is only said.
 
-export const LEAVES = ["x-read-texts", "write-content", "write-properties", "bind", "unbind", "read-acl", "write-acl",
-  "read-current-user-privilege-set", "x-read-names"];
+export const LEAVES = [
+  "x-read-texts", "write-content", "write-properties", "bind", "unbind", "read-acl",
+  "write-acl", "read-current-user-privilege-set", "x-read-names"
+];
 export const PRIVILEGES = ["all", "read", "write", ...LEAVES];
 const WITHIN = {
   all: LEAVES,
@@ -11,7 +13,8 @@ const WITHIN = {
 };
 
 // The leaves that a list of privileges stands for.
-export const leavesOf = (privileges) => new Set(privileges.flatMap((name) => WITHIN[name] ?? [name]));
+export const leavesOf = (privileges) =>
+  new Set(privileges.flatMap((name) => WITHIN[name] ?? [name]));
 
 // What "share with" offers, from the least to the most: the privileges that an entry of each has.
 const ASKS = "read-current-user-privilege-set";
@@ -52,14 +55,16 @@ export function forgetRefusals() {
 // try was refused.
 export function may(place, privilege) {
   if (!place) return false;
-  return place.may ? place.may.includes(privilege) : tried.has(place.path) && !refused.has(`${place.path} ${privilege}`);
+  if (place.may) return place.may.includes(privilege);
+  return tried.has(place.path) && !refused.has(`${place.path} ${privilege}`);
 }
 
 // Where a new entry goes, so that it decides: before the entries that close the list. These are the
 // denials at its end that are for everybody, and the first one of all that denies everything to
 // everybody.
 export function closingAt(own) {
-  const everybody = (entry) => entry.deny && (entry.invert !== undefined || ["all", "authenticated"].includes(entry.principal));
+  const everybody = (entry) => entry.deny &&
+    (entry.invert !== undefined || ["all", "authenticated"].includes(entry.principal));
   let at = own.length;
   while (at > 0 && everybody(own[at - 1])) at -= 1;
   const first = own.findIndex((entry) => everybody(entry) && entry.deny.includes("all"));

@@ -21,14 +21,20 @@ function later(milliseconds) {
   clearTimeout(wait);
   wait = setTimeout(() => {
     if (!find.value.trim()) return;
-    if (location.hash === "#/search") fill().catch((fault) => { if (!showFault(fault)) throw fault; });
-    else location.hash = "#/search";
+    if (location.hash === "#/search") {
+      fill().catch((fault) => {
+        if (!showFault(fault)) throw fault;
+      });
+    } else location.hash = "#/search";
   }, milliseconds);
 }
 
 export async function showSearch() {
   const typing = document.activeElement === find;
-  show(t("search"), make("p", { class: "soft", role: "status", id: "count" }), make("ul", { class: "rows cards", id: "found" }));
+  show(
+    t("search"), make("p", { class: "soft", role: "status", id: "count" }),
+    make("ul", { class: "rows cards", id: "found" })
+  );
   if (typing) find.focus();
   await fill();
 }
@@ -38,12 +44,23 @@ async function fill() {
   const { value } = await ask("POST", "/page/search", { words: find.value });
   const list = document.getElementById("found");
   if (own !== turn || !list) return;
-  document.getElementById("count").textContent = find.value.trim() ? t("found", { count: value.total }) + (value.total > value.rows.length ? ` ${t("firstOf", { count: value.rows.length })}` : "") : "";
+  const isCut = value.total > value.rows.length;
+  const more = isCut ? ` ${t("firstOf", { count: value.rows.length })}` : "";
+  const count = find.value.trim() ? t("found", { count: value.total }) + more : "";
+  document.getElementById("count").textContent = count;
   list.replaceChildren(...value.rows.map((row) => {
     const name = row.name || last(row.path);
     const book = row.path.split("/").slice(0, 3).join("/");
-    return make("li", {}, make("span", { class: "title" }, row.sees === "cards" ? link(row.path, name) : name,
-      make("span", { class: "soft" }, [row.organisation !== name ? row.organisation : "", row.book || nameOf(book)].filter(Boolean).join(" · "))),
-      make("span", { class: "soft reach" }, row.phone || row.mail));
+    const notes = [
+      row.organisation !== name ? row.organisation : "", row.book || nameOf(book)
+    ];
+    return make(
+      "li", {},
+      make(
+        "span", { class: "title" }, row.sees === "cards" ? link(row.path, name) : name,
+        make("span", { class: "soft" }, notes.filter(Boolean).join(" · "))
+      ),
+      make("span", { class: "soft reach" }, row.phone || row.mail)
+    );
   }));
 }

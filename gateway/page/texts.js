@@ -18,11 +18,17 @@ export async function chooseLanguage() {
   document.documentElement.lang = language;
 }
 
+// The form of a text that is for a number.
+function formOf(forms, count) {
+  return forms[new Intl.PluralRules(language).select(count)] ?? forms.other;
+}
+
 // The text of a key. `{name}` stands for a value; a text of several forms is chosen by `count`.
 export function t(key, values = {}) {
   const found = texts[key] ?? english[key] ?? key;
-  const form = typeof found === "object" ? found[new Intl.PluralRules(language).select(values.count)] ?? found.other : found;
-  return form.replace(/\{(\w+)\}/g, (_, name) => (name === "count" ? number(values.count) : String(values[name] ?? "")));
+  const form = typeof found === "object" ? formOf(found, values.count) : found;
+  const value = (name) => (name === "count" ? number(values.count) : String(values[name] ?? ""));
+  return form.replace(/\{(\w+)\}/g, (_, name) => value(name));
 }
 
 // Whether there is a text of this key.

@@ -8,11 +8,17 @@ import { t } from "./texts.js";
 
 // The buttons for some cards of a book. With `one` they are those of a single card's view.
 export function selectionTools(path, book, cards, { one = false } = {}) {
-  const others = knownBooks().filter((other) => other.path !== path && other.sees !== "names" && may(other, "bind"));
+  const others = knownBooks().filter(
+    (other) => other.path !== path && other.sees !== "names" && may(other, "bind")
+  );
   const style = { class: one ? "link" : "" };
   return [
-    others.length && may(book, "unbind") ? button(t("move"), () => transfer("MOVE", path, cards, others, one), style) : null,
-    others.length ? button(t("copy"), () => transfer("COPY", path, cards, others, one), style) : null,
+    others.length && may(book, "unbind")
+      ? button(t("move"), () => transfer("MOVE", path, cards, others, one), style)
+      : null,
+    others.length
+      ? button(t("copy"), () => transfer("COPY", path, cards, others, one), style)
+      : null,
     button(t("export"), () => exportCards(path, cards.map((card) => last(card.path))), style),
     may(book, "unbind") ? button(t("remove"), () => removeAll(path, cards, one), style) : null,
   ].filter(Boolean);
@@ -34,23 +40,52 @@ async function each(cards, work) {
 
 async function transfer(method, path, cards, books, one) {
   const target = choice(books.map((book) => [book.path, nameOf(book.path)]), books[0].path);
-  const wanted = await dialogOf(t(method === "MOVE" ? "moveTo" : "copyTo", { count: cards.length }),
-    [field(t("book"), target), make("p", { class: "soft" }, t(method === "MOVE" ? "moveKeeps" : "copyOwns"))], t(method === "MOVE" ? "move" : "copy"), () => target.value);
+  const wanted = await dialogOf(
+    t(method === "MOVE" ? "moveTo" : "copyTo", { count: cards.length }),
+    [
+      field(t("book"), target),
+      make("p", { class: "soft" }, t(method === "MOVE" ? "moveKeeps" : "copyOwns"))
+    ],
+    t(method === "MOVE" ? "move" : "copy"), () => target.value
+  );
   if (!wanted) return;
-  const refused = await each(cards, (card) => ask(method, `/page${card.path}`, undefined, { Destination: `${wanted}/${last(card.path)}`, Overwrite: "F" }));
+  const refused = await each(cards, (card) => {
+    const fields = { Destination: `${wanted}/${last(card.path)}`, Overwrite: "F" };
+    return ask(method, `/page${card.path}`, undefined, fields);
+  });
   if (one && refused.length) throw refused[0].fault;
   const here = method === "MOVE" || !one ? path : cards[0].path;
-  go(here, ...doneParts(t(method === "MOVE" ? "moved" : "copied", { count: cards.length - refused.length, book: nameOf(wanted) }), refused));
+  go(
+    here,
+    ...doneParts(
+      t(method === "MOVE" ? "moved" : "copied",
+        { count: cards.length - refused.length, book: nameOf(wanted) }),
+      refused
+    )
+  );
 }
 
 // What was done, and each card with which it was not.
 function doneParts(done, refused, ...more) {
-  return [make("p", { class: "first" }, done), ...more, refused.length
-    ? make("ul", { class: "plain" }, refused.map(({ card, fault }) => make("li", {}, `${card.name || last(card.path)}: ${shortWords(fault)}`))) : null];
+  return [
+    make("p", { class: "first" }, done), ...more,
+    refused.length
+      ? make(
+          "ul", { class: "plain" },
+          refused.map(
+            ({ card, fault }) =>
+              make("li", {}, `${card.name || last(card.path)}: ${shortWords(fault)}`)
+          )
+        )
+      : null
+  ];
 }
 
 async function removeAll(path, cards, one) {
-  const sure = await dialogOf(t("removeSure", { count: cards.length, name: cards[0].name || last(cards[0].path) }), [make("p", { class: "soft" }, t("removeList"))], t("remove"), () => true);
+  const sure = await dialogOf(
+    t("removeSure", { count: cards.length, name: cards[0].name || last(cards[0].path) }),
+    [make("p", { class: "soft" }, t("removeList"))], t("remove"), () => true
+  );
   if (!sure) return;
   const texts = new Map();
   const refused = await each(cards, async (card) => {
@@ -59,7 +94,12 @@ async function removeAll(path, cards, one) {
     texts.set(card.path, held.text);
   });
   if (one && refused.length) throw refused[0].fault;
-  go(path, ...doneParts(t("removed", { count: texts.size }), refused, texts.size ? putBackPart(path, texts) : null));
+  go(
+    path,
+    ...doneParts(
+      t("removed", { count: texts.size }), refused, texts.size ? putBackPart(path, texts) : null
+    )
+  );
 }
 
 // A button that puts removed cards back: their texts, for their owner and list are gone.
@@ -77,7 +117,9 @@ export async function exportCards(path, names) {
   try {
     const { value } = await ask("POST", "/page/export", { path, names });
     const address = URL.createObjectURL(new Blob([value], { type: "text/vcard" }));
-    const anchor = make("a", { href: address, download: `${names.length === 1 ? names[0] : `${last(path)}.vcf`}` });
+    const anchor = make(
+      "a", { href: address, download: `${names.length === 1 ? names[0] : `${last(path)}.vcf`}` }
+    );
     anchor.click();
     setTimeout(() => URL.revokeObjectURL(address), 10_000);
     say(t("exported"));

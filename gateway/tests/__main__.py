@@ -29,9 +29,14 @@ class Counted(unittest.TextTestResult):
         self.passed += 1
 
 
+def end(*_: object) -> None:
+    """Ends the run: unittest takes any other exception for a fault of one test, and goes on."""
+    raise KeyboardInterrupt
+
+
 def main(words: list[str]) -> int:
-    """Status 0 where none failed."""
-    signal.signal(signal.SIGTERM, lambda *_: sys.exit(143))
+    """Status 0 where none failed, 143 where it was ended by TERM or INT."""
+    signal.signal(signal.SIGTERM, end)
     names = [f"tests.{word.removesuffix('.py')}" for word in words or ORDER]
     left_out = {path.stem for path in FOLDER.glob("test_*.py")} - set(ORDER)
     if left_out:
@@ -39,7 +44,11 @@ def main(words: list[str]) -> int:
         return 1
     tests = unittest.defaultTestLoader.loadTestsFromNames(names)
     runner = unittest.TextTestRunner(stream=sys.stdout, verbosity=2, resultclass=Counted)
-    result = runner.run(tests)
+    try:
+        result = runner.run(tests)
+    except KeyboardInterrupt:
+        print("The run was ended before its end.")
+        return 143
     failed = len(result.failures) + len(result.errors)
     for test, reason in result.skipped:
         print(f"skipped: {test}: {reason}")

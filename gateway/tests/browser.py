@@ -1,7 +1,10 @@
-"""A headless Chromium before an office, for tests that use the page as persons do. With OFFICE_SCREENSHOTS set, pictures of
-screens go to that folder."""
+"""A headless Chromium before an office, for tests that use the page as persons do. With
+OFFICE_SCREENSHOTS set, pictures of screens go to that folder.
+"""
 from __future__ import annotations
 
+import atexit
+import contextlib
 import os
 import shutil
 import time
@@ -14,7 +17,9 @@ from tests.world import World, program
 
 try:
     from selenium import webdriver
-    from selenium.common.exceptions import StaleElementReferenceException, TimeoutException, WebDriverException
+    from selenium.common.exceptions import (
+        StaleElementReferenceException, TimeoutException, WebDriverException,
+    )
     from selenium.webdriver.common.by import By
     from selenium.webdriver.common.keys import Keys
     from selenium.webdriver.support.ui import Select, WebDriverWait
@@ -24,9 +29,14 @@ except ImportError:
 POLICY = Path(__file__).resolve().parent / "page.toml"
 PEOPLE = ("ada", "hanna", "omar", "ivy", "gus", "eve", "nora")
 WORDS = {name: f"{name}-word" for name in PEOPLE}
-OPTIONS = ("--headless=new", "--no-sandbox", "--disable-gpu", "--disable-dev-shm-usage", "--no-first-run", "--disable-background-networking")
+OPTIONS = (
+    "--headless=new", "--no-sandbox", "--disable-gpu", "--disable-dev-shm-usage", "--no-first-run",
+    "--disable-background-networking",
+)
 # For how long something is awaited. It is there at once, but where the machine has much else to do.
 SECONDS = 120
+# How often a browser is started that does not come up.
+STARTS = 3
 
 
 def card(*lines: str, uid: str = "") -> str:
@@ -38,18 +48,44 @@ def card(*lines: str, uid: str = "") -> str:
 def needed(test: type) -> type:
     """Skips tests where the server's program or the browser is not there."""
     there = webdriver and shutil.which("chromedriver") and shutil.which("chromium")
-    test = unittest.skipUnless(there, "the packages chromium, chromium-driver and python3-selenium are not there")(test)
-    return unittest.skipUnless(program(), "the server's program is named in BOOK_DESK, or made by make build")(test)
+    test = unittest.skipUnless(
+        there, "the packages chromium, chromium-driver and python3-selenium are not there"
+    )(test)
+    return unittest.skipUnless(
+        program(), "the server's program is named in BOOK_DESK, or made by make build"
+    )(test)
 
 
 def started(folder: Path, language: str = "en") -> Any:
     """A browser that asks for pages in a language."""
     options = webdriver.ChromeOptions()
-    for word in (*OPTIONS, f"--user-data-dir={folder}/chromium-{language}", f"--lang={language}", f"--accept-lang={language}"):
+    for word in (
+        *OPTIONS, f"--user-data-dir={folder}/chromium-{language}", f"--lang={language}",
+        f"--accept-lang={language}",
+    ):
         options.add_argument(word)
-    options.add_experimental_option("prefs", {"download.default_directory": str(folder), "intl.accept_languages": language})
+    options.add_experimental_option(
+        "prefs", {"download.default_directory": str(folder), "intl.accept_languages": language}
+    )
     options.set_capability("goog:loggingPrefs", {"browser": "ALL"})
-    return webdriver.Chrome(options=options, service=webdriver.chrome.service.Service(shutil.which("chromedriver")))
+    for left in reversed(range(STARTS)):
+        service = webdriver.chrome.service.Service(shutil.which("chromedriver"))
+        try:
+            driver = webdriver.Chrome(options=options, service=service)
+        except WebDriverException:
+            # chromedriver waits a minute for the browser, which a busy machine may not have.
+            if not left:
+                raise
+            continue
+        atexit.register(end, driver)
+        return driver
+    return None
+
+
+def end(driver: Any) -> None:
+    """Ends a browser; also where the tests are ended before their end."""
+    with contextlib.suppress(Exception):
+        driver.quit()
 
 
 class Office(unittest.TestCase):
@@ -76,7 +112,7 @@ class Office(unittest.TestCase):
 
     @classmethod
     def tearDownClass(cls) -> None:
-        cls.driver.quit()
+        end(cls.driver)
         cls.world.close()
 
     def setUp(self) -> None:
@@ -98,7 +134,12 @@ class Office(unittest.TestCase):
 
     def one(self, path: str) -> Any:
         """The first element of an XPath that is shown, once it is there."""
-        return self.until(lambda: next((one for one in self.driver.find_elements(By.XPATH, path) if one.is_displayed()), None))
+        return self.until(
+            lambda: next(
+                (one for one in self.driver.find_elements(By.XPATH, path) if one.is_displayed()),
+                None,
+            )
+        )
 
     def all(self, path: str) -> list[Any]:
         """The elements of an XPath that are shown now."""
@@ -106,7 +147,9 @@ class Office(unittest.TestCase):
 
     def heading(self, text: str) -> None:
         """Waits until the view has this heading."""
-        self.until(lambda: text in [one.text for one in self.driver.find_elements(By.TAG_NAME, "h1")])
+        self.until(
+            lambda: text in [one.text for one in self.driver.find_elements(By.TAG_NAME, "h1")]
+        )
 
     def told(self, text: str) -> str:
         """Waits until the page tells this; all that it tells."""
@@ -125,7 +168,9 @@ class Office(unittest.TestCase):
         """Presses the button, link or summary of this title."""
         def pressed() -> bool:
             place = "(//main | //dialog | //*[@id='told'])"
-            for one in self.all(f"{place}//*[self::a or self::button or self::summary][normalize-space()='{title}']"):
+            for one in self.all(
+                f"{place}//*[self::a or self::button or self::summary][normalize-space()='{title}']"
+            ):
                 try:
                     one.click()
                     return True
@@ -137,7 +182,10 @@ class Office(unittest.TestCase):
 
     def offered(self) -> list[str]:
         """What can be pressed in the view above the list, in order."""
-        return [one.text for one in self.all("//main/p[contains(@class, 'tools')]//*[self::a or self::button]")]
+        return [
+            one.text
+            for one in self.all("//main/p[contains(@class, 'tools')]//*[self::a or self::button]")
+        ]
 
     def labelled(self, title: str, at: int = 0) -> Any:
         """The input with this label; of several the one at a place."""
@@ -160,15 +208,23 @@ class Office(unittest.TestCase):
         """Opens a view, and waits until it is there."""
         script = (
             "document.getElementById('main').dataset.view = '';"
-            "if (location.hash === arguments[0]) dispatchEvent(new Event('hashchange')); else location.hash = arguments[0];"
+            "if (location.hash === arguments[0]) dispatchEvent(new Event('hashchange')); else "
+            "location.hash = arguments[0];"
         )
         self.driver.execute_script(script, "#" + path)
-        self.until(lambda: self.driver.execute_script("return document.getElementById('main').dataset.view") == path)
+        self.until(
+            lambda: self.driver.execute_script(
+                "return document.getElementById('main').dataset.view"
+            )
+            == path
+        )
 
     def sign_in(self, login: str, title: str = "Books") -> None:
         """Signs in, with the keyboard alone."""
         self.driver.get(f"http://127.0.0.1:{self.world.port}/")
-        self.until(lambda: self.driver.switch_to.active_element.get_attribute("autocomplete") == "username")
+        self.until(
+            lambda: self.driver.switch_to.active_element.get_attribute("autocomplete") == "username"
+        )
         self.driver.switch_to.active_element.send_keys(login, Keys.TAB)
         self.driver.switch_to.active_element.send_keys(WORDS[login], Keys.ENTER)
         self.heading(title)
@@ -184,19 +240,30 @@ class Office(unittest.TestCase):
 
     def narrow(self, width: int = 360) -> None:
         """Makes the window as wide as a phone's until the test ends."""
-        self.driver.execute_cdp_cmd("Emulation.setDeviceMetricsOverride", {"width": width, "height": 740, "deviceScaleFactor": 2, "mobile": False})
+        self.driver.execute_cdp_cmd(
+            "Emulation.setDeviceMetricsOverride",
+            {"width": width, "height": 740, "deviceScaleFactor": 2, "mobile": False},
+        )
         self.addCleanup(self.driver.execute_cdp_cmd, "Emulation.clearDeviceMetricsOverride", {})
 
     def fits(self) -> None:
         """Asserts that nothing is wider than the window."""
         root = "document.documentElement"
-        wide, window = self.driver.execute_script(f"return [{root}.scrollWidth, {root}.clientWidth]")
+        wide, window = self.driver.execute_script(
+            f"return [{root}.scrollWidth, {root}.clientWidth]"
+        )
         self.assertLessEqual(wide, window)
 
     def nothing_was_blocked(self) -> None:
         """Asserts that the browser told of no fault but replies that refuse."""
-        faults = [entry["message"] for entry in self.driver.get_log("browser") if entry["level"] == "SEVERE"]
-        self.assertEqual([fault for fault in faults if "the server responded with a status of" not in fault], [])
+        faults = [
+            entry["message"]
+            for entry in self.driver.get_log("browser")
+            if entry["level"] == "SEVERE"
+        ]
+        self.assertEqual(
+            [fault for fault in faults if "the server responded with a status of" not in fault], []
+        )
 
     def accessible(self) -> None:
         """Asserts that a script finds no fault of accessibility in the view."""

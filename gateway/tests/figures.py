@@ -1,7 +1,8 @@
 """Figures of the gateway beside radicale, and of many persons: python3 -m tests.figures [CARDS].
 
-Each row has the milliseconds until the answer was read, and of processor time in all processes
-that serve. It is no test: it asserts nothing but that each request is answered.
+Each row has the milliseconds until the answer was read, and of processor time: of the gateway, of
+the server behind it, and of radicale. It is no test: it asserts nothing but that each request is
+answered.
 """
 from __future__ import annotations
 
@@ -11,6 +12,7 @@ import http.client
 import os
 import re
 import shutil
+import signal
 import subprocess
 import sys
 import tempfile
@@ -55,13 +57,17 @@ class Served:
         self.book = book
         self.login = login
 
-    def seconds(self) -> float:
-        """Processor time of all processes."""
-        ticks = 0
+    def seconds(self) -> list[float]:
+        """Processor time of each process."""
+        found = []
         for process in self.processes:
             fields = Path(f"/proc/{process}/stat").read_text().rpartition(")")[2].split()
-            ticks += int(fields[11]) + int(fields[12])
-        return ticks / os.sysconf("SC_CLK_TCK")
+            found.append((int(fields[11]) + int(fields[12])) / os.sysconf("SC_CLK_TCK"))
+        return found
+
+    def since(self, before: list[float]) -> list[float]:
+        """Processor time of each process since then."""
+        return [now - then for now, then in zip(self.seconds(), before)]
 
     def peak(self, process: int) -> int:
         """Megabytes that a process had at most."""
@@ -82,35 +88,32 @@ class Served:
         return told
 
 
-def rows(served: Served, cards: int) -> Iterator[tuple[str, float, float]]:
-    """What each kind of request takes: its name, and seconds of the clock and of the processors."""
+def rows(served: Served, cards: int) -> Iterator[tuple[str, list[float]]]:
+    """What each kind of request takes: its name, and seconds of the clock and of each process."""
 
-    def timed(times: int, *words: str, **fields: str) -> tuple[float, float, bytes]:
+    def timed(times: int, *words: str, **fields: str) -> tuple[list[float], bytes]:
         begun, used = time.monotonic(), served.seconds()
         for _ in range(times):
             told = served.ask(*words, **fields)
-        return (time.monotonic() - begun) / times, (served.seconds() - used) / times, told
+        taken = [time.monotonic() - begun, *served.since(used)]
+        return [one / times for one in taken], told
 
     book = served.book
-    clock, used, told = timed(1, "REPORT", book, sync(""))
-    yield f"first sync, {cards:,} cards", clock, used
+    taken, told = timed(1, "REPORT", book, sync(""))
+    yield f"first sync, {cards:,} cards", taken
     token = re.search(rb"sync-token>([^<]+)<", told)
     assert token is not None and told.count(b"response>") >= 2 * cards
-    clock, used, _ = timed(20, "REPORT", book, sync(token[1].decode()))
-    yield "nothing new", clock, used
+    yield "nothing new", timed(20, "REPORT", book, sync(token[1].decode()))[0]
     hrefs = [f"{book}{number}.vcf" for number in range(min(cards, 1_000))]
-    clock, used, told = timed(3, "REPORT", book, multiget(*hrefs))
+    taken, told = timed(3, "REPORT", book, multiget(*hrefs))
     assert told.count(b"BEGIN:VCARD") == len(hrefs)
-    yield f"multiget of {len(hrefs):,}", clock, used
-    clock, used, told = timed(3, "REPORT", book, QUERY, Depth="1")
-    yield f"query, {told.count(b'BEGIN:VCARD')} found", clock, used
-    clock, used, _ = timed(3, "PROPFIND", book, propfind("getetag"), Depth="1")
-    yield "PROPFIND of all tags", clock, used
-    clock, used, _ = timed(200, "GET", book + "7.vcf")
-    yield "GET", clock, used
+    yield f"multiget of {len(hrefs):,}", taken
+    taken, told = timed(3, "REPORT", book, QUERY, Depth="1")
+    yield f"query, {told.count(b'BEGIN:VCARD')} found", taken
+    yield "PROPFIND of all tags", timed(3, "PROPFIND", book, propfind("getetag"), Depth="1")[0]
+    yield "GET", timed(200, "GET", book + "7.vcf")[0]
     changed = card(7).replace("Account manager", "Head of sales")
-    clock, used, _ = timed(100, "PUT", book + "7.vcf", changed, Content_Type="text/vcard")
-    yield "PUT", clock, used
+    yield "PUT", timed(100, "PUT", book + "7.vcf", changed, Content_Type="text/vcard")[0]
 
 
 @contextlib.contextmanager
@@ -149,7 +152,7 @@ def office(cards: int, photo: int = 0) -> Iterator[Served]:
     with tempfile.TemporaryDirectory(prefix="figures-") as folder:
         policy = Path(folder) / "policy.toml"
         policy.write_text("\n".join(lines))
-        world = World(policy=policy, passwords=dict.fromkeys(persons, WORD))
+        world = World(policy=policy, passwords=dict.fromkeys(persons, WORD), kept=16)
         try:
             server = http.client.HTTPConnection("127.0.0.1", world.server_port, timeout=120)
             for number in range(cards):
@@ -167,42 +170,46 @@ def office(cards: int, photo: int = 0) -> Iterator[Served]:
 
 def beside(cards: int) -> None:
     """Prints the rows of both."""
-    told = {}
+    told, peaks = {}, {}
     for name, made in (("gateway", office), ("radicale", radicale)):
         with made(cards) as served:
             told[name] = list(rows(served, cards))
-            peaks = " and ".join(f"{served.peak(process)} MB" for process in served.processes)
-            told[name].append((f"memory: {peaks}", 0.0, 0.0))
-    print(f"{'':28}{'gateway':>22}{'radicale':>22}")
-    for mine, other in zip(told["gateway"], told["radicale"]):
-        numbers = "".join(f"{1000 * part:11.1f}" for part in (*mine[1:], *other[1:]))
-        print(f"{mine[0]:28}{numbers}" if mine[1] else f"{mine[0]}; radicale: {other[0]}")
+            peaks[name] = [served.peak(process) for process in served.processes]
+    heads = ("clock", "gateway", "server", "clock", "radicale")
+    print(f"{'milliseconds':28}" + "".join(f"{head:>12}" for head in heads))
+    for (name, mine), (_, other) in zip(told["gateway"], told["radicale"]):
+        numbers = "".join(f"{1000 * part:12.1f}" for part in (*mine, *other))
+        print(f"{name:28}{numbers}")
+    gateway, server = peaks["gateway"]
+    print(f"memory: gateway {gateway} MB, server {server} MB; radicale {peaks['radicale'][0]} MB")
 
 
 def many(cards: int, photo: int) -> None:
     """Prints what many persons take on a book with photos."""
+    hrefs = [f"{BOOK}{one}.vcf" for one in range(50)]
     with office(cards, photo) as served:
-        begun, used = time.monotonic(), served.seconds()
-        for number in range(PERSONS):
-            served.login = f"p{number}"
-            served.ask("REPORT", BOOK, sync(""))
-        clock, taken = time.monotonic() - begun, served.seconds() - used
         print(f"{PERSONS} persons, {cards:,} cards with photos of {photo:,} bytes")
-        print(f"first sync of all: {clock:.1f} s, {taken:.1f} s of processors")
-        begun, used = time.monotonic(), served.seconds()
-        for number in range(PERSONS):
-            served.login = f"p{number}"
-            served.ask("GET", f"{BOOK}{number}.vcf")
-            hrefs = [f"{BOOK}{one}.vcf" for one in range(50)]
-            served.ask("REPORT", BOOK, multiget(*hrefs))
-        clock, taken = time.monotonic() - begun, served.seconds() - used
-        print(f"then a GET and a multiget of 50 each: {clock:.1f} s, {taken:.1f} s of processors")
+        for title, asks in (
+            ("first sync of each", [("REPORT", BOOK, sync(""))]),
+            ("then a GET and a multiget of 50 each", [
+                ("GET", BOOK + "7.vcf"), ("REPORT", BOOK, multiget(*hrefs)),
+            ]),
+        ):
+            begun, used = time.monotonic(), served.seconds()
+            for number in range(PERSONS):
+                served.login = f"p{number}"
+                for words in asks:
+                    served.ask(*words)
+            gateway, server = served.since(used)
+            clock = time.monotonic() - begun
+            print(f"{title}: {clock:.1f} s; gateway {gateway:.1f} s, server {server:.1f} s")
         gateway, server = (served.peak(process) for process in served.processes)
         print(f"memory: gateway {gateway} MB, server {server} MB")
 
 
 def main(words: list[str]) -> int:
     """Status 0 where all was answered."""
+    signal.signal(signal.SIGTERM, lambda *_: sys.exit(143))
     cards = int(words[0]) if words else 5_000
     beside(cards)
     many(cards, 30_000)

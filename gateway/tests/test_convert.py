@@ -1,11 +1,13 @@
 """vCard 3.0 to 4.0 and back, by cards that the standards and phones write."""
 from __future__ import annotations
 
+import random
+import re
 import unittest
 from pathlib import Path
 
 from office_gateway import convert, dates
-from office_gateway.vcard import read, unfolded
+from office_gateway.vcard import folded, read, unfolded, unfolded_text
 
 CORPUS = Path(__file__).resolve().parent / "corpus"
 TYPES = (("PREF", "1"), ("TYPE", "home"), ("TYPE", "voice"))
@@ -165,9 +167,52 @@ class ToThree(unittest.TestCase):
         wanted = ["BEGIN:VCARD", "VERSION:4.0", "FN:Anna\\, B", "END:VCARD"]
         self.assertEqual(unfolded(back.text), wanted)
 
+    def test_a_card_of_lines_that_stay_is_told_as_line_by_line(self) -> None:
+        name = "N:a;b;;;"
+        kept = [
+            (name, "FN:Bo"), (name, "FN:Dr. Karin Müller", "ORG:Acme GmbH;Straße"),
+            (name, "FN:日本", "TEL;TYPE=work;TYPE=cell:+49\\, 1"), (name, "NOTE:" + "a" * 70),
+            ("N;TYPE=x:a", "UID:urn:uuid:1"),
+        ]
+        others = [
+            (name, "NOTE:" + "a" * 71), (name, "NOTE:" + "ä" * 40), (name, "FN:日本" * 8), ("FN:Bo",),
+            (name, "FN:a", " folded"), (name, "BDAY:19850412"), (name, "item1.TEL:1"), ("X:N:",),
+            (name, "FN:a\x00b"), (name, ""), (name, "EMAIL;PREF=1:a"), (name, "TEL;TYPE=A:1"),
+        ]
+        for lines in kept + others:
+            with self.subTest(lines):
+                text = card(*lines, version="4.0")
+                self.assertEqual(convert.to_three(text), convert.line_by_line_to_three(text))
+                self.assertEqual(convert.SAME_CARD.fullmatch(text) is not None, (
+                    lines in kept or lines == ("FN:Bo",)
+                ))
+        for path in sorted(CORPUS.glob("*-4.vcf")):
+            text = path.read_bytes().decode()
+            self.assertEqual(convert.to_three(text), convert.line_by_line_to_three(text))
+
     def test_cards_of_other_versions_stay(self) -> None:
         for text in (card("FN:A"), "", "no card"):
             self.assertEqual(convert.to_three(text), text)
+
+
+class Folds(unittest.TestCase):
+    """Folds of lines (RFC 6350, section 3.2)."""
+
+    def test_unfolding_takes_each_line_end_before_a_space_or_a_tab(self) -> None:
+        dice = random.Random(1)
+        for _ in range(20_000):
+            text = "".join(dice.choice("a\r\n \t") for _ in range(dice.randrange(12)))
+            self.assertEqual(unfolded_text(text), re.sub(r"\r?\n[ \t]", "", text), repr(text))
+
+    def test_a_folded_line_comes_back_and_no_part_is_too_long(self) -> None:
+        for size in (0, 1, 74, 75, 76, 149, 150, 1_000):
+            for line in ("a" * size, "ä" * size, "a😀" * size):
+                text = folded(line)
+                self.assertEqual(unfolded(text), [line])
+                lengths = [len(part.encode()) for part in text.split("\r\n")]
+                self.assertLessEqual(max(lengths), 75)
+                full = [length for length in lengths[:-2] if length < 72]
+                self.assertEqual(full, [])
 
 
 class Corpus(unittest.TestCase):

@@ -25,8 +25,9 @@ from office_gateway.turns import Turns
 
 
 class Book:
-    """A server that tells of one book, as its sync reports do. `hidden` has, by person, the names of
-    cards that may not be read."""
+    """A server that tells of one book, as its sync reports do. `hidden` has, by person, the names
+    of cards that may not be read.
+    """
 
     def __init__(self) -> None:
         self.epoch, self.number = 1, 0

@@ -24,24 +24,36 @@ def vcard(name: str, *lines: str, version: str = "4.0") -> str:
 def propfind(*names: str) -> str:
     """A body that asks for properties; those of CardDAV begin with c:."""
     inner = "".join(f"<{name}/>" if name.startswith("c:") else f"<d:{name}/>" for name in names)
-    return f'<d:propfind xmlns:d="DAV:" xmlns:c="urn:ietf:params:xml:ns:carddav"><d:prop>{inner}</d:prop></d:propfind>'
+    return (
+        f'<d:propfind xmlns:d="DAV:" xmlns:c="urn:ietf:params:xml:ns:carddav">'
+        f'<d:prop>{inner}</d:prop></d:propfind>'
+    )
 
 
 def sync(token: str = "", limit: int = 0) -> str:
     """A body that asks what changed since a token."""
     some = f"<d:limit><d:nresults>{limit}</d:nresults></d:limit>" if limit else ""
-    return f'<d:sync-collection xmlns:d="DAV:"><d:sync-token>{token}</d:sync-token><d:sync-level>1</d:sync-level>{some}<d:prop><d:getetag/></d:prop></d:sync-collection>'
+    return (
+        f'<d:sync-collection xmlns:d="DAV:"><d:sync-token>{token}</d:sync-token>'
+        f'<d:sync-level>1</d:sync-level>{some}<d:prop><d:getetag/></d:prop></d:sync-collection>'
+    )
 
 
 def multiget(*hrefs: str, data: str = "<c:address-data/>") -> str:
     """A body that asks for these cards."""
     inner = "".join(f"<d:href>{href}</d:href>" for href in hrefs)
-    return f'<c:addressbook-multiget xmlns:d="DAV:" xmlns:c="urn:ietf:params:xml:ns:carddav"><d:prop><d:getetag/>{data}</d:prop>{inner}</c:addressbook-multiget>'
+    return (
+        f'<c:addressbook-multiget xmlns:d="DAV:" xmlns:c="urn:ietf:params:xml:ns:carddav"><d:prop>'
+        f'<d:getetag/>{data}</d:prop>{inner}</c:addressbook-multiget>'
+    )
 
 
 def responses(body: bytes) -> dict[str, Element]:
     """The responses of a multistatus by href."""
-    return {response.findtext(f"{D}href") or "": response for response in fromstring(body).findall(f"{D}response")}
+    return {
+        response.findtext(f"{D}href") or "": response
+        for response in fromstring(body).findall(f"{D}response")
+    }
 
 
 def status(response: Element) -> str:
@@ -53,7 +65,10 @@ def status(response: Element) -> str:
 def prop(response: Element, name: str) -> Element | None:
     """A property that was found."""
     for told in response.findall(f"{D}propstat"):
-        if " 200 " in (told.findtext(f"{D}status") or "") and told.find(f"{D}prop/{name}") is not None:
+        if (
+            " 200 " in (told.findtext(f"{D}status") or "")
+            and told.find(f"{D}prop/{name}") is not None
+        ):
             return told.find(f"{D}prop/{name}")
     return None
 
@@ -103,15 +118,20 @@ class Syncing:
 
 @unittest.skipUnless(program(), "the server's program is named in BOOK_DESK, or made by make build")
 class Conversation(unittest.TestCase):
-    """One server and one gateway for all; before each test the books are empty, and as the policy has them."""
+    """One server and one gateway for all; before each test the books are empty, and as the policy
+    has them."""
 
     world: World
 
     @classmethod
     def setUpClass(cls) -> None:
         cls.world = World()
-        acl = cls.world.say("head", "PROPFIND", "/books", {"prop": ["acl"]}).json()["responses"][0]["prop"]["acl"]
-        cls.list = [entry for entry in acl if not entry.get("protected") and "inherited" not in entry]
+        acl = cls.world.say("head", "PROPFIND", "/books", {"prop": ["acl"]}).json()["responses"][0][
+            "prop"
+        ]["acl"]
+        cls.list = [
+            entry for entry in acl if not entry.get("protected") and "inherited" not in entry
+        ]
 
     @classmethod
     def tearDownClass(cls) -> None:
@@ -123,7 +143,9 @@ class Conversation(unittest.TestCase):
     def setUp(self) -> None:
         self.say = self.world.say
         for book in ("sales", "law"):
-            told = self.say("head", "REPORT", f"/books/{book}", {"report": "sync-collection", "sync-token": ""}).json()
+            told = self.say(
+                "head", "REPORT", f"/books/{book}", {"report": "sync-collection", "sync-token": ""}
+            ).json()
             for response in told["responses"]:
                 self.say("head", "DELETE", response["href"])
 
@@ -137,14 +159,25 @@ class Conversation(unittest.TestCase):
         found = self.say("", "GET", "/.well-known/carddav")
         self.assertEqual((found.status, found.fields["Location"]), (301, "/dav/"))
         for target in ("/dav/", "/"):
-            told = self.say("guest", "PROPFIND", target, propfind("current-user-principal"), Content_Type="application/xml")
+            told = self.say(
+                "guest", "PROPFIND", target, propfind("current-user-principal"),
+                Content_Type="application/xml",
+            )
             [response] = responses(told.body).values()
-            self.assertEqual(response.findtext(f".//{D}current-user-principal/{D}href"), "/dav/people/guest/")
-        told = self.say("guest", "PROPFIND", "/dav/people/guest/", propfind("c:addressbook-home-set", "resourcetype", "displayname"))
+            self.assertEqual(
+                response.findtext(f".//{D}current-user-principal/{D}href"), "/dav/people/guest/"
+            )
+        told = self.say(
+            "guest", "PROPFIND", "/dav/people/guest/",
+            propfind("c:addressbook-home-set", "resourcetype", "displayname"),
+        )
         [response] = responses(told.body).values()
         self.assertEqual(response.findtext(f".//{C}addressbook-home-set/{D}href"), "/dav/books/")
         self.assertIsNotNone(response.find(f".//{D}resourcetype/{D}principal"))
-        told = self.say("guest", "PROPFIND", "/dav/books/", propfind("resourcetype", "displayname", "sync-token"), Depth="1")
+        told = self.say(
+            "guest", "PROPFIND", "/dav/books/",
+            propfind("resourcetype", "displayname", "sync-token"), Depth="1",
+        )
         self.assertEqual(sorted(responses(told.body)), ["/dav/books/", SALES])
         self.assertEqual(text_of(responses(told.body)[SALES], f"{D}displayname"), "Verkauf")
         told = self.say("head", "PROPFIND", "/dav/books/", propfind("resourcetype"), Depth="1")
@@ -153,27 +186,39 @@ class Conversation(unittest.TestCase):
         classes = options.fields["DAV"].split(", ")
         self.assertEqual((options.status, "addressbook" in classes), (200, True))
         self.assertNotIn("access-control", classes)
-        self.assertEqual(self.say("guest", "PROPFIND", "/dav/people/head/", propfind("displayname")).status, 403)
+        self.assertEqual(
+            self.say("guest", "PROPFIND", "/dav/people/head/", propfind("displayname")).status, 403
+        )
         refused = self.say("guest", "PROPFIND", "/dav/", propfind("displayname"), Depth="infinity")
         self.assertEqual(refused.status, 403)
         self.assertIsNotNone(fromstring(refused.body).find(f"{D}propfind-finite-depth"))
 
     def test_rights_are_told_as_the_server_tells_them(self) -> None:
-        told = self.say("assistant", "PROPFIND", SALES, propfind("current-user-privilege-set", "owner", "c:supported-address-data"))
+        told = self.say(
+            "assistant", "PROPFIND", SALES,
+            propfind("current-user-privilege-set", "owner", "c:supported-address-data"),
+        )
         [response] = responses(told.body).values()
         found = prop(response, f"{D}current-user-privilege-set")
         assert found is not None
         self.assertEqual(
             [element.tag for privilege in found for element in privilege],
             [
-                D + "read",
-                davxml.o("x-read-texts"),
-                *(D + name for name in ("write-content", "write-properties", "bind", "read-acl", "read-current-user-privilege-set")),
+                D + "read", davxml.o("x-read-texts"),
+                *(
+                    D + name
+                    for name in (
+                        "write-content", "write-properties", "bind", "read-acl",
+                        "read-current-user-privilege-set",
+                    )
+                ),
                 davxml.o("x-read-names"),
             ],
         )
         self.assertEqual(response.findtext(f".//{D}owner/{D}href"), "/dav/people/head/")
-        told = self.say("guest", "PROPFIND", SALES, propfind("current-user-privilege-set", "displayname"))
+        told = self.say(
+            "guest", "PROPFIND", SALES, propfind("current-user-privilege-set", "displayname")
+        )
         [response] = responses(told.body).values()
         self.assertEqual([line.text for line in response.iter(f"{D}status")], ["HTTP/1.1 200 OK"])
         found = prop(response, f"{D}current-user-privilege-set")
@@ -182,24 +227,40 @@ class Conversation(unittest.TestCase):
 
     def test_put_get_delete_under_tags(self) -> None:
         card = vcard("Bo")
-        put = self.say("assistant", "PUT", SALES + "b.vcf", card, If_None_Match="*", Content_Type="text/vcard")
+        put = self.say(
+            "assistant", "PUT", SALES + "b.vcf", card, If_None_Match="*", Content_Type="text/vcard"
+        )
         self.assertEqual(put.status, 201)
         got = self.say("guest", "GET", SALES + "b.vcf")
-        self.assertEqual((got.status, got.text, got.fields["ETag"]), (200, card, put.fields["ETag"]))
+        self.assertEqual(
+            (got.status, got.text, got.fields["ETag"]), (200, card, put.fields["ETag"])
+        )
         head = self.say("guest", "HEAD", SALES + "b.vcf")
-        self.assertEqual((head.status, head.body, head.fields["Content-Length"]), (200, b"", str(len(card))))
-        self.assertEqual(self.say("guest", "GET", SALES + "b.vcf", If_None_Match=got.fields["ETag"]).status, 304)
-        self.assertEqual(self.say("assistant", "PUT", SALES + "b.vcf", card, If_None_Match="*").status, 412)
+        self.assertEqual(
+            (head.status, head.body, head.fields["Content-Length"]), (200, b"", str(len(card)))
+        )
+        self.assertEqual(
+            self.say("guest", "GET", SALES + "b.vcf", If_None_Match=got.fields["ETag"]).status, 304
+        )
+        self.assertEqual(
+            self.say("assistant", "PUT", SALES + "b.vcf", card, If_None_Match="*").status, 412
+        )
         newer = self.say("head", "PUT", SALES + "b.vcf", vcard("Bob"), If_Match=put.fields["ETag"])
         self.assertEqual(newer.status, 204)
-        stale = self.say("assistant", "PUT", SALES + "b.vcf", vcard("Robert"), If_Match=put.fields["ETag"])
+        stale = self.say(
+            "assistant", "PUT", SALES + "b.vcf", vcard("Robert"), If_Match=put.fields["ETag"]
+        )
         self.assertEqual(stale.status, 412)
         self.assertEqual(self.say("guest", "GET", SALES + "b.vcf").text, vcard("Bob"))
-        self.assertEqual(self.say("head", "DELETE", SALES + "b.vcf", If_Match=put.fields["ETag"]).status, 412)
+        self.assertEqual(
+            self.say("head", "DELETE", SALES + "b.vcf", If_Match=put.fields["ETag"]).status, 412
+        )
         refused = self.say("assistant", "DELETE", SALES + "b.vcf", If_Match=newer.fields["ETag"])
         self.assertEqual(refused.status, 403)
         self.assertIn("You lack the privilege unbind at /books/sales", refused.text)
-        self.assertEqual(self.say("head", "DELETE", SALES + "b.vcf", If_Match=newer.fields["ETag"]).status, 204)
+        self.assertEqual(
+            self.say("head", "DELETE", SALES + "b.vcf", If_Match=newer.fields["ETag"]).status, 204
+        )
         self.assertEqual(self.say("head", "GET", SALES + "b.vcf").status, 404)
         self.assertEqual(self.say("head", "PUT", SALES + "b.vcf", card, If_Match="*").status, 412)
         self.assertEqual(self.say("guest", "PUT", SALES + "g.vcf", card).status, 403)
@@ -215,7 +276,9 @@ class Conversation(unittest.TestCase):
         self.assertNotEqual(tags[0], tags[1])
 
     def test_a_client_follows_a_book_that_is_made_again(self) -> None:
-        book, rounds = "/dav/books/new/", ({"a": "A", "b": "B", "c": "C"}, {"a": "Z", "b": "B", "d": "D"})
+        book, rounds = "/dav/books/new/", (
+            {"a": "A", "b": "B", "c": "C"}, {"a": "Z", "b": "B", "d": "D"},
+        )
         client = Syncing(self.world, "head", book)
         for texts in rounds:
             self.assertEqual(self.say("head", "MKCOL", book).status, 201)
@@ -239,8 +302,14 @@ class Conversation(unittest.TestCase):
         self.assertEqual({href: status(told[href]) for href in told}, {SALES + "shut.vcf": "404"})
         self.assertNotIn("Geheim", later.text)
         hrefs = (SALES + "open.vcf", SALES + "shut.vcf")
-        query = '<c:addressbook-query xmlns:d="DAV:" xmlns:c="urn:ietf:params:xml:ns:carddav"><d:prop><c:address-data/></d:prop></c:addressbook-query>'
-        for body, method in ((sync(), "REPORT"), (multiget(*hrefs), "REPORT"), (query, "REPORT"), (propfind("getetag"), "PROPFIND")):
+        query = (
+            '<c:addressbook-query xmlns:d="DAV:" xmlns:c="urn:ietf:params:xml:ns:carddav"><d:prop>'
+            '<c:address-data/></d:prop></c:addressbook-query>'
+        )
+        for body, method in (
+            (sync(), "REPORT"), (multiget(*hrefs), "REPORT"), (query, "REPORT"),
+            (propfind("getetag"), "PROPFIND"),
+        ):
             told = self.say("guest", method, SALES, body, Depth="1")
             self.assertEqual(told.status, 207)
             self.assertNotIn("Geheim", told.text)
@@ -250,13 +319,19 @@ class Conversation(unittest.TestCase):
         denied = self.say("guest", "GET", hrefs[1])
         self.assertEqual(denied.status, 403)
         self.assertIn("which stands at /books/sales/shut.vcf, denies it", denied.text)
-        self.assertEqual(self.say("guest", "PUT", hrefs[1], vcard("X"), If_None_Match="*").status, 412)
+        self.assertEqual(
+            self.say("guest", "PUT", hrefs[1], vcard("X"), If_None_Match="*").status, 412
+        )
 
     def test_a_change_of_access_elsewhere_ends_no_sync(self) -> None:
         for name in ("a.vcf", "b.vcf", "c.vcf"):
             self.say("head", "PUT", SALES + name, vcard(name))
         self.say("head", "PUT", "/dav/books/law/one.vcf", vcard("One"))
-        clients = [Syncing(self.world, person, SALES, limit) for person in ("guest", "head") for limit in (0, 2)]
+        clients = [
+            Syncing(self.world, person, SALES, limit)
+            for person in ("guest", "head")
+            for limit in (0, 2)
+        ]
         for client in clients:
             client.sync()
             self.assertEqual(client.tags, client.listed())
@@ -298,14 +373,18 @@ class Conversation(unittest.TestCase):
         self.say("head", "PUT", SALES + "a.vcf", vcard("A"))
         listed = self.say("guest", "PROPFIND", SALES, propfind("getetag"), Depth="1")
         self.assertEqual(listed.status, 207)
-        told = self.say("guest", "PROPFIND", SALES, propfind("displayname", "sync-token"), Depth="0")
+        told = self.say(
+            "guest", "PROPFIND", SALES, propfind("displayname", "sync-token"), Depth="0"
+        )
         token = text_of(responses(told.body)[SALES], f"{D}sync-token")
         self.assertEqual(self.say("head", "ACL", "/books", {"acl": self.list}).status, 200)
         later = self.say("guest", "REPORT", SALES, sync(token))
         self.assertEqual((later.status, responses(later.body)), (207, {}))
 
     def test_a_token_that_nobody_gave_is_refused(self) -> None:
-        for token in ("data:,sales/1/999", "data:,law/1/0", "data:,sales/0/0", "x", "data:,sales/1/0/7"):
+        for token in (
+            "data:,sales/1/999", "data:,law/1/0", "data:,sales/0/0", "x", "data:,sales/1/0/7",
+        ):
             refused = self.say("guest", "REPORT", SALES, sync(token))
             with self.subTest(token):
                 self.assertEqual(refused.status, 400)
@@ -325,24 +404,57 @@ class Conversation(unittest.TestCase):
 
     def test_reports(self) -> None:
         for name in ("anna", "bert", "cem"):
-            self.say("head", "PUT", f"{SALES}{name}.vcf", vcard(name.title(), f"EMAIL;TYPE=work:{name}@a.example"))
-        told = self.say("head", "REPORT", SALES, multiget(SALES + "anna.vcf", f"http://127.0.0.1:{self.world.port}{SALES}cem.vcf", SALES + "no.vcf", "/other"))
+            self.say(
+                "head", "PUT", f"{SALES}{name}.vcf",
+                vcard(name.title(), f"EMAIL;TYPE=work:{name}@a.example"),
+            )
+        told = self.say(
+            "head", "REPORT", SALES,
+            multiget(
+                SALES + "anna.vcf", f"http://127.0.0.1:{self.world.port}{SALES}cem.vcf",
+                SALES + "no.vcf", "/other",
+            ),
+        )
         found = responses(told.body)
-        self.assertEqual({href: status(found[href]) for href in found}, {
-            SALES + "anna.vcf": "200", SALES + "cem.vcf": "200", SALES + "no.vcf": "404", "/other": "404",
-        })
+        self.assertEqual(
+            {href: status(found[href]) for href in found},
+            {
+                SALES + "anna.vcf": "200", SALES + "cem.vcf": "200", SALES + "no.vcf": "404",
+                "/other": "404",
+            },
+        )
         self.assertIn("VERSION:3.0", text_of(found[SALES + "anna.vcf"], f"{C}address-data"))
-        told = self.say("head", "REPORT", SALES, multiget(SALES + "anna.vcf", data='<c:address-data content-type="text/vcard" version="4.0"/>'))
-        self.assertEqual(text_of(responses(told.body)[SALES + "anna.vcf"], f"{C}address-data"), vcard("Anna", "EMAIL;TYPE=work:anna@a.example"))
-        query = '<c:addressbook-query xmlns:d="DAV:" xmlns:c="urn:ietf:params:xml:ns:carddav"><d:prop><d:getetag/></d:prop><c:filter><c:prop-filter name="EMAIL"><c:text-match match-type="starts-with">{}</c:text-match></c:prop-filter></c:filter>{}</c:addressbook-query>'
+        told = self.say(
+            "head", "REPORT", SALES,
+            multiget(
+                SALES + "anna.vcf", data='<c:address-data content-type="text/vcard" version="4.0"/>'
+            ),
+        )
+        self.assertEqual(
+            text_of(responses(told.body)[SALES + "anna.vcf"], f"{C}address-data"),
+            vcard("Anna", "EMAIL;TYPE=work:anna@a.example"),
+        )
+        query = (
+            '<c:addressbook-query xmlns:d="DAV:" xmlns:c="urn:ietf:params:xml:ns:carddav"><d:prop>'
+            '<d:getetag/></d:prop><c:filter><c:prop-filter name="EMAIL"><c:text-match '
+            'match-type="starts-with">{}</c:text-match></c:prop-filter>'
+            '</c:filter>{}</c:addressbook-query>'
+        )
         told = self.say("head", "REPORT", SALES, query.format("bert@", ""))
         self.assertEqual(list(responses(told.body)), [SALES + "bert.vcf"])
-        told = self.say("head", "REPORT", SALES, query.format("", "<c:limit><c:nresults>2</c:nresults></c:limit>"))
-        self.assertEqual({href: status(node) for href, node in responses(told.body).items()}, {SALES + "anna.vcf": "200", SALES + "bert.vcf": "200", SALES: "507"})
+        told = self.say(
+            "head", "REPORT", SALES,
+            query.format("", "<c:limit><c:nresults>2</c:nresults></c:limit>"),
+        )
+        self.assertEqual(
+            {href: status(node) for href, node in responses(told.body).items()},
+            {SALES + "anna.vcf": "200", SALES + "bert.vcf": "200", SALES: "507"},
+        )
         other = multiget("x", data='<c:address-data version="2.1"/>')
         deep = sync().replace(">1<", ">infinite<")
         rows = [
-            (other, f"{C}supported-address-data"), ('<d:expand-property xmlns:d="DAV:"/>', f"{D}supported-report"),
+            (other, f"{C}supported-address-data"),
+            ('<d:expand-property xmlns:d="DAV:"/>', f"{D}supported-report"),
             (deep, f"{D}sync-traversal-supported"),
         ]
         for body, name in rows:
@@ -354,7 +466,10 @@ class Conversation(unittest.TestCase):
         names = [f"c{number}.vcf" for number in range(7)]
         for name in names:
             self.say("head", "PUT", SALES + name, vcard(name))
-        known = fromstring(self.say("head", "REPORT", SALES, sync()).body).findtext(f"{D}sync-token") or ""
+        known = (
+            fromstring(self.say("head", "REPORT", SALES, sync()).body).findtext(f"{D}sync-token")
+            or ""
+        )
         for name in names[:4]:
             self.say("head", "DELETE", SALES + name)
         start = self.say("head", "REPORT", SALES, sync())
@@ -367,7 +482,9 @@ class Conversation(unittest.TestCase):
             rounds += 1
             changed = {href: node for href, node in responses(told.body).items() if href != SALES}
             self.assertLessEqual(len(changed), 2)
-            copy = {href for href in copy if href not in changed} | {href for href, node in changed.items() if status(node) == "200"}
+            copy = {href for href in copy if href not in changed} | {
+                href for href, node in changed.items() if status(node) == "200"
+            }
             token = fromstring(told.body).findtext(f"{D}sync-token") or ""
             if SALES not in responses(told.body):
                 break
@@ -383,61 +500,127 @@ class Conversation(unittest.TestCase):
         self.assertEqual(sorted(seen), [SALES + name for name in names[4:]])
 
     def test_books_are_made_and_labelled(self) -> None:
-        body = '<d:mkcol xmlns:d="DAV:" xmlns:c="urn:ietf:params:xml:ns:carddav"><d:set><d:prop><d:resourcetype><d:collection/>{}</d:resourcetype><d:displayname>Neue Kunden</d:displayname></d:prop></d:set></d:mkcol>'
+        body = (
+            '<d:mkcol xmlns:d="DAV:" xmlns:c="urn:ietf:params:xml:ns:carddav"><d:set><d:prop>'
+            '<d:resourcetype><d:collection/>{}</d:resourcetype><d:displayname>Neue '
+            'Kunden</d:displayname></d:prop></d:set></d:mkcol>'
+        )
         made = self.say("head", "MKCOL", "/dav/books/new/", body.format("<c:addressbook/>"))
         self.assertEqual(made.status, 201)
         self.assertIn("You lack the privilege write-properties at /books/new", made.text)
         self.assertEqual(self.say("head", "MKCOL", "/dav/books/new/").status, 405)
-        self.assertEqual(self.say("head", "MKCOL", "/dav/books/other/", body.format("")).status, 403)
-        described = body.replace("</d:prop>", "<c:addressbook-description>x</c:addressbook-description></d:prop>")
-        refused = self.say("head", "MKCOL", "/dav/books/other/", described.format("<c:addressbook/>"))
+        self.assertEqual(
+            self.say("head", "MKCOL", "/dav/books/other/", body.format("")).status, 403
+        )
+        described = body.replace(
+            "</d:prop>", "<c:addressbook-description>x</c:addressbook-description></d:prop>"
+        )
+        refused = self.say(
+            "head", "MKCOL", "/dav/books/other/", described.format("<c:addressbook/>")
+        )
         self.assertEqual(refused.status, 403)
         lines = [line.text for line in fromstring(refused.body).iter(f"{D}status")]
         self.assertEqual(lines, ["HTTP/1.1 403 Forbidden", "HTTP/1.1 424 Failed Dependency"])
-        self.assertEqual(self.say("head", "PROPFIND", "/dav/books/other/", propfind("displayname")).status, 404)
+        self.assertEqual(
+            self.say("head", "PROPFIND", "/dav/books/other/", propfind("displayname")).status, 404
+        )
         self.assertEqual(self.say("head", "MKCOL", "/dav/books/other/", "no XML").status, 415)
         self.assertEqual(self.say("guest", "MKCOL", "/dav/books/mine/").status, 403)
-        update = '<d:propertyupdate xmlns:d="DAV:"><d:set><d:prop><d:displayname>{}</d:displayname>{}</d:prop></d:set></d:propertyupdate>'
+        update = (
+            '<d:propertyupdate xmlns:d="DAV:"><d:set><d:prop>'
+            '<d:displayname>{}</d:displayname>{}</d:prop></d:set></d:propertyupdate>'
+        )
         told = self.say("assistant", "PROPPATCH", SALES, update.format("Vertrieb", ""))
         self.assertEqual((told.status, status(responses(told.body)[SALES])), (207, "200"))
-        told = self.say("head", "PROPPATCH", SALES, update.format("Anders", "<d:getetag>x</d:getetag>"))
-        self.assertEqual([line.text for line in fromstring(told.body).iter(f"{D}status")], ["HTTP/1.1 403 Forbidden", "HTTP/1.1 424 Failed Dependency"])
+        told = self.say(
+            "head", "PROPPATCH", SALES, update.format("Anders", "<d:getetag>x</d:getetag>")
+        )
+        self.assertEqual(
+            [line.text for line in fromstring(told.body).iter(f"{D}status")],
+            ["HTTP/1.1 403 Forbidden", "HTTP/1.1 424 Failed Dependency"],
+        )
         told = self.say("guest", "PROPPATCH", SALES, update.format("Nein", ""))
         self.assertIn("You lack the privilege write-properties", told.text)
         told = self.say("guest", "PROPFIND", SALES, propfind("displayname"))
         self.assertEqual(text_of(responses(told.body)[SALES], f"{D}displayname"), "Vertrieb")
         entry = {"grant": ["all"], "principal": "owner"}
-        self.assertEqual(self.say("head", "ACL", "/books", {"acl": [entry, {"grant": ["all"], "principal": "/people/head"}]}).status, 200)
-        self.assertEqual(self.say("head", "MKCOL", "/dav/books/again/", body.format("<c:addressbook/>")).status, 201)
+        self.assertEqual(
+            self.say(
+                "head", "ACL", "/books",
+                {"acl": [entry, {"grant": ["all"], "principal": "/people/head"}]},
+            ).status,
+            200,
+        )
+        self.assertEqual(
+            self.say("head", "MKCOL", "/dav/books/again/", body.format("<c:addressbook/>")).status,
+            201,
+        )
         told = self.say("head", "PROPFIND", "/dav/books/again/", propfind("displayname"))
-        self.assertEqual(text_of(responses(told.body)["/dav/books/again/"], f"{D}displayname"), "Neue Kunden")
+        self.assertEqual(
+            text_of(responses(told.body)["/dav/books/again/"], f"{D}displayname"), "Neue Kunden"
+        )
 
     def test_copy_and_move(self) -> None:
         put = self.say("head", "PUT", SALES + "a.vcf", vcard("A"))
         host = f"http://127.0.0.1:{self.world.port}"
-        self.assertEqual(self.say("head", "COPY", SALES + "a.vcf", Destination=f"{host}/dav/books/law/a.vcf").status, 201)
-        self.assertEqual(self.say("head", "COPY", SALES + "a.vcf", Destination="/dav/books/law/a.vcf", Overwrite="F").status, 412)
-        self.assertEqual(self.say("head", "MOVE", SALES + "a.vcf", Destination="/dav/books/law/b.vcf", If_Match='"1-x"').status, 412)
-        self.assertEqual(self.say("head", "MOVE", SALES + "a.vcf", Destination="/dav/books/law/b.vcf", If_Match=put.fields["ETag"]).status, 201)
+        self.assertEqual(
+            self.say(
+                "head", "COPY", SALES + "a.vcf", Destination=f"{host}/dav/books/law/a.vcf"
+            ).status,
+            201,
+        )
+        self.assertEqual(
+            self.say(
+                "head", "COPY", SALES + "a.vcf", Destination="/dav/books/law/a.vcf", Overwrite="F"
+            ).status,
+            412,
+        )
+        self.assertEqual(
+            self.say(
+                "head", "MOVE", SALES + "a.vcf", Destination="/dav/books/law/b.vcf",
+                If_Match='"1-x"',
+            ).status,
+            412,
+        )
+        self.assertEqual(
+            self.say(
+                "head", "MOVE", SALES + "a.vcf", Destination="/dav/books/law/b.vcf",
+                If_Match=put.fields["ETag"],
+            ).status,
+            201,
+        )
         self.assertEqual(self.say("head", "GET", SALES + "a.vcf").status, 404)
         self.assertEqual(self.say("head", "GET", "/dav/books/law/b.vcf").text, vcard("A"))
-        rows = [("http://other.example/dav/books/law/c.vcf", 502), ("", 400), ("/dav/books/law/../x", 403), ("/dav/books/law/%2e", 403), ("/dav/people/head", 400)]
+        rows = [
+            ("http://other.example/dav/books/law/c.vcf", 502), ("", 400),
+            ("/dav/books/law/../x", 403), ("/dav/books/law/%2e", 403), ("/dav/people/head", 400),
+        ]
         for destination, wanted in rows:
             with self.subTest(destination):
                 fields = {"Destination": destination} if destination else {}
-                self.assertEqual(self.say("head", "MOVE", "/dav/books/law/b.vcf", **fields).status, wanted)
+                self.assertEqual(
+                    self.say("head", "MOVE", "/dav/books/law/b.vcf", **fields).status, wanted
+                )
 
     def test_cards_of_phones(self) -> None:
         for path in sorted(CORPUS.glob("*.vcf")):
             with self.subTest(path.name):
-                put = self.say("head", "PUT", SALES + path.name, path.read_bytes(), Content_Type="text/vcard; charset=utf-8")
+                put = self.say(
+                    "head", "PUT", SALES + path.name, path.read_bytes(),
+                    Content_Type="text/vcard; charset=utf-8",
+                )
                 self.assertEqual((put.status, put.text), (201, ""))
                 self.assertEqual("ETag" in put.fields, path.name.endswith("-4.vcf"))
                 self.assertIn("VERSION:4.0", self.say("head", "GET", SALES + path.name).text)
                 three = self.say("head", "GET", SALES + path.name, Accept="text/vcard; version=3.0")
                 self.assertEqual(three.text.splitlines()[1], "VERSION:3.0")
-        members = self.say("head", "REPORT", "/books/sales/apple-group-3.vcf", {"report": "group-members"})
-        self.assertEqual([member["uri"] for member in members.json()["members"]], ["urn:uuid:6F1C0D9E-8B1A-4A55-9D0E-3A6F2B1C7E41"])
+        members = self.say(
+            "head", "REPORT", "/books/sales/apple-group-3.vcf", {"report": "group-members"}
+        )
+        self.assertEqual(
+            [member["uri"] for member in members.json()["members"]],
+            ["urn:uuid:6F1C0D9E-8B1A-4A55-9D0E-3A6F2B1C7E41"],
+        )
 
     def test_requests_of_the_server_pass_unchanged(self) -> None:
         self.assertEqual(self.say("head", "PUT", "/books/sales/a.vcf", vcard("A")).status, 201)
@@ -445,13 +628,27 @@ class Conversation(unittest.TestCase):
         head = self.say("head", "HEAD", "/books/sales/a.vcf")
         self.assertEqual((head.status, head.fields["Content-Length"]), (200, str(len(vcard("A")))))
         told = self.say("head", "PROPFIND", "/books/sales", {"prop": ["resourcetype"]}, Depth="1")
-        self.assertEqual([response["href"] for response in told.json()["responses"]], ["/books/sales", "/books/sales/a.vcf"])
+        self.assertEqual(
+            [response["href"] for response in told.json()["responses"]],
+            ["/books/sales", "/books/sales/a.vcf"],
+        )
         refused = self.say("guest", "DELETE", "/books/sales/a.vcf")
-        self.assertEqual((refused.status, refused.json()), (403, {"entry": None, "error": "need-privileges", "privilege": "unbind", "resource": "/books/sales"}))
+        self.assertEqual(
+            (refused.status, refused.json()),
+            (
+                403,
+                {
+                    "entry": None, "error": "need-privileges", "privilege": "unbind",
+                    "resource": "/books/sales",
+                },
+            ),
+        )
         wrong = self.say("head", "POST", "/books/sales")
         self.assertEqual((wrong.status, wrong.json()), (501, {"error": "not-implemented"}))
         allowed = self.say("head", "DELETE", "/people")
-        self.assertEqual((allowed.status, allowed.fields["Allow"]), (405, "ACL, OPTIONS, PROPFIND, REPORT"))
+        self.assertEqual(
+            (allowed.status, allowed.fields["Allow"]), (405, "ACL, OPTIONS, PROPFIND, REPORT")
+        )
         moved = self.say("head", "MOVE", "/books/sales/a.vcf", Destination="/books/law/a.vcf")
         self.assertEqual(moved.status, 201)
 

@@ -7,6 +7,7 @@ import gzip
 import http.client
 import io
 import json
+import os
 import re
 import shutil
 import signal
@@ -27,7 +28,9 @@ from office_gateway.server import Server
 from tests import test_clients
 from tests.test_dav import SALES, vcard
 from tests.test_server import Listener
-from tests.world import GATEWAY, PASSWORDS, World, await_port, basic, free_port, program
+from tests.world import (
+    GATEWAY, PASSWORDS, TOP, World, await_port, basic, free_port, hashed, program,
+)
 
 FILTER = GATEWAY / "fail2ban.conf"
 TIME = "2026-11-27 20:41:37,123"
@@ -241,6 +244,48 @@ class Running(unittest.TestCase):
 
 
 @unittest.skipUnless(program(), "the server's program is not there: see tests/world.py")
+class Installed(unittest.TestCase):
+    """What `make install` puts into a folder."""
+
+    def test_the_gateway_starts_where_it_is_installed(self) -> None:
+        with tempfile.TemporaryDirectory(prefix="office-installed-") as folder:
+            about = {**os.environ, "DESTDIR": folder, "PREFIX": "/opt/office"}
+            words = [str(TOP / "tools" / "install"), str(program())]
+            subprocess.run(words, env=about, check=True, timeout=60, stdout=subprocess.DEVNULL)
+            root = Path(folder) / "opt" / "office"
+            for name in ("BOOKLET.md", "DEFINITIONS.md", "PACKAGES.md", "gateway/README.md"):
+                self.assertTrue((root / "share/doc/book_desk" / name).is_file(), name)
+            unit = (root / "lib/systemd/system/office_gateway.service").read_text()
+            self.assertIn("ExecStart=/opt/office/lib/office_gateway/serve", unit)
+            self.assertTrue((root / "share/man/man1/office-gateway.1").is_file())
+            for name in ("office-import", "office-export"):
+                words = [str(root / "bin" / name), "--help"]
+                told = subprocess.run(words, capture_output=True, text=True, timeout=60)
+                self.assertEqual(told.returncode, 0, told.stderr)
+            self.starts(root)
+
+    def starts(self, root: Path) -> None:
+        """The installed gateway serves the page, though no server is there to be asked."""
+        (root / "passwords").write_text("ann:" + hashed("ann-word") + "\n")
+        port = free_port()
+        text = f"[listen]\nport = {port}\n[server]\nport = {free_port()}\nstart_seconds = 0.1\n"
+        (root / "gateway.toml").write_text(text)
+        words = [str(root / "bin" / "office-gateway"), str(root / "gateway.toml")]
+        quiet = {"stdout": subprocess.DEVNULL, "stderr": subprocess.DEVNULL}
+        with subprocess.Popen(words, **quiet) as started:
+            try:
+                await_port(port)
+                asked = http.client.HTTPConnection("127.0.0.1", port, timeout=60)
+                with contextlib.closing(asked):
+                    asked.request("GET", "/page/main.js")
+                    self.assertIn(b"import", asked.getresponse().read())
+                    asked.request("GET", "/health")
+                    self.assertEqual(asked.getresponse().status, 503)
+            finally:
+                started.terminate()
+
+
+@unittest.skipUnless(program(), "the server's program is not there: see tests/world.py")
 @unittest.skipUnless(shutil.which("nginx") and shutil.which("openssl"), "nginx is not there")
 class Proxied(unittest.TestCase):
     """nginx in front, with the settings of the example."""
@@ -287,7 +332,8 @@ class Proxied(unittest.TestCase):
         self.assertIn("sign-in failed from 127.0.0.1 as 'head'", world.logged())
 
     def answers_of_reports_are_compressed(self, asked: http.client.HTTPSConnection) -> None:
-        """The gateway compresses a long answer of status 207 for who takes gzip, and for no other."""
+        """The gateway compresses a long answer of status 207 for who takes gzip, and for no
+        other."""
         signed = {"Authorization": basic("head", PASSWORDS["head"])}
         for number in range(3):
             lines = [f"NOTE:{'long ' * 8_000}"]

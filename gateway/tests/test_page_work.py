@@ -1,4 +1,5 @@
-"""Work at the page: moving, copying, removing, exporting and importing; conflicts; sessions and accounts; German; accessibility."""
+"""Work at the page: moving, copying, removing, exporting and importing; conflicts; sessions and
+accounts; German; accessibility."""
 from __future__ import annotations
 
 import time
@@ -10,12 +11,16 @@ from tests.world import basic
 
 SALES, FAIR = "/books/sales/", "/books/fair/"
 VIEWS = (
-    "/", "/books/sales", "/books/sales/nadia.vcf", "/edit/books/sales/nadia.vcf", "/text/books/sales/nadia.vcf", "/newgroup/books/sales",
-    "/access/books/sales", "/import/books/sales", "/account", "/search", "/people", "/groups/desk", "/books/law",
+    "/", "/books/sales", "/books/sales/nadia.vcf", "/edit/books/sales/nadia.vcf",
+    "/text/books/sales/nadia.vcf", "/newgroup/books/sales", "/access/books/sales",
+    "/import/books/sales", "/account", "/search", "/people", "/groups/desk", "/books/law",
 )
 FILE = (
-    "BEGIN:VCARD\nVERSION:3.0\nUID:i-1\nN:Import;Ida;;;\nFN:Ida Import\nTEL;TYPE=CELL:1\nEND:VCARD\n" + card("FN:Bo", uid="b-1")
-    + card("FN:Nadia Changed", uid="n-1") + "BEGIN:VCARD\nVERSION:4.0\nFN:Broken\nno line\nEND:VCARD\n"
+    "BEGIN:VCARD\nVERSION:3.0\nUID:i-1\nN:Import;Ida;;;\nFN:Ida Import\nTEL;TYPE=CELL:1\n"
+    "END:VCARD\n"
+    + card("FN:Bo", uid="b-1")
+    + card("FN:Nadia Changed", uid="n-1")
+    + "BEGIN:VCARD\nVERSION:4.0\nFN:Broken\nno line\nEND:VCARD\n"
 )
 
 
@@ -30,7 +35,9 @@ class Work(Office):
     @classmethod
     def put(cls, name: str, text: str, who: str = "hanna") -> None:
         """Puts a card into the book of sales."""
-        assert cls.world.say(who, "PUT", f"/dav{SALES}{name}.vcf", text, Content_Type="text/vcard").status in (201, 204)
+        assert cls.world.say(
+            who, "PUT", f"/dav{SALES}{name}.vcf", text, Content_Type="text/vcard"
+        ).status in (201, 204)
 
     def status(self, path: str, who: str = "ada") -> int:
         """The status of a card."""
@@ -60,11 +67,15 @@ class Moving(Work):
         self.one("//dialog//select").send_keys("Spring fair")
         self.one("//dialog//button[.='Copy']").click()
         self.told("2 cards are copied to Spring fair.")
-        self.assertEqual([self.status(f"{FAIR}{name}.vcf") for name in ("eins", "zwei")], [200, 200])
+        self.assertEqual(
+            [self.status(f"{FAIR}{name}.vcf") for name in ("eins", "zwei")], [200, 200]
+        )
         self.select("Card eins", "Card zwei")
         self.press("Remove")
         self.one("//dialog//button[.='Remove']").click()
-        self.assertIn("You own it then, and its list begins empty.", self.told("2 cards are removed."))
+        self.assertIn(
+            "You own it then, and its list begins empty.", self.told("2 cards are removed.")
+        )
         self.picture("removed")
         self.assertEqual(self.status(f"{SALES}eins.vcf"), 404)
         self.one("//button[.='Put back']").click()
@@ -81,7 +92,9 @@ class Moving(Work):
         self.press("Move")
         self.one("//dialog//button[.='Move']").click()
         self.told("The card is in Spring fair now.")
-        self.assertEqual((self.status(f"{SALES}moved.vcf"), self.status(f"{FAIR}moved.vcf")), (404, 200))
+        self.assertEqual(
+            (self.status(f"{SALES}moved.vcf"), self.status(f"{FAIR}moved.vcf")), (404, 200)
+        )
 
     def test_a_book_is_exported(self) -> None:
         self.sign_in("hanna")
@@ -100,11 +113,18 @@ class Moving(Work):
         self.open("/import/books/sales")
         self.labelled("File of vCards").send_keys(str(self.world.path / "contacts.vcf"))
         self.one("//ul[@id='counts']")
-        self.assertEqual(self.text("//ul[@id='counts']").split("\n"), [
-            "1 card is new", "1 card is there and says something else", "1 card is there already", "1 card is refused",
-        ])
+        self.assertEqual(
+            self.text("//ul[@id='counts']").split("\n"),
+            [
+                "1 card is new", "1 card is there and says something else",
+                "1 card is there already", "1 card is refused",
+            ],
+        )
         self.assertIn("Ida Import\nnew", self.text("//ul[@id='imported']"))
-        self.assertIn("Broken\nLine 4 of the card is refused: it is no line of a card.", self.text("//ul[@id='imported']"))
+        self.assertIn(
+            "Broken\nLine 4 of the card is refused: it is no line of a card.",
+            self.text("//ul[@id='imported']"),
+        )
         self.picture("import")
         self.press("Import")
         self.assertIn("1 card is refused.", self.told("1 card is imported."))
@@ -122,14 +142,20 @@ class Moving(Work):
         self.fill("Note", "mine")
         self.press("Save")
         self.heading("Both New has changed meanwhile")
-        self.assertEqual([one.text for one in self.all("//fieldset[@class='sides']/legend")], ["Name as shown", "Telephone", "Note"])
+        self.assertEqual(
+            [one.text for one in self.all("//fieldset[@class='sides']/legend")],
+            ["Name as shown", "Telephone", "Note"],
+        )
         self.assertIn("Yours\nmine", self.text())
         self.assertIn("Saved meanwhile\ntheirs", self.text())
         self.picture("conflict")
         self.one("//fieldset[legend='Note']//label[contains(., 'Saved meanwhile')]").click()
         self.press("Save what is chosen")
         self.told("The card is saved.")
-        self.assertEqual(self.kept(f"{SALES}both.vcf"), card("FN:Both New", "TEL:2", "NOTE:theirs", "X-OWN:kept", uid="bo-1"))
+        self.assertEqual(
+            self.kept(f"{SALES}both.vcf"),
+            card("FN:Both New", "TEL:2", "NOTE:theirs", "X-OWN:kept", uid="bo-1"),
+        )
         self.nothing_was_blocked()
 
     def test_a_session_that_ends_asks_over_the_view(self) -> None:
@@ -158,14 +184,25 @@ class Moving(Work):
         self.picture("sign-in")
         self.sign_in("hanna")
         for scheme, width in (("light", 1100), ("dark", 640)):
-            self.driver.execute_cdp_cmd("Emulation.setEmulatedMedia", {"features": [{"name": "prefers-color-scheme", "value": scheme}]})
-            self.driver.execute_cdp_cmd("Emulation.setDeviceMetricsOverride", {"width": width, "height": 800, "deviceScaleFactor": 1, "mobile": False})
+            self.driver.execute_cdp_cmd(
+                "Emulation.setEmulatedMedia",
+                {"features": [{"name": "prefers-color-scheme", "value": scheme}]},
+            )
+            self.driver.execute_cdp_cmd(
+                "Emulation.setDeviceMetricsOverride",
+                {"width": width, "height": 800, "deviceScaleFactor": 1, "mobile": False},
+            )
             self.addCleanup(self.driver.execute_cdp_cmd, "Emulation.clearDeviceMetricsOverride", {})
-            self.addCleanup(self.driver.execute_cdp_cmd, "Emulation.setEmulatedMedia", {"features": []})
+            self.addCleanup(
+                self.driver.execute_cdp_cmd, "Emulation.setEmulatedMedia", {"features": []}
+            )
             for view in VIEWS:
                 with self.subTest(view=view, scheme=scheme):
                     self.open(view)
-                    self.driver.execute_script("for (const one of document.querySelectorAll('main details')) one.open = true")
+                    self.driver.execute_script(
+                        "for (const one of document.querySelectorAll('main details')) one.open = "
+                        "true"
+                    )
                     self.accessible()
         self.nothing_was_blocked()
 
@@ -179,7 +216,10 @@ class Moving(Work):
             self.driver.switch_to.active_element.send_keys(Keys.TAB)
             one = self.driver.switch_to.active_element
             reached.append(one.get_attribute("aria-label") or one.text or one.get_attribute("id"))
-            style = self.driver.execute_script("const style = getComputedStyle(document.activeElement); return style.outlineStyle + style.outlineWidth")
+            style = self.driver.execute_script(
+                "const style = getComputedStyle(document.activeElement); return style.outlineStyle "
+                "+ style.outlineWidth"
+            )
             if one.tag_name != "body":
                 self.assertIn("solid", style, reached[-1])
             if reached[-1] == "Bo":
@@ -203,13 +243,22 @@ class Accounts(Work):
         self.assertRegex(word, "^[a-z2-7]{6}(-[a-z2-7]{6}){3}$")
         self.picture("account")
         field = basic("omar", word)
-        self.assertEqual(self.world.say("", "GET", f"/dav{SALES}bo.vcf", Authorization=field).status, 200)
-        self.assertEqual(self.world.say("", "GET", "/page/books", Authorization=field, x_office_page="1").status, 403)
+        self.assertEqual(
+            self.world.say("", "GET", f"/dav{SALES}bo.vcf", Authorization=field).status, 200
+        )
+        self.assertEqual(
+            self.world.say("", "GET", "/page/books", Authorization=field, x_office_page="1").status,
+            403,
+        )
         body = {"name": "omar", "password": word}
-        self.assertEqual(self.world.say("", "POST", "/page/session", body, x_office_page="1").status, 401)
+        self.assertEqual(
+            self.world.say("", "POST", "/page/session", body, x_office_page="1").status, 401
+        )
         self.one("//button[@aria-label='Take away: Phone']").click()
         self.told("The password of Phone is taken away.")
-        self.assertEqual(self.world.say("", "GET", f"/dav{SALES}bo.vcf", Authorization=field).status, 401)
+        self.assertEqual(
+            self.world.say("", "GET", f"/dav{SALES}bo.vcf", Authorization=field).status, 401
+        )
         self.fill("Old password", WORDS["omar"])
         self.fill("New password", "ten-letters-more")
         self.fill("New password again", "ten-letters-more")
@@ -218,24 +267,43 @@ class Accounts(Work):
         self.open("/books/sales")
         self.heading("Sales")
         self.assertEqual(self.world.say("omar", "GET", f"/dav{SALES}bo.vcf").status, 401)
-        self.assertEqual(self.world.say("", "GET", f"/dav{SALES}bo.vcf", Authorization=basic("omar", "ten-letters-more")).status, 200)
+        self.assertEqual(
+            self.world.say(
+                "", "GET", f"/dav{SALES}bo.vcf", Authorization=basic("omar", "ten-letters-more")
+            ).status,
+            200,
+        )
         self.nothing_was_blocked()
 
     def test_sessions_outlast_a_restart_and_a_proxy_names_who_asks(self) -> None:
         self.sign_in("hanna")
         file = self.world.path / "gateway.toml"
         settings = file.read_text()
-        file.write_text(settings.replace('service = "lister"', 'service = "lister"\nname_field = "X-Office-Name"\nask = "Ada Moor"'))
+        file.write_text(
+            settings.replace(
+                'service = "lister"',
+                'service = "lister"\nname_field = "X-Office-Name"\nask = "Ada Moor"',
+            )
+        )
         self.world.gateway.terminate()
         self.world.gateway.wait(15)
         self.world.start_gateway()
         self.driver.refresh()
         self.heading("Books")
         self.one("//a[.='Hanna Kopf']")
-        told = self.world.say("", "GET", "/page/session", x_office_name="ivy", x_office_page="1").json()
+        told = self.world.say(
+            "", "GET", "/page/session", x_office_name="ivy", x_office_page="1"
+        ).json()
         self.assertEqual(told, {"ask": "Ada Moor", "login": "ivy", "named": True, "person": "ivy"})
-        self.assertEqual(self.world.say("", "GET", f"/dav{SALES}bo.vcf", x_office_name="hanna").status, 200)
-        self.assertEqual(self.world.say("", "GET", "/page/session", x_office_name="lister", x_office_page="1").status, 403)
+        self.assertEqual(
+            self.world.say("", "GET", f"/dav{SALES}bo.vcf", x_office_name="hanna").status, 200
+        )
+        self.assertEqual(
+            self.world.say(
+                "", "GET", "/page/session", x_office_name="lister", x_office_page="1"
+            ).status,
+            403,
+        )
         self.assertEqual(self.world.say("", "GET", "/page/session", x_office_page="1").status, 401)
         names = [one["name"] for one in self.driver.get_cookies()]
         self.assertEqual(names, [f"office_session_{self.world.port}"])

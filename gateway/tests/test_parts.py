@@ -20,7 +20,10 @@ from office_gateway.refusals import Refusal, refusal_of, words_of
 from office_gateway.sessions import Sessions
 from office_gateway.texts import tag_of
 
-BOMB = b"""<?xml version="1.0"?><!DOCTYPE l [<!ENTITY a "ha"><!ENTITY b "&a;&a;&a;&a;">]><propfind xmlns="DAV:">&b;</propfind>"""
+BOMB = (
+    b'<?xml version="1.0"?><!DOCTYPE l [<!ENTITY a "ha"><!ENTITY b "&a;&a;&a;&a;">]>'
+    b'<propfind xmlns="DAV:">&b;</propfind>'
+)
 
 
 class Paths(unittest.TestCase):
@@ -28,31 +31,46 @@ class Paths(unittest.TestCase):
 
     def test_paths(self) -> None:
         rows = {
-            "/": "/", "/books": "/books", "/books/": "/books", "/books/sales": "/books/sales", "/books/sales/": "/books/sales",
-            "/books/sales/a.vcf": "/books/sales/a.vcf", "/people/ann": "/people/ann", "/books/sales/a.vcf/": None,
-            "//": None, "/books//": None, "//books": None, "/books/../people": None, "/books/sales/..": None, "/books/.hidden": None,
-            "/books/sales/%61.vcf": None, "/books/sales?x": None, "/books/sales#x": None, "/other": None, "books": None, "": None,
-            "/people/ann/x": None, "/books/sales/a/b": None, "/books/" + "a" * 65: None, "/books/" + "a" * 64: "/books/" + "a" * 64,
-            "/books/s\u00e4le": None, "/books/a b": None, "/books/a\\b": None, "/books/sales/a.vcf\n": None, "http://x/books": None,
+            "/": "/", "/books": "/books", "/books/": "/books", "/books/sales": "/books/sales",
+            "/books/sales/": "/books/sales", "/books/sales/a.vcf": "/books/sales/a.vcf",
+            "/people/ann": "/people/ann", "/books/sales/a.vcf/": None, "//": None, "/books//": None,
+            "//books": None, "/books/../people": None, "/books/sales/..": None,
+            "/books/.hidden": None, "/books/sales/%61.vcf": None, "/books/sales?x": None,
+            "/books/sales#x": None, "/other": None, "books": None, "": None, "/people/ann/x": None,
+            "/books/sales/a/b": None, "/books/" + "a" * 65: None,
+            "/books/" + "a" * 64: "/books/" + "a" * 64, "/books/s\u00e4le": None,
+            "/books/a b": None, "/books/a\\b": None, "/books/sales/a.vcf\n": None,
+            "http://x/books": None,
         }
         for target, wanted in rows.items():
             with self.subTest(target):
                 self.assertEqual(paths.server_path(target), wanted)
 
     def test_below_dav(self) -> None:
-        rows = {"/dav": "/", "/dav/": "/", "/dav/books/": "/books", "/dav/books/s/c": "/books/s/c", "/davbooks": None, "/dav//books": None}
+        rows = {
+            "/dav": "/", "/dav/": "/", "/dav/books/": "/books", "/dav/books/s/c": "/books/s/c",
+            "/davbooks": None, "/dav//books": None,
+        }
         for target, wanted in rows.items():
             with self.subTest(target):
                 self.assertEqual(paths.dav_path(target), wanted)
 
     def test_hrefs(self) -> None:
-        self.assertEqual([paths.href(path) for path in ("/", "/books/s", "/books/s/c.vcf")], ["/dav/", "/dav/books/s/", "/dav/books/s/c.vcf"])
+        self.assertEqual(
+            [paths.href(path) for path in ("/", "/books/s", "/books/s/c.vcf")],
+            ["/dav/", "/dav/books/s/", "/dav/books/s/c.vcf"],
+        )
 
     def test_targets_of_other_hosts_are_none(self) -> None:
         hosts = {"office.example"}
-        self.assertEqual(paths.target_of("https://office.example/dav/books/a/b", hosts), "/dav/books/a/b")
+        self.assertEqual(
+            paths.target_of("https://office.example/dav/books/a/b", hosts), "/dav/books/a/b"
+        )
         self.assertEqual(paths.target_of("/dav/books/a/b", hosts), "/dav/books/a/b")
-        for text in ("https://other.example/dav/x", "//office.example/x", "ftp://office.example/x", "", "https://office.example/x?y"):
+        for text in (
+            "https://other.example/dav/x", "//office.example/x", "ftp://office.example/x", "",
+            "https://office.example/x?y",
+        ):
             with self.subTest(text):
                 self.assertIsNone(paths.target_of(text, hosts))
 
@@ -74,16 +92,25 @@ class Xml(unittest.TestCase):
         self.assertIsNone(davxml.parsed(b" \n"))
 
     def test_texts_are_written_as_they_are(self) -> None:
-        node = davxml.Node(davxml.d("a"), "x<&>\"\r\n\x01\ufffe", davxml.Node("{urn:x}b", c_d="1\""))
+        node = davxml.Node(
+            davxml.d("a"), "x<&>\"\r\n\x01\ufffe", davxml.Node("{urn:x}b", c_d="1\"")
+        )
         text = davxml.written(node)
         again = davxml.parsed(text)
         assert again is not None
         self.assertEqual(again.text, "x<&>\"\r\n\ufffd\ufffd")
-        self.assertEqual([(child.tag, child.attrib) for child in again], [("{urn:x}b", {"c-d": '1"'})])
+        self.assertEqual(
+            [(child.tag, child.attrib) for child in again], [("{urn:x}b", {"c-d": '1"'})]
+        )
 
     def test_a_denial_names_resource_privilege_and_entry(self) -> None:
-        detail = {"entry": {"from": "/people", "number": 1}, "privilege": "read", "resource": "/people/bob"}
-        root = davxml.parsed(davxml.written(davxml.error(Refusal(403, "need-privileges", **detail))))
+        detail = {
+            "entry": {"from": "/people", "number": 1}, "privilege": "read",
+            "resource": "/people/bob",
+        }
+        root = davxml.parsed(
+            davxml.written(davxml.error(Refusal(403, "need-privileges", **detail)))
+        )
         assert root is not None
         need = root.find(f"{davxml.d('need-privileges')}/{davxml.d('resource')}")
         assert need is not None
@@ -91,14 +118,22 @@ class Xml(unittest.TestCase):
         self.assertIsNotNone(need.find(f"{davxml.d('privilege')}/{davxml.d('read')}"))
         denied = root.find(davxml.o("denied-by"))
         assert denied is not None
-        self.assertEqual((denied.get("number"), denied.findtext(davxml.d("href"))), ("1", "/dav/people/"))
-        self.assertIn("entry 1 of its list, which stands at /people, denies it", root.findtext(davxml.o("words")) or "")
+        self.assertEqual(
+            (denied.get("number"), denied.findtext(davxml.d("href"))), ("1", "/dav/people/")
+        )
+        self.assertIn(
+            "entry 1 of its list, which stands at /people, denies it",
+            root.findtext(davxml.o("words")) or "",
+        )
 
 
 class Filters(unittest.TestCase):
     """addressbook-query."""
 
-    text = "BEGIN:VCARD\r\nVERSION:4.0\r\nFN:Anna Öz\r\nitem1.EMAIL;TYPE=\"home,work\":Anna@A.example\r\nNOTE:a\\, b\r\nEND:VCARD\r\n"
+    text = (
+        "BEGIN:VCARD\r\nVERSION:4.0\r\nFN:Anna Öz\r\nitem1.EMAIL;TYPE=\"home,"
+        "work\":Anna@A.example\r\nNOTE:a\\, b\r\nEND:VCARD\r\n"
+    )
 
     def holds(self, inner: str, attributes: str = "") -> bool:
         """Whether a filter holds of the card."""
@@ -108,20 +143,39 @@ class Filters(unittest.TestCase):
     def test_filters(self) -> None:
         match = '<c:prop-filter name="{}"><c:text-match {}>{}</c:text-match></c:prop-filter>'
         rows = [
-            ("", True), ('<c:prop-filter name="FN"/>', True), ('<c:prop-filter name="TEL"/>', False),
+            ("", True), ('<c:prop-filter name="FN"/>', True),
+            ('<c:prop-filter name="TEL"/>', False),
             ('<c:prop-filter name="TEL"><c:is-not-defined/></c:prop-filter>', True),
             ('<c:prop-filter name="FN"><c:is-not-defined/></c:prop-filter>', False),
-            (match.format("FN", "", "ANNA"), True), (match.format("FN", 'collation="i;octet"', "ANNA"), False),
-            (match.format("FN", 'collation="i;ascii-casemap"', "ÖZ"), True), (match.format("FN", 'collation="i;ascii-casemap"', "öz"), False),
-            (match.format("FN", "", "öz"), True), (match.format("FN", 'match-type="starts-with"', "öz"), False),
-            (match.format("FN", 'match-type="ends-with"', "öz"), True), (match.format("FN", 'match-type="equals"', "anna öz"), True),
-            (match.format("FN", 'negate-condition="yes"', "anna"), False), (match.format("FN", 'negate-condition="yes"', "bo"), True),
+            (match.format("FN", "", "ANNA"), True),
+            (match.format("FN", 'collation="i;octet"', "ANNA"), False),
+            (match.format("FN", 'collation="i;ascii-casemap"', "ÖZ"), True),
+            (match.format("FN", 'collation="i;ascii-casemap"', "öz"), False),
+            (match.format("FN", "", "öz"), True),
+            (match.format("FN", 'match-type="starts-with"', "öz"), False),
+            (match.format("FN", 'match-type="ends-with"', "öz"), True),
+            (match.format("FN", 'match-type="equals"', "anna öz"), True),
+            (match.format("FN", 'negate-condition="yes"', "anna"), False),
+            (match.format("FN", 'negate-condition="yes"', "bo"), True),
             (match.format("NOTE", "", "a, b"), True), (match.format("email", "", "anna@a"), True),
-            (match.format("item1.EMAIL", "", "anna@a"), True), (match.format("item2.EMAIL", "", "anna@a"), False),
+            (match.format("item1.EMAIL", "", "anna@a"), True),
+            (match.format("item2.EMAIL", "", "anna@a"), False),
             ('<c:prop-filter name="EMAIL"><c:param-filter name="type"/></c:prop-filter>', True),
-            ('<c:prop-filter name="EMAIL"><c:param-filter name="PREF"><c:is-not-defined/></c:param-filter></c:prop-filter>', True),
-            ('<c:prop-filter name="EMAIL"><c:param-filter name="TYPE"><c:text-match match-type="equals">work</c:text-match></c:param-filter></c:prop-filter>', True),
-            ('<c:prop-filter name="EMAIL"><c:param-filter name="TYPE"><c:text-match>cell</c:text-match></c:param-filter></c:prop-filter>', False),
+            (
+                '<c:prop-filter name="EMAIL"><c:param-filter name="PREF"><c:is-not-defined/>'
+                '</c:param-filter></c:prop-filter>',
+                True,
+            ),
+            (
+                '<c:prop-filter name="EMAIL"><c:param-filter name="TYPE"><c:text-match '
+                'match-type="equals">work</c:text-match></c:param-filter></c:prop-filter>',
+                True,
+            ),
+            (
+                '<c:prop-filter name="EMAIL"><c:param-filter name="TYPE">'
+                '<c:text-match>cell</c:text-match></c:param-filter></c:prop-filter>',
+                False,
+            ),
         ]
         for inner, wanted in rows:
             with self.subTest(inner):
@@ -131,14 +185,19 @@ class Filters(unittest.TestCase):
         both = '<c:prop-filter name="FN"/><c:prop-filter name="TEL"/>'
         self.assertTrue(self.holds(both))
         self.assertFalse(self.holds(both, 'test="allof"'))
-        inner = '<c:prop-filter name="FN" test="{}"><c:text-match>anna</c:text-match><c:text-match>bo</c:text-match></c:prop-filter>'
+        inner = (
+            '<c:prop-filter name="FN" test="{}"><c:text-match>anna</c:text-match>'
+            '<c:text-match>bo</c:text-match></c:prop-filter>'
+        )
         self.assertTrue(self.holds(inner.format("anyof")))
         self.assertFalse(self.holds(inner.format("allof")))
 
     def test_what_is_not_known_is_refused(self) -> None:
         rows = {
-            '<c:prop-filter name="FN"><c:text-match collation="i;basic">a</c:text-match></c:prop-filter>': "supported-collation",
-            '<c:prop-filter name="FN"><c:text-match match-type="near">a</c:text-match></c:prop-filter>': "supported-filter",
+            '<c:prop-filter name="FN"><c:text-match collation="i;basic">a</c:text-match>'
+            '</c:prop-filter>': "supported-collation",
+            '<c:prop-filter name="FN"><c:text-match match-type="near">a</c:text-match>'
+            '</c:prop-filter>': "supported-filter",
             "<c:prop-filter/>": "supported-filter", "<c:x/>": "supported-filter",
             '<c:prop-filter name="FN" test="none"/>': "supported-filter",
         }
@@ -149,7 +208,10 @@ class Filters(unittest.TestCase):
 
     def test_a_part_of_a_card(self) -> None:
         asked = properties.AddressData("4.0", frozenset({"FN", "NOTE"}), frozenset({"NOTE"}))
-        self.assertEqual(properties.data_of(self.text, asked, "3.0"), "BEGIN:VCARD\r\nVERSION:4.0\r\nFN:Anna Öz\r\nNOTE:\r\nEND:VCARD\r\n")
+        self.assertEqual(
+            properties.data_of(self.text, asked, "3.0"),
+            "BEGIN:VCARD\r\nVERSION:4.0\r\nFN:Anna Öz\r\nNOTE:\r\nEND:VCARD\r\n",
+        )
 
 
 class Words(unittest.TestCase):
@@ -157,16 +219,27 @@ class Words(unittest.TestCase):
 
     def test_words(self) -> None:
         self.assertEqual(
-            words_of({"error": "need-privileges", "entry": None, "privilege": "bind", "resource": "/books"}),
+            words_of(
+                {
+                    "error": "need-privileges", "entry": None, "privilege": "bind",
+                    "resource": "/books",
+                }
+            ),
             "You lack the privilege bind at /books: no entry grants it to you.",
         )
-        self.assertEqual(words_of({"error": "bad-card", "fault": "no-fn", "line": 4}), "Line 4 of the card is refused (no-fn): there is no FN.")
+        self.assertEqual(
+            words_of({"error": "bad-card", "fault": "no-fn", "line": 4}),
+            "Line 4 of the card is refused (no-fn): there is no FN.",
+        )
         self.assertEqual(words_of({"error": "something"}), "The request is refused.")
 
     def test_a_reply_that_cannot_be_read_is_unavailable(self) -> None:
         for body in (b"", b"<html>", b"[]", b'{"x":1}', b'{"error":1}'):
             self.assertEqual(refusal_of(404, body).name, "unavailable")
-        self.assertEqual(refusal_of(403, b'{"error":"bad-card","fault":"twice","line":3}').detail, {"error": "bad-card", "fault": "twice", "line": 3})
+        self.assertEqual(
+            refusal_of(403, b'{"error":"bad-card","fault":"twice","line":3}').detail,
+            {"error": "bad-card", "fault": "twice", "line": 3},
+        )
 
 
 class Heads(unittest.TestCase):
@@ -174,8 +247,10 @@ class Heads(unittest.TestCase):
 
     def test_accept(self) -> None:
         rows = {
-            "": False, "text/vcard": False, "*/*": False, "text/vcard; version=3.0": True, "text/vcard;version=4.0, text/vcard;version=3.0;q=0.5": False,
-            "text/vcard;version=3.0, */*": True, 'text/vcard; version="3.0"': True, "text/vcard;version=3.0;q=x": False,
+            "": False, "text/vcard": False, "*/*": False, "text/vcard; version=3.0": True,
+            "text/vcard;version=4.0, text/vcard;version=3.0;q=0.5": False,
+            "text/vcard;version=3.0, */*": True, 'text/vcard; version="3.0"': True,
+            "text/vcard;version=3.0;q=x": False,
         }
         for field, wanted in rows.items():
             with self.subTest(field):
@@ -202,10 +277,18 @@ class Heads(unittest.TestCase):
 
     def test_fields_without_case(self) -> None:
         fields = CaselessFields({"If-Match": "x"})
-        self.assertEqual((fields["IF-MATCH"], fields.get("if-match"), "if-match" in fields, fields.get("Depth", "0")), ("x", "x", True, "0"))
+        self.assertEqual(
+            (
+                fields["IF-MATCH"], fields.get("if-match"), "if-match" in fields,
+                fields.get("Depth", "0"),
+            ),
+            ("x", "x", True, "0"),
+        )
 
     def test_hosts(self) -> None:
-        self.assertEqual(hosts_of("https://office.example"), ["office.example", "office.example:443"])
+        self.assertEqual(
+            hosts_of("https://office.example"), ["office.example", "office.example:443"]
+        )
         self.assertEqual(hosts_of("http://127.0.0.1:80"), ["127.0.0.1:80"])
 
 
@@ -220,16 +303,25 @@ class Config(unittest.TestCase):
             return load(path)
 
     def test_settings(self) -> None:
-        settings = self.load('[listen]\nport = 1\n[people]\nservice = "l"\n[people.names]\n"a@b" = "a"\n[server]\nkeep_connections = true\nconnections = 8\n')
-        self.assertEqual((settings.listen.port, settings.people.names, settings.server.keep_connections), (1, {"a@b": "a"}, True))
+        settings = self.load(
+            '[listen]\nport = 1\n[people]\nservice = "l"\n[people.names]\n"a@b" = "a"\n[server]\n'
+            'keep_connections = true\nconnections = 8\n'
+        )
+        self.assertEqual(
+            (settings.listen.port, settings.people.names, settings.server.keep_connections),
+            (1, {"a@b": "a"}, True),
+        )
         self.assertEqual(settings.origins(), ("http://127.0.0.1:1", "http://localhost:1"))
 
     def test_faults(self) -> None:
         rows = [
-            "x = 1", "[other]", "[listen]\nport = \"1\"", "[listen]\nnone = 1", "[listen]\nhost = \"0.0.0.0\"", "[server]\nhost = \"10.0.0.1\"",
-            "[listen]\ncertificate = \"a\"", "[listen]\ncertificate = \"a\"\nkey = \"b\"", "[people]\nservice = \"../x\"",
-            "[people]\nservice = \"l\"\n[people.names]\na = \"l\"", "[people.names]\na = 1", "[cards]\nunversioned = \"2.1\"",
-            "[listen]\norigins = [\"https://a/\"]", "[listen]\nport = true", "[server]\nconnections = 0", "not toml",
+            "x = 1", "[other]", "[listen]\nport = \"1\"", "[listen]\nnone = 1",
+            "[listen]\nhost = \"0.0.0.0\"", "[server]\nhost = \"10.0.0.1\"",
+            "[listen]\ncertificate = \"a\"", "[listen]\ncertificate = \"a\"\nkey = \"b\"",
+            "[people]\nservice = \"../x\"", "[people]\nservice = \"l\"\n[people.names]\na = \"l\"",
+            "[people.names]\na = 1", "[cards]\nunversioned = \"2.1\"",
+            "[listen]\norigins = [\"https://a/\"]", "[listen]\nport = true",
+            "[server]\nconnections = 0", "not toml",
         ]
         for text in rows:
             with self.subTest(text), self.assertRaises(ConfigFault):
@@ -255,7 +347,9 @@ class Config(unittest.TestCase):
         with unittest.mock.patch("office_gateway.photos.Image", None):
             with self.assertRaises(ConfigFault) as caught:
                 self.load("")
-            self.assertIn("[cards] shrink_photos wants the package python3-pil", str(caught.exception))
+            self.assertIn(
+                "[cards] shrink_photos wants the package python3-pil", str(caught.exception)
+            )
             self.assertFalse(self.load("[cards]\nshrink_photos = false").cards.shrink_photos)
 
     def test_the_gateway_s_own_files(self) -> None:
@@ -265,7 +359,9 @@ class Config(unittest.TestCase):
             self.assertEqual(self.load("").files.folder, Path("/var/lib/o"))
 
     def test_offers(self) -> None:
-        offer = self.load("[offered.sales]\nadd = [\"eve\"]\ncards.kim = [\"a.vcf\"]").offered["sales"]
+        offer = self.load("[offered.sales]\nadd = [\"eve\"]\ncards.kim = [\"a.vcf\"]").offered[
+            "sales"
+        ]
         self.assertEqual((offer.add, offer.cards), (("eve",), {"kim": ("a.vcf",)}))
         self.assertEqual([offer.has(one) for one in ("eve", "kim", "ann")], [True, True, False])
 
@@ -278,12 +374,19 @@ class Secrets(unittest.IsolatedAsyncioTestCase):
             path = Path(folder) / "passwords"
             hashed = bcrypt.hashpw(b"right", bcrypt.gensalt(10)).decode()
             apache = hashed.replace("$2b$", "$2y$")
-            path.write_text(f"head:{hashed}\na@b.example:{apache}\nlister:{hashed}\nno/name:{hashed}\n")
-            passwords = Passwords(People(passwords=path, service="lister", names={"a@b.example": "anna"}))
+            path.write_text(
+                f"head:{hashed}\na@b.example:{apache}\nlister:{hashed}\nno/name:{hashed}\n"
+            )
+            passwords = Passwords(
+                People(passwords=path, service="lister", names={"a@b.example": "anna"})
+            )
             self.assertEqual(await passwords.check("head", "right"), "head")
             self.assertEqual(await passwords.check("head", "right"), "head")
             self.assertEqual(await passwords.check("a@b.example", "right"), "anna")
-            rows = [("head", "wrong"), ("head", ""), ("none", "right"), ("lister", "right"), ("no/name", "right"), ("head", "right\0"), ("head", "x" * 100), ("", "")]
+            rows = [
+                ("head", "wrong"), ("head", ""), ("none", "right"), ("lister", "right"),
+                ("no/name", "right"), ("head", "right\0"), ("head", "x" * 100), ("", ""),
+            ]
             for login, password in rows:
                 with self.subTest(login=login):
                     self.assertIsNone(await passwords.check(login, password))
@@ -438,11 +541,17 @@ class Files(unittest.TestCase):
 
     def test_cards_of_a_file(self) -> None:
         text = "BEGIN:VCARD\nFN:A\nEND:VCARD\n\nBEGIN:VCARD\r\nFN:B\r\nEND:VCARD\r\nleft over\n"
-        self.assertEqual([card.strip().splitlines()[0] for card in vcard.cards_of(text)], ["BEGIN:VCARD", "BEGIN:VCARD", "left over"])
+        self.assertEqual(
+            [card.strip().splitlines()[0] for card in vcard.cards_of(text)],
+            ["BEGIN:VCARD", "BEGIN:VCARD", "left over"],
+        )
 
     def test_names(self) -> None:
         self.assertEqual(imports.name_of("BEGIN:VCARD\nUID:urn:uuid:abc-1\nEND:VCARD"), "abc-1.vcf")
-        self.assertEqual(imports.name_of("BEGIN:VCARD\nUID:a@b\nEND:VCARD"), imports.name_of("BEGIN:VCARD\nFN:X\nUID:a@b\nEND:VCARD"))
+        self.assertEqual(
+            imports.name_of("BEGIN:VCARD\nUID:a@b\nEND:VCARD"),
+            imports.name_of("BEGIN:VCARD\nFN:X\nUID:a@b\nEND:VCARD"),
+        )
         self.assertTrue(paths.is_name(imports.name_of("no card")))
 
     def test_components(self) -> None:
@@ -450,11 +559,16 @@ class Files(unittest.TestCase):
         self.assertEqual(vcard.components(""), [""])
 
     def test_bad_lines(self) -> None:
-        for line in ("x", ":a", "A;:b", "A;B:c", "A;B=\"c:d", "A;B=c\"d:e", "\u00e4:b", "A.:b", "A:\x01"):
+        for line in (
+            "x", ":a", "A;:b", "A;B:c", "A;B=\"c:d", "A;B=c\"d:e", "\u00e4:b", "A.:b", "A:\x01",
+        ):
             with self.subTest(line), self.assertRaises(vcard.BadLine):
                 vcard.parsed(line, 1)
         line = vcard.parsed('g.TEL;TYPE=a,"b:c";X=:v;w', 1)
-        self.assertEqual((line.group, line.name, line.params, line.value), ("g", "TEL", [("TYPE", ["a", "b:c"]), ("X", [""])], "v;w"))
+        self.assertEqual(
+            (line.group, line.name, line.params, line.value),
+            ("g", "TEL", [("TYPE", ["a", "b:c"]), ("X", [""])], "v;w"),
+        )
         self.assertEqual(line.text(), 'g.TEL;TYPE=a,"b:c";X=:v;w')
 
 

@@ -78,7 +78,8 @@ class Recorded(unittest.TestCase):
         [person] = responses(told).values()
         home = person.findtext(f".//{C}addressbook-home-set/{D}href")
         self.assertEqual(home, "/dav/books/")
-        # Thunderbird takes a response whose first status is 200, which is a book, and has read or all.
+        # Thunderbird takes a response whose first status is 200, which is a book, and has read or
+        # all.
         book = responses(self.ask("guest", "thunderbird-find-home"))[SALES]
         self.assertEqual(book.findtext(f".//{D}status"), "HTTP/1.1 200 OK")
         self.assertIsNotNone(book.find(f".//{D}resourcetype/{C}addressbook"))

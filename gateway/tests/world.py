@@ -87,7 +87,10 @@ def basic(login: str, password: str) -> str:
 
 
 class World:
-    """A folder with a store, a server over it, and a gateway before it."""
+    """A folder with a store, a server over it, and a gateway before it.
+
+    The gateway keeps so many connections to the server as `kept` says, as in an office, or none.
+    """
 
     def __init__(
         self,
@@ -96,6 +99,7 @@ class World:
         origins: str = "",
         passwords: dict[str, str] | None = None,
         port: int = 0,
+        kept: int = 0,
     ):
         found = program()
         if found is None:
@@ -111,9 +115,10 @@ class World:
         lines = [f"{login}:{hashed(word)}\n" for login, word in self.passwords.items()]
         (self.path / "passwords").write_text("".join(lines))
         listed = origins or f'"http://127.0.0.1:{self.port}", "http://localhost:{self.port}"'
+        keeping = f"keep_connections = true\nconnections = {kept}\n" if kept else ""
         (self.path / "gateway.toml").write_text(
             f"[listen]\nport = {self.port}\norigins = [{listed}]\narrive_seconds = 3\n"
-            f"[server]\nport = {self.server_port}\n[people]\nservice = \"lister\"\n"
+            f"[server]\nport = {self.server_port}\n{keeping}[people]\nservice = \"lister\"\n"
             f"[people.names]\n\"guest@office.example\" = \"guest\"\n{more}"
         )
         self.processes: list[subprocess.Popen[bytes]] = []
