@@ -9,7 +9,7 @@ use Rattle.book_tables_schema.specs.declared.reopening.Unopened.{Unopened}
 use Rattle.book_tables_schema.specs.declared.reopening.Unopened.TheVariants.{Connection}
 use Rattle.book_tables.specs.declared.opening.OpenFault.{OpenFault}
 use Rattle.book_tables_opening.specs.Reading.{FaultSays, IsRefused}
-use Rattle.book_tables_migrating.specs.Migrating.{IsUnmigrated, StandsForNoneBefore, StandsWidened}
+use Rattle.book_tables_migrating.specs.Migrating.{IsUnmigrated, StandsForNoneBefore, StandsMigrated}
 use Rattle.book_desk_app.specs.Runs.{store_failure}
 use Rattle.book_desk_app.specs.declared.failures.Failure.{Failure}
 use Rattle.book_desk_app.specs.declared.failures.Failure.TheVariants.{Output, Store}
@@ -21,7 +21,7 @@ migration_line entries = codes "version 2, entries " ++ (decimal entries ++ code
 module _ {S : Type 0} (g : Ghosts S) where
   -- what was committed stood for an Office, and the connection stands for the widened one, with so many entries
   abbrev pub IsMigratedTo : Held S → Held S → ℕ → Type 0
-  IsMigratedTo store back entries = HasCleanDisk (state g back) → StandsWidened (state g store).committed.trees (state g back) entries
+  IsMigratedTo store back entries = HasCleanDisk (state g back) → StandsMigrated (state g store).committed.trees (state g back) entries
 
   -- the connection shows what was committed
   abbrev pub IsAsItWas : Held S → Held S → Type 0

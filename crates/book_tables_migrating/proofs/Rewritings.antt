@@ -25,7 +25,7 @@ use Rattle.book_tables_renewing.specs.Reordering.{former_rows_of, Reordered}
 use Rattle.book_tables.specs.Stands.{Gives, IsKept, LeftBy, Stands}
 use Rattle.book_tables.proofs.OneOffice.{base_of, kept_stands, one_office, only_left}
 use Rattle.book_tables_opening.specs.Reading.{RowsRise, Settled, StandsForOne}
-use Rattle.book_tables_migrating.specs.Migrating.{HasBefore, StandsBefore, StandsFirst, StandsForNoneAs, TellsGeneration, Rewritten, IsMigrated, MayMigrate, StandsWidened, IsUnmigrated}
+use Rattle.book_tables_migrating.specs.Migrating.{HasBefore, StandsBefore, StandsFirst, StandsForNoneAs, TellsGeneration, Rewritten, IsMigrated, MayMigrate, StandsMigrated, IsUnmigrated}
 use Rattle.book_tables_migrating.specs.Widen.{widen}
 use Rattle.book_tables_migrating.proofs.MappedRows.{as_first, widened_stands, stood_first}
 
@@ -195,7 +195,7 @@ leaves_migrated old begun inner new generation count schema is first made second
 abbrev IsAtRest : State → Type 0
 IsAtRest s = (trees : Trees) → IsTrue s.is_open → s.may_leave trees → trees ≡ s.committed.trees
 
-pub widened_alone : (old new : State) (count : ℕ) → RowsRise old.now → IsAtRest new → IsMigrated old new count → StandsWidened old.now.trees new count
+pub widened_alone : (old new : State) (count : ℕ) → RowsRise old.now → IsAtRest new → IsMigrated old new count → StandsMigrated old.now.trees new count
 widened_alone old new count rise at_rest m =
     let tables : HasBefore m.generation old.now = (m.schema, rise) in
     let x = m.stands tables in

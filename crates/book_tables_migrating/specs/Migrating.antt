@@ -132,7 +132,7 @@ TellsMigrated old new None = Stays old new × ((generation : Generation) → Sta
 
 -- the trees that were committed stood for an Office as tables of version 1, and the connection stands for the widened one; or they
 -- stood for one in the former order, and the connection stands for it
-pub record StandsWidened (trees : Trees) (new : State) (count : ℕ) : Type 0 where
+pub record StandsMigrated (trees : Trees) (new : State) (count : ℕ) : Type 0 where
   pub generation : Generation
   pub office : Office
   pub before : StandsBeforeBy generation trees office

@@ -6,7 +6,7 @@ ghost use Rattle.sqlite.specs.State.{HasCleanDisk, Survives};
 ghost use Rattle.book_tables_rows.specs.Steps.{Keeps, Stays};
 ghost use Rattle.book_tables_schema.specs.Reopening.{IfConnection, IfStore, IsConnectionAnd, IsUnharmed};
 ghost use Rattle.book_tables_opening.specs.Reading.{FaultSays, IsRefused, IsReopened};
-ghost use Rattle.book_tables_migrating.specs.Migrating.{IsUnmigrated, MayMigrate, StandsForNoneBefore, StandsWidened, TellsGeneration, TellsMigrated, TellsRewritten};
+ghost use Rattle.book_tables_migrating.specs.Migrating.{IsUnmigrated, MayMigrate, StandsForNoneBefore, StandsMigrated, TellsGeneration, TellsMigrated, TellsRewritten};
 
 use book_tables::{OpenFault, Tables};
 use book_tables_opening::{open_fault_of, settle_office, tells_other};
@@ -150,7 +150,7 @@ fn migrate_again<S: Alter>(
 ) -> Result<(Tables<S>, u64), (OpenFault, Unopened<S>)>
     ensures stands { IsReopened (state S.Store connection)
         → IfOk result (λ t. HasCleanDisk (state S.Store t.0.connection) → HasCleanDisk (state S.Store connection)
-        × StandsWidened (state S.Store connection).now.trees (state S.Store t.0.connection) t.1) }
+        × StandsMigrated (state S.Store connection).now.trees (state S.Store t.0.connection) t.1) }
     ensures counted { IfOk result (λ t. t.0.failures ≡ 0) }
     ensures refused { IfErr result (λ e. IsRefused e.0 → IsConnectionAnd e.1 (λ c.
         HasCleanDisk (state S.Store c) → StandsForNoneBefore (state S.Store c))) }
@@ -189,7 +189,7 @@ pub fn migrate<S: Alter + Drop>(
     connection: Connection<S>,
 ) -> Result<(Tables<S>, u64), (OpenFault, Unopened<S>)>
     ensures stands { IfOk result (λ t. HasCleanDisk (state S.Store t.0.connection)
-        → StandsWidened (state S.Store connection).committed.trees (state S.Store t.0.connection) t.1) }
+        → StandsMigrated (state S.Store connection).committed.trees (state S.Store t.0.connection) t.1) }
     ensures counted { IfOk result (λ t. t.0.failures ≡ 0) }
     ensures refused { IfErr result (λ e. IsRefused e.0 → IsConnectionAnd e.1 (λ c.
         HasCleanDisk (state S.Store c) → StandsForNoneBefore (state S.Store c))) }

@@ -1,7 +1,6 @@
 -- Rows that pass the tests are those that spell entries in the one way.
-use Rattle.book_tables_opening.proofs.Common.{◌≡◌, ℕ, zero, suc, pos, ◌<◌, ◌≤◌, nat_eq, Bool, true, false, cond, ◌&&◌, List, [], ◌∷◌, unwrap_or, refl, sym, ap, ◌∙◌, true≢false, arith, AllByRecursion, and_parts, Value, Null, Int, Real, Text, Blob, Row, column, Who, Href, Everyone, Authenticated, Unauthenticated, Owner, Own, number_in, text_in, flag, flag_in, principal_value, shown_protected}
+use Rattle.book_tables_opening.proofs.Common.{◌≡◌, ℕ, zero, suc, pos, ◌<◌, ◌≤◌, nat_eq, Bool, true, false, cond, ◌&&◌, List, [], ◌∷◌, unwrap_or, refl, sym, ap, ◌∙◌, true≢false, arith, and_parts, Value, Null, Int, Real, Text, Blob, Row, column, Who, Href, Everyone, Authenticated, Unauthenticated, Owner, Own, number_in, text_in, flag, flag_in, principal_value, shown_protected}
 use Rattle.std.proofs.Common.{negsuc, nat_lt, ◌||◌}
-use Rattle.std.specs.List.{list_all}
 use Rattle.std.proofs.lemmas.Bool.{eqb-true, ltb-true, lt-ltb, and_from}
 use Rattle.book_rights.specs.declared.privileges.Leaf.{Leaf}
 use Rattle.book_rights.specs.declared.privileges.Leaf.TheVariants.{ReadTexts, WriteContent, WriteProperties, Bind, Unbind, ReadAcl, WriteAcl, ReadCurrentUserPrivilegeSet, ReadNames}
@@ -158,11 +157,3 @@ entry_passes row e =
     let mask : is_value_below 512 (column row 7) ≡ true = ap (is_value_below 512) (part 4) ∙ mask_passes entry.set in
     and_from _ _ (ap (is_value_below 2) e.protected ∙ flag_passes (flag_in (column row 1)))
     (and_from _ _ (ap is_natural e.place) (and_from _ _ form (and_from _ _ invert (and_from _ _ deny mask))))
-
-pub all_entries : (rows : List Row) → list_all is_entry_row rows ≡ true → AllByRecursion IsSpelledEntry rows
-all_entries [] h = tt
-all_entries (row ∷ rows) h = let parts = and_parts (is_entry_row row) (list_all is_entry_row rows) h in (entry_is row parts.0, all_entries rows parts.1)
-
-pub all_pass : (rows : List Row) → AllByRecursion IsSpelledEntry rows → list_all is_entry_row rows ≡ true
-all_pass [] h = refl
-all_pass (row ∷ rows) h = and_from _ _ (entry_passes row h.0) (all_pass rows h.1)

@@ -1,10 +1,8 @@
 //! Tests on rows that reads of whole tables show.
 
-ghost use Rattle.std.specs.Prelude.{◌≡◌, ◌↔◌, ◌&&◌, IsTrue};
-ghost use Rattle.std.specs.List.{AllByRecursion, list_all};
+ghost use Rattle.std.specs.Prelude.{◌≡◌, ◌&&◌};
 ghost use Rattle.sqlite.specs.Order.{column};
 ghost use Rattle.book_tables_opening.specs.RowTests as tests;
-ghost use Rattle.book_tables_opening.specs.RowTests.{IsSpelledEntry};
 ghost use Rattle.book_tables_opening.specs.Shown.{shown_form, shown_principal};
 
 use sqlite::Row;
@@ -72,19 +70,4 @@ pub(crate) fn is_entry(row: &Row) -> bool
     ensures { result ≡ tests.is_entry_row row.now }
 {
     is_flag(row, 1) && is_natural(row, 2) && is_spelled(row)
-}
-
-fn pass_as_entries(rows: &[Row]) -> bool
-    ensures { result ≡ list_all tests.is_entry_row rows.now }
-{
-    rows.iter().all(|row| is_entry(row))
-}
-
-/// Whether each row of `ace`, shown with all its columns, is in one of the two lists of its node, and is spelled in the
-/// one way (RFC 3744, section 5.5): the form of a path with a text and each other form with none, truth values as 0 or
-/// 1, and a set as a mask below 512.
-pub fn are_entries(rows: &[Row]) -> bool
-    ensures { IsTrue result ↔ AllByRecursion IsSpelledEntry rows.now }
-{
-    pass_as_entries(rows)
 }

@@ -115,14 +115,6 @@ impl Text {
         self.text.as_str()
     }
 
-    /// A string of the text. Takes no memory.
-    pub fn into_string(self) -> String
-        ensures { string_bytes result ≡ self }
-    {
-        let Text { text } = self;
-        text
-    }
-
     /// How many bytes there are. Takes no memory.
     pub fn len(&self) -> usize
         ensures { result ≡ length self.now }

@@ -5,7 +5,7 @@ use Rattle.sqlite.specs.State.{HasCleanDisk}
 use Rattle.book_tables_schema.specs.Reopening.{IsConnectionAnd}
 use Rattle.book_tables_schema.specs.declared.reopening.Unopened.{Unopened}
 use Rattle.book_tables_schema.specs.declared.reopening.Unopened.TheVariants as unopened
-use Rattle.book_tables_migrating.specs.Migrating.{StandsWidened}
+use Rattle.book_tables_migrating.specs.Migrating.{StandsMigrated}
 use Rattle.book_desk_app.specs.Telling.{TellsFailure}
 use Rattle.book_desk_app.specs.declared.failures.Failure.TheVariants.{Store}
 use Rattle.book_desk_app.proofs.Ending.{silent, written}
@@ -22,7 +22,7 @@ returns-in-Ok-clause-runs g c =
       c.release.result,
       c.in-Ok.entries,
       refl,
-      subst (λ back. HasCleanDisk (state g.S.Store back) → StandsWidened (state g.S.Store c.args.store).committed.trees (state g.S.Store back) c.in-Ok.entries) (sym c.release.ensures) c.in-Ok.ensures.stands,
+      subst (λ back. HasCleanDisk (state g.S.Store back) → StandsMigrated (state g.S.Store c.args.store).committed.trees (state g.S.Store back) c.in-Ok.entries) (sym c.release.ensures) c.in-Ok.ensures.stands,
       written _ _ c.write_entries-outcome.result c.ended-status.result c.write_entries-outcome.ensures.written c.write_entries-outcome.ensures.failed c.ended-status.ensures.done c.ended-status.ensures.failed,
     )
 

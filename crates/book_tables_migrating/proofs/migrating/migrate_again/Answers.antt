@@ -4,7 +4,7 @@ use Rattle.sqlite.specs.State.{HasCleanDisk, Survives}
 use Rattle.sqlite.proofs.StateLemmas.{survives_then}
 use Rattle.book_tables_rows.specs.Steps.{Stays}
 use Rattle.book_tables_schema.specs.declared.layout.Generation.{Generation}
-use Rattle.book_tables_migrating.specs.Migrating.{IsMigrated, MayMigrate, StandsForNoneAs, StandsWidened, TellsMigrated}
+use Rattle.book_tables_migrating.specs.Migrating.{IsMigrated, MayMigrate, StandsForNoneAs, StandsMigrated, TellsMigrated}
 use Rattle.book_tables_migrating.proofs.Rewritings.{widened_alone, unmigrated}
 use Rattle.book_tables_migrating.proofs.migrating.migrate_again.Goals as goal
 
@@ -16,7 +16,7 @@ returns-in-Ok-Some-clause-stands g c reopened clean_over =
     let was : HasCleanDisk old = omega (arith, clean, c.migrate_tables.ensures.left.clean) in
     let m : IsMigrated old new c.in-Ok-Some.count = subst (TellsMigrated old new) c.in-Ok-Some.field-0-is (c.in-Ok-Some.ensures.told clean) in
     let stands = widened_alone old new c.in-Ok-Some.count (reopened was).1 (g.met.S.Store.settled c.migrate_tables.new.connection.store) m in
-    (was, subst (λ k. StandsWidened old.now.trees (state g.S.Store k) c.in-Ok-Some.count) (sym c.over.ensures.connection) stands)
+    (was, subst (λ k. StandsMigrated old.now.trees (state g.S.Store k) c.in-Ok-Some.count) (sym c.over.ensures.connection) stands)
 
 pub returns-in-Ok-None-clause-kept : goal.returns-in-Ok-None-clause-kept
 returns-in-Ok-None-clause-kept g c reopened clean =
