@@ -34,7 +34,7 @@
 
 try:
 	@tools/try
-	@tools/tour --show build/try/book_desk
+	@tools/check-documents --show build/try/book_desk
 
 build:
 	@tools/build
@@ -52,10 +52,10 @@ demo: build
 	@tools/demo build/book_desk
 
 tour: build
-	@tools/tour build/book_desk
+	@tools/check-documents build/book_desk
 
 streams: build
-	@tools/streams build/book_desk
+	@tools/check-streams build/book_desk
 	@tools/check-conformance build/book_desk
 
 test:
@@ -65,30 +65,30 @@ quick:
 	@tools/quick
 
 wrong:
-	@tools/wrong-bodies
+	@tools/try-wrong-bodies
 
 turned:
-	@tools/turned
+	@tools/check-examples
 
 faults:
-	@tools/faults
+	@tools/try-faults
 
 bench: build
-	@tools/bench build/book_desk
-	@tools/counts build/book_desk
+	@tools/measure-time build/book_desk
+	@tools/measure-instructions build/book_desk
 
 figures: build
-	@tools/figures build/book_desk
-	@tools/bounded build/book_desk
+	@tools/measure-stores build/book_desk
+	@tools/check-memory build/book_desk
 
 many: build
-	@tools/together build/book_desk
-	@tools/cuts build/book_desk
-	@tools/terminated build/book_desk
-	@tools/lost build/book_desk
-	@tools/unsynced build/book_desk
-	@tools/proxied build/book_desk
-	@tools/crowded build/book_desk
+	@tools/check-many build/book_desk
+	@tools/check-cuts build/book_desk
+	@tools/check-kept build/book_desk
+	@tools/check-lost build/book_desk
+	@tools/check-unsynced build/book_desk
+	@tools/check-proxied build/book_desk
+	@tools/measure-crowds build/book_desk
 
 clients:
 	@gateway/clients
@@ -97,7 +97,7 @@ gateway-demo:
 	@gateway/demo
 
 first-hour:
-	@tools/first-hour
+	@tools/try-first-hour
 
 clean:
 	rm -rf build crates/*/out

@@ -4,7 +4,7 @@
    its last sync is taken back first, as a system may drop such pages, or stays where KEEP is in the environment. Every other
    call is the system's.
 
-   tools/unsynced compiles it, and the loader puts it there: cc -shared -fPIC, and the path in LD_PRELOAD. */
+   tools/check-unsynced compiles it, and the loader puts it there: cc -shared -fPIC, and the path in LD_PRELOAD. */
 
 #define _GNU_SOURCE
 #include <errno.h>

@@ -6,7 +6,7 @@
 
    In a program that doesn't want it the environment can: REFUSE_NUMBER is the number of the one request that is refused.
 
-   tools/faults compiles it, and the loader puts it there: cc -shared -fPIC, and the path in LD_PRELOAD. */
+   tools/try-faults compiles it, and the loader puts it there: cc -shared -fPIC, and the path in LD_PRELOAD. */
 
 #include <stddef.h>
 #include <stdlib.h>
