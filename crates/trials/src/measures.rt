@@ -1,5 +1,5 @@
-//! What the store and loopback take by themselves, for `tools/figures` and `tools/trips` to stand beside what requests
-//! take. What the program takes is measured through the program (`tools/bench`).
+//! What the store and loopback take by themselves, for `tools/measure-stores` and `tools/measure-waits` to stand beside what requests
+//! take. What the program takes is measured through the program (`tools/measure-time`).
 
 mod echo;
 mod store_rows;
