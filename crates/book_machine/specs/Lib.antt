@@ -7,6 +7,7 @@ pub mod Finding
 pub mod Laws
 pub mod LeadingRuns
 pub mod Named
+pub mod Needing
 pub mod Promises
 pub mod Refusals
 pub mod Runs

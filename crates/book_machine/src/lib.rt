@@ -8,7 +8,7 @@
 //! tells why it does not.
 //!
 //! Read `messages`, `refusals`, `allowed_methods`, `finding` and `asked` first; then `plans`, `stages`,
-//! `entries_in_force`, `destinations`, `syncing`, `reporting` and `machine`; and `adoptions` by itself.
+//! `entries_in_force`, `destinations`, `syncing`, `reporting` and `machine`; and `adoptions` and `needing` by themselves.
 #![tactic(auto)]
 
 mod adoptions;
@@ -21,6 +21,7 @@ mod laws;
 mod leading;
 mod machine;
 mod messages;
+mod needing;
 mod plans;
 mod refusals;
 mod reporting;
@@ -45,5 +46,7 @@ pub use machine::Machine;
 pub use messages::{
     Body, Content, Depth, Flag, Patch, Reply, ReportKind, Request, SyncFrom, SyncRequest,
 };
+pub use needing::{Needed, PlacedNeed};
 pub use plans::{Plan, Ready, Target};
 pub use refusals::{BoxedDenial, Refusal};
+pub use stages::principal_of;

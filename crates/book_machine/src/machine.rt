@@ -60,7 +60,7 @@ impl<K: Keeper> Machine<K> {
     }
 
     /// The caller: nobody, or the person of that name.
-    fn caller(&mut self, alloc: Global, name: Option<&str>) -> Result<Caller, Refusal>
+    pub(crate) fn caller(&mut self, alloc: Global, name: Option<&str>) -> Result<Caller, Refusal>
         ensures { StageAsks K.standing self.old self.new result (λ o r. Meets r (caller_of o (option_copied name.entry))) }
     {
         let Some(text) = name else {
@@ -185,7 +185,7 @@ impl<K: Keeper> Machine<K> {
     }
 
     /// The stages before the verdict.
-    fn ready<'r>(
+    pub(crate) fn ready<'r>(
         &mut self,
         alloc: Global,
         name: Option<&str>,

@@ -197,8 +197,8 @@ pub(crate) fn place_path(ready: &Ready<'_>, place: Place) -> Result<Path, AllocE
     }
 }
 
-/// The resource itself, where it is a principal.
-pub(crate) fn principal_of(alloc: Global, path: &Path) -> Result<Option<Principal>, AllocError>
+/// The resource itself, where it is a principal. An error is want of memory.
+pub fn principal_of(alloc: Global, path: &Path) -> Result<Option<Principal>, AllocError>
     ensures { IfOk result (λ principal. principal ≡ principal_of path.now) }
 {
     match path {

@@ -58,8 +58,9 @@ fn push_names(text: &mut String, names: &[Privilege]) -> Result<(), AllocError>
     Ok(())
 }
 
-/// Adds the line of an entry.
-fn push_entry(
+/// Adds the line of an entry: the list in which it stands, whether it grants or denies, its principal form and its short
+/// names. An error is want of memory.
+pub fn push_entry(
     alloc: Global,
     text: &mut String,
     protected: bool,

@@ -1,0 +1,5 @@
+pub mod Common
+pub mod InTurn
+pub mod RuledVerdicts
+pub mod WhyTold
+pub mod Earliest

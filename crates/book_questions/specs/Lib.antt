@@ -1,0 +1,4 @@
+pub mod RulingVerdicts
+pub mod Whys
+pub mod Lines
+pub mod Questions
