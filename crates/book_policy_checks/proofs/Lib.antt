@@ -1,0 +1,4 @@
+pub mod Noting
+pub mod Tests
+pub mod Reported
+pub mod Told

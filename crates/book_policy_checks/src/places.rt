@@ -1,0 +1,284 @@
+//! Faults with their places.
+
+ghost use Rattle.std.specs.Prelude.{◌≡◌, OnOk};
+ghost use Rattle.book_policy_checks.specs.Keys.{has_key, key_text};
+ghost use Rattle.book_policy_checks.specs.Placing.{fault_of, least, no_faults, noted, number_of, placed, pushed};
+
+use book_office_values::Items;
+use book_policy::PolicyFault;
+use std::alloc::{AllocError, Global};
+
+/// The most faults that are told, each with its place.
+pub const MAX_TOLD: usize = 1_000;
+
+/// The kinds of tables of a policy's text.
+#[derive(Clone, Copy, Debug, PartialEq, Eq, Drop)]
+pub enum TableKind {
+    /// The whole text.
+    Top,
+    /// A person.
+    Person,
+    /// A group.
+    Group,
+    /// A book.
+    Book,
+    /// An entry.
+    Entry,
+}
+
+/// The keys that tables may have.
+#[derive(Clone, Copy, Debug, PartialEq, Eq, Drop)]
+pub enum Key {
+    /// Of the whole text, which is 1.
+    Version,
+    /// Of the whole text: its persons.
+    Persons,
+    /// Of the whole text: its groups.
+    Groups,
+    /// Of the whole text: its books.
+    Books,
+    /// Of the whole text: its entries.
+    Entries,
+    /// Of persons, groups and books.
+    Name,
+    /// Of persons, groups and books.
+    Label,
+    /// Of groups.
+    Members,
+    /// Of books.
+    Owner,
+    /// Of entries: where it stands.
+    At,
+    /// Of entries: for whom it is.
+    Who,
+    /// Of entries.
+    Invert,
+    /// Of entries.
+    Grant,
+    /// Of entries.
+    Deny,
+    /// Of entries.
+    Protected,
+    /// The table itself, and no key of it.
+    Itself,
+}
+
+/// What is wrong at a place.
+#[derive(Clone, Copy, Debug, PartialEq, Eq, Drop)]
+pub enum Problem {
+    /// The key is none of the table's.
+    UnknownKey,
+    /// The key is missing.
+    Missing,
+    /// The value is of another kind than the key wants.
+    OtherKind,
+    /// The version is no whole number 1.
+    OtherVersion,
+    /// The label is over 256 bytes.
+    LongLabel,
+    /// There are no names of privileges, or more than 16.
+    NamesCount,
+    /// Both `grant` and `deny` are there.
+    Both,
+    /// The name is no name.
+    BadName,
+    /// The table of that number, among the same kind, has the name too, and stands before.
+    NameTwice(usize),
+    /// It is no person and no group of the policy, nor a word for a form.
+    UnknownPrincipal,
+    /// It is no place of the policy.
+    UnknownResource,
+    /// It is no name of a privilege.
+    UnknownPrivilege,
+    /// There are more than 1,000 tables of a kind or members of a group.
+    TooMany,
+    /// It is the 65th entry of its list.
+    LongList,
+    /// The text has the fault, and no place of it was found.
+    Elsewhere(PolicyFault),
+}
+
+/// A fault of a policy's text with its place.
+#[derive(Clone, Copy, Debug, PartialEq, Eq, Drop)]
+pub struct PlacedFault {
+    /// The kind of the table.
+    pub kind: TableKind,
+    /// Its number among the tables of its kind, from 1; 0 of the whole text.
+    pub number: usize,
+    /// The key in it.
+    pub key: Key,
+    /// The number of an item in the array at the key, from 1; 0 of the value itself. Of a key that is none of the
+    /// table's: its number among the keys of the table in byte order, from 1.
+    pub item: usize,
+    /// What is wrong there.
+    pub problem: Problem,
+}
+
+impl Key {
+    /// The key as it is written; empty where it is none.
+    pub fn text(self) -> &'static str
+        ensures { result.now ≡ key_text self }
+    {
+        match self {
+            Key::Version => "version",
+            Key::Persons => "person",
+            Key::Groups => "group",
+            Key::Books => "book",
+            Key::Entries => "entry",
+            Key::Name => "name",
+            Key::Label => "label",
+            Key::Members => "members",
+            Key::Owner => "owner",
+            Key::At => "at",
+            Key::Who => "who",
+            Key::Invert => "invert",
+            Key::Grant => "grant",
+            Key::Deny => "deny",
+            Key::Protected => "protected",
+            Key::Itself => "",
+        }
+    }
+}
+
+impl TableKind {
+    /// Whether a table of this kind may have the key.
+    pub fn has_key(self, key: &str) -> bool
+        ensures { result ≡ has_key self key.now }
+    {
+        match self {
+            TableKind::Top => {
+                key == "version"
+                    || key == "person"
+                    || key == "group"
+                    || key == "book"
+                    || key == "entry"
+            }
+            TableKind::Person => key == "name" || key == "label",
+            TableKind::Group => key == "name" || key == "label" || key == "members",
+            TableKind::Book => key == "name" || key == "label" || key == "owner",
+            TableKind::Entry => {
+                key == "at"
+                    || key == "who"
+                    || key == "invert"
+                    || key == "grant"
+                    || key == "deny"
+                    || key == "protected"
+            }
+        }
+    }
+}
+
+impl Problem {
+    /// The fault of a text that has this somewhere.
+    pub fn fault(self) -> PolicyFault
+        ensures { result ≡ fault_of self }
+    {
+        match self {
+            Problem::OtherVersion => PolicyFault::OtherVersion,
+            Problem::UnknownKey
+            | Problem::Missing
+            | Problem::OtherKind
+            | Problem::LongLabel
+            | Problem::NamesCount
+            | Problem::Both => PolicyFault::BadKey,
+            Problem::BadName => PolicyFault::BadName,
+            Problem::NameTwice(_) => PolicyFault::NameTwice,
+            Problem::UnknownPrincipal => PolicyFault::UnknownPrincipal,
+            Problem::UnknownResource => PolicyFault::UnknownResource,
+            Problem::UnknownPrivilege => PolicyFault::UnknownPrivilege,
+            Problem::TooMany | Problem::LongList => PolicyFault::TooMany,
+            Problem::Elsewhere(fault) => fault,
+        }
+    }
+}
+
+/// The number of a fault in their order, from 1.
+pub(crate) fn number_of(fault: PolicyFault) -> usize
+    ensures { result ≡ number_of fault }
+{
+    match fault {
+        PolicyFault::NotToml => 1,
+        PolicyFault::OtherVersion => 2,
+        PolicyFault::BadKey => 3,
+        PolicyFault::BadName => 4,
+        PolicyFault::NameTwice => 5,
+        PolicyFault::UnknownPrincipal => 6,
+        PolicyFault::UnknownResource => 7,
+        PolicyFault::UnknownPrivilege => 8,
+        PolicyFault::TooMany => 9,
+        PolicyFault::Memory => 10,
+    }
+}
+
+/// The lesser of two numbers.
+fn least(first: usize, second: usize) -> usize
+    ensures { result ≡ least first second }
+{
+    if first < second { first } else { second }
+}
+
+/// Faults with their places, in order: the first 1,000 of them, and what is known of all.
+#[derive(Debug, Drop)]
+pub struct PlacedFaults {
+    /// The first 1,000.
+    pub told: Items<PlacedFault>,
+    /// How many more there are.
+    pub more: usize,
+    /// The number of the least fault of all, by the order of faults from 1; 11 where there is none.
+    pub least: usize,
+}
+
+impl PlacedFaults {
+    /// No faults. Takes no memory.
+    pub(crate) fn new(alloc: Global) -> PlacedFaults
+        ensures { result ≡ no_faults }
+    {
+        PlacedFaults {
+            told: Items::new(alloc),
+            more: 0,
+            least: 11,
+        }
+    }
+
+    /// Adds a fault behind the others. An error is want of memory.
+    pub(crate) fn push(&mut self, fault: PlacedFault) -> Result<(), AllocError>
+        ensures { OnOk result (self.new ≡ pushed self.old fault) }
+    {
+        self.least = least(self.least, number_of(fault.problem.fault()));
+        if self.told.len() < MAX_TOLD {
+            self.told.push(fault)?;
+        } else {
+            self.more = self.more.saturating_add(1);
+        }
+        Ok(())
+    }
+}
+
+/// A value in a table: the kind of the table, its number, the key, and the number of an item or 0.
+#[derive(Clone, Copy, Drop)]
+pub(crate) struct Spot {
+    pub(crate) kind: TableKind,
+    pub(crate) number: usize,
+    pub(crate) key: Key,
+    pub(crate) item: usize,
+}
+
+/// Adds what is wrong there, if anything is.
+pub(crate) fn note(
+    faults: &mut PlacedFaults,
+    spot: Spot,
+    problem: Option<Problem>,
+) -> Result<(), AllocError>
+    ensures { OnOk result (faults.new ≡ noted faults.old (placed spot problem)) }
+{
+    let Some(problem) = problem else {
+        return Ok(());
+    };
+    faults.push(PlacedFault {
+        kind: spot.kind,
+        number: spot.number,
+        key: spot.key,
+        item: spot.item,
+        problem,
+    })
+}
