@@ -81,16 +81,25 @@ fn read_file(rt: &(impl Files + AllocGlobal), name: &str) -> Result<Vec<u8>, Inp
     }
 }
 
+/// The bytes of a policy's file.
+///
+/// # Errors
+///
+/// `Input` where it can't be read.
+pub fn open_policy(rt: &HostRuntime, name: &str) -> Result<Vec<u8>, Failure> {
+    tell_stage(rt, Stage::Reading(name));
+    match read_file(rt, name) {
+        Ok(bytes) => Ok(bytes),
+        Err(fault) => Err(Failure::Input(fault)),
+    }
+}
+
 /// The bytes of the policy's file, if one is named.
 fn read_policy_file(rt: &HostRuntime, name: &Option<String>) -> Result<Option<Vec<u8>>, Failure> {
     let Some(name) = name else {
         return Ok(None);
     };
-    tell_stage(rt, Stage::Reading(name.as_str()));
-    match read_file(rt, name.as_str()) {
-        Ok(bytes) => Ok(Some(bytes)),
-        Err(fault) => Err(Failure::Input(fault)),
-    }
+    Ok(Some(open_policy(rt, name.as_str())?))
 }
 
 fn open_failure(error: Error) -> Failure {

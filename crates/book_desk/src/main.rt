@@ -10,21 +10,26 @@ ghost use Rattle.std.specs.Prelude.{◌≡◌};
 ghost use Rattle.book_desk_words.specs.WordsFaults.{words_status};
 
 mod beginnings;
+mod builds;
 mod files;
 mod folders;
 mod progress;
 
 use beginnings::BEGINNING;
 use book_desk_app::{
-    Failure, InputFault, Lines, Noting, Prepared, TextCommand, Work, begin, prepare, run,
-    run_migration, run_text, serve, serve_many, tell, tell_line,
+    DONE, Failure, InputFault, Lines, Noting, Prepared, REFUSED, StoreFailure, TextCommand,
+    WhyWords, Work, begin, prepare, run, run_migration, run_text, run_why, serve, serve_many, tell,
+    tell_line,
 };
 use book_desk_loop::{Limits, Polled};
 use book_desk_words::{Command, WordsFault, command_of, words_not_text};
 use book_machine::Machine;
 use book_office::Keeper;
+use book_policy::PolicyFault;
+use book_policy_checks::{Checked, tell_faults};
 use book_tables_schema::Unopened;
-use files::{Opened, close, open_former, open_inputs};
+use builds::BUILD;
+use files::{Opened, close, open_former, open_inputs, open_policy};
 use folders::{DiskFolder, make_folder, remove_folder};
 use progress::{Stage, tell_stage};
 use sqlite::{Alter, Connection};
@@ -35,6 +40,9 @@ use std::os::fd::AsFd;
 use std::process::ExitCode;
 use std::rt::{Clock, Env};
 use std::time::Duration;
+
+/// The version of the stores that the program makes.
+const STORE_VERSION: u8 = 2;
 
 /// The words after the program's name.
 fn words_of(rt: &(impl Env + AllocGlobal)) -> Result<Vec<String>, WordsFault> {
@@ -66,6 +74,19 @@ fn print<W: Write, E: Write>(
     match BufReader::new(rt.alloc(), rt.reader()) {
         Ok(reader) => run_text(rt.alloc(), command, reader, writer, errors),
         Err(_) => tell(errors, &Failure::Input(InputFault::Read)),
+    }
+}
+
+/// Prints what the program is: its name and version, the version of the stores that it makes, and how it was built.
+fn print_version<W: Write, E: Write>(
+    rt: &HostRuntime,
+    name: &str,
+    writer: &mut W,
+    errors: &mut E,
+) -> u8 {
+    match format!(in rt.alloc(); "{name}store version {STORE_VERSION}\n{BUILD}\n") {
+        Ok(text) => print(rt, &TextCommand::Help(text), writer, errors),
+        Err(_) => refuse(errors, &WordsFault::Memory),
     }
 }
 
@@ -120,6 +141,20 @@ fn work<W: Write, E: Lines>(
     status
 }
 
+/// The command `check`: the policy's file is read, and each fault of it is told.
+fn check<E: Lines>(rt: &HostRuntime, policy: &str, errors: &mut E) -> u8 {
+    let bytes = match open_policy(rt, policy) {
+        Ok(bytes) => bytes,
+        Err(failure) => return tell_line(errors, &failure),
+    };
+    match tell_faults(rt.alloc(), bytes, errors) {
+        Checked::Sound => DONE,
+        Checked::Faulty(_) => REFUSED,
+        Checked::NotUtf8 => tell_line(errors, &Failure::Input(InputFault::NotUtf8)),
+        Checked::Memory => tell_line(errors, &Failure::Policy(PolicyFault::Memory)),
+    }
+}
+
 /// The connection that is left of a store. A store that could not be opened again is let go as it is.
 fn connection_of<S: Alter + Drop>(left: Unopened<S>) -> Option<Connection<S>> {
     match left {
@@ -145,6 +180,42 @@ fn migrate<W: Write, E: Lines>(
     tell_stage(rt, Stage::Migrating);
     let (status, left) = run_migration(rt.alloc(), opened, writer, errors);
     close(connection_of(left));
+    status
+}
+
+/// The words of a question.
+fn words_of_why<'a>(
+    caller: &'a str,
+    what: &'a str,
+    path: &'a str,
+    destination: Option<&'a str>,
+) -> WhyWords<'a> {
+    WhyWords {
+        caller,
+        what,
+        path,
+        destination,
+    }
+}
+
+/// The command `why`: the store's file, which has to be there, is opened, and the question answered.
+fn why<W: Write, E: Lines>(
+    rt: &HostRuntime,
+    store: String,
+    words: &WhyWords<'_>,
+    writer: &mut W,
+    errors: &mut E,
+) -> u8 {
+    let Opened { store, policy } = match open_inputs(rt, &Some(store), &None, true) {
+        Ok(opened) => opened,
+        Err(failure) => return tell(errors, &failure),
+    };
+    drop(policy);
+    let Some(store) = store else {
+        return tell(errors, &Failure::Store(StoreFailure::NoStore));
+    };
+    let (status, left) = run_why(rt.alloc(), words, store, writer, errors);
+    close(left);
     status
 }
 
@@ -189,15 +260,18 @@ fn serve_at_once_on<K: Keeper, N: Net + Clock + AllocGlobal, W: Write, E: Lines>
         return (machine, tell(errors, &Failure::Listen));
     }
     match Polled::new(rt, alloc, listener) {
-        Ok(mut readiness) => serve_many(
-            alloc,
-            machine,
-            listener,
-            &mut readiness,
-            limits,
-            writer,
-            errors,
-        ),
+        Ok(mut readiness) => {
+            let (machine, _, status) = serve_many(
+                alloc,
+                machine,
+                listener,
+                &mut readiness,
+                limits,
+                writer,
+                errors,
+            );
+            (machine, status)
+        }
         Err(_) => (machine, tell(errors, &Failure::Listen)),
     }
 }
@@ -316,6 +390,7 @@ fn perform<W: Write, E: Lines>(
         Command::Explain => print(rt, &TextCommand::Explain, writer, errors),
         Command::Card => print(rt, &TextCommand::Card, writer, errors),
         Command::Help(text) => print(rt, &TextCommand::Help(text), writer, errors),
+        Command::Version(name) => print_version(rt, name.as_str(), writer, errors),
         Command::Init { folder } => init(rt, folder.as_str(), writer, errors),
         Command::Import { store, policy } => {
             let named = Named {
@@ -325,6 +400,7 @@ fn perform<W: Write, E: Lines>(
             };
             work(rt, Work::Import, &named, writer, errors)
         }
+        Command::Check { policy } => check(rt, policy.as_str(), errors),
         Command::Audit { store, existing } => {
             let named = Named {
                 store: Some(store),
@@ -342,6 +418,21 @@ fn perform<W: Write, E: Lines>(
             work(rt, Work::Pipe, &named, writer, errors)
         }
         Command::Migrate { store } => migrate(rt, store.as_str(), writer, errors),
+        Command::Why {
+            store,
+            caller,
+            what,
+            path,
+            destination,
+        } => {
+            let words = words_of_why(
+                caller.as_str(),
+                what.as_str(),
+                path.as_str(),
+                destination.as_deref(),
+            );
+            why(rt, store, &words, writer, errors)
+        }
         Command::Serve {
             port,
             connections,

@@ -1,23 +1,36 @@
 -- Connections at once, and what is told of them.
-use Rattle.std.proofs.Common.{arith, ◌≡◌, ℕ, Bool, true, false, List, [], ◌∷◌, Option, Result, Ok, Err, refl, sym, subst, ◌∙◌}
-use Rattle.std.proofs.lemmas.Bool.{true≢false}
+use Rattle.std.proofs.Common.{◌≡◌, ◌-◌, ℕ, Bool, true, false, cond, List, [], ◌∷◌, ◌++◌, Option, Result, Ok, Err, refl, sym, ap, subst, ◌∙◌}
+use Rattle.std.proofs.KnownBytes.{Appends-nil}
 use Rattle.book_wire.specs.declared.stream.StreamFault.{StreamFault}
 use Rattle.book_desk_loop.specs.Serving.{ToldFault, AreTold}
+use Rattle.book_desk_loop.specs.declared.limits.Stop.{Stop}
+use Rattle.book_desk_app.specs.AtOnce.{last_line, line_of_client, lines_of_clients, served_status}
+use Rattle.book_desk_app.specs.Telling.{Tells}
+use Rattle.book_desk_app.proofs.InTurn.{tells_then}
 
--- where each that is told leaves a mark, and there is none, none was told
-module _ {F : Type 0} {tells : F → StreamFault → F → Type 0} (sound : F → Bool)
-    (marks : (old : F) (fault : StreamFault) (new : F) → tells old fault new → sound new ≡ false) where
-  stays_unsound : (old new : F) (faults : List ToldFault) → sound old ≡ false → AreTold tells old faults new → sound new ≡ false
-  stays_unsound old new [] un same = (let P : F → Type 0 = λ t. sound t ≡ false in subst P (sym same) un)
-  stays_unsound old new (told ∷ more) un x = stays_unsound x.0 new more (marks old told.fault x.0 x.1) x.2
+module _ {F : Type 0} {tells : F → StreamFault → F → Type 0} where
+  -- where each that is told leaves a mark, the status is that of the mark
+  module _ (sound : F → Bool) (marks : (old : F) (fault : StreamFault) (new : F) → tells old fault new → sound new ≡ false) where
+    stays_unsound : (old new : F) (faults : List ToldFault) → sound old ≡ false → AreTold tells old faults new → sound new ≡ false
+    stays_unsound old new [] un same = ap sound same ∙ un
+    stays_unsound old new (told ∷ more) un x = stays_unsound x.0 new more (marks old told.fault x.0 x.1) x.2
 
-  none_marked : (old new : F) (faults : List ToldFault) → AreTold tells old faults new → sound new ≡ true → faults ≡ []
-  none_marked old new [] x s = refl
-  none_marked old new (told ∷ more) x s = absurd (true≢false (sym s ∙ stays_unsound x.0 new more (marks old told.fault x.0 x.1) x.2))
+    pub status_told : (old new : F) (faults : List ToldFault) (ended : Result (Unit {0}) Stop) → sound old ≡ true → AreTold tells old faults new
+        → cond (sound new) (served_status [] ended) 3 ≡ served_status faults ended
+    status_told old new [] ended s same = ap (λ b. cond b (served_status [] ended) 3) (ap sound same ∙ s)
+    status_told old new (told ∷ more) ended s x =
+        ap (λ b. cond b (served_status [] ended) 3) (stays_unsound x.0 new more (marks old told.fault x.0 x.1) x.2)
 
-pub told_none : {F : Type 0} {tells : F → StreamFault → F → Type 0} (old new : F) (faults : List ToldFault) → AreTold tells old faults new
-    → (sound : F → Bool) → ((a : F) (fault : StreamFault) (b : F) → tells a fault b → sound b ≡ false) → sound new ≡ true → faults ≡ []
-told_none {F} {tells} old new faults x sound marks s = none_marked sound marks old new faults x s
-
-pub never_three : (◌≡◌) {A = ℕ} 3 0 → ⊥
-never_three e = absurd (omega (arith, e))
+  -- the lines of all, where each has its line
+  module _ (left : F → ℕ) (whole : F → Bool) (held : F → Option (List ℕ))
+      (steps : (old : F) (fault : StreamFault) (new : F) → tells old fault new
+      → (left new ≡ left old - 1) × Tells (whole old) (whole new) (held old) (held new) (line_of_client (left old) fault)) where
+    pub lines_told : (old new : F) (faults : List ToldFault) → AreTold tells old faults new
+        → Tells (whole old) (whole new) (held old) (held new) (lines_of_clients (left old) faults)
+    lines_told old new [] same =
+        subst (λ f. Tells (whole old) (whole f) (held old) (held f) []) (sym same) (record { before = λ w. w; told = λ w. Appends-nil (held old) })
+    lines_told old new (told ∷ more) x =
+        let step = steps old told.fault x.0 x.1 in
+        let rest = subst (λ n. Tells (whole x.0) (whole new) (held x.0) (held new) (lines_of_clients n more)) step.0 (lines_told x.0 new more x.2) in
+        tells_then (whole old) (whole x.0) (whole new) (held old) (held x.0) (held new) (line_of_client (left old) told.fault)
+        (lines_of_clients (left old - 1) more) step.1 rest

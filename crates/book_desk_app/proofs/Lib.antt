@@ -1,3 +1,4 @@
+pub mod Asking
 pub mod Common
 pub mod Answering
 pub mod ShortTexts

@@ -11,6 +11,7 @@ pub mod Streams
 pub mod Failures
 pub mod Runs
 pub mod Preparing
+pub mod Questions
 pub mod Migrations
 pub mod Connections
 pub mod AtOnce

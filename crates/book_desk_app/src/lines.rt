@@ -92,3 +92,11 @@ impl<W: Write> Lines for Noting<W> {
         }
     }
 }
+
+impl<L: Lines> Lines for &mut L {
+    ghost is_whole = { λ lines. L.is_whole lines.now };
+
+    fn put(&mut self, text: &[u8]) {
+        (**self).put(text);
+    }
+}

@@ -1,13 +1,15 @@
 //! The connections of a listener, many at once.
 
-ghost use Rattle.std.specs.Prelude.{◌≡◌, ◌⊎◌, ◌-◌, List, Option, Ok, false, true};
+ghost use Rattle.std.specs.Prelude.{◌≡◌, List, [], cond};
 ghost use Rattle.book_wire.specs.Serving.{Answered, Runs};
-ghost use Rattle.book_desk_app.specs.AtOnce.{EndsSo, ServesAtOnce, stop_failure};
+ghost use Rattle.book_desk_app.specs.AtOnce.{ServesAtOnce, last_line, served_status, stop_failure};
+ghost use Rattle.book_desk_app.specs.Telling.{Tells};
 
-use crate::failures::{Failure, StoreFailure, tell};
-use crate::lines::put_front;
+use crate::failures::{Failure, StoreFailure};
+use crate::lines::Lines;
 use crate::listening::say_where;
 use crate::serving_failures::StreamFailure;
+use crate::telling::tell_line;
 use crate::text_failures::{BROKEN, DONE};
 use book_desk_loop::{Faults, Limits, Readiness, Stop, serve_at_once};
 use book_machine::Machine;
@@ -24,19 +26,21 @@ const LINES_ON_CLIENTS: u16 = 1_000;
 const NO_MORE: &str = "stream: no more are told\n";
 
 /// Where the fault of each connection that has one is told, as a line, and whether none had one.
-struct Told<'e, E> {
-    errors: &'e mut E,
+struct Told<E> {
+    errors: E,
     sound: bool,
     /// How many lines on clients may be told yet.
     lines: u16,
 }
 
-impl<E: Write> Faults for Told<'_, E> {
+impl<E: Lines> Faults for Told<E> {
     ghost use Rattle.std.specs.Prelude.{◌≡◌, ◌-◌, false};
-    ghost use Rattle.book_desk_app.specs.AtOnce.{IsToldOfClient};
+    ghost use Rattle.book_desk_app.specs.AtOnce.{line_of_client};
+    ghost use Rattle.book_desk_app.specs.Telling.{Tells};
 
     ghost tells = { λ old fault new. (new.sound ≡ false) × (new.lines ≡ old.lines - 1)
-        × IsToldOfClient old.lines fault (E.contents old.errors.now) (E.contents new.errors.now) };
+        × Tells (E.is_whole old.errors) (E.is_whole new.errors) (E.Write.contents old.errors) (E.Write.contents new.errors)
+        (line_of_client old.lines fault) };
 
     fn tell(&mut self, fault: StreamFault) {
         self.sound = false;
@@ -45,11 +49,11 @@ impl<E: Write> Faults for Told<'_, E> {
         }
         self.lines -= 1;
         if self.lines == 0 {
-            put_front(self.errors, NO_MORE.as_bytes());
+            self.errors.put(NO_MORE.as_bytes());
             return;
         }
         // Where this can't be written, the status of the program alone tells it.
-        tell(self.errors, &Failure::Stream(StreamFailure { fault }));
+        tell_line(&mut self.errors, &Failure::Stream(StreamFailure { fault }));
     }
 }
 
@@ -63,22 +67,21 @@ fn failure_of(stop: Stop) -> Failure
     }
 }
 
-/// The status after connections were served.
-fn status_of<E: Write>(errors: &mut E, served: Result<(), Stop>, sound: bool) -> u8
-    ensures statuses { (result ≡ 0) ⊎ (result ≡ 3) }
-    ensures sound { result ≡ 0 → (served ≡ Ok tt) × (sound ≡ true) }
-    ensures ends { EndsSo served (E.contents errors.old) (E.contents errors.new) }
+/// Tells what ended it, where it did not end well, and gives the status.
+fn status_of<E: Lines>(errors: &mut E, served: Result<(), Stop>, sound: bool) -> u8
+    ensures status { result ≡ cond sound (served_status [] served) 3 }
+    ensures line { Tells (E.is_whole errors.old) (E.is_whole errors.new) (E.Write.contents errors.old) (E.Write.contents errors.new) (last_line served) }
 {
     match served {
         Ok(()) => { if sound { DONE } else { BROKEN } }
-        Err(stop) => tell(errors, &failure_of(stop)),
+        Err(stop) => tell_line(errors, &failure_of(stop)),
     }
 }
 
-/// Says where it listens, and serves connections, many at once, and gives the machine back. The status is 0 where none
-/// had a fault, else 3; it is 3 at once where that can't be said, or a connection can't be accepted. The fault of each
-/// client is told on `errors`, as a line, and at most 1,000 lines: the last says that no more are told. Where there is no
-/// end of connections, and the store has failed and shows nothing, that is told, and the status is 3.
+/// Says where it listens, and serves connections, many at once, and gives the machine and `errors` back. The status is 0
+/// where none had a fault, else 3; it is 3 at once where that can't be said, or a connection can't be accepted. The fault of
+/// each client is told on `errors`, as a line, and at most 1,000 lines: the last says that no more are told. Where there is
+/// no end of connections, and the store has failed and shows nothing, that is told, and the status is 3.
 ///
 /// Whatever the order in which the bytes of the connections come, each is answered for its own requests alone, and the
 /// requests of all are one run, in the order in which they were completed. What each stream gave and was given is what
@@ -89,7 +92,7 @@ pub fn serve_many<
     L: OpenListener<Stream = S>,
     P: Readiness<S>,
     W: Write,
-    E: Write,
+    E: Lines,
 >(
     alloc: Global,
     machine: Machine<K>,
@@ -97,15 +100,15 @@ pub fn serve_many<
     readiness: &mut P,
     limits: Limits,
     writer: &mut W,
-    errors: &mut E,
-) -> (Machine<K>, u8)
-    ensures statuses { (result.1 ≡ 0) ⊎ (result.1 ≡ 3) }
-    ensures served { ServesAtOnce S.remaining S.contents K.standing limits machine.keeper (W.contents writer.old) (W.contents writer.new)
-        result.1 result.0.keeper }
+    mut errors: E,
+) -> (Machine<K>, E, u8)
+    ensures served { ServesAtOnce S.remaining S.contents K.standing limits machine.keeper (E.is_whole errors) (E.is_whole result.1)
+        (E.Write.contents errors) (E.Write.contents result.1) (W.contents writer.old) (W.contents writer.new) result.2 result.0.keeper }
     ensures runs { (answered : List Answered) × Runs (K.standing machine.keeper) (K.standing result.0.keeper) answered }
 {
     if let Err(failure) = say_where(listener, writer) {
-        return (machine, tell(errors, &failure));
+        let status = tell_line(&mut errors, &failure);
+        return (machine, errors, status);
     }
     let mut told = Told {
         errors,
@@ -114,9 +117,10 @@ pub fn serve_many<
     };
     let (machine, served) = serve_at_once(alloc, machine, listener, readiness, limits, &mut told);
     let Told {
-        errors,
+        mut errors,
         sound,
         lines: _,
     } = told;
-    (machine, status_of(errors, served, sound))
+    let status = status_of(&mut errors, served, sound);
+    (machine, errors, status)
 }

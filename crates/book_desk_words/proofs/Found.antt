@@ -16,7 +16,9 @@ use Rattle.clap.specs.Kinds.{Kinds, HasKind, IsAmong}
 use Rattle.clap.specs.Values.{kind_of}
 use Rattle.clap.specs.declared.error.Error.{Error}
 use Rattle.clap.specs.declared.error.kind.ErrorKind.TheVariants as kind
-use Rattle.book_desk_words.specs.CommandLine.{AskForHelp, HasNumber, IsRefused}
+use Rattle.clap.specs.declared.error.kind.ErrorKind.{ErrorKind}
+use Rattle.book_desk_words.specs.CommandLine.{HasNumber, IsAskedBy, IsRefused}
+use Rattle.book_desk_words.specs.declared.commands.Command.{Command}
 use Rattle.book_desk_words.specs.declared.commands.WordsFault.{WordsFault}
 use Rattle.book_desk_words.specs.declared.commands.WordsFault.TheVariants as faults
 
@@ -49,12 +51,12 @@ named_in (Some b) = refl
 pub named : (m : ArgMatches) → subcommand_name_of m ≡ option_map (λ (p : Text × List Row). p.0) (subcommand_rows_of m)
 named m = named_in (out-ArgMatches m).subcommand
 
--- an error that asks for help is of the kinds that the words may have
-pub asks_for_help : (kinds : Kinds) (e : Error) → HasKind kinds e → (kind_of e ≡ kind.DisplayHelp) ⊎ (kind_of e ≡ kind.DisplayVersion) → AskForHelp kinds
-asks_for_help kinds e (inl memory) (inl help) = absurd (cc (memory, help))
-asks_for_help kinds e (inl memory) (inr version) = absurd (cc (memory, version))
-asks_for_help kinds e (inr among) (inl help) = inl (subst (λ k. IsAmong k kinds) help among)
-asks_for_help kinds e (inr among) (inr version) = inr (subst (λ k. IsAmong k kinds) version among)
+-- an error that asks for help or the version is of the kinds that the words may have
+pub asks_for_help : (kinds : Kinds) (e : Error) → HasKind kinds e → (command : Command) → IsAskedBy (kind_of e) command
+    → (k : ErrorKind) × IsAmong k kinds × IsAskedBy k command
+asks_for_help kinds e (inl memory) command (inl help) = (let h = help.2 in absurd (cc (memory, h)))
+asks_for_help kinds e (inl memory) command (inr version) = (let h = version.2 in absurd (cc (memory, h)))
+asks_for_help kinds e (inr among) command asked = (kind_of e, among, asked)
 
 -- an error that does not is of another of these kinds
 pub refuses : (found : Option (Text × List Row)) (kinds : Kinds) (e : Error) → HasKind kinds e → (fault : WordsFault)

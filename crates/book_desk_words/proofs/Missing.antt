@@ -7,7 +7,7 @@ use Rattle.clap.specs.Words.{Kinds, Row, Text, first_of, one_text, rows_of}
 use Rattle.clap.specs.declared.parser.matches.Found.{Found}
 use Rattle.clap.proofs.WalkLemmas.{one_text-rows}
 use Rattle.book_desk_words.specs.CommandLine.{HasCounts, HasNumber, IsRefused, MatchesNone, MayHaveNumber, ReadsAs, ReadsNone}
-use Rattle.book_desk_words.specs.declared.commands.Command.TheVariants.{Explain, Card, Init, Import, Audit, Migrate, Pipe, Serve, Help}
+use Rattle.book_desk_words.specs.declared.commands.Command.TheVariants.{Explain, Card, Init, Import, Check, Audit, Migrate, Why, Pipe, Serve, Help, Version}
 use Rattle.book_desk_words.specs.declared.commands.WordsFault.{WordsFault}
 use Rattle.book_desk_words.specs.declared.commands.WordsFault.TheVariants.{Usage, Memory}
 use Rattle.book_desk_words.specs.WordsFaults.{IsUsage, serve_wants}
@@ -49,11 +49,17 @@ is_not_import e = cc (e)
 is_not_audit : codes "serve" ≡ codes "audit" → ⊥
 is_not_audit e = let first : slice_index (codes "serve") 0 ≡ slice_index (codes "audit") 0 = ap (λ (t : Text). slice_index t 0) e in omega arith
 
+is_not_check : codes "serve" ≡ codes "check" → ⊥
+is_not_check e = let first : slice_index (codes "serve") 0 ≡ slice_index (codes "check") 0 = ap (λ (t : Text). slice_index t 0) e in omega arith
+
 is_not_migrate : codes "serve" ≡ codes "migrate" → ⊥
 is_not_migrate e = cc (e)
 
 is_not_pipe : codes "serve" ≡ codes "pipe" → ⊥
 is_not_pipe e = cc (e)
+
+is_not_why : codes "serve" ≡ codes "why" → ⊥
+is_not_why e = cc (e)
 
 module _ (rows : List Row) where
   -- no command `serve` is read of the matches
@@ -63,11 +69,14 @@ module _ (rows : List Row) where
   serve_lacks none Card e = cc (e)
   serve_lacks none (Init folder) r = is_not_init r.0
   serve_lacks none (Import store policy) r = is_not_import r.0
+  serve_lacks none (Check policy) r = is_not_check r.0
   serve_lacks none (Audit store existing) r = is_not_audit r.0
   serve_lacks none (Migrate store) r = is_not_migrate r.0
+  serve_lacks none (Why store caller what path destination) r = is_not_why r.0
   serve_lacks none (Pipe store policy) r = is_not_pipe r.0
   serve_lacks none (Serve port connections at_once idle store policy existing) r = none port connections at_once idle store policy existing r
   serve_lacks none (Help text) r = r
+  serve_lacks none (Version text) r = r
 
   pub without_port : HasNoNumber rows (codes "port") → ReadsNone (codes "serve") rows
   without_port none = serve_lacks (λ port connections at_once idle store policy existing r. none port r.2 r.1)

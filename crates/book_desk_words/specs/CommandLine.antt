@@ -1,5 +1,5 @@
 -- The command line (own profile): the words that it has, and the command that clap's matches of them give.
-use Rattle.std.specs.Prelude.{◌≡◌, ◌≢◌, ◌⊎◌, ℕ, ◌≤◌, pos, Bool, true, false, List, [], codes, Option, Some, None, is_none, is_some, String, option_map, string_bytes, bytes_eq}
+use Rattle.std.specs.Prelude.{◌≡◌, ◌≢◌, ◌⊎◌, ◌||◌, ℕ, ◌≤◌, pos, Bool, true, false, List, [], codes, Option, Some, None, is_none, is_some, String, option_map, string_bytes, bytes_eq}
 use Rattle.std.specs.declared.alloc.Global.{Global}
 use Rattle.std.specs.Str.Parse.{IsNumeral, digits_value, without_leading_plus}
 use Rattle.clap.specs.Words.{App, Row, Rule, Text, first_of, new_app, new_rule, one_of, with_rule, with_subcommand}
@@ -10,7 +10,7 @@ use Rattle.clap.specs.declared.builder.value_parser.ValueParser.TheVariants as p
 use Rattle.clap.specs.declared.error.kind.ErrorKind.{ErrorKind}
 use Rattle.clap.specs.declared.error.kind.ErrorKind.TheVariants as kind
 use Rattle.book_desk_words.specs.declared.commands.Command.{Command}
-use Rattle.book_desk_words.specs.declared.commands.Command.TheVariants.{Explain, Card, Init, Import, Audit, Migrate, Pipe, Serve, Help}
+use Rattle.book_desk_words.specs.declared.commands.Command.TheVariants.{Explain, Card, Init, Import, Check, Audit, Migrate, Why, Pipe, Serve, Help, Version}
 use Rattle.book_desk_words.specs.declared.commands.WordsFault.{WordsFault}
 use Rattle.book_desk_words.specs.declared.commands.WordsFault.TheVariants.{Usage, Memory}
 use Rattle.book_desk_words.specs.WordsFaults.{IsUsage, serve_wants}
@@ -47,11 +47,29 @@ init_app = with_rule (new_app (codes "init")) (word_rule (codes "folder"))
 abbrev pub import_app : App
 import_app = with_rule (with_rule (new_app (codes "import")) (required_rule (codes "store"))) (word_rule (codes "policy"))
 
+abbrev pub check_app : App
+check_app = with_rule (new_app (codes "check")) (word_rule (codes "policy"))
+
 abbrev pub audit_app : App
 audit_app = with_rule (with_rule (new_app (codes "audit")) (required_rule (codes "store"))) (flag_rule (codes "existing"))
 
 abbrev pub migrate_app : App
 migrate_app = with_rule (new_app (codes "migrate")) (required_rule (codes "store"))
+
+-- a word that may follow, and follows no option's name
+abbrev pub last_word_rule : Text → Rule
+last_word_rule name = record (new_rule name) { value_names = 1 }
+
+-- who asks, and what
+abbrev pub with_question : App → App
+with_question app = with_rule (with_rule app (word_rule (codes "caller"))) (word_rule (codes "what"))
+
+-- where, and the destination
+abbrev pub with_places : App → App
+with_places app = with_rule (with_rule app (word_rule (codes "path"))) (last_word_rule (codes "destination"))
+
+abbrev pub why_app : App
+why_app = with_places (with_question (with_rule (new_app (codes "why")) (required_rule (codes "store"))))
 
 -- the options that name the files of the store and of the policy
 abbrev pub with_files : App → App
@@ -79,8 +97,8 @@ top_app = on_top (λ s. record s { no_binary_name = true; subcommand_required = 
 -- the whole command line
 abbrev pub program_app : App
 program_app =
-    with_subcommand (with_subcommand (with_subcommand (with_subcommand (with_subcommand (with_subcommand (with_subcommand (with_subcommand top_app
-    (new_app (codes "explain")).top) (new_app (codes "card")).top) init_app.top) import_app.top) audit_app.top) migrate_app.top) pipe_app.top) serve_app.top
+    with_subcommand (with_subcommand (with_subcommand (with_subcommand (with_subcommand (with_subcommand (with_subcommand (with_subcommand (with_subcommand (with_subcommand top_app
+    (new_app (codes "explain")).top) (new_app (codes "card")).top) init_app.top) import_app.top) audit_app.top) migrate_app.top) why_app.top) pipe_app.top) serve_app.top) check_app.top
 
 -- ---- the command that the matches give
 
@@ -113,17 +131,15 @@ HasCounts rows connections at_once idle =
     × MayHaveNumber rows (codes "at-once") 1000 at_once
     × MayHaveNumber rows (codes "idle") 3600 idle × (is_some idle ≡ true → is_some at_once ≡ true)
 
--- help or the version was asked for
-abbrev pub IsHelp : Command → Type 0
-IsHelp (Help text) = Unit {0}
-IsHelp Explain = ⊥
-IsHelp Card = ⊥
-IsHelp (Init folder) = ⊥
-IsHelp (Import store policy) = ⊥
-IsHelp (Audit store existing) = ⊥
-IsHelp (Migrate store) = ⊥
-IsHelp (Pipe store policy) = ⊥
-IsHelp (Serve port connections at_once idle store policy existing) = ⊥
+-- help or the version, asked for in the way of this kind of error
+abbrev pub IsAskedBy : ErrorKind → Command → Type 0
+IsAskedBy k command =
+    ((text : String Global) × (command ≡ Help text) × (k ≡ kind.DisplayHelp))
+    ⊎ ((text : String Global) × (command ≡ Version text) × (k ≡ kind.DisplayVersion))
+
+-- a method that leads to a destination
+abbrev pub leads_on : Text → Bool
+leads_on what = bytes_eq what (codes "COPY") || bytes_eq what (codes "MOVE")
 
 -- the command that a subcommand with these matches is
 abbrev pub ReadsAs : Text → List Row → Command → Type 0
@@ -132,9 +148,14 @@ ReadsAs name rows Card = name ≡ codes "card"
 ReadsAs name rows (Init folder) = (name ≡ codes "init") × NamesFile rows (codes "folder") (Some folder)
 ReadsAs name rows (Import store policy) =
     (name ≡ codes "import") × NamesFile rows (codes "store") (Some store) × NamesFile rows (codes "policy") (Some policy)
+ReadsAs name rows (Check policy) = (name ≡ codes "check") × NamesFile rows (codes "policy") (Some policy)
 ReadsAs name rows (Audit store existing) =
     (name ≡ codes "audit") × NamesFile rows (codes "store") (Some store) × (existing ≡ has_flag rows (codes "existing"))
 ReadsAs name rows (Migrate store) = (name ≡ codes "migrate") × NamesFile rows (codes "store") (Some store)
+ReadsAs name rows (Why store caller what path destination) =
+    (name ≡ codes "why") × NamesFile rows (codes "store") (Some store) × NamesFile rows (codes "caller") (Some caller) × NamesFile rows (codes "what") (Some what)
+    × NamesFile rows (codes "path") (Some path) × NamesFile rows (codes "destination") destination
+    × (leads_on (string_bytes what) ≡ true → is_some destination ≡ true)
 ReadsAs name rows (Pipe store policy) =
     (name ≡ codes "pipe") × NamesFile rows (codes "store") store × NamesFile rows (codes "policy") policy
 ReadsAs name rows (Serve port connections at_once idle store policy existing) =
@@ -143,6 +164,7 @@ ReadsAs name rows (Serve port connections at_once idle store policy existing) =
     × NamesFile rows (codes "store") store × NamesFile rows (codes "policy") policy
     × (existing ≡ has_flag rows (codes "existing")) × (existing ≡ true → is_some store ≡ true)
 ReadsAs name rows (Help text) = ⊥
+ReadsAs name rows (Version text) = ⊥
 
 -- the command that the matches of the words give
 abbrev pub IsMatched : Option (Text × List Row) → Command → Type 0
@@ -156,13 +178,10 @@ ReadsNone name rows = (command : Command) → ReadsAs name rows command → ⊥
 abbrev pub MatchesNone : Option (Text × List Row) → Type 0
 MatchesNone found = (command : Command) → IsMatched found command → ⊥
 
--- the words ask for help or the version: of the kinds of error that they may have, one is that
-abbrev pub AskForHelp : Kinds → Type 0
-AskForHelp kinds = IsAmong kind.DisplayHelp kinds ⊎ IsAmong kind.DisplayVersion kinds
-
--- the words have no fault and the command is the one that their matches give, or help, where they ask for it
+-- the words have no fault and the command is the one that their matches give; or it is help or the version, which a kind of error
+-- that they may have asks for
 abbrev pub Reads : Option (Text × List Row) → Kinds → Command → Type 0
-Reads found kinds command = ((kinds ≡ []) × IsMatched found command) ⊎ (IsHelp command × AskForHelp kinds)
+Reads found kinds command = ((kinds ≡ []) × IsMatched found command) ⊎ ((k : ErrorKind) × IsAmong k kinds × IsAskedBy k command)
 
 -- the words are no command: clap refuses them, and not since they ask for help or the version; or it lets them pass, no command
 -- can be read of their matches, and that is told

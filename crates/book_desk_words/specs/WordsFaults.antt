@@ -19,9 +19,9 @@ usage_text wrong = codes "error: " ++ wrong ++ codes "\n\nUsage: book_desk <COMM
 abbrev pub not_text : List ℕ
 not_text = codes "invalid UTF-8 was detected in one or more arguments"
 
--- what the options of serve want of each other
+-- what the options of serve want of each other, and the words of why
 abbrev pub serve_wants : List ℕ
-serve_wants = codes "serve wants one of '--connections <N>' and '--forever', with '--idle <N>' also '--at-once <N>', and with '--existing' also '--store <FILE>'"
+serve_wants = codes "serve wants one of '--connections <N>' and '--forever', with '--idle <N>' also '--at-once <N>', and with '--existing' also '--store <FILE>'; why wants DESTINATION with COPY and MOVE"
 
 -- the words are refused with this, but for want of memory
 abbrev pub IsUsage : List ℕ → WordsFault → Type 0

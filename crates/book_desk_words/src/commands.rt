@@ -4,11 +4,12 @@ ghost use Rattle.std.specs.Prelude.{◌≡◌, ◌≢◌, ◌≤◌, ◌⊎◌, 
 ghost use Rattle.clap.specs.Faults.{fault_of};
 ghost use Rattle.clap.specs.Values.{kind_of};
 ghost use Rattle.clap.specs.Words.{first_of, found_of, rows_of, subcommand_of, subcommand_rows_of};
-ghost use Rattle.book_desk_words.specs.CommandLine.{program_app, has_flag, HasCounts, HasNumber, IsHelp, IsMatched, IsRefused, MatchesNone, MayHaveNumber, NamesFile, Reads, ReadsAs, ReadsNone};
+ghost use Rattle.book_desk_words.specs.CommandLine.{program_app, has_flag, HasCounts, HasNumber, IsAskedBy, IsMatched, IsRefused, MatchesNone, MayHaveNumber, NamesFile, Reads, ReadsAs, ReadsNone};
 ghost use Rattle.book_desk_words.specs.WordsFaults.{IsUsage, not_text, usage_text, words_status};
 
 use crate::helps::{NOT_TEXT, SERVE_WANTS, USAGE_LINES};
 use crate::programs::program;
+use crate::questions::why_of;
 use clap::ArgMatches;
 use clap::error::ErrorKind;
 use std::alloc::{AllocError, Global};
@@ -47,6 +48,11 @@ pub enum Command {
         /// The file of the policy.
         policy: String,
     },
+    /// Tell each fault of a policy, with its place.
+    Check {
+        /// The file of the policy.
+        policy: String,
+    },
     /// Print the direct members of groups, and each resource of a store with its owner and its lists.
     Audit {
         /// The file of the store.
@@ -58,6 +64,19 @@ pub enum Command {
     Migrate {
         /// The file of the store.
         store: String,
+    },
+    /// Tell why a caller may do something in a store, or may not.
+    Why {
+        /// The file of the store.
+        store: String,
+        /// The bare name of a person; `-` is nobody.
+        caller: String,
+        /// A method, or a privilege.
+        what: String,
+        /// The path of the resource.
+        path: String,
+        /// The path of a destination. Never missing where `what` is COPY or MOVE.
+        destination: Option<String>,
     },
     /// Serve the requests on standard input.
     Pipe {
@@ -83,8 +102,10 @@ pub enum Command {
         /// Whether the store has to be there already: a file that is missing or empty is no store. Never without one.
         existing: bool,
     },
-    /// Print this text, which the words ask for: help, or the name and the version.
+    /// Print this text, the help that the words ask for.
     Help(String),
+    /// Print what the program is: this line with its name and its version, which the words ask for, and how it was built.
+    Version(String),
 }
 
 /// Why the words name nothing to do. It prints as what is told on standard error.
@@ -134,7 +155,11 @@ impl fmt::Display for WordsFault {
 }
 
 /// The file that an option or a word names, if the words have it.
-fn file_in(alloc: Global, found: &ArgMatches<'_>, id: &str) -> Result<Option<String>, AllocError>
+pub(crate) fn file_in(
+    alloc: Global,
+    found: &ArgMatches<'_>,
+    id: &str,
+) -> Result<Option<String>, AllocError>
     ensures { IfOk result (NamesFile (rows_of (found_of found.now)) id.now) }
 {
     match found.get_str(id) {
@@ -286,6 +311,17 @@ fn import_of(alloc: Global, found: &ArgMatches<'_>) -> Result<Option<Command>, A
     Ok(Some(Command::Import { store, policy }))
 }
 
+/// The command `check` with what the words give it; none where the file is missing.
+fn check_of(alloc: Global, found: &ArgMatches<'_>) -> Result<Option<Command>, AllocError>
+    ensures read { IfOk result (λ command. IfSome command (ReadsAs (codes "check") (rows_of (found_of found.now)))) }
+    ensures none { IfOk result (λ command. IfNone command (ReadsNone (codes "check") (rows_of (found_of found.now)))) }
+{
+    let Some(policy) = file_in(alloc, found, "policy")? else {
+        return Ok(None);
+    };
+    Ok(Some(Command::Check { policy }))
+}
+
 /// The command `audit` with what the words give it; none where the file is missing.
 fn audit_of(alloc: Global, found: &ArgMatches<'_>) -> Result<Option<Command>, AllocError>
     ensures read { IfOk result (λ command. IfSome command (ReadsAs (codes "audit") (rows_of (found_of found.now)))) }
@@ -330,8 +366,10 @@ fn command_named(
         "card" => Ok(Some(Command::Card)),
         "init" => init_of(alloc, found),
         "import" => import_of(alloc, found),
+        "check" => check_of(alloc, found),
         "audit" => audit_of(alloc, found),
         "migrate" => migrate_of(alloc, found),
+        "why" => why_of(alloc, found),
         "pipe" => pipe_of(alloc, found),
         "serve" => serve_of(alloc, found),
         _ => Ok(None),
@@ -339,7 +377,7 @@ fn command_named(
 }
 
 /// The command that the matches give; none where they give none, which clap lets come where the options of `serve` lack
-/// what they want of each other, and nowhere else.
+/// what they want of each other, or `why` its destination, and nowhere else.
 fn read_command(alloc: Global, matches: &ArgMatches<'_>) -> Result<Option<Command>, AllocError>
     ensures read { IfOk result (λ command. IfSome command (IsMatched (subcommand_rows_of matches.now))) }
     ensures none { IfOk result (λ command. IfNone command (MatchesNone (subcommand_rows_of matches.now))) }
@@ -352,15 +390,14 @@ fn read_command(alloc: Global, matches: &ArgMatches<'_>) -> Result<Option<Comman
 
 /// What clap says in place of a command: help or the version, which were asked for, or what is wrong.
 fn answer_of(alloc: Global, error: &clap::Error) -> Result<Command, WordsFault>
-    ensures asked { IfOk result (λ command. IsHelp command × ((kind_of error.now ≡ ErrorKind.DisplayHelp) ⊎ (kind_of error.now ≡ ErrorKind.DisplayVersion))) }
+    ensures asked { IfOk result (IsAskedBy (kind_of error.now)) }
     ensures wrong { IfErr result (λ fault. (fault ≡ WordsFault.Memory) ⊎ (kind_of error.now ≢ ErrorKind.OutOfMemory)
         × (kind_of error.now ≢ ErrorKind.DisplayHelp) × (kind_of error.now ≢ ErrorKind.DisplayVersion)) }
 {
     match error.kind() {
         ErrorKind::OutOfMemory => Err(WordsFault::Memory),
-        ErrorKind::DisplayHelp | ErrorKind::DisplayVersion => {
-            Ok(Command::Help(format!(in alloc; "{error}")?))
-        }
+        ErrorKind::DisplayHelp => Ok(Command::Help(format!(in alloc; "{error}")?)),
+        ErrorKind::DisplayVersion => Ok(Command::Version(format!(in alloc; "{error}")?)),
         _ => Err(WordsFault::Usage(format!(in alloc; "{error}")?)),
     }
 }
@@ -396,8 +433,8 @@ pub fn words_not_text(alloc: Global) -> WordsFault
 /// A command that it answers is the one that clap's matches of the words give: the subcommand that was met, its port
 /// from 0 to 65,535, its number of connections from 1 to 10,000 or that there is no end, how many at once from 1 to 1,000
 /// and the seconds from 1 to 3,600 after which an idle one is closed, if they are given, the files of its store and its
-/// policy, if they name them, whether the store has to be there already, and the folder of `init`. Help is answered only
-/// where clap takes the words to ask for it.
+/// policy, if they name them, whether the store has to be there already, and the folder of `init`. Help, or the version, is
+/// answered only where clap takes the words to ask for it.
 ///
 /// # Errors
 ///
@@ -413,7 +450,7 @@ pub fn command_of(alloc: Global, words: &[String]) -> Result<Command, WordsFault
     };
     match read_command(alloc, &matches)? {
         Some(command) => Ok(command),
-        // Clap requires a subcommand and what each one needs, but for what the options of `serve` want of each other.
+        // Clap requires a subcommand and what each one needs, but for what the words want of each other.
         None => Err(usage(alloc, SERVE_WANTS)),
     }
 }

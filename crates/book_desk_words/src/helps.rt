@@ -4,7 +4,7 @@ pub(crate) const ABOUT: &str =
     "Shared contact books of an office: WebDAV access lists (RFC 3744) and vCards (RFC 6350)";
 
 /// The number of VERSION, at the top of the repository, which `tools/check-streams` compares.
-pub(crate) const VERSION: &str = "0.2.0";
+pub(crate) const VERSION: &str = "0.3.0";
 
 /// What follows a text of what is wrong with the words.
 pub(crate) const USAGE_LINES: &str =
@@ -13,9 +13,9 @@ pub(crate) const USAGE_LINES: &str =
 /// What is wrong with words that are not UTF-8.
 pub(crate) const NOT_TEXT: &str = "invalid UTF-8 was detected in one or more arguments";
 
-/// What the options of `serve` want of each other.
+/// What the options of `serve` want of each other, and the words of `why`.
 pub(crate) const SERVE_WANTS: &str =
-    "serve wants one of '--connections <N>' and '--forever', with '--idle <N>' also '--at-once <N>', and with '--existing' also '--store <FILE>'";
+    "serve wants one of '--connections <N>' and '--forever', with '--idle <N>' also '--at-once <N>', and with '--existing' also '--store <FILE>'; why wants DESTINATION with COPY and MOVE";
 
 pub(crate) const EXPLAIN: &str = "Reads a question from standard input and prints its decision";
 
@@ -136,6 +136,23 @@ Status: 0 adopted; 1 the policy is refused; 2 usage; 3 the store, memory, or a f
 pub(crate) const EXISTING: &str =
     "The store has to be there: a file that is missing or empty is no store, and none is made";
 
+pub(crate) const CHECK: &str = "Tells each fault of a policy, with its place";
+
+pub(crate) const CHECK_TEXT: &str = "\
+As in: book_desk check examples/policies/office.toml
+No store is opened, and no file is changed. Nothing is printed where the policy is sound.
+
+Told on standard error, a line for each fault, in the order of their places; at most 1,000, and then how many more
+  PLACE: KEY: FAULT     as in: entry 12 (at /books/sales, who /groups/helpers): who: unknown-principal
+PLACE is top, or person, group, book or entry with its number among its kind. A line that tells a wrong key or value and
+no name of a fault is bad-key. The names are those of import, which tells the first of them in its order. A policy that is
+not TOML has one line, with the line and the column; one of more than 1,048,576 bytes is too-many alone.
+  input: read           the policy could not be read
+  input: not-utf-8      it is not UTF-8
+
+Status: 0 sound; 1 a fault; 2 usage; 3 memory, or a failed read.
+";
+
 pub(crate) const AUDIT: &str = "Prints the memberships and the access lists of a store";
 
 pub(crate) const AUDIT_TEXT: &str = "\
@@ -174,6 +191,47 @@ or where it was migrated
 A file that is empty or missing is told as no-store, and is neither made nor written.
 
 Status: 0 migrated; 2 usage; 3 the store, memory, or a failed write.
+";
+
+pub(crate) const WHY: &str = "Tells why a caller may do something in a store, or may not";
+
+pub(crate) const ASKED_STORE: &str = "The file of the store, which has to be there";
+
+pub(crate) const CALLER: &str = "The name of a person, or - for nobody";
+
+pub(crate) const WHAT: &str = "A method, or a privilege";
+
+pub(crate) const RESOURCE: &str = "The path of the resource";
+
+pub(crate) const DESTINATION: &str = "The path to which COPY or MOVE leads";
+
+pub(crate) const WHY_TEXT: &str = "\
+It decides as serve does, and changes nothing. As in:
+  book_desk why --store office.db bob GET /books/sales/b.vcf
+A METHOD is GET, HEAD, OPTIONS, PUT, PROPFIND, PROPPATCH, ACL, COPY, MOVE, DELETE, MKCOL, REPORT:sync-collection,
+REPORT:group-members, REPORT:effective, REPORT:names, PROPFIND:acl, PROPFIND:current-user-privilege-set, or both of these
+with a comma. A PRIVILEGE is one that explain knows; it wants a PATH that is there. COPY and MOVE may replace a card.
+
+Output:
+  granted | denied NAME at PATH by N | denied NAME at PATH, none granted
+and then for each need, and for each of its leaves
+  need NAME .. at PATH
+   LEAF granted by N, M at PATH | LEAF denied by N, M at PATH | LEAF denied, none granted
+    protected|own grant|deny [not] WHO NAME ..
+N is the number of the entry in the list in force, from 1, and M in the list that stands at PATH.
+
+Told on standard error, on a line
+  why: unknown-caller     the caller is no person
+  why: unknown-privilege  it is neither a method nor a privilege
+  why: not-found          nothing is there
+  why: not-allowed        the resource does not allow the method
+  why: no-parent          what would hold the resource is not there
+  why: bad-request        the method lacks its report
+  why: unavailable        memory was refused, or the store failed
+  store: FAULT            as audit
+  output: write           it could not be written
+
+Status: 0 answered, 1 the question was refused, 2 usage, 3 memory, the store, or a failed write.
 ";
 
 pub(crate) const PIPE: &str = "Serves the requests on standard input";

@@ -3,13 +3,13 @@
 ghost use Rattle.std.specs.Prelude.{◌≡◌, IfOk, false, codes};
 ghost use Rattle.clap.specs.Words.{app_of, new_app, rule_of};
 ghost use Rattle.clap.specs.declared.builder.command.Command.TheViews.{out-Command};
-ghost use Rattle.book_desk_words.specs.CommandLine.{program_app, top_app, audit_app, import_app, init_app, migrate_app, pipe_app, serve_app, flag_rule, option_rule, counted_rule, number_rule, required_rule, with_ends, with_files, with_pace, word_rule};
+ghost use Rattle.book_desk_words.specs.CommandLine.{program_app, top_app, audit_app, check_app, import_app, init_app, migrate_app, pipe_app, serve_app, why_app, flag_rule, last_word_rule, option_rule, counted_rule, number_rule, required_rule, with_ends, with_files, with_pace, with_places, with_question, word_rule};
 
 use crate::helps::{
-    ABOUT, AT_ONCE, AUDIT, AUDIT_TEXT, CARD, CARD_TEXT, CONNECTIONS, EXISTING, EXPLAIN,
-    FIRST_STORE, FOLDER, FOREVER, FOUNDED_STORE, IDLE, IMPORT, IMPORT_TEXT, INIT, INIT_TEXT,
-    KEPT_STORE, MIGRATE, MIGRATE_TEXT, PIPE, PIPE_TEXT, POLICY, POLICY_WORD, PORT, QUESTION, SERVE,
-    SERVE_TEXT, VERSION,
+    ABOUT, ASKED_STORE, AT_ONCE, AUDIT, AUDIT_TEXT, CALLER, CARD, CARD_TEXT, CHECK, CHECK_TEXT,
+    CONNECTIONS, DESTINATION, EXISTING, EXPLAIN, FIRST_STORE, FOLDER, FOREVER, FOUNDED_STORE, IDLE,
+    IMPORT, IMPORT_TEXT, INIT, INIT_TEXT, KEPT_STORE, MIGRATE, MIGRATE_TEXT, PIPE, PIPE_TEXT,
+    POLICY, POLICY_WORD, PORT, QUESTION, RESOURCE, SERVE, SERVE_TEXT, VERSION, WHAT, WHY, WHY_TEXT,
 };
 use clap::{Arg, ArgAction, value_parser};
 use std::alloc::{AllocError, Global};
@@ -46,6 +46,14 @@ fn word_needed<'a>(alloc: Global, name: &'a str, value_name: &'a str, help: &'a 
         .value_name(value_name)
         .help(help)
         .required(true)
+}
+
+/// A word that may follow, and follows no option's name.
+fn word_option<'a>(alloc: Global, name: &'a str, value_name: &'a str, help: &'a str) -> Arg<'a>
+    ensures rule { rule_of result ≡ last_word_rule name.entry.now }
+    ensures local { result.global ≡ false }
+{
+    Arg::new(alloc, name).value_name(value_name).help(help)
 }
 
 /// An option that gives a number and is required.
@@ -121,6 +129,15 @@ fn import<'a>(alloc: Global) -> Result<clap::Command<'a>, AllocError>
         .arg(word_needed(alloc, "policy", "POLICY", POLICY_WORD))
 }
 
+fn check<'a>(alloc: Global) -> Result<clap::Command<'a>, AllocError>
+    ensures { IfOk result (λ c. (app_of c ≡ check_app) × ((out-Command c).has_globals ≡ false)) }
+{
+    clap::Command::new(alloc, "check")
+        .about(CHECK)
+        .after_help(CHECK_TEXT)
+        .arg(word_needed(alloc, "policy", "POLICY", POLICY_WORD))
+}
+
 fn audit<'a>(alloc: Global) -> Result<clap::Command<'a>, AllocError>
     ensures { IfOk result (λ c. (app_of c ≡ audit_app) × ((out-Command c).has_globals ≡ false)) }
 {
@@ -138,6 +155,43 @@ fn migrate<'a>(alloc: Global) -> Result<clap::Command<'a>, AllocError>
         .about(MIGRATE)
         .after_help(MIGRATE_TEXT)
         .arg(file_needed(alloc, "store", FIRST_STORE))
+}
+
+/// The command with the words that say who asks, and what.
+fn with_question<'a>(
+    alloc: Global,
+    command: clap::Command<'a>,
+) -> Result<clap::Command<'a>, AllocError>
+    ensures app { IfOk result (λ c. app_of c ≡ with_question (app_of command.entry)) }
+    ensures local { (out-Command command.entry).has_globals ≡ false → IfOk result (λ c. (out-Command c).has_globals ≡ false) }
+{
+    command
+        .arg(word_needed(alloc, "caller", "CALLER", CALLER))?
+        .arg(word_needed(alloc, "what", "METHOD|PRIVILEGE", WHAT))
+}
+
+/// The command with the words that say where.
+fn with_places<'a>(
+    alloc: Global,
+    command: clap::Command<'a>,
+) -> Result<clap::Command<'a>, AllocError>
+    ensures app { IfOk result (λ c. app_of c ≡ with_places (app_of command.entry)) }
+    ensures local { (out-Command command.entry).has_globals ≡ false → IfOk result (λ c. (out-Command c).has_globals ≡ false) }
+{
+    command
+        .arg(word_needed(alloc, "path", "PATH", RESOURCE))?
+        .arg(word_option(alloc, "destination", "DESTINATION", DESTINATION))
+}
+
+fn why<'a>(alloc: Global) -> Result<clap::Command<'a>, AllocError>
+    ensures { IfOk result (λ c. (app_of c ≡ why_app) × ((out-Command c).has_globals ≡ false)) }
+{
+    let command = clap::Command::new(alloc, "why")
+        .about(WHY)
+        .after_help(WHY_TEXT)
+        .arg(file_needed(alloc, "store", ASKED_STORE))?;
+    let command = with_question(alloc, command)?;
+    with_places(alloc, command)
 }
 
 /// The command with the options that name the files of the store and of the policy.
@@ -217,6 +271,8 @@ pub(crate) fn program<'a>(alloc: Global) -> Result<clap::Command<'a>, AllocError
         .subcommand(import(alloc)?)?
         .subcommand(audit(alloc)?)?
         .subcommand(migrate(alloc)?)?
+        .subcommand(why(alloc)?)?
         .subcommand(pipe(alloc)?)?
-        .subcommand(serve(alloc)?)
+        .subcommand(serve(alloc)?)?
+        .subcommand(check(alloc)?)
 }

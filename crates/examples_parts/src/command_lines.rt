@@ -17,6 +17,7 @@ const COMMANDS: &[(&str, &str)] = &[
         "import office.toml --store=office.db",
         "Import { store: \"office.db\", policy: \"office.toml\" }",
     ),
+    ("check office.toml", "Check { policy: \"office.toml\" }"),
     (
         "audit --store office.db",
         "Audit { store: \"office.db\", existing: false }",
@@ -29,6 +30,15 @@ const COMMANDS: &[(&str, &str)] = &[
         "migrate --store office.db",
         "Migrate { store: \"office.db\" }",
     ),
+    (
+        "why --store office.db - GET /books",
+        "Why { store: \"office.db\", caller: \"-\", what: \"GET\", path: \"/books\", destination: None }",
+    ),
+    (
+        "why bob COPY /books/a/b.vcf /books/c/d.vcf --store office.db",
+        "Why { store: \"office.db\", caller: \"bob\", what: \"COPY\", path: \"/books/a/b.vcf\", destination: Some(\"/books/c/d.vcf\") }",
+    ),
+    ("why --store office.db bob MOVE /books/a/b.vcf", SERVE_WANTS),
     ("pipe", "Pipe { store: None, policy: None }"),
     (
         "pipe --policy office.toml --store office.db",
@@ -55,7 +65,7 @@ const COMMANDS: &[(&str, &str)] = &[
         "Serve { port: 80, connections: Some(7), at_once: Some(1000), idle: Some(3600), store: Some(\"office.db\"), policy: None, existing: false }",
     ),
     ("--help", "Help"),
-    ("--version", "Help"),
+    ("--version", "Version"),
     ("serve --help", "Help"),
 ];
 
@@ -136,7 +146,7 @@ const REFUSED: &[(&str, &str)] = &[
 
 /// What is told where the options of `serve` lack what they want of each other.
 const SERVE_WANTS: &str =
-    "2 error: serve wants one of '--connections <N>' and '--forever', with '--idle <N>' also '--at-once <N>', and with '--existing' also '--store <FILE>'";
+    "2 error: serve wants one of '--connections <N>' and '--forever', with '--idle <N>' also '--at-once <N>', and with '--existing' also '--store <FILE>'; why wants DESTINATION with COPY and MOVE";
 
 /// The status, and the first line of what is told.
 fn first_line(alloc: Global, fault: &WordsFault) -> Result<String, AllocError> {
@@ -153,6 +163,7 @@ fn told(alloc: Global, words: &str) -> Result<String, AllocError> {
     }
     match command_of(alloc, list.as_slice()) {
         Ok(Command::Help(_)) => String::from_str(alloc, "Help"),
+        Ok(Command::Version(_)) => String::from_str(alloc, "Version"),
         Ok(command) => format!(in alloc; "{command:?}"),
         Err(fault) => first_line(alloc, &fault),
     }

@@ -1,5 +1,5 @@
 //! Worked examples of leaves, masks, needs, lists of entries, scans, edits of lists, `explain`, cards, collections, paths,
-//! policies in TOML, sync tokens and reports, command lines, and nothing else: a crate with tests is proved twice, so they
+//! policies in TOML and their faults, sync tokens and reports, command lines, and nothing else: a crate with tests is proved twice, so they
 //! stand here, and the crates below have none.
 //!
 //! The wanted answers are those of the rules (RFC 3744, RFC 6350, RFC 6578 and own profile), worked out by hand.
@@ -29,6 +29,8 @@ mod masks;
 mod paths;
 #[cfg(test)]
 mod policies_in_toml;
+#[cfg(test)]
+mod policy_faults;
 #[cfg(test)]
 mod scans;
 #[cfg(test)]

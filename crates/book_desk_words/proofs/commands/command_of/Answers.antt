@@ -25,7 +25,7 @@ returns-in-Err-clause-read c =
     let app_is = c.in_ok-program.ensures in
     let kinds = subst (λ (a : App). HasKind (fault_of a (map string_bytes c.args.words.now)) c.in-Err.error) app_is
     (c.in-Err.ensures.kinds (ap is_simple_and_free app_is ∙ program_is_free)) in
-    IfOk-weaker c.answer_of.result _ _ (λ command h. inr (h.0, asks_for_help _ c.in-Err.error kinds h.1)) c.answer_of.ensures.asked
+    IfOk-weaker c.answer_of.result _ _ (λ command h. inr (asks_for_help _ c.in-Err.error kinds command h)) c.answer_of.ensures.asked
 
 pub returns-in-Err-clause-wrong : goal.returns-in-Err-clause-wrong
 returns-in-Err-clause-wrong c =

@@ -15,6 +15,8 @@ returns c =
     let four = c.in_ok-subcommand-4.ensures.shape c.in_ok-import.ensures.1 ∙ ap₂ with_subcommand three (ap top_of c.in_ok-import.ensures.0) in
     let five = c.in_ok-subcommand-5.ensures.shape c.in_ok-audit.ensures.1 ∙ ap₂ with_subcommand four (ap top_of c.in_ok-audit.ensures.0) in
     let six = c.in_ok-subcommand-6.ensures.shape c.in_ok-migrate.ensures.1 ∙ ap₂ with_subcommand five (ap top_of c.in_ok-migrate.ensures.0) in
-    let seven = c.in_ok-subcommand-7.ensures.shape c.in_ok-pipe.ensures.1 ∙ ap₂ with_subcommand six (ap top_of c.in_ok-pipe.ensures.0) in
-    IfOk-weaker c.subcommand-8.result _ _
-    (λ r h. h.shape c.in_ok-serve.ensures.1 ∙ ap₂ with_subcommand seven (ap top_of c.in_ok-serve.ensures.0)) c.subcommand-8.ensures
+    let seven = c.in_ok-subcommand-7.ensures.shape c.in_ok-why.ensures.1 ∙ ap₂ with_subcommand six (ap top_of c.in_ok-why.ensures.0) in
+    let eight = c.in_ok-subcommand-8.ensures.shape c.in_ok-pipe.ensures.1 ∙ ap₂ with_subcommand seven (ap top_of c.in_ok-pipe.ensures.0) in
+    let nine = c.in_ok-subcommand-9.ensures.shape c.in_ok-serve.ensures.1 ∙ ap₂ with_subcommand eight (ap top_of c.in_ok-serve.ensures.0) in
+    IfOk-weaker c.subcommand-10.result _ _
+    (λ r h. h.shape c.in_ok-check.ensures.1 ∙ ap₂ with_subcommand nine (ap top_of c.in_ok-check.ensures.0)) c.subcommand-10.ensures

@@ -1,0 +1,47 @@
+//! Commands that ask a question about a store.
+
+ghost use Rattle.std.specs.Prelude.{◌≡◌, IfNone, IfOk, IfSome, codes};
+ghost use Rattle.clap.specs.Words.{found_of, rows_of};
+ghost use Rattle.book_desk_words.specs.CommandLine.{ReadsAs, ReadsNone, leads_on};
+
+use crate::commands::{Command, file_in};
+use clap::ArgMatches;
+use std::alloc::{AllocError, Global};
+
+/// Whether a method leads to a destination.
+fn leads_on(what: &str) -> bool
+    ensures { result ≡ leads_on what.now }
+{
+    what == "COPY" || what == "MOVE"
+}
+
+/// The command `why` with what the words give it; none where something is missing, as the destination of a method that
+/// leads to one.
+pub(crate) fn why_of(alloc: Global, found: &ArgMatches<'_>) -> Result<Option<Command>, AllocError>
+    ensures read { IfOk result (λ command. IfSome command (ReadsAs (codes "why") (rows_of (found_of found.now)))) }
+    ensures none { IfOk result (λ command. IfNone command (ReadsNone (codes "why") (rows_of (found_of found.now)))) }
+{
+    let Some(store) = file_in(alloc, found, "store")? else {
+        return Ok(None);
+    };
+    let Some(caller) = file_in(alloc, found, "caller")? else {
+        return Ok(None);
+    };
+    let Some(what) = file_in(alloc, found, "what")? else {
+        return Ok(None);
+    };
+    let Some(path) = file_in(alloc, found, "path")? else {
+        return Ok(None);
+    };
+    let destination = file_in(alloc, found, "destination")?;
+    if leads_on(what.as_str()) && destination.is_none() {
+        return Ok(None);
+    }
+    Ok(Some(Command::Why {
+        store,
+        caller,
+        what,
+        path,
+        destination,
+    }))
+}
