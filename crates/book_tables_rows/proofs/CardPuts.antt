@@ -1,8 +1,6 @@
 -- A card is found and put, step by step.
-use Rattle.book_tables_rows.proofs.Common.{◌≡◌, ℕ, ◌+◌, Bool, true, false, cond, List, [], ◌∷◌, find, Option, Some, None, option_map, refl, sym, ap, subst, ◌∙◌, Int, Database, Row, State, FoundNode, Rows, rows_of, IsBook, update_where, is_at, is_mapped, Told, Finds, told, told_of, Becomes, Looks, Makes}
+use Rattle.book_tables_rows.proofs.Common.{◌≡◌, ℕ, Bool, true, false, cond, List, [], ◌∷◌, find, Option, Some, None, option_map, refl, sym, ap, ◌∙◌, Row, State, FoundNode, Rows, rows_of, IsBook, update_where, is_at, is_mapped, told, told_of, Becomes}
 use Rattle.std.proofs.Common.{is_some}
-use Rattle.book_tables_rows.specs.Writes.{put_card_rows}
-use Rattle.book_tables_rows.specs.Nodes.{putting_card}
 
 -- one write after another
 pub becomes_then : (a b c : State) (f g : Rows → Rows) → Becomes a b f → Becomes b c g → Becomes a c (λ rows. g (f rows))
@@ -44,28 +42,4 @@ module _ (old mid : State) (at : List ℕ) (change : Row → Row) (write : Bool 
         let none = none_there (find (is_at at) rows.nodes) (sym (tells book) ∙ is) in
         let same : rows_of mid.now.trees ≡ rows = first.1 ∙ ap (λ nodes. record rows { nodes = nodes }) (none_updated (is_at at) change rows.nodes none) in
         (done.0, done.1 ∙ ap (write false) same ∙ ap (λ b. write b rows) (sym is ∙ tells book));
-  }
-
-module _ (old mid new : State) (book_path card_path name : List ℕ) (owner : Option (List ℕ)) (text : List ℕ) (f : FoundNode) (found_book : Option FoundNode)
-    (first : Looks old mid) (is_book : found_book ≡ Some f) (book_found : Finds old book_path (option_map told found_book))
-    (written : Becomes mid new (λ rows. put_card_rows (Int f.id) (is_mapped card_path rows) book_path card_path name owner text (f.number + 1) rows)) where
-  pub puts : Makes old new (putting_card book_path card_path name owner text)
-  puts = record {
-    inside = written.inside;
-    was_open = book_found.0;
-    is_open = written.is_open;
-    made = λ book fits.
-        let rows = rows_of old.now.trees in
-        let mid_is : mid.now ≡ old.now = first.same book in
-        let row = told_row f (find (is_at book_path) rows.nodes) (sym (ap (option_map told) is_book) ∙ book_found.1 book) in
-        let done = written.rows (subst IsBook (sym mid_is) book) in (
-          done.0,
-          record {
-            book = row.0;
-            there = row.1;
-            rows_are = done.1
-                ∙ ap (λ (d : Database). let rs = rows_of d.trees in put_card_rows (Int f.id) (is_mapped card_path rs) book_path card_path name owner text (f.number + 1) rs) mid_is
-                ∙ ap (λ (t : Told). put_card_rows (Int t.id) (is_mapped card_path rows) book_path card_path name owner text (t.number + 1) rows) (sym row.2);
-          },
-        );
   }

@@ -1,5 +1,5 @@
 -- Where the entries of each node that has one below another are taken out, all entries below that one are.
-use Rattle.book_tables_rows.proofs.Common.{⊤, ◌≡◌, inl, inr, Bool, true, false, not, ◌&&◌, ◌||◌, cond, List, [], ◌∷◌, map, filter, ℤ, refl, sym, ap, subst, ◌∙◌, true≢false, and_parts, list_any, Value, Int, Binary, Row, plain, first_key-plain, agree, agree_back, agree_chain, equal, rowid, Database, State, Rows, rows_of, IsBook, has, is_under, ace_node, ace_node_place, ace_place, Looks, Becomes, BecomesIf}
+use Rattle.book_tables_rows.proofs.Common.{◌≡◌, inl, inr, Bool, true, false, not, ◌&&◌, ◌||◌, cond, List, [], ◌∷◌, map, filter, ℤ, refl, sym, ap, ◌∙◌, true≢false, and_parts, list_any, Value, Int, Binary, Row, plain, first_key-plain, agree, agree_back, agree_chain, equal, rowid, State, Rows, rows_of, IsBook, has, is_under, ace_node, ace_node_place, ace_place}
 use Rattle.std.specs.Cmp.{IsTotalOrder}
 use Rattle.std.proofs.lemmas.Bool.{and_from}
 use Rattle.std.proofs.lemmas.Cmp.{on_total, then_total}
@@ -11,7 +11,6 @@ use Rattle.sqlite_rules.specs.Lists.{Has}
 use Rattle.sqlite_rules.proofs.ListLemmas.{some_has, has_filtered, has_kept}
 use Rattle.book_tables_rows.specs.Columns.{ace_protected}
 use Rattle.book_tables_rows.specs.Lists.{ShowsChildEntries, by_list, child_entries, listed_columns, listed_node}
-use Rattle.book_tables_rows.specs.Steps.{Leads, Turns}
 use Rattle.book_tables_rows.specs.Writes as writes
 use Rattle.book_tables_rows.specs.Writes.{is_below}
 use Rattle.book_tables_rows.proofs.Shapes.{without_two, all_kept}
@@ -109,35 +108,8 @@ deletes_below id rows =
     each_is (map listed_node (child_entries id rows)) rows
     ∙ ap (λ es. record rows { entries = es }) (filter_alike _ _ rows.entries (λ e there. ap not (same_test (Int id) rows.nodes rows.entries e there)))
 
--- ---- the entries are read, and taken out
-
-pub turns_below : (old mid new : State) (id : ℤ) (given rows : List Row) → Looks old mid → ShowsChildEntries old id rows → given ≡ rows → Leads mid new (λ _. ⊤) (writes.delete_entries_of (map listed_node given))
-    → Turns old new (λ _. ⊤) (writes.delete_entries_below (Int id))
-turns_below old mid new id given rows look shows all led = record {
-  inside = led.inside;
-  was_open = shows.0;
-  rows = λ book fits.
-      let same : mid.now ≡ old.now = look.same book in
-      let x = led.rows (subst IsBook (sym same) book) in (
-        x.0,
-        x.1
-            ∙ ap (λ (d : Database). writes.delete_entries_of (map listed_node given) (rows_of d.trees)) same
-            ∙ ap (λ l. writes.delete_entries_of (map listed_node l) (rows_of old.now.trees)) (all ∙ shows.1 book)
-            ∙ deletes_below id (rows_of old.now.trees),
-      );
-}
-
--- three writes, of which the first may have been a read alone
-pub three_writes : (old first second new : State) (Fit : Rows → Type 0) (f g h : Rows → Rows) → Turns old first (λ _. ⊤) f → Becomes first second g → BecomesIf second new Fit h
-    → BecomesIf old new (λ rows. Fit (g (f rows))) (λ rows. h (g (f rows)))
-three_writes old first second new Fit f g h one two three = record {
-  inside = three.inside;
-  was_open = one.was_open;
-  is_open = three.is_open;
-  rows = λ book fits.
-      let x = one.rows book tt in
-      let y = two.rows x.0 in
-      let same : rows_of second.now.trees ≡ g (f (rows_of old.now.trees)) = y.1 ∙ ap g x.1 in
-      let z = three.rows y.0 (subst Fit (sym same) fits) in
-      (z.0, z.1 ∙ ap h same);
-}
+-- the entries that were read are taken out
+pub deletes_shown : (s : State) (id : ℤ) (given shown : List Row) → ShowsChildEntries s id shown → given ≡ shown → IsBook s.now
+    → writes.delete_entries_of (map listed_node given) (rows_of s.now.trees) ≡ writes.delete_entries_below (Int id) (rows_of s.now.trees)
+deletes_shown s id given shown shows all book =
+    ap (λ l. writes.delete_entries_of (map listed_node l) (rows_of s.now.trees)) (all ∙ shows.1 book) ∙ deletes_below id (rows_of s.now.trees)

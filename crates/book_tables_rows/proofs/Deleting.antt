@@ -1,5 +1,5 @@
 -- What the DELETEs of a book's rows leave.
-use Rattle.book_tables_rows.proofs.Common.{and-true, ◌≡◌, inl, inr, ℕ, ℤ, Bool, List, [], ◌∷◌, map, filter, slice_get, Some, Ok, refl, sym, ap, subst, ◌∙◌, arith, if◌then◌else◌, IsPermutation, IsPermutation-map, Int, Row, Term, col, Query, IsAnswer, overlay, Delete, Edit, edit_of, id_in, Applies, Given, Table, Trees, rowid, understood, State, Executes, ExecutesInside, IsPlain, command_of, one_step, ids_of, taken_by, Has, Enforced, IsShaped, delete_where, ace_node_place, gone_book_place, rowid_place, book_schema, node_table, gone_table, rows_of, has, IsBook, AreFree, is_under, Becomes, BecomesIf}
+use Rattle.book_tables_rows.proofs.Common.{and-true, ◌≡◌, inl, inr, ℕ, ℤ, Bool, List, [], ◌∷◌, map, filter, slice_get, Some, Ok, refl, sym, ap, subst, ◌∙◌, arith, IsPermutation, IsPermutation-map, Int, Row, Term, col, Query, IsAnswer, overlay, Delete, Edit, edit_of, id_in, Applies, Given, Table, Trees, rowid, understood, State, Executes, ExecutesInside, IsPlain, command_of, one_step, ids_of, taken_by, Has, Enforced, IsShaped, delete_where, ace_node_place, gone_book_place, rowid_place, book_schema, node_table, gone_table, rows_of, has, IsBook, AreFree, is_under, Becomes, BecomesIf}
 use Rattle.std.proofs.Common.{◌≢◌}
 use Rattle.sqlite_rules.specs.Action.{Writes as EditWrites}
 use Rattle.sqlite_trees.specs.declared.store.Shape.TheVariants.{Table as TableShape}

@@ -18,12 +18,10 @@ pub mod NodeDeletes
 pub mod Creating
 pub mod Raising
 pub mod Metas
-pub mod BookRemovals
-pub mod CardRemovals
+pub mod EditedRows
 pub mod Inserting
 pub mod RowInserts
 pub mod Updating
-pub mod CardCopies
 pub mod Reading
 pub mod CardMoves
 pub mod Counts
@@ -35,3 +33,5 @@ pub mod WrittenLists
 pub mod EntriesAt
 pub mod PolicyWrites
 pub mod WrittenBoth
+pub mod InScript
+pub mod Performing

@@ -1,65 +1,65 @@
 -- What a policy changes is written, step by step.
-use Rattle.book_tables_rows.proofs.Common.{⊤, ◌≡◌, inl, ℕ, ◌+◌, List, [], ◌∷◌, find, Option, Some, None, option_map, refl, sym, ap, subst, ◌∙◌, false, true, map, length, drop, get_or, arith, IsTrue, Database, Row, State, HasCleanDisk, Survives, FoundNode, CanPlace, CanList, Rows, rows_of, IsBook, is_at, IsMeta, HasMeta, Finds, ShowsEpoch, told, Becomes, BecomesIf, Looks, Makes}
-use Rattle.std.proofs.Common.{is_none, ◌<◌, ◌≤◌}
+use Rattle.book_tables_rows.proofs.Common.{◌≡◌, inl, inr, ℕ, ◌+◌, List, [], ◌∷◌, find, Option, Some, None, refl, sym, ap, subst, ◌∙◌, false, true, drop, map, arith, IsTrue, Int, Row, State, HasCleanDisk, Survives, FoundNode, CanPlace, CanList, Rows, rows_of, IsBook, is_at, IsMeta, HasMeta, Told}
+use Rattle.std.proofs.Common.{is_none, ◌≤◌}
+use Rattle.std.proofs.lemmas.List.{drop_all}
 use Rattle.sqlite.proofs.StateLemmas.{survives_then}
-use Rattle.book_tables_rows.specs.Adopting.{Place, Listed, Joined, CanAdopt, add_under, write_found, write_place, list_found, write_lists, write_group, in_turn, InTurn, written_rows, adopted_rows, adopting}
+use Rattle.book_tables_rows.specs.Adopting.{Place, Listed, Joined, AdoptsPolicy, CanAdopt, add_under, write_found, write_place, list_found, write_lists, write_group, in_turn, InTurn, written_rows, adopted_rows}
+use Rattle.book_tables_rows.specs.Parts.{part_count, part_from, turns}
+use Rattle.book_tables_rows.specs.Nodes.{FitEpoch}
 use Rattle.book_tables_rows.specs.Rows.{in_store}
 use Rattle.book_tables_rows.specs.Writes as writes
 use Rattle.book_tables_rows.specs.Writes.{Pair}
-use Rattle.book_tables_rows.specs.Steps.{Change, Leads, MayLeave}
+use Rattle.book_tables_rows.specs.Plans.{Awaits, Makes, nothing}
+use Rattle.book_tables_rows.specs.Steps.{Change, MayLeave}
+use Rattle.book_tables_rows.specs.declared.adopting.Part.{Part}
+use Rattle.book_tables_rows.specs.declared.adopting.Part.TheVariants.{Places, Lists, Groups}
 use Rattle.book_tables_rows.proofs.Becoming.{as_book}
-use Rattle.book_tables_rows.proofs.CardPuts.{told_row}
-use Rattle.book_tables_rows.proofs.ListSettings.{Plan, Awaits, goes_on, ends, leads_then, meta_of_list, meta_of_members, meta_of_reach}
+use Rattle.book_tables_rows.proofs.InScript.{IsThere}
+use Rattle.book_tables_rows.proofs.ListSettings.{meta_of_list, meta_of_members, meta_of_reach}
 
--- ---- a node that is written
+-- ---- a node that is written, and its lists
 
-some_there : {A : Type 0} (o : Option A) → is_none o ≡ false → (a : A) × (o ≡ Some a)
+pub some_there : {A : Type 0} (o : Option A) → is_none o ≡ false → (a : A) × (o ≡ Some a)
 some_there None e = absurd cc
 some_there (Some a) e = (a, refl)
 
-module _ (old mid new : State) (place : Place) (found : Option FoundNode) (first : Looks old mid) (node_found : Finds old place.path (option_map told found)) where
-  pub places_old : is_none found ≡ false → Becomes mid new (writes.set_place place.path place.owner place.label) → Leads old new (CanPlace place) (write_place place)
-  places_old is_there written =
-      let f = some_there found is_there in
-      record {
-        inside = written.inside;
-        still_open = λ was. written.is_open;
-        such = λ book. let node = told_row f.0 (find (is_at place.path) (rows_of old.now.trees).nodes) (sym (ap (option_map told) f.1) ∙ node_found.1 book) in inl (node.0, node.1);
-        rows = λ book.
-            let rows = rows_of old.now.trees in
-            let mid_is : mid.now ≡ old.now = first.same book in
-            let node = told_row f.0 (find (is_at place.path) rows.nodes) (sym (ap (option_map told) f.1) ∙ node_found.1 book) in
-            let done = written.rows (subst IsBook (sym mid_is) book) in
-            (done.0, done.1 ∙ ap (λ (d : Database). writes.set_place place.path place.owner place.label (rows_of d.trees)) mid_is ∙ ap (λ o. write_found o place rows) (sym node.1));
-      }
+module _ (rows : Rows) (place : Place) where
+  pub places_old : (f : FoundNode) → IsThere rows place.path f → CanPlace place rows × (writes.set_place place.path place.owner place.label rows ≡ write_place place rows)
+  places_old f at = (inl (at.row, at.there), sym (ap (λ o. write_found o place rows) at.there))
 
--- ---- one item after another
+  pub places_new : (f : FoundNode) → find (is_at place.path) rows.nodes ≡ None → IsThere rows place.parent f
+      → CanPlace place rows × (writes.insert_node place.path (Int f.id) place.kind place.owner place.label None 0 rows ≡ write_place place rows)
+  places_new f none above = (
+    inr (above.row, above.there),
+    ap (λ (t : Told). writes.insert_node place.path (Int t.id) place.kind place.owner place.label None 0 rows) (sym above.tells)
+        ∙ sym (ap (λ o. write_found o place rows) none ∙ ap (λ o. add_under o place rows) above.there),
+  )
 
-pub needs_none : (old new : State) (Such : Rows → Type 0) (write : Rows → Rows) → Leads old new Such write → Leads old new (λ _. ⊤) write
-needs_none old new Such write h = record { inside = h.inside; still_open = h.still_open; such = λ book. tt; rows = h.rows }
+pub lists_both : (rows : Rows) (lists : Listed) (f : FoundNode) → IsThere rows lists.path f → CanList lists rows × (writes.write_both (Int f.id) lists.protected lists.own rows ≡ write_lists lists rows)
+lists_both rows lists f at = (
+  (at.row, at.there),
+  ap (λ (t : Told). writes.write_both (Int t.id) lists.protected lists.own rows) (sym at.tells) ∙ sym (ap (λ o. list_found o lists rows) at.there),
+)
 
--- what is to be written of a list
-abbrev pub turns : {A B : Type 0} → (A → B) → (B → Rows → Type 0) → (B → Rows → Rows) → List A → Plan
-turns made Can write list = record { Such = InTurn Can write (map made list); write = in_turn write (map made list) }
+-- ---- one after another
 
-module _ {A B : Type 0} (made : A → B) (Can : B → Rows → Type 0) (write : B → Rows → Rows) (old now : State) where
-  pub turn_made : (next : State) (list : List A) (place : ℕ) (item : A) → place < length list → get_or list place item ≡ item → Awaits old now (turns made Can write (drop place list)) (turns made Can write list)
-      → Leads now next (Can (made item)) (write (made item)) → Awaits old next (turns made Can write (drop (place + 1) list)) (turns made Can write list)
-  turn_made next list place item within is h step =
-      goes_on old list (λ place list. turns made Can write list) (turns made Can write list) now next (Can (made item)) (write (made item)) place item (λ more rows such later. (such, later)) (λ more rows. refl) within is h step
+pub turn : {A : Type 0} (Can : A → Rows → Type 0) (write : A → Rows → Rows) (old new : State) (item : A) (more : List A) → Awaits old new nothing (turns Can write (item ∷ [])) → Awaits old new (turns Can write more) (turns Can write (item ∷ more))
+turn Can write old new item more h = record {
+  inside = h.inside;
+  rows = λ book fit. let x = h.rows book tt in (x.0, tt, (λ such. ((x.2 tt).0, subst (InTurn Can write more) x.3 such)), ap (in_turn write more) x.3);
+}
 
-  pub turns_made : (list : List A) (place : ℕ) → length list ≤ place → Awaits old now (turns made Can write (drop place list)) (turns made Can write list) → Leads old now (InTurn Can write (map made list)) (in_turn write (map made list))
-  turns_made list place over h = ends old list (λ place list. turns made Can write list) (turns made Can write list) now place (λ rows. tt) (λ rows. refl) over h
+pub turn_at : {A B : Type 0} (made : A → B) (Can : B → Rows → Type 0) (write : B → Rows → Rows) (old new : State) (list : List A) (place : ℕ) (item : A) → drop place list ≡ item ∷ drop (place + 1) list
+    → Awaits old new nothing (turns Can write (made item ∷ [])) → Awaits old new (turns Can write (map made (drop (place + 1) list))) (turns Can write (map made (drop place list)))
+turn_at made Can write old new list place item next h =
+    let more = drop (place + 1) list in
+    subst (λ xs. Awaits old new (turns Can write (map made more)) (turns Can write (map made xs))) (sym next) (turn Can write old new (made item) (map made more) h)
 
--- ---- all of them
-
-pub writes_policy : (a b c d : State) (places : List Place) (lists : List Listed) (groups : List Joined)
-    → Leads a b (InTurn CanPlace write_place places) (in_turn write_place places) → Leads b c (InTurn CanList write_lists lists) (in_turn write_lists lists)
-    → Leads c d (λ _. ⊤) (in_turn write_group groups) → Leads a d (CanAdopt places lists) (written_rows places lists groups)
-writes_policy a b c d places lists groups first second third =
-    let two = leads_then a b c (InTurn CanPlace write_place places) (InTurn CanList write_lists lists) (in_turn write_place places) (in_turn write_lists lists) first second in
-    let three = leads_then a c d (CanAdopt places lists) (λ _. ⊤) (λ rows. in_turn write_lists lists (in_turn write_place places rows)) (in_turn write_group groups) two third in
-    record { inside = three.inside; still_open = three.still_open; such = λ book. (three.such book).0; rows = three.rows }
+-- nothing of a part is left behind its last item
+pub none_left : (part : Part) (place : ℕ) → part_count part ≤ place → ((rows : Rows) → (part_from part place).Such rows) × ((rows : Rows) → (part_from part place).write rows ≡ rows)
+none_left (Places places) place over = rw (drop_all place places.now over) ((λ rows. tt), (λ rows. refl))
+none_left (Lists lists) place over = rw (drop_all place lists.now over) ((λ rows. tt), (λ rows. refl))
+none_left (Groups groups) place over = rw (drop_all place groups.now over) ((λ rows. tt), (λ rows. refl))
 
 -- ---- none of them is a row of meta
 
@@ -88,33 +88,14 @@ meta_written places lists groups rows =
 
 -- ---- and the epoch
 
-module _ (old before between after new : State) (places : List Place) (lists : List Listed) (groups : List Joined) (gone come : List Pair) (epoch : ℕ) (first : Looks old before) (epoch_found : ShowsEpoch old epoch)
-    (written : Leads before between (CanAdopt places lists) (written_rows places lists groups)) (renewed : Leads between after (λ _. ⊤) (writes.renew_reach gone come)) (raised : BecomesIf after new HasMeta (writes.set_epoch (epoch + 1))) where
-  pub adopts : Makes old new (adopting places lists groups gone come)
-  adopts = record {
-    inside = raised.inside;
-    was_open = epoch_found.0;
-    is_open = raised.is_open;
-    made = λ book fits.
-        let rows = rows_of old.now.trees in
-        let before_is : before.now ≡ old.now = first.same book in
-        let epoch_is : epoch ≡ fits.meta.0 = epoch_found.1 book fits.meta.0 fits.meta.1 in
-        let book_before = subst IsBook (sym before_is) book in
-        let x = written.rows book_before in
-        let between_is : rows_of between.now.trees ≡ written_rows places lists groups rows = x.1 ∙ ap (λ (d : Database). written_rows places lists groups (rows_of d.trees)) before_is in
-        let z = renewed.rows x.0 in
-        let after_is : rows_of after.now.trees ≡ writes.renew_reach gone come (written_rows places lists groups rows) = z.1 ∙ ap (writes.renew_reach gone come) between_is in
-        let meta_is : (rows_of after.now.trees).meta ≡ rows.meta = ap (λ (r : Rows). r.meta) after_is ∙ meta_of_reach gone come (written_rows places lists groups rows) ∙ meta_written places lists groups rows in
-        let y = raised.rows z.0 (fits.meta.0, subst (λ m. IsMeta m fits.meta.0) (sym meta_is) fits.meta.1) in (
-          y.0,
-          record {
-            there = subst (λ (d : Database). CanAdopt places lists (rows_of d.trees)) before_is (written.such book_before);
-            epoch = fits.meta.0;
-            meta = fits.meta.1;
-            rows_are = y.1 ∙ ap (writes.set_epoch (epoch + 1)) after_is ∙ ap (λ n. adopted_rows places lists groups gone come (n + 1) rows) epoch_is;
-          },
-        );
-  }
+pub adopts : (rows : Rows) (places : List Place) (lists : List Listed) (groups : List Joined) (gone come : List Pair) (epoch : ℕ) (fits : FitEpoch rows) → epoch ≡ fits.meta.0
+    → HasMeta (writes.renew_reach gone come (written_rows places lists groups rows))
+    × (CanAdopt places lists rows → AdoptsPolicy rows (adopted_rows places lists groups gone come (epoch + 1) rows) places lists groups gone come)
+adopts rows places lists groups gone come epoch fits epoch_is =
+    let same = meta_of_reach gone come (written_rows places lists groups rows) ∙ meta_written places lists groups rows in (
+      (fits.meta.0, subst (λ m. IsMeta m fits.meta.0) (sym same) fits.meta.1),
+      λ can. record { there = can; epoch = fits.meta.0; meta = fits.meta.1; rows_are = ap (λ n. adopted_rows places lists groups gone come (n + 1) rows) epoch_is },
+    )
 
 -- ---- the whole transaction
 

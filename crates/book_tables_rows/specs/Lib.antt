@@ -8,3 +8,7 @@ pub mod Nodes
 pub mod Lists
 pub mod Adopting
 pub mod Reach
+pub mod Scripts
+pub mod Items
+pub mod Plans
+pub mod Parts

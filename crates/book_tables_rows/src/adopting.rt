@@ -1,21 +1,24 @@
 //! Adopting a policy: nodes, lists and members, in one transaction.
 
-ghost use Rattle.std.specs.Prelude.{◌≡◌, map, OnOk, OnErr};
-ghost use Rattle.sqlite.specs.declared.types.Value.TheVariants.{Int};
+ghost use Rattle.std.specs.Prelude.{◌≡◌, ⊤, ◌+◌, ◌<◌, [], ◌∷◌, map, OnOk, OnErr};
 ghost use Rattle.sqlite.specs.Held.{state};
 ghost use Rattle.sqlite.specs.State.{HasCleanDisk, Survives};
 ghost use Rattle.book_tables_rows.specs.Adopting as policy;
-ghost use Rattle.book_tables_rows.specs.Adopting.{CanAdopt, CanList, CanPlace, InTurn, adding, adopting, in_turn, joined, listed_row, placed_row, written_rows};
+ghost use Rattle.book_tables_rows.specs.Adopting.{CanList, CanPlace, adopting, joined, listed_row, placed_row};
 ghost use Rattle.book_tables_rows.specs.Lists.{BothListsAreRead, ListsOfOthersStay};
-ghost use Rattle.book_tables_rows.specs.Nodes.{said};
 ghost use Rattle.book_tables_rows.specs.Reach.{pair_said};
-ghost use Rattle.book_tables_rows.specs.Steps.{Advances, AdvancesFrom, Commits, Keeps, MayLeave, Performs, Stays, Writes};
-ghost use Rattle.book_tables_rows.specs.Writes as writes;
+ghost use Rattle.book_tables_rows.specs.Parts.{part_count, part_from, turns};
+ghost use Rattle.book_tables_rows.specs.Plans.{Goes, Performs, Unseen, nothing};
+ghost use Rattle.book_tables_rows.specs.Scripts.{plan_of};
+ghost use Rattle.book_tables_rows.specs.Steps.{Commits, Keeps, MayLeave, Stays};
+ghost use Rattle.book_tables_rows.specs.declared.script.Statement.TheVariants.{SetPlace};
 
-use crate::epochs::{read_epoch, set_epoch};
-use crate::nodes::{LAST_NUMBER, delete_entries, insert_node, look_up, set_place};
-use crate::reach::{ReachRow, renew_reach};
-use crate::setting::{EntryRow, insert_list, write_members};
+use crate::epochs::read_epoch;
+use crate::items::{Items, item_at};
+use crate::nodes::{LAST_NUMBER, insert_node, look_up};
+use crate::reach::ReachRow;
+use crate::script::{Statement, run, run_all};
+use crate::setting::EntryRow;
 use sqlite::{Alter, Connection, Error, ErrorCode, Transaction};
 
 /// A node with an owner and a label.
@@ -53,89 +56,67 @@ pub struct GroupRow {
     pub members: Vec<String>,
 }
 
-/// Adds a node under the one at its parent's path, with no text and the number 0.
-fn add_place<S: Alter>(transaction: &mut Transaction<'_, S>, place: &PlaceRow) -> Result<(), Error>
-    ensures same_reference { transaction.new.conn.ghost_name ≡ transaction.old.conn.ghost_name }
-    ensures survives { Survives (state S.Store transaction.old.conn.now) (state S.Store transaction.new.conn.now)
-        (λ _. ⊥) }
-    ensures kept { Keeps (state S.Store transaction.old.conn.now) (state S.Store transaction.new.conn.now) }
-    ensures done { Performs (state S.Store transaction.old.conn.now) (state S.Store transaction.new.conn.now) result
-        (adding (placed_row place.now)) }
-{
-    let Some(above) = look_up(transaction, place.parent.as_str())? else {
-        return Err(Error::QueryReturnedNoRows);
-    };
-    insert_node(
-        transaction,
-        place.path.as_str(),
-        above.id,
-        place.kind,
-        place.owner.as_deref(),
-        place.label.as_str(),
-        None,
-        0,
-    )
+/// What a policy writes, one after another: nodes with owner and label, nodes with both lists, groups with members.
+#[derive(Clone, Copy)]
+enum Part<'x> {
+    Places(&'x [PlaceRow]),
+    Lists(&'x [ListsRow]),
+    Groups(&'x [GroupRow]),
 }
 
-/// Gives a node its owner and its label, and adds it where it is not there.
+/// Gives the node at a path its owner and its label.
+fn set_place<S: Alter>(
+    transaction: &mut Transaction<'_, S>,
+    path: &str,
+    owner: Option<&str>,
+    label: &str,
+) -> Result<(), Error>
+    ensures same_reference { transaction.new.conn.ghost_name ≡ transaction.old.conn.ghost_name }
+    ensures survives { Unseen (state S.Store transaction.old.conn.now) (state S.Store transaction.new.conn.now) }
+    ensures kept { Keeps (state S.Store transaction.old.conn.now) (state S.Store transaction.new.conn.now) }
+    ensures done { Goes (state S.Store transaction.old.conn.now) (state S.Store transaction.new.conn.now) result
+        nothing (plan_of (SetPlace path.entry owner.entry label.entry)) }
+{
+    run(transaction, &Statement::SetPlace { path, owner, label })
+}
+
+/// Gives a node its owner and its label. Where it is not there it is added under the one at its parent's path, with no
+/// text and the number 0.
 fn write_place<S: Alter>(
     transaction: &mut Transaction<'_, S>,
     place: &PlaceRow,
 ) -> Result<(), Error>
     ensures same_reference { transaction.new.conn.ghost_name ≡ transaction.old.conn.ghost_name }
-    ensures survives { Survives (state S.Store transaction.old.conn.now) (state S.Store transaction.new.conn.now)
-        (λ _. ⊥) }
+    ensures survives { Unseen (state S.Store transaction.old.conn.now) (state S.Store transaction.new.conn.now) }
     ensures kept { Keeps (state S.Store transaction.old.conn.now) (state S.Store transaction.new.conn.now) }
-    ensures done { AdvancesFrom (state S.Store transaction.old.conn.now) (state S.Store transaction.new.conn.now)
-        result (CanPlace (placed_row place.now)) (policy.write_place (placed_row place.now)) }
+    ensures done { Goes (state S.Store transaction.old.conn.now) (state S.Store transaction.new.conn.now) result
+        nothing (turns CanPlace policy.write_place (placed_row place.now ∷ [])) }
 {
-    if look_up(transaction, place.path.as_str())?.is_none() {
-        return add_place(transaction, place);
+    let path = place.path.as_str();
+    let label = place.label.as_str();
+    match look_up(transaction, path)? {
+        Some(node) => {
+            drop(node);
+            set_place(transaction, path, place.owner.as_deref(), label)
+        }
+        None => {
+            let Some(above) = look_up(transaction, place.parent.as_str())? else {
+                return Err(Error::QueryReturnedNoRows);
+            };
+            let parent = above.id;
+            drop(above);
+            insert_node(
+                transaction,
+                path,
+                parent,
+                place.kind,
+                place.owner.as_deref(),
+                label,
+                None,
+                0,
+            )
+        }
     }
-    set_place(
-        transaction,
-        place.path.as_str(),
-        place.owner.as_deref(),
-        place.label.as_str(),
-    )
-}
-
-/// Writes nodes one after another.
-fn write_places<S: Alter>(
-    transaction: &mut Transaction<'_, S>,
-    places: &[PlaceRow],
-) -> Result<(), Error>
-    ensures same_reference { transaction.new.conn.ghost_name ≡ transaction.old.conn.ghost_name }
-    ensures survives { Survives (state S.Store transaction.old.conn.now) (state S.Store transaction.new.conn.now)
-        (λ _. ⊥) }
-    ensures kept { Keeps (state S.Store transaction.old.conn.now) (state S.Store transaction.new.conn.now) }
-    ensures done { AdvancesFrom (state S.Store transaction.old.conn.now) (state S.Store transaction.new.conn.now)
-        result (InTurn CanPlace policy.write_place (map placed_row places.now))
-        (in_turn policy.write_place (map placed_row places.now)) }
-{
-    'places: for place in places {
-        write_place(transaction, place)?;
-    }
-    Ok(())
-}
-
-/// Writes both lists of the node with a number anew.
-fn write_both<S: Alter>(
-    transaction: &mut Transaction<'_, S>,
-    node: i64,
-    protected: &[EntryRow],
-    own: &[EntryRow],
-) -> Result<(), Error>
-    ensures same_reference { transaction.new.conn.ghost_name ≡ transaction.old.conn.ghost_name }
-    ensures survives { Survives (state S.Store transaction.old.conn.now) (state S.Store transaction.new.conn.now)
-        (λ _. ⊥) }
-    ensures kept { Keeps (state S.Store transaction.old.conn.now) (state S.Store transaction.new.conn.now) }
-    ensures done { Writes (state S.Store transaction.old.conn.now) (state S.Store transaction.new.conn.now) result
-        (writes.write_both (Int node) (map said protected.now) (map said own.now)) }
-{
-    delete_entries(transaction, node)?;
-    insert_list(transaction, node, true, protected)?;
-    insert_list(transaction, node, false, own)
 }
 
 /// Finds a node, and writes both its lists anew.
@@ -144,87 +125,106 @@ fn write_lists<S: Alter>(
     lists: &ListsRow,
 ) -> Result<(), Error>
     ensures same_reference { transaction.new.conn.ghost_name ≡ transaction.old.conn.ghost_name }
-    ensures survives { Survives (state S.Store transaction.old.conn.now) (state S.Store transaction.new.conn.now)
-        (λ _. ⊥) }
+    ensures survives { Unseen (state S.Store transaction.old.conn.now) (state S.Store transaction.new.conn.now) }
     ensures kept { Keeps (state S.Store transaction.old.conn.now) (state S.Store transaction.new.conn.now) }
-    ensures done { AdvancesFrom (state S.Store transaction.old.conn.now) (state S.Store transaction.new.conn.now)
-        result (CanList (listed_row lists.now)) (policy.write_lists (listed_row lists.now)) }
+    ensures done { Goes (state S.Store transaction.old.conn.now) (state S.Store transaction.new.conn.now) result
+        nothing (turns CanList policy.write_lists (listed_row lists.now ∷ [])) }
 {
     let Some(node) = look_up(transaction, lists.path.as_str())? else {
         return Err(Error::QueryReturnedNoRows);
     };
-    write_both(transaction, node.id, &lists.protected, &lists.own)
+    let node = node.id;
+    run_all(
+        transaction,
+        &[
+            Statement::DeleteEntries(node),
+            Statement::Each(Items::Entries {
+                node,
+                protected: true,
+                list: &lists.protected,
+            }),
+            Statement::Each(Items::Entries {
+                node,
+                protected: false,
+                list: &lists.own,
+            }),
+        ],
+    )
 }
 
-/// Writes the lists of nodes one after another.
-fn write_all_lists<S: Alter>(
-    transaction: &mut Transaction<'_, S>,
-    lists: &[ListsRow],
-) -> Result<(), Error>
+/// Writes the direct members of a group anew.
+fn write_group<S: Alter>(transaction: &mut Transaction<'_, S>, row: &GroupRow) -> Result<(), Error>
     ensures same_reference { transaction.new.conn.ghost_name ≡ transaction.old.conn.ghost_name }
-    ensures survives { Survives (state S.Store transaction.old.conn.now) (state S.Store transaction.new.conn.now)
-        (λ _. ⊥) }
+    ensures survives { Unseen (state S.Store transaction.old.conn.now) (state S.Store transaction.new.conn.now) }
     ensures kept { Keeps (state S.Store transaction.old.conn.now) (state S.Store transaction.new.conn.now) }
-    ensures done { AdvancesFrom (state S.Store transaction.old.conn.now) (state S.Store transaction.new.conn.now)
-        result (InTurn CanList policy.write_lists (map listed_row lists.now))
-        (in_turn policy.write_lists (map listed_row lists.now)) }
+    ensures done { Goes (state S.Store transaction.old.conn.now) (state S.Store transaction.new.conn.now) result
+        nothing (turns (λ _ _. ⊤) policy.write_group (joined row.now ∷ [])) }
 {
-    'lists: for both in lists {
-        write_lists(transaction, both)?;
+    let group = row.group.as_str();
+    run_all(
+        transaction,
+        &[
+            Statement::DeleteMembers(group),
+            Statement::Each(Items::Members(group, &row.members)),
+        ],
+    )
+}
+
+fn count(part: &Part<'_>) -> usize
+    ensures { result ≡ part_count part.now }
+{
+    match part {
+        Part::Places(places) => places.len(),
+        Part::Lists(lists) => lists.len(),
+        Part::Groups(groups) => groups.len(),
+    }
+}
+
+/// Writes the one at a place.
+fn write_at<S: Alter>(
+    transaction: &mut Transaction<'_, S>,
+    part: &Part<'_>,
+    place: usize,
+) -> Result<(), Error>
+    requires { place < part_count part.now }
+    ensures same_reference { transaction.new.conn.ghost_name ≡ transaction.old.conn.ghost_name }
+    ensures survives { Unseen (state S.Store transaction.old.conn.now) (state S.Store transaction.new.conn.now) }
+    ensures kept { Keeps (state S.Store transaction.old.conn.now) (state S.Store transaction.new.conn.now) }
+    ensures done { Goes (state S.Store transaction.old.conn.now) (state S.Store transaction.new.conn.now) result
+        (part_from part.now (place + 1)) (part_from part.now place) }
+{
+    match part {
+        Part::Places(places) => write_place(transaction, item_at(places, place)),
+        Part::Lists(lists) => write_lists(transaction, item_at(lists, place)),
+        Part::Groups(groups) => write_group(transaction, item_at(groups, place)),
+    }
+}
+
+/// Writes them one after another.
+fn write_part<S: Alter>(transaction: &mut Transaction<'_, S>, part: &Part<'_>) -> Result<(), Error>
+    ensures same_reference { transaction.new.conn.ghost_name ≡ transaction.old.conn.ghost_name }
+    ensures survives { Unseen (state S.Store transaction.old.conn.now) (state S.Store transaction.new.conn.now) }
+    ensures kept { Keeps (state S.Store transaction.old.conn.now) (state S.Store transaction.new.conn.now) }
+    ensures done { Goes (state S.Store transaction.old.conn.now) (state S.Store transaction.new.conn.now) result
+        nothing (part_from part.now 0) }
+{
+    'part: for place in 0..count(part) {
+        write_at(transaction, part, place)?;
     }
     Ok(())
 }
 
-/// Writes the members of groups one after another.
-fn write_groups<S: Alter>(
-    transaction: &mut Transaction<'_, S>,
-    groups: &[GroupRow],
-) -> Result<(), Error>
-    ensures same_reference { transaction.new.conn.ghost_name ≡ transaction.old.conn.ghost_name }
-    ensures survives { Survives (state S.Store transaction.old.conn.now) (state S.Store transaction.new.conn.now)
-        (λ _. ⊥) }
-    ensures kept { Keeps (state S.Store transaction.old.conn.now) (state S.Store transaction.new.conn.now) }
-    ensures done { Advances (state S.Store transaction.old.conn.now) (state S.Store transaction.new.conn.now) result
-        (in_turn policy.write_group (map joined groups.now)) }
-{
-    'groups: for group in groups {
-        write_members(transaction, group.group.as_str(), &group.members)?;
-    }
-    Ok(())
-}
-
-/// Writes the nodes, then the lists, then the members.
-fn write_policy<S: Alter>(
+/// Writes what a policy changes: the nodes, then the lists, then the members. Then `reach` is renewed, and the epoch rises.
+fn write_policy<'x, S: Alter>(
     transaction: &mut Transaction<'_, S>,
     places: &[PlaceRow],
     lists: &[ListsRow],
     groups: &[GroupRow],
+    old: &'x [ReachRow],
+    new: &'x [ReachRow],
 ) -> Result<(), Error>
     ensures same_reference { transaction.new.conn.ghost_name ≡ transaction.old.conn.ghost_name }
-    ensures survives { Survives (state S.Store transaction.old.conn.now) (state S.Store transaction.new.conn.now)
-        (λ _. ⊥) }
-    ensures kept { Keeps (state S.Store transaction.old.conn.now) (state S.Store transaction.new.conn.now) }
-    ensures done { AdvancesFrom (state S.Store transaction.old.conn.now) (state S.Store transaction.new.conn.now)
-        result (CanAdopt (map placed_row places.now) (map listed_row lists.now))
-        (written_rows (map placed_row places.now) (map listed_row lists.now) (map joined groups.now)) }
-{
-    write_places(transaction, places)?;
-    write_all_lists(transaction, lists)?;
-    write_groups(transaction, groups)
-}
-
-/// Writes what a policy changes, and renews `reach`; the epoch rises.
-fn write_policy_and_epoch<S: Alter>(
-    transaction: &mut Transaction<'_, S>,
-    places: &[PlaceRow],
-    lists: &[ListsRow],
-    groups: &[GroupRow],
-    old: &[ReachRow],
-    new: &[ReachRow],
-) -> Result<(), Error>
-    ensures same_reference { transaction.new.conn.ghost_name ≡ transaction.old.conn.ghost_name }
-    ensures survives { Survives (state S.Store transaction.old.conn.now) (state S.Store transaction.new.conn.now)
-        (λ _. ⊥) }
+    ensures survives { Unseen (state S.Store transaction.old.conn.now) (state S.Store transaction.new.conn.now) }
     ensures kept { Keeps (state S.Store transaction.old.conn.now) (state S.Store transaction.new.conn.now) }
     ensures done { Performs (state S.Store transaction.old.conn.now) (state S.Store transaction.new.conn.now) result
         (adopting (map placed_row places.now) (map listed_row lists.now) (map joined groups.now)
@@ -234,9 +234,17 @@ fn write_policy_and_epoch<S: Alter>(
     if epoch >= LAST_NUMBER {
         return Err(Error::QueryReturnedNoRows);
     }
-    write_policy(transaction, places, lists, groups)?;
-    renew_reach(transaction, old, new)?;
-    set_epoch(transaction, epoch + 1)
+    write_part(transaction, &Part::Places(places))?;
+    write_part(transaction, &Part::Lists(lists))?;
+    write_part(transaction, &Part::Groups(groups))?;
+    run_all(
+        transaction,
+        &[
+            Statement::Each(Items::OldPairs(old)),
+            Statement::Each(Items::NewPairs(new)),
+            Statement::SetEpoch(epoch + 1),
+        ],
+    )
 }
 
 /// Adopting a policy (own profile): each place gets its owner and its label, and a row of its own under its parent's
@@ -269,7 +277,7 @@ pub fn adopt_rows<S: Alter>(
         return Err(Error::SqliteFailure(ErrorCode::TransactionState));
     }
     let mut transaction = connection.transaction();
-    write_policy_and_epoch(&mut transaction, places, lists, groups, old, new)?;
+    write_policy(&mut transaction, places, lists, groups, old, new)?;
     transaction.commit()
 }
 

@@ -1,56 +1,26 @@
 //! DELETE of a card, and MKCOL of a book, each in one transaction.
 
-ghost use Rattle.std.specs.Prelude.{◌≡◌, ◌<◌, ◌^◌, OnOk, OnErr};
+ghost use Rattle.std.specs.Prelude.{◌≡◌, OnOk, OnErr};
 ghost use Rattle.std.specs.Option.{option_copied};
-ghost use Rattle.sqlite.specs.declared.types.Value.TheVariants.{Int};
 ghost use Rattle.sqlite.specs.Held.{state};
 ghost use Rattle.sqlite.specs.State.{HasCleanDisk, Survives};
-ghost use Rattle.book_tables_rows.specs.Columns.{rowid_place};
 ghost use Rattle.book_tables_rows.specs.Nodes.{removing_card, adding_book};
-ghost use Rattle.book_tables_rows.specs.Rows.{has};
-ghost use Rattle.book_tables_rows.specs.Writes as writes;
-ghost use Rattle.book_tables_rows.specs.Writes.{AreFree};
-ghost use Rattle.book_tables_rows.specs.Steps.{Commits, Keeps, MayLeave, Performs, Stays, WritesIf};
+ghost use Rattle.book_tables_rows.specs.Plans.{Performs, Unseen};
+ghost use Rattle.book_tables_rows.specs.Steps.{Commits, Keeps, MayLeave, Stays};
 
-use crate::cards::{insert_gone, set_number};
-use crate::nodes::{BOOK, LAST_NUMBER, delete_entries, delete_node, insert_node, look_up};
+use crate::nodes::{BOOK, LAST_NUMBER, look_up};
+use crate::script::{Statement, run_all};
 use sqlite::{Alter, Connection, Error, ErrorCode, Transaction};
 
-/// Takes out the card with a number and its entries, adds its name to the removed ones of its book, and gives the
-/// book the change number.
-fn write_removal<S: Alter>(
-    transaction: &mut Transaction<'_, S>,
-    book: i64,
-    card: i64,
-    book_path: &str,
-    name: &str,
-    number: u64,
-) -> Result<(), Error>
-    requires { number < 2 ^ 53 }
-    ensures same_reference { transaction.new.conn.ghost_name ≡ transaction.old.conn.ghost_name }
-    ensures survives { Survives (state S.Store transaction.old.conn.now) (state S.Store transaction.new.conn.now)
-        (λ _. ⊥) }
-    ensures kept { Keeps (state S.Store transaction.old.conn.now) (state S.Store transaction.new.conn.now) }
-    ensures done { WritesIf (state S.Store transaction.old.conn.now) (state S.Store transaction.new.conn.now) result
-        (λ rows. AreFree (has rowid_place (Int card)) (writes.delete_entries (Int card) rows))
-        (writes.remove_card_rows (Int book) (Int card) book_path.now name.now number) }
-{
-    delete_entries(transaction, card)?;
-    delete_node(transaction, card)?;
-    insert_gone(transaction, book, name, number)?;
-    set_number(transaction, book_path, number)
-}
-
 /// Finds the book and the card, and takes the card out with the next change number.
-fn find_and_remove_card<S: Alter>(
+fn find_and_remove_card<'x, S: Alter>(
     transaction: &mut Transaction<'_, S>,
-    book_path: &str,
+    book_path: &'x str,
     card_path: &str,
-    name: &str,
+    name: &'x str,
 ) -> Result<(), Error>
     ensures same_reference { transaction.new.conn.ghost_name ≡ transaction.old.conn.ghost_name }
-    ensures survives { Survives (state S.Store transaction.old.conn.now) (state S.Store transaction.new.conn.now)
-        (λ _. ⊥) }
+    ensures survives { Unseen (state S.Store transaction.old.conn.now) (state S.Store transaction.new.conn.now) }
     ensures kept { Keeps (state S.Store transaction.old.conn.now) (state S.Store transaction.new.conn.now) }
     ensures done { Performs (state S.Store transaction.old.conn.now) (state S.Store transaction.new.conn.now) result
         (removing_card book_path.now card_path.now name.now) }
@@ -64,13 +34,15 @@ fn find_and_remove_card<S: Alter>(
     let Some(card) = look_up(transaction, card_path)? else {
         return Err(Error::QueryReturnedNoRows);
     };
-    write_removal(
+    let number = book.number + 1;
+    run_all(
         transaction,
-        book.id,
-        card.id,
-        book_path,
-        name,
-        book.number + 1,
+        &[
+            Statement::DeleteEntries(card.id),
+            Statement::DeleteNode(card.id),
+            Statement::InsertGone(book.id, name, number),
+            Statement::SetNumber(book_path, number),
+        ],
     )
 }
 
@@ -107,8 +79,7 @@ fn find_and_add_book<'x, S: Alter>(
     owner: Option<&'x str>,
 ) -> Result<(), Error>
     ensures same_reference { transaction.new.conn.ghost_name ≡ transaction.old.conn.ghost_name }
-    ensures survives { Survives (state S.Store transaction.old.conn.now) (state S.Store transaction.new.conn.now)
-        (λ _. ⊥) }
+    ensures survives { Unseen (state S.Store transaction.old.conn.now) (state S.Store transaction.new.conn.now) }
     ensures kept { Keeps (state S.Store transaction.old.conn.now) (state S.Store transaction.new.conn.now) }
     ensures done { Performs (state S.Store transaction.old.conn.now) (state S.Store transaction.new.conn.now) result
         (adding_book home_path.now path.now (option_copied owner.entry)) }
@@ -116,7 +87,18 @@ fn find_and_add_book<'x, S: Alter>(
     let Some(home) = look_up(transaction, home_path)? else {
         return Err(Error::QueryReturnedNoRows);
     };
-    insert_node(transaction, path, home.id, BOOK, owner, "", None, 0)
+    run_all(
+        transaction,
+        &[Statement::InsertNode {
+            path,
+            parent: home.id,
+            kind: BOOK,
+            owner,
+            label: "",
+            text: None,
+            number: 0,
+        }],
+    )
 }
 
 /// MKCOL: a book at a path under the node at the path of all books, with an owner, an empty label and the number 0.

@@ -1,102 +1,28 @@
 //! COPY of a card, in one transaction.
 
-ghost use Rattle.std.specs.Prelude.{◌≡◌, ◌<◌, ◌^◌, OnOk, OnErr};
+ghost use Rattle.std.specs.Prelude.{◌≡◌, OnOk, OnErr};
 ghost use Rattle.std.specs.Option.{option_copied};
-ghost use Rattle.sqlite.specs.declared.types.Value.TheVariants.{Int};
 ghost use Rattle.sqlite.specs.Held.{state};
 ghost use Rattle.sqlite.specs.State.{HasCleanDisk, Survives};
 ghost use Rattle.book_tables_rows.specs.Nodes.{copying_card};
-ghost use Rattle.book_tables_rows.specs.Writes as writes;
-ghost use Rattle.book_tables_rows.specs.Writes.{is_mapped};
-ghost use Rattle.book_tables_rows.specs.Steps.{Commits, Keeps, MayLeave, Performs, Stays, Writes};
+ghost use Rattle.book_tables_rows.specs.Plans.{Performs, Unseen};
+ghost use Rattle.book_tables_rows.specs.Steps.{Commits, Keeps, MayLeave, Stays};
 
-use crate::cards::{delete_gone_name, set_copy, set_number};
-use crate::nodes::{CARD, LAST_NUMBER, insert_node, look_up};
+use crate::nodes::{LAST_NUMBER, look_up};
+use crate::script::{Statement, run_all};
 use sqlite::{Alter, Connection, Error, ErrorCode, Transaction};
-
-/// The card's row gets the label and the text. Where there is none, one is added under the book with a number, and its name
-/// is taken out of the removed ones.
-fn write_copy<'x, S: Alter>(
-    transaction: &mut Transaction<'_, S>,
-    book: i64,
-    path: &'x str,
-    name: &str,
-    owner: Option<&'x str>,
-    label: &'x str,
-    text: &'x str,
-    number: u64,
-) -> Result<(), Error>
-    requires { number < 2 ^ 53 }
-    ensures same_reference { transaction.new.conn.ghost_name ≡ transaction.old.conn.ghost_name }
-    ensures survives { Survives (state S.Store transaction.old.conn.now) (state S.Store transaction.new.conn.now)
-        (λ _. ⊥) }
-    ensures kept { Keeps (state S.Store transaction.old.conn.now) (state S.Store transaction.new.conn.now) }
-    ensures done { Writes (state S.Store transaction.old.conn.now) (state S.Store transaction.new.conn.now) result
-        (λ rows. writes.write_copy (Int book) (is_mapped path.now rows) path.now name.now (option_copied owner.entry)
-        label.now text.now number rows) }
-{
-    if set_copy(transaction, path, label, text, number)? {
-        return Ok(());
-    }
-    insert_node(
-        transaction,
-        path,
-        book,
-        CARD,
-        owner,
-        label,
-        Some(text),
-        number,
-    )?;
-    delete_gone_name(transaction, book, name)
-}
-
-/// Writes a copy, and gives its book the change number.
-fn write_put_copy<'x, S: Alter>(
-    transaction: &mut Transaction<'_, S>,
-    book: i64,
-    book_path: &str,
-    card_path: &'x str,
-    name: &str,
-    owner: Option<&'x str>,
-    label: &'x str,
-    text: &'x str,
-    number: u64,
-) -> Result<(), Error>
-    requires { number < 2 ^ 53 }
-    ensures same_reference { transaction.new.conn.ghost_name ≡ transaction.old.conn.ghost_name }
-    ensures survives { Survives (state S.Store transaction.old.conn.now) (state S.Store transaction.new.conn.now)
-        (λ _. ⊥) }
-    ensures kept { Keeps (state S.Store transaction.old.conn.now) (state S.Store transaction.new.conn.now) }
-    ensures done { Writes (state S.Store transaction.old.conn.now) (state S.Store transaction.new.conn.now) result
-        (λ rows. writes.put_copy_rows (Int book) (is_mapped card_path.now rows) book_path.now card_path.now name.now
-        (option_copied owner.entry) label.now text.now number rows) }
-{
-    write_copy(
-        transaction,
-        book,
-        card_path,
-        name,
-        owner,
-        label,
-        text,
-        number,
-    )?;
-    set_number(transaction, book_path, number)
-}
 
 /// Finds the source and the book, and writes the copy with the next change number.
 fn find_and_copy<'x, S: Alter>(
     transaction: &mut Transaction<'_, S>,
     source_path: &str,
-    book_path: &str,
+    book_path: &'x str,
     card_path: &'x str,
-    name: &str,
+    name: &'x str,
     owner: Option<&'x str>,
 ) -> Result<(), Error>
     ensures same_reference { transaction.new.conn.ghost_name ≡ transaction.old.conn.ghost_name }
-    ensures survives { Survives (state S.Store transaction.old.conn.now) (state S.Store transaction.new.conn.now)
-        (λ _. ⊥) }
+    ensures survives { Unseen (state S.Store transaction.old.conn.now) (state S.Store transaction.new.conn.now) }
     ensures kept { Keeps (state S.Store transaction.old.conn.now) (state S.Store transaction.new.conn.now) }
     ensures done { Performs (state S.Store transaction.old.conn.now) (state S.Store transaction.new.conn.now) result
         (copying_card source_path.now book_path.now card_path.now name.now (option_copied owner.entry)) }
@@ -113,16 +39,21 @@ fn find_and_copy<'x, S: Alter>(
     if book.number >= LAST_NUMBER {
         return Err(Error::QueryReturnedNoRows);
     }
-    write_put_copy(
+    let number = book.number + 1;
+    run_all(
         transaction,
-        book.id,
-        book_path,
-        card_path,
-        name,
-        owner,
-        source.label.as_str(),
-        text.as_str(),
-        book.number + 1,
+        &[
+            Statement::WriteCopy {
+                book: book.id,
+                path: card_path,
+                name,
+                owner,
+                label: source.label.as_str(),
+                text: text.as_str(),
+                number,
+            },
+            Statement::SetNumber(book_path, number),
+        ],
     )
 }
 

@@ -4,6 +4,7 @@ ghost use Rattle.std.specs.Prelude.{◌≡◌, IfOk};
 ghost use Rattle.sqlite.specs.Held.{state};
 ghost use Rattle.sqlite.specs.State.{HasCleanDisk, Survives};
 ghost use Rattle.book_tables_rows.specs.Lists.{ShowsCount, first_number};
+ghost use Rattle.book_tables_rows.specs.Plans.{Unseen};
 ghost use Rattle.book_tables_rows.specs.Steps.{Keeps, Spares};
 
 use sqlite::{Alter, Error, Row, Transaction, params};
@@ -11,8 +12,7 @@ use sqlite::{Alter, Error, Row, Transaction, params};
 /// One row with the count, or none.
 fn count_rows<S: Alter>(transaction: &mut Transaction<'_, S>, path: &str) -> Result<Vec<Row>, Error>
     ensures same_reference { transaction.new.conn.ghost_name ≡ transaction.old.conn.ghost_name }
-    ensures survives { Survives (state S.Store transaction.old.conn.now) (state S.Store transaction.new.conn.now)
-        (λ _. ⊥) }
+    ensures survives { Unseen (state S.Store transaction.old.conn.now) (state S.Store transaction.new.conn.now) }
     ensures kept { Keeps (state S.Store transaction.old.conn.now) (state S.Store transaction.new.conn.now) }
     ensures stays { Spares (state S.Store transaction.old.conn.now) (state S.Store transaction.new.conn.now) result }
     ensures shown { HasCleanDisk (state S.Store transaction.new.conn.now)

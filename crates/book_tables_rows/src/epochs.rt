@@ -1,20 +1,18 @@
 //! The access epoch.
 
-ghost use Rattle.std.specs.Prelude.{◌≡◌, ◌<◌, ◌^◌, IfOk, slice_get, unwrap_or, []};
+ghost use Rattle.std.specs.Prelude.{◌≡◌, IfOk, slice_get, unwrap_or, []};
 ghost use Rattle.sqlite.specs.Held.{state};
 ghost use Rattle.sqlite.specs.State.{HasCleanDisk, Survives};
+ghost use Rattle.book_tables_rows.specs.Plans.{Unseen};
 ghost use Rattle.book_tables_rows.specs.Nodes.{ShowsEpoch, number_in, told_epoch};
-ghost use Rattle.book_tables_rows.specs.Writes as writes;
-ghost use Rattle.book_tables_rows.specs.Writes.{HasMeta};
-ghost use Rattle.book_tables_rows.specs.Steps.{Keeps, Spares, WritesIf};
+ghost use Rattle.book_tables_rows.specs.Steps.{Keeps, Spares};
 
-use sqlite::{Alter, Error, Row, Transaction, params};
+use sqlite::{Alter, Error, Row, Transaction};
 
 /// The rows of `meta`.
 fn meta_rows<S: Alter>(transaction: &mut Transaction<'_, S>) -> Result<Vec<Row>, Error>
     ensures same_reference { transaction.new.conn.ghost_name ≡ transaction.old.conn.ghost_name }
-    ensures survives { Survives (state S.Store transaction.old.conn.now) (state S.Store transaction.new.conn.now)
-        (λ _. ⊥) }
+    ensures survives { Unseen (state S.Store transaction.old.conn.now) (state S.Store transaction.new.conn.now) }
     ensures kept { Keeps (state S.Store transaction.old.conn.now) (state S.Store transaction.new.conn.now) }
     ensures stays { Spares (state S.Store transaction.old.conn.now) (state S.Store transaction.new.conn.now) result }
     ensures shown { HasCleanDisk (state S.Store transaction.new.conn.now)
@@ -45,21 +43,4 @@ pub fn read_epoch<S: Alter>(transaction: &mut Transaction<'_, S>) -> Result<u64,
 {
     let rows = meta_rows(transaction)?;
     first_epoch(&rows)
-}
-
-/// Sets the access epoch, where `meta` has its one row.
-pub(crate) fn set_epoch<S: Alter>(
-    transaction: &mut Transaction<'_, S>,
-    epoch: u64,
-) -> Result<(), Error>
-    requires { epoch < 2 ^ 53 }
-    ensures same_reference { transaction.new.conn.ghost_name ≡ transaction.old.conn.ghost_name }
-    ensures survives { Survives (state S.Store transaction.old.conn.now) (state S.Store transaction.new.conn.now)
-        (λ _. ⊥) }
-    ensures kept { Keeps (state S.Store transaction.old.conn.now) (state S.Store transaction.new.conn.now) }
-    ensures done { WritesIf (state S.Store transaction.old.conn.now) (state S.Store transaction.new.conn.now) result
-        HasMeta (writes.set_epoch epoch) }
-{
-    transaction.execute("UPDATE meta SET epoch = ?1", params![epoch as i64])?;
-    Ok(())
 }

@@ -6,10 +6,12 @@
 //! open connection shows what it showed; and a stop may leave the tables as before or as after it, and no third.
 //!
 //! Read `specs/Schema` first, the tables with their columns and rules; `specs/Writes`, what each statement and each
-//! edit makes of the rows; `specs/Steps`, what a call does to a connection; and `specs/Nodes`, `specs/Adopting` and
-//! `specs/Lists`, the changes that edits make and what reads tell. Of the code, `nodes`, `cards` and `epochs` have one
-//! statement a function; `putting`, `changing`, `removing`, `copying`, `moving`, `labels`, `setting` and `adopting` the
-//! edits; `reach` has what is kept of chains of members; `lists` and `counting` the reads of several rows.
+//! edit makes of the rows; `specs/Steps` and `specs/Plans`, what a call does to a connection and how far it has come;
+//! and `specs/Nodes`, `specs/Adopting` and `specs/Lists`, the changes that edits make and what reads tell. An edit looks
+//! for what it needs, and then runs a list of statements. Of the code, `script` has the statements and runs them, `cards`
+//! and `items` those that take several texts; `putting`, `changing`, `removing`, `copying`, `moving`, `labels`, `setting`
+//! and `adopting` have the edits; `reach` has what is kept of chains of members; `nodes`, `epochs`, `lists` and
+//! `counting` the reads.
 #![tactic(auto)]
 
 mod adopting;
@@ -18,6 +20,7 @@ mod changing;
 mod copying;
 mod counting;
 mod epochs;
+mod items;
 mod labels;
 mod lists;
 mod moving;
@@ -25,6 +28,7 @@ mod nodes;
 mod putting;
 mod reach;
 mod removing;
+mod script;
 mod setting;
 
 pub use adopting::{GroupRow, ListsRow, PlaceRow, adopt_rows, both_lists_are_read};

@@ -1,66 +1,25 @@
 //! MOVE of a card, in one transaction.
 
-ghost use Rattle.std.specs.Prelude.{◌≡◌, ◌<◌, ◌^◌, IsTrue, OnOk, OnErr, find};
-ghost use Rattle.sqlite.specs.declared.types.Value.TheVariants.{Int};
+ghost use Rattle.std.specs.Prelude.{◌≡◌, OnOk, OnErr};
 ghost use Rattle.sqlite.specs.Held.{state};
 ghost use Rattle.sqlite.specs.State.{HasCleanDisk, Survives};
-ghost use Rattle.book_tables_rows.specs.Nodes.{FitCardRemoval, leaving_book, arriving_in, moving_card};
-ghost use Rattle.book_tables_rows.specs.Writes as writes;
-ghost use Rattle.book_tables_rows.specs.Writes.{is_at, clear_at};
-ghost use Rattle.book_tables_rows.specs.Steps.{Commits, Keeps, MayLeave, Performs, Stays, Turns, Writes};
+ghost use Rattle.book_tables_rows.specs.Nodes.{leaving_book, arriving_in, moving_card};
+ghost use Rattle.book_tables_rows.specs.Plans.{Performs, Unseen};
+ghost use Rattle.book_tables_rows.specs.Steps.{Commits, Keeps, MayLeave, Stays};
 
-use crate::cards::{delete_gone_name, insert_gone, move_node, set_number};
-use crate::nodes::{LAST_NUMBER, delete_entries, delete_node, look_up};
+use crate::nodes::{LAST_NUMBER, look_up};
+use crate::script::{Statement, run_all};
 use sqlite::{Alter, Connection, Error, ErrorCode, Transaction};
 
-/// Takes out the card at a path and its entries, if there is one.
-fn clear_card<S: Alter>(transaction: &mut Transaction<'_, S>, path: &str) -> Result<(), Error>
-    ensures same_reference { transaction.new.conn.ghost_name ≡ transaction.old.conn.ghost_name }
-    ensures survives { Survives (state S.Store transaction.old.conn.now) (state S.Store transaction.new.conn.now)
-        (λ _. ⊥) }
-    ensures kept { Keeps (state S.Store transaction.old.conn.now) (state S.Store transaction.new.conn.now) }
-    ensures done { HasCleanDisk (state S.Store transaction.new.conn.now)
-        → IsTrue (state S.Store transaction.old.conn.now).in_transaction
-        → OnOk result (Turns (state S.Store transaction.old.conn.now) (state S.Store transaction.new.conn.now)
-        (FitCardRemoval path.now) (λ rows. clear_at (find (is_at path.now) rows.nodes) rows)) }
-{
-    let Some(card) = look_up(transaction, path)? else {
-        return Ok(());
-    };
-    delete_entries(transaction, card.id)?;
-    delete_node(transaction, card.id)
-}
-
-/// Adds a name to the removed ones of the book with a number, and gives the book the change number.
-fn write_leaving<S: Alter>(
-    transaction: &mut Transaction<'_, S>,
-    book: i64,
-    book_path: &str,
-    name: &str,
-    number: u64,
-) -> Result<(), Error>
-    requires { number < 2 ^ 53 }
-    ensures same_reference { transaction.new.conn.ghost_name ≡ transaction.old.conn.ghost_name }
-    ensures survives { Survives (state S.Store transaction.old.conn.now) (state S.Store transaction.new.conn.now)
-        (λ _. ⊥) }
-    ensures kept { Keeps (state S.Store transaction.old.conn.now) (state S.Store transaction.new.conn.now) }
-    ensures done { Writes (state S.Store transaction.old.conn.now) (state S.Store transaction.new.conn.now) result
-        (writes.leave_book (Int book) book_path.now name.now number) }
-{
-    insert_gone(transaction, book, name, number)?;
-    set_number(transaction, book_path, number)
-}
-
 /// Takes out a card at the destination, and lets a name leave its book with the book's next change number.
-fn leave_book<S: Alter>(
+fn leave_book<'x, S: Alter>(
     transaction: &mut Transaction<'_, S>,
-    book_path: &str,
-    name: &str,
+    book_path: &'x str,
+    name: &'x str,
     destination: &str,
 ) -> Result<(), Error>
     ensures same_reference { transaction.new.conn.ghost_name ≡ transaction.old.conn.ghost_name }
-    ensures survives { Survives (state S.Store transaction.old.conn.now) (state S.Store transaction.new.conn.now)
-        (λ _. ⊥) }
+    ensures survives { Unseen (state S.Store transaction.old.conn.now) (state S.Store transaction.new.conn.now) }
     ensures kept { Keeps (state S.Store transaction.old.conn.now) (state S.Store transaction.new.conn.now) }
     ensures done { Performs (state S.Store transaction.old.conn.now) (state S.Store transaction.new.conn.now) result
         (leaving_book book_path.now name.now destination.now) }
@@ -68,48 +27,42 @@ fn leave_book<S: Alter>(
     let Some(book) = look_up(transaction, book_path)? else {
         return Err(Error::QueryReturnedNoRows);
     };
-    if book.number >= LAST_NUMBER {
+    let (id, last) = (book.id, book.number);
+    drop(book);
+    if last >= LAST_NUMBER {
         return Err(Error::QueryReturnedNoRows);
     }
-    clear_card(transaction, destination)?;
-    write_leaving(transaction, book.id, book_path, name, book.number + 1)
-}
-
-/// Moves a card under the book with a number, takes its name out of the removed ones, and gives the book the change
-/// number.
-fn write_arriving<'x, S: Alter>(
-    transaction: &mut Transaction<'_, S>,
-    book: i64,
-    book_path: &str,
-    card_path: &'x str,
-    destination: &'x str,
-    name: &str,
-    number: u64,
-) -> Result<(), Error>
-    requires { number < 2 ^ 53 }
-    ensures same_reference { transaction.new.conn.ghost_name ≡ transaction.old.conn.ghost_name }
-    ensures survives { Survives (state S.Store transaction.old.conn.now) (state S.Store transaction.new.conn.now)
-        (λ _. ⊥) }
-    ensures kept { Keeps (state S.Store transaction.old.conn.now) (state S.Store transaction.new.conn.now) }
-    ensures done { Writes (state S.Store transaction.old.conn.now) (state S.Store transaction.new.conn.now) result
-        (writes.arrive_in (Int book) book_path.now card_path.now destination.now name.now number) }
-{
-    delete_gone_name(transaction, book, name)?;
-    move_node(transaction, card_path, destination, book, number)?;
-    set_number(transaction, book_path, number)
+    let number = last + 1;
+    let leave = Statement::InsertGone(id, name, number);
+    let rise = Statement::SetNumber(book_path, number);
+    match look_up(transaction, destination)? {
+        None => run_all(transaction, &[leave, rise]),
+        Some(card) => {
+            let node = card.id;
+            drop(card);
+            run_all(
+                transaction,
+                &[
+                    Statement::DeleteEntries(node),
+                    Statement::DeleteNode(node),
+                    leave,
+                    rise,
+                ],
+            )
+        }
+    }
 }
 
 /// Finds the book of the destination, and moves the card there with the book's next change number.
 fn arrive_in<'x, S: Alter>(
     transaction: &mut Transaction<'_, S>,
-    book_path: &str,
+    book_path: &'x str,
     card_path: &'x str,
     destination: &'x str,
-    name: &str,
+    name: &'x str,
 ) -> Result<(), Error>
     ensures same_reference { transaction.new.conn.ghost_name ≡ transaction.old.conn.ghost_name }
-    ensures survives { Survives (state S.Store transaction.old.conn.now) (state S.Store transaction.new.conn.now)
-        (λ _. ⊥) }
+    ensures survives { Unseen (state S.Store transaction.old.conn.now) (state S.Store transaction.new.conn.now) }
     ensures kept { Keeps (state S.Store transaction.old.conn.now) (state S.Store transaction.new.conn.now) }
     ensures done { Performs (state S.Store transaction.old.conn.now) (state S.Store transaction.new.conn.now) result
         (arriving_in book_path.now card_path.now destination.now name.now) }
@@ -120,14 +73,19 @@ fn arrive_in<'x, S: Alter>(
     if book.number >= LAST_NUMBER {
         return Err(Error::QueryReturnedNoRows);
     }
-    write_arriving(
+    let number = book.number + 1;
+    run_all(
         transaction,
-        book.id,
-        book_path,
-        card_path,
-        destination,
-        name,
-        book.number + 1,
+        &[
+            Statement::DeleteGoneName(book.id, name),
+            Statement::MoveNode {
+                path: card_path,
+                destination,
+                parent: book.id,
+                number,
+            },
+            Statement::SetNumber(book_path, number),
+        ],
     )
 }
 
@@ -142,8 +100,7 @@ fn find_and_move<'x, S: Alter>(
     target_name: &str,
 ) -> Result<(), Error>
     ensures same_reference { transaction.new.conn.ghost_name ≡ transaction.old.conn.ghost_name }
-    ensures survives { Survives (state S.Store transaction.old.conn.now) (state S.Store transaction.new.conn.now)
-        (λ _. ⊥) }
+    ensures survives { Unseen (state S.Store transaction.old.conn.now) (state S.Store transaction.new.conn.now) }
     ensures kept { Keeps (state S.Store transaction.old.conn.now) (state S.Store transaction.new.conn.now) }
     ensures done { Performs (state S.Store transaction.old.conn.now) (state S.Store transaction.new.conn.now) result
         (moving_card source_book.now card_path.now source_name.now target_book.now destination.now target_name.now) }

@@ -5,12 +5,10 @@ ghost use Rattle.std.specs.Option.{option_copied};
 ghost use Rattle.sqlite.specs.declared.types.Value.TheVariants.{Int};
 ghost use Rattle.sqlite.specs.Held.{state};
 ghost use Rattle.sqlite.specs.State.{HasCleanDisk, Survives};
-ghost use Rattle.book_tables_rows.specs.Columns.{rowid_place};
+ghost use Rattle.book_tables_rows.specs.Plans.{Unseen};
 ghost use Rattle.book_tables_rows.specs.Nodes.{Finds, told, told_shown};
-ghost use Rattle.book_tables_rows.specs.Rows.{has};
 ghost use Rattle.book_tables_rows.specs.Writes as writes;
-ghost use Rattle.book_tables_rows.specs.Writes.{AreFree};
-ghost use Rattle.book_tables_rows.specs.Steps.{Keeps, Spares, Writes, WritesIf};
+ghost use Rattle.book_tables_rows.specs.Steps.{Keeps, Spares, Writes};
 
 use sqlite::{Alter, Error, Row, Transaction, params};
 
@@ -72,8 +70,7 @@ fn first_node(rows: &[Row]) -> Result<Option<FoundNode>, Error>
 /// The rows of the node at a path: one, or none.
 fn node_rows<S: Alter>(transaction: &mut Transaction<'_, S>, path: &str) -> Result<Vec<Row>, Error>
     ensures same_reference { transaction.new.conn.ghost_name ≡ transaction.old.conn.ghost_name }
-    ensures survives { Survives (state S.Store transaction.old.conn.now) (state S.Store transaction.new.conn.now)
-        (λ _. ⊥) }
+    ensures survives { Unseen (state S.Store transaction.old.conn.now) (state S.Store transaction.new.conn.now) }
     ensures kept { Keeps (state S.Store transaction.old.conn.now) (state S.Store transaction.new.conn.now) }
     ensures stays { Spares (state S.Store transaction.old.conn.now) (state S.Store transaction.new.conn.now) result }
     ensures shown { HasCleanDisk (state S.Store transaction.new.conn.now)
@@ -130,55 +127,17 @@ pub fn insert_node<'x, S: Alter>(
     Ok(())
 }
 
-/// Gives the node at a path another owner and another label.
-pub(crate) fn set_place<'x, S: Alter>(
-    transaction: &mut Transaction<'_, S>,
-    path: &'x str,
-    owner: Option<&'x str>,
-    label: &'x str,
-) -> Result<(), Error>
-    ensures same_reference { transaction.new.conn.ghost_name ≡ transaction.old.conn.ghost_name }
-    ensures survives { Survives (state S.Store transaction.old.conn.now) (state S.Store transaction.new.conn.now)
-        (λ _. ⊥) }
-    ensures kept { Keeps (state S.Store transaction.old.conn.now) (state S.Store transaction.new.conn.now) }
-    ensures done { Writes (state S.Store transaction.old.conn.now) (state S.Store transaction.new.conn.now) result
-        (writes.set_place path.now (option_copied owner.entry) label.now) }
-{
-    transaction.execute(
-        "UPDATE node SET owner = ?2, label = ?3 WHERE path = ?1",
-        params![path, owner, label],
-    )?;
-    Ok(())
-}
-
 /// Takes out the entries of the node with a number.
 pub(crate) fn delete_entries<S: Alter>(
     transaction: &mut Transaction<'_, S>,
     node: i64,
 ) -> Result<(), Error>
     ensures same_reference { transaction.new.conn.ghost_name ≡ transaction.old.conn.ghost_name }
-    ensures survives { Survives (state S.Store transaction.old.conn.now) (state S.Store transaction.new.conn.now)
-        (λ _. ⊥) }
+    ensures survives { Unseen (state S.Store transaction.old.conn.now) (state S.Store transaction.new.conn.now) }
     ensures kept { Keeps (state S.Store transaction.old.conn.now) (state S.Store transaction.new.conn.now) }
     ensures done { Writes (state S.Store transaction.old.conn.now) (state S.Store transaction.new.conn.now) result
         (writes.delete_entries (Int node)) }
 {
     transaction.execute("DELETE FROM ace2 WHERE node = ?1", params![node])?;
-    Ok(())
-}
-
-/// Takes out the node with a number, where no row refers to it.
-pub(crate) fn delete_node<S: Alter>(
-    transaction: &mut Transaction<'_, S>,
-    node: i64,
-) -> Result<(), Error>
-    ensures same_reference { transaction.new.conn.ghost_name ≡ transaction.old.conn.ghost_name }
-    ensures survives { Survives (state S.Store transaction.old.conn.now) (state S.Store transaction.new.conn.now)
-        (λ _. ⊥) }
-    ensures kept { Keeps (state S.Store transaction.old.conn.now) (state S.Store transaction.new.conn.now) }
-    ensures done { WritesIf (state S.Store transaction.old.conn.now) (state S.Store transaction.new.conn.now) result
-        (AreFree (has rowid_place (Int node))) (writes.delete_node (Int node)) }
-{
-    transaction.execute("DELETE FROM node WHERE id = ?1", params![node])?;
     Ok(())
 }

@@ -1,82 +1,28 @@
 //! PUT of a card, in one transaction.
 
-ghost use Rattle.std.specs.Prelude.{◌≡◌, ◌<◌, ◌+◌, ◌^◌, OnOk, OnErr, Some};
+ghost use Rattle.std.specs.Prelude.{◌≡◌, OnOk, OnErr};
 ghost use Rattle.std.specs.Option.{option_copied};
-ghost use Rattle.sqlite.specs.declared.types.Value.TheVariants.{Int};
 ghost use Rattle.sqlite.specs.Held.{state};
 ghost use Rattle.sqlite.specs.State.{HasCleanDisk, Survives};
-ghost use Rattle.book_tables_rows.specs.Writes as writes;
-ghost use Rattle.book_tables_rows.specs.Writes.{is_mapped};
 ghost use Rattle.book_tables_rows.specs.Nodes.{putting_card};
-ghost use Rattle.book_tables_rows.specs.Steps.{Commits, Keeps, MayLeave, Performs, Stays, Writes};
+ghost use Rattle.book_tables_rows.specs.Plans.{Performs, Unseen};
+ghost use Rattle.book_tables_rows.specs.Steps.{Commits, Keeps, MayLeave, Stays};
 
-use crate::cards::{delete_gone_name, set_number, set_text};
-use crate::nodes::{CARD, LAST_NUMBER, insert_node, look_up};
+use crate::nodes::{LAST_NUMBER, look_up};
+use crate::script::{Statement, run_all};
 use sqlite::{Alter, Connection, Error, ErrorCode, Transaction};
-
-/// The card's row gets the text. Where there is none, one is added under the book with a number, and its name is taken out
-/// of the removed ones.
-fn write_card<'x, S: Alter>(
-    transaction: &mut Transaction<'_, S>,
-    book: i64,
-    path: &'x str,
-    name: &str,
-    owner: Option<&'x str>,
-    text: &'x str,
-    number: u64,
-) -> Result<(), Error>
-    requires { number < 2 ^ 53 }
-    ensures same_reference { transaction.new.conn.ghost_name ≡ transaction.old.conn.ghost_name }
-    ensures survives { Survives (state S.Store transaction.old.conn.now) (state S.Store transaction.new.conn.now)
-        (λ _. ⊥) }
-    ensures kept { Keeps (state S.Store transaction.old.conn.now) (state S.Store transaction.new.conn.now) }
-    ensures done { Writes (state S.Store transaction.old.conn.now) (state S.Store transaction.new.conn.now) result
-        (λ rows. writes.write_card (Int book) (is_mapped path.now rows) path.now name.now (option_copied owner.entry)
-        text.now number rows) }
-{
-    if set_text(transaction, path, text, number)? {
-        return Ok(());
-    }
-    insert_node(transaction, path, book, CARD, owner, "", Some(text), number)?;
-    delete_gone_name(transaction, book, name)
-}
-
-/// Writes a card, and gives its book the change number.
-fn write_put<'x, S: Alter>(
-    transaction: &mut Transaction<'_, S>,
-    book: i64,
-    book_path: &str,
-    card_path: &'x str,
-    name: &str,
-    owner: Option<&'x str>,
-    text: &'x str,
-    number: u64,
-) -> Result<(), Error>
-    requires { number < 2 ^ 53 }
-    ensures same_reference { transaction.new.conn.ghost_name ≡ transaction.old.conn.ghost_name }
-    ensures survives { Survives (state S.Store transaction.old.conn.now) (state S.Store transaction.new.conn.now)
-        (λ _. ⊥) }
-    ensures kept { Keeps (state S.Store transaction.old.conn.now) (state S.Store transaction.new.conn.now) }
-    ensures done { Writes (state S.Store transaction.old.conn.now) (state S.Store transaction.new.conn.now) result
-        (λ rows. writes.put_card_rows (Int book) (is_mapped card_path.now rows) book_path.now card_path.now name.now
-        (option_copied owner.entry) text.now number rows) }
-{
-    write_card(transaction, book, card_path, name, owner, text, number)?;
-    set_number(transaction, book_path, number)
-}
 
 /// Finds the book, and writes the card with the next change number.
 fn find_and_put<'x, S: Alter>(
     transaction: &mut Transaction<'_, S>,
-    book_path: &str,
+    book_path: &'x str,
     card_path: &'x str,
-    name: &str,
+    name: &'x str,
     owner: Option<&'x str>,
     text: &'x str,
 ) -> Result<(), Error>
     ensures same_reference { transaction.new.conn.ghost_name ≡ transaction.old.conn.ghost_name }
-    ensures survives { Survives (state S.Store transaction.old.conn.now) (state S.Store transaction.new.conn.now)
-        (λ _. ⊥) }
+    ensures survives { Unseen (state S.Store transaction.old.conn.now) (state S.Store transaction.new.conn.now) }
     ensures kept { Keeps (state S.Store transaction.old.conn.now) (state S.Store transaction.new.conn.now) }
     ensures done { Performs (state S.Store transaction.old.conn.now) (state S.Store transaction.new.conn.now) result
         (putting_card book_path.now card_path.now name.now (option_copied owner.entry) text.now) }
@@ -87,15 +33,20 @@ fn find_and_put<'x, S: Alter>(
     if book.number >= LAST_NUMBER {
         return Err(Error::QueryReturnedNoRows);
     }
-    write_put(
+    let number = book.number + 1;
+    run_all(
         transaction,
-        book.id,
-        book_path,
-        card_path,
-        name,
-        owner,
-        text,
-        book.number + 1,
+        &[
+            Statement::WriteCard {
+                book: book.id,
+                path: card_path,
+                name,
+                owner,
+                text,
+                number,
+            },
+            Statement::SetNumber(book_path, number),
+        ],
     )
 }
 

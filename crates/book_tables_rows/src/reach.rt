@@ -9,6 +9,7 @@ ghost use Rattle.book_tables_rows.specs.Reach.{pair_said};
 ghost use Rattle.book_tables_rows.specs.Steps.{Advances, Keeps, Spares, Writes};
 ghost use Rattle.book_tables_rows.specs.Writes as writes;
 
+use crate::items::{Items, write_items};
 use sqlite::{Alter, Error, Row, Transaction, params};
 
 /// A row of `reach`: a group, and a principal that a chain of members leads to from it.
@@ -63,82 +64,6 @@ pub fn clear_reach<S: Alter>(transaction: &mut Transaction<'_, S>) -> Result<(),
     Ok(())
 }
 
-/// Takes out the row of a group and a member, if it is there.
-fn delete_row<'x, S: Alter>(
-    transaction: &mut Transaction<'_, S>,
-    group: &'x str,
-    member: &'x str,
-) -> Result<(), Error>
-    ensures same_reference { transaction.new.conn.ghost_name ≡ transaction.old.conn.ghost_name }
-    ensures survives { Survives (state S.Store transaction.old.conn.now) (state S.Store transaction.new.conn.now)
-        (λ _. ⊥) }
-    ensures kept { Keeps (state S.Store transaction.old.conn.now) (state S.Store transaction.new.conn.now) }
-    ensures done { Writes (state S.Store transaction.old.conn.now) (state S.Store transaction.new.conn.now) result
-        (writes.delete_reach group.now member.now) }
-{
-    transaction.execute(
-        "DELETE FROM reach WHERE grp = ?1 AND member = ?2",
-        params![group, member],
-    )?;
-    Ok(())
-}
-
-/// Adds the row of a group and a member.
-fn insert_row<'x, S: Alter>(
-    transaction: &mut Transaction<'_, S>,
-    group: &'x str,
-    member: &'x str,
-) -> Result<(), Error>
-    ensures same_reference { transaction.new.conn.ghost_name ≡ transaction.old.conn.ghost_name }
-    ensures survives { Survives (state S.Store transaction.old.conn.now) (state S.Store transaction.new.conn.now)
-        (λ _. ⊥) }
-    ensures kept { Keeps (state S.Store transaction.old.conn.now) (state S.Store transaction.new.conn.now) }
-    ensures done { Writes (state S.Store transaction.old.conn.now) (state S.Store transaction.new.conn.now) result
-        (writes.insert_reach group.now member.now) }
-{
-    transaction.execute(
-        "INSERT INTO reach (grp, member) VALUES (?1, ?2)",
-        params![group, member],
-    )?;
-    Ok(())
-}
-
-/// Takes out the rows of these pairs.
-fn delete_rows<S: Alter>(
-    transaction: &mut Transaction<'_, S>,
-    pairs: &[ReachRow],
-) -> Result<(), Error>
-    ensures same_reference { transaction.new.conn.ghost_name ≡ transaction.old.conn.ghost_name }
-    ensures survives { Survives (state S.Store transaction.old.conn.now) (state S.Store transaction.new.conn.now)
-        (λ _. ⊥) }
-    ensures kept { Keeps (state S.Store transaction.old.conn.now) (state S.Store transaction.new.conn.now) }
-    ensures done { Advances (state S.Store transaction.old.conn.now) (state S.Store transaction.new.conn.now) result
-        (writes.delete_pairs (map pair_said pairs.now)) }
-{
-    'pairs: for pair in pairs {
-        delete_row(transaction, pair.group.as_str(), pair.member.as_str())?;
-    }
-    Ok(())
-}
-
-/// Adds the rows of these pairs.
-fn insert_rows<S: Alter>(
-    transaction: &mut Transaction<'_, S>,
-    pairs: &[ReachRow],
-) -> Result<(), Error>
-    ensures same_reference { transaction.new.conn.ghost_name ≡ transaction.old.conn.ghost_name }
-    ensures survives { Survives (state S.Store transaction.old.conn.now) (state S.Store transaction.new.conn.now)
-        (λ _. ⊥) }
-    ensures kept { Keeps (state S.Store transaction.old.conn.now) (state S.Store transaction.new.conn.now) }
-    ensures done { Advances (state S.Store transaction.old.conn.now) (state S.Store transaction.new.conn.now) result
-        (writes.insert_pairs (map pair_said pairs.now)) }
-{
-    'pairs: for pair in pairs {
-        insert_row(transaction, pair.group.as_str(), pair.member.as_str())?;
-    }
-    Ok(())
-}
-
 /// Renews `reach`: takes out the rows of some pairs, and adds those of others.
 pub fn renew_reach<S: Alter>(
     transaction: &mut Transaction<'_, S>,
@@ -152,6 +77,6 @@ pub fn renew_reach<S: Alter>(
     ensures done { Advances (state S.Store transaction.old.conn.now) (state S.Store transaction.new.conn.now) result
         (writes.renew_reach (map pair_said old.now) (map pair_said new.now)) }
 {
-    delete_rows(transaction, old)?;
-    insert_rows(transaction, new)
+    write_items(transaction, &Items::OldPairs(old))?;
+    write_items(transaction, &Items::NewPairs(new))
 }

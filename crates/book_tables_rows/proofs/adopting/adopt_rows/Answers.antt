@@ -8,8 +8,8 @@ pub returns-clause-left : goal.returns-clause-left
 returns-clause-left g c =
     let old = state g.S.Store c.args.connection.now in
     let begun = state g.S.Store c.transaction-transaction.result.conn.now in
-    let inner = state g.S.Store c.write_policy_and_epoch.new.transaction.conn.now in
+    let inner = state g.S.Store c.write_policy.new.transaction.conn.now in
     let is : begun ≡ record old { in_transaction = true } = ap (state g.S.Store) c.transaction-transaction.ensures.begun in
     let left = leaves_made old begun inner _ (adopting (map placed_row c.args.places.now) (map listed_row c.args.lists.now) (map joined c.args.groups.now) (map pair_said c.args.old.now) (map pair_said c.args.new.now)) is
-    c.write_policy_and_epoch.ensures.survives (λ clean inside. c.in_ok-write_policy_and_epoch.ensures.done clean inside) c.commit.ensures.survives in
+    c.write_policy.ensures.survives (λ clean inside. c.in_ok-write_policy.ensures.done clean inside) c.commit.ensures.survives in
     search (rules, left)

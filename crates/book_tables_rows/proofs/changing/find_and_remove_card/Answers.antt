@@ -1,23 +1,28 @@
-use Rattle.book_tables_rows.proofs.Common.{w64, to_z-of_z, FitsSigned, rules, arith, ◌∙◌, IsTrue, HasCleanDisk, state, Looks}
-use Rattle.book_tables_rows.proofs.Keeping.{on_ok}
-use Rattle.book_tables_rows.proofs.CardRemovals.{removes_card}
+use Rattle.book_tables_rows.proofs.Common.{w64, to_z-of_z, FitsSigned, rules, arith, HasCleanDisk, state, Looks}
+use Rattle.book_tables_rows.specs.Nodes.{removing_card}
+use Rattle.book_tables_rows.proofs.EditedRows.{is_free, removes_card}
+use Rattle.book_tables_rows.proofs.Keeping.{looks_then}
+use Rattle.book_tables_rows.proofs.InScript.{is_there, is_there_then}
+use Rattle.book_tables_rows.proofs.Performing.{performs_after}
 use Rattle.book_tables_rows.proofs.changing.find_and_remove_card.Goals as goal
 
 pub returns-clause-done : goal.returns-clause-done
-returns-clause-done g c clean inside =
+returns-clause-done g c =
     let old = state g.S.Store c.args.transaction.now.conn.now in
-    let mid = state g.S.Store c.look_up.new.transaction.conn.now in
-    let before = state g.S.Store c.look_up-2.new.transaction.conn.now in
-    let new = state g.S.Store c.write_removal.new.transaction.conn.now in
-    let clean_before : HasCleanDisk before = omega (arith, c.write_removal.ensures.survives.clean) in
-    let clean_mid : HasCleanDisk mid = omega (arith, c.look_up-2.ensures.survives.clean) in
-    let first : Looks old mid = c.in_ok-book.ensures.stays clean_mid in
-    let second : Looks mid before = c.in_ok-card.ensures.stays clean_before in
-    let inside_before : IsTrue before.in_transaction = second.mode ∙ first.mode ∙ inside in
-    let book_range : FitsSigned w64 c.in-Some.book.id = search rules in
-    let card_range : FitsSigned w64 c.in-Some-2.card.id = search rules in
-    let book_id = to_z-of_z w64 c.in-Some.book.id book_range in
-    let card_id = to_z-of_z w64 c.in-Some-2.card.id card_range in
-    on_ok c.write_removal.result _ _ (λ w. removes_card old mid before new c.args.book_path.now c.args.card_path.now c.args.name.now
-    c.in-Some.book c.in-Some-2.card c.in_ok-book.field-0 c.in_ok-card.field-0 first second c.in-Some.is c.in-Some-2.is
-    (c.in_ok-book.ensures.found clean_mid) (c.in_ok-card.ensures.found clean_before) w) (rw (book_id, card_id) at (c.write_removal.ensures.done clean inside_before))
+    let s1 = state g.S.Store c.look_up.new.transaction.conn.now in
+    let s2 = state g.S.Store c.look_up-2.new.transaction.conn.now in
+    let f = c.in-Some.book in
+    let card = c.in-Some-2.card in
+    let range : FitsSigned w64 f.id = search rules in
+    let card_range : FitsSigned w64 card.id = search rules in
+    performs_after old s2 _ _ (removing_card c.args.book_path.now c.args.card_path.now c.args.name.now) _ c.run_all.ensures.survives (λ clean.
+    let clean_1 : HasCleanDisk s1 = omega (arith, c.look_up-2.ensures.survives.clean, clean) in
+    let finds = c.in_ok-book.ensures.found clean_1 in
+    let look : Looks old s1 = c.in_ok-book.ensures.stays clean_1 in (
+      finds.0,
+      looks_then old s1 s2 look (c.in_ok-card.ensures.stays clean),
+      λ book fits.
+          let at = is_there old _ f _ c.in-Some.is finds book in
+          let card_at = is_there_then old s1 _ card _ look c.in-Some-2.is (c.in_ok-card.ensures.found clean) book in
+          ((tt, (is_free _ _ card card_at fits, (tt, (tt, tt)))), λ _. removes_card _ _ f at c.args.card_path.now c.args.name.now card card_at),
+    )) (rw (to_z-of_z w64 f.id range, to_z-of_z w64 card.id card_range) at c.run_all.ensures.done)

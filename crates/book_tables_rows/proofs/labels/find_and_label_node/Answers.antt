@@ -1,14 +1,10 @@
-use Rattle.book_tables_rows.proofs.Common.{arith, ◌∙◌, IsTrue, HasCleanDisk, state, Looks}
-use Rattle.book_tables_rows.proofs.Keeping.{on_ok}
-use Rattle.book_tables_rows.proofs.CardCopies.{labels_node}
+use Rattle.book_tables_rows.specs.Nodes.{labelling_node}
+use Rattle.book_tables_rows.proofs.EditedRows.{labels_node}
+use Rattle.book_tables_rows.proofs.Performing.{performs}
 use Rattle.book_tables_rows.proofs.labels.find_and_label_node.Goals as goal
 
 pub returns-clause-done : goal.returns-clause-done
-returns-clause-done g c clean inside =
-    let old = state g.S.Store c.args.transaction.now.conn.now in
-    let mid = state g.S.Store c.look_up.new.transaction.conn.now in
-    let new = state g.S.Store c.set_label.new.transaction.conn.now in
-    let clean_mid : HasCleanDisk mid = omega (arith, c.set_label.ensures.survives.clean) in
-    let first : Looks old mid = c.in_ok-node.ensures.stays clean_mid in
-    let inside_mid : IsTrue mid.in_transaction = first.mode ∙ inside in
-    on_ok c.set_label.result _ _ (λ w. labels_node old mid new c.args.path.now c.in-Some.node c.in_ok-node.field-0 first c.in-Some.is (c.in_ok-node.ensures.found clean_mid) c.args.label.now w) (c.set_label.ensures.done clean inside_mid)
+returns-clause-done g c =
+    let f = c.in-Some.node in
+    performs _ _ _ _ (labelling_node c.args.path.now c.args.label.now) _ c.args.path.now f _ c.run_all.ensures.survives c.in_ok-node.ensures.stays c.in-Some.is c.in_ok-node.ensures.found c.run_all.ensures.done
+    (λ at fits. ((tt, tt), λ _. labels_node _ _ f at c.args.label.now))

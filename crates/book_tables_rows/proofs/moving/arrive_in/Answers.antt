@@ -1,17 +1,12 @@
-use Rattle.book_tables_rows.proofs.Common.{w64, to_z-of_z, FitsSigned, rules, arith, ◌∙◌, IsTrue, HasCleanDisk, state, Looks}
-use Rattle.book_tables_rows.proofs.Keeping.{on_ok}
-use Rattle.book_tables_rows.proofs.CardMoves.{arrives}
+use Rattle.book_tables_rows.proofs.Common.{w64, rules, FitsSigned, to_z-of_z}
+use Rattle.book_tables_rows.specs.Nodes.{arriving_in}
+use Rattle.book_tables_rows.proofs.EditedRows.{arrives}
+use Rattle.book_tables_rows.proofs.Performing.{performs}
 use Rattle.book_tables_rows.proofs.moving.arrive_in.Goals as goal
 
 pub returns-clause-done : goal.returns-clause-done
-returns-clause-done g c clean inside =
-    let old = state g.S.Store c.args.transaction.now.conn.now in
-    let mid = state g.S.Store c.look_up.new.transaction.conn.now in
-    let new = state g.S.Store c.write_arriving.new.transaction.conn.now in
-    let clean_mid : HasCleanDisk mid = omega (arith, c.write_arriving.ensures.survives.clean) in
-    let first : Looks old mid = c.in_ok-book.ensures.stays clean_mid in
-    let inside_mid : IsTrue mid.in_transaction = first.mode ∙ inside in
-    let range : FitsSigned w64 c.in-Some.book.id = search rules in
-    let id = to_z-of_z w64 c.in-Some.book.id range in
-    on_ok c.write_arriving.result _ _ (λ w. arrives old mid new c.args.book_path.now c.args.card_path.now c.args.destination.now c.args.name.now c.in-Some.book c.in_ok-book.field-0 first c.in-Some.is
-    (c.in_ok-book.ensures.found clean_mid) w) (rw id at (c.write_arriving.ensures.done clean inside_mid))
+returns-clause-done g c =
+    let f = c.in-Some.book in
+    let range : FitsSigned w64 f.id = search rules in
+    performs _ _ _ _ (arriving_in c.args.book_path.now c.args.card_path.now c.args.destination.now c.args.name.now) _ c.args.book_path.now f _ c.run_all.ensures.survives c.in_ok-book.ensures.stays c.in-Some.is c.in_ok-book.ensures.found (rw (to_z-of_z w64 f.id range) at c.run_all.ensures.done)
+    (λ at fits. ((tt, (tt, (tt, tt))), λ _. arrives _ _ f at c.args.card_path.now c.args.destination.now c.args.name.now))

@@ -1,20 +1,47 @@
-use Rattle.book_tables_rows.proofs.Common.{w64, to_z-of_z, FitsSigned, rules, arith, ◌∙◌, IsTrue, HasCleanDisk, state, Looks}
-use Rattle.book_tables_rows.proofs.Keeping.{on_ok}
-use Rattle.book_tables_rows.proofs.CardMoves.{leaves}
+use Rattle.book_tables_rows.proofs.Common.{w64, to_z-of_z, FitsSigned, rules, arith, HasCleanDisk, state, Looks}
+use Rattle.book_tables_rows.specs.Nodes.{leaving_book}
+use Rattle.book_tables_rows.proofs.EditedRows.{is_free, leaves_cleared, leaves_empty}
+use Rattle.book_tables_rows.proofs.Keeping.{looks_then}
+use Rattle.book_tables_rows.proofs.InScript.{is_there, is_there_then, none_there_then}
+use Rattle.book_tables_rows.proofs.Performing.{performs_after}
 use Rattle.book_tables_rows.proofs.moving.leave_book.Goals as goal
 
-pub returns-clause-done : goal.returns-clause-done
-returns-clause-done g c clean inside =
+pub returns-in-None-clause-done : goal.returns-in-None-clause-done
+returns-in-None-clause-done g c =
     let old = state g.S.Store c.args.transaction.now.conn.now in
     let s1 = state g.S.Store c.look_up.new.transaction.conn.now in
-    let s2 = state g.S.Store c.clear_card.new.transaction.conn.now in
-    let new = state g.S.Store c.write_leaving.new.transaction.conn.now in
-    let clean_2 : HasCleanDisk s2 = omega (arith, c.write_leaving.ensures.survives.clean) in
-    let clean_1 : HasCleanDisk s1 = omega (arith, c.clear_card.ensures.survives.clean) in
-    let first : Looks old s1 = c.in_ok-book.ensures.stays clean_1 in
-    let inside_1 : IsTrue s1.in_transaction = first.mode ∙ inside in
-    let cleared = c.in_ok-clear_card.ensures.done clean_2 inside_1 in
-    let range : FitsSigned w64 c.in-Some.book.id = search rules in
-    let id = to_z-of_z w64 c.in-Some.book.id range in
-    on_ok c.write_leaving.result _ _ (λ w. leaves old s1 s2 new c.args.book_path.now c.args.name.now c.args.destination.now c.in-Some.book c.in_ok-book.field-0 first c.in-Some.is
-    (c.in_ok-book.ensures.found clean_1) cleared w) (rw id at (c.write_leaving.ensures.done clean cleared.inside))
+    let s2 = state g.S.Store c.look_up-2.new.transaction.conn.now in
+    let f = c.in-Some.book in
+    let range : FitsSigned w64 f.id = search rules in
+    performs_after old s2 _ _ (leaving_book c.args.book_path.now c.args.name.now c.args.destination.now) _ c.run_all.ensures.survives (λ clean.
+    let clean_1 : HasCleanDisk s1 = omega (arith, c.look_up-2.ensures.survives.clean, clean) in
+    let finds = c.in_ok-book.ensures.found clean_1 in
+    let look : Looks old s1 = c.in_ok-book.ensures.stays clean_1 in (
+      finds.0,
+      looks_then old s1 s2 look (c.in_ok-look_up.ensures.stays clean),
+      λ book fits.
+          let at = is_there old _ f _ c.in-Some.is finds book in
+          let none = none_there_then old s1 c.args.destination.now _ look c.in-None.is (c.in_ok-look_up.ensures.found clean) book in
+          ((tt, (tt, tt)), λ _. leaves_empty _ _ f at c.args.name.now c.args.destination.now none),
+    )) (rw (to_z-of_z w64 f.id range) at c.run_all.ensures.done)
+
+pub returns-in-Some-2-clause-done : goal.returns-in-Some-2-clause-done
+returns-in-Some-2-clause-done g c =
+    let old = state g.S.Store c.args.transaction.now.conn.now in
+    let s1 = state g.S.Store c.look_up.new.transaction.conn.now in
+    let s2 = state g.S.Store c.look_up-2.new.transaction.conn.now in
+    let f = c.in-Some.book in
+    let range : FitsSigned w64 f.id = search rules in
+    let card = c.in-Some-2.card in
+    let card_range : FitsSigned w64 card.id = search rules in
+    performs_after old s2 _ _ (leaving_book c.args.book_path.now c.args.name.now c.args.destination.now) _ c.run_all-in-Some-2.ensures.survives (λ clean.
+    let clean_1 : HasCleanDisk s1 = omega (arith, c.look_up-2.ensures.survives.clean, clean) in
+    let finds = c.in_ok-book.ensures.found clean_1 in
+    let look : Looks old s1 = c.in_ok-book.ensures.stays clean_1 in (
+      finds.0,
+      looks_then old s1 s2 look (c.in_ok-look_up.ensures.stays clean),
+      λ book fits.
+          let at = is_there old _ f _ c.in-Some.is finds book in
+          let card_at = is_there_then old s1 _ card _ look c.in-Some-2.is (c.in_ok-look_up.ensures.found clean) book in
+          ((tt, (is_free _ _ card card_at fits, (tt, (tt, tt)))), λ _. leaves_cleared _ _ f at c.args.name.now c.args.destination.now card card_at),
+    )) (rw (to_z-of_z w64 f.id range, to_z-of_z w64 card.id card_range) at c.run_all-in-Some-2.ensures.done)

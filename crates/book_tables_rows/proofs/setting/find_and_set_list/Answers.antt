@@ -1,28 +1,28 @@
-use Rattle.book_tables_rows.proofs.Common.{w64, to_z-of_z, FitsSigned, rules, map, arith, ◌∙◌, IsTrue, HasCleanDisk, state, said, Looks}
-use Rattle.book_tables_rows.proofs.Keeping.{on_ok, unseen_then}
-use Rattle.book_tables_rows.proofs.ListSettings.{sets_list}
+use Rattle.book_tables_rows.proofs.Common.{w64, to_z-of_z, FitsSigned, rules, arith, HasCleanDisk, state, Looks, map, said}
+use Rattle.book_tables_rows.specs.Nodes.{setting_list}
+use Rattle.book_tables_rows.proofs.EditedRows.{sets_list}
+use Rattle.book_tables_rows.proofs.Keeping.{looks_then}
+use Rattle.book_tables_rows.proofs.InScript.{epoch_then, is_there}
+use Rattle.book_tables_rows.proofs.Performing.{performs_after}
 use Rattle.book_tables_rows.proofs.setting.find_and_set_list.Goals as goal
 
-pub returns-clause-survives : goal.returns-clause-survives
-returns-clause-survives g c =
-    unseen_then _ _ _ c.look_up.ensures.survives (unseen_then _ _ _ c.read_epoch.ensures.survives (unseen_then _ _ _ c.write_list.ensures.survives c.set_epoch.ensures.survives))
-
 pub returns-clause-done : goal.returns-clause-done
-returns-clause-done g c clean inside =
+returns-clause-done g c =
     let old = state g.S.Store c.args.transaction.now.conn.now in
-    let mid = state g.S.Store c.look_up.new.transaction.conn.now in
-    let before = state g.S.Store c.read_epoch.new.transaction.conn.now in
-    let between = state g.S.Store c.write_list.new.transaction.conn.now in
-    let new = state g.S.Store c.set_epoch.new.transaction.conn.now in
-    let clean_between : HasCleanDisk between = omega (arith, c.set_epoch.ensures.survives.clean) in
-    let clean_before : HasCleanDisk before = omega (arith, c.write_list.ensures.survives.clean) in
-    let clean_mid : HasCleanDisk mid = omega (arith, c.read_epoch.ensures.survives.clean) in
-    let first : Looks old mid = c.in_ok-node.ensures.stays clean_mid in
-    let second : Looks mid before = c.in_ok-epoch.ensures.stays clean_before in
-    let inside_before : IsTrue before.in_transaction = second.mode ∙ first.mode ∙ inside in
-    let range : FitsSigned w64 c.in-Some.node.id = search rules in
-    let id = to_z-of_z w64 c.in-Some.node.id range in
-    let written = rw id at (c.in_ok-write_list.ensures.done clean_between inside_before) in
-    on_ok c.set_epoch.result _ _ (λ raised. sets_list old mid before between new c.args.path.now (map said c.args.list.now)
-    c.in-Some.node c.in_ok-node.field-0 c.in_ok-epoch.epoch first second c.in-Some.is
-    (c.in_ok-node.ensures.found clean_mid) (c.in_ok-epoch.ensures.found clean_before) written raised) (c.set_epoch.ensures.done clean written.inside)
+    let s1 = state g.S.Store c.look_up.new.transaction.conn.now in
+    let s2 = state g.S.Store c.read_epoch.new.transaction.conn.now in
+    let f = c.in-Some.node in
+    let epoch = c.in_ok-epoch.epoch in
+    let list = map said c.args.list.now in
+    let range : FitsSigned w64 f.id = search rules in
+    performs_after old s2 _ _ (setting_list c.args.path.now list) _ c.run_all.ensures.survives (λ clean.
+    let clean_1 : HasCleanDisk s1 = omega (arith, c.read_epoch.ensures.survives.clean, clean) in
+    let finds = c.in_ok-node.ensures.found clean_1 in
+    let look : Looks old s1 = c.in_ok-node.ensures.stays clean_1 in (
+      finds.0,
+      looks_then old s1 s2 look (c.in_ok-epoch.ensures.stays clean),
+      λ book fits.
+          let at = is_there old _ f _ c.in-Some.is finds book in
+          let x = sets_list _ _ list f epoch at fits (epoch_then old s1 epoch look (c.in_ok-epoch.ensures.found clean) book fits.meta.0 fits.meta.1) in
+          ((tt, (tt, (x.0, tt))), λ _. x.1),
+    )) (rw (to_z-of_z w64 f.id range) at c.run_all.ensures.done)

@@ -1,8 +1,0 @@
-use Rattle.book_tables_rows.proofs.Common.{state}
-use Rattle.book_tables_rows.proofs.ListSettings.{becomes_unjoined}
-use Rattle.book_tables_rows.proofs.setting.delete_members.Goals as goal
-
-pub returns-clause-done : goal.returns-clause-done
-returns-clause-done g c clean inside =
-    becomes_unjoined (state g.S.Store c.args.transaction.now.conn.now) (state g.S.Store c.execute.new.self.conn.now) c.args.group.now c.in_ok-execute.field-0
-    (rw c.params-to_sql.ensures at (c.in_ok-execute.ensures.runs clean inside))
