@@ -12,7 +12,7 @@ use Rattle.book_policy_values.specs.declared.parts.PersonPart.{PersonPart}
 use Rattle.book_office_values.specs.Texts.{IsLabel}
 use Rattle.book_office_values.proofs.Labels.{empty_label}
 use Rattle.book_policy_values.proofs.Names.{same_some}
-use Rattle.book_policy.specs.declared.shapes.TableKind.TheVariants.{Top, Person, Group, Book, Listed}
+use Rattle.book_policy.specs.declared.shapes.TableKind.TheVariants.{Top, Person, Group, Book, Entry}
 use Rattle.book_policy.specs.Passes.{IsShaped}
 use Rattle.book_policy.specs.Shapes.{action_of, array_of, book_in, book_of, book_with, each_after, entry_in, entry_text_of, entry_with, group_in, group_of, group_with, has_only, keys_of, label_of, mark_of, names_in, owner_of, parts_in, parts_with, person_in, person_of, person_with, short_label, some_names, text_at}
 
@@ -113,7 +113,7 @@ entry_named d e h =
     let who = text_at (codes "who") ms in
     let invert = mark_of (get_member (codes "invert") ms) in
     let protected = mark_of (get_member (codes "protected") ms) in
-    let whole = from_if (has_only (keys_of Listed) ms) (entry_with place who invert action protected) e is in
+    let whole = from_if (has_only (keys_of Entry) ms) (entry_with place who invert action protected) e is in
     let (a, found, names) = entry_names place who invert action protected e whole in
     subst (λ (xs : List (List ℕ)). 1 ≤ length xs) names (action_some (get_member (codes "grant") ms) (get_member (codes "deny") ms) a found)
 

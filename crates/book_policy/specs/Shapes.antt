@@ -7,7 +7,7 @@ use Rattle.book_policy_values.specs.declared.parts.GroupPart.{GroupPart}
 use Rattle.book_policy_values.specs.declared.parts.BookPart.{BookPart}
 use Rattle.book_limits.specs.declared.TheConstants.{MAX_LABEL_BYTES, MAX_PRIVILEGE_NAMES}
 use Rattle.book_policy.specs.declared.shapes.TableKind.{TableKind}
-use Rattle.book_policy.specs.declared.shapes.TableKind.TheVariants.{Top, Person, Group, Book, Listed}
+use Rattle.book_policy.specs.declared.shapes.TableKind.TheVariants.{Top, Person, Group, Book, Entry}
 use Rattle.book_policy.specs.declared.parts.EntryText.{EntryText}
 use Rattle.book_policy.specs.declared.parts.Parts.{Parts}
 
@@ -33,7 +33,7 @@ keys_of Top = codes "version" ∷ codes "person" ∷ codes "group" ∷ codes "bo
 keys_of Person = codes "name" ∷ codes "label" ∷ []
 keys_of Group = codes "name" ∷ codes "label" ∷ codes "members" ∷ []
 keys_of Book = codes "name" ∷ codes "label" ∷ codes "owner" ∷ []
-keys_of Listed = codes "at" ∷ codes "who" ∷ codes "invert" ∷ codes "grant" ∷ codes "deny" ∷ codes "protected" ∷ []
+keys_of Entry = codes "at" ∷ codes "who" ∷ codes "invert" ∷ codes "grant" ∷ codes "deny" ∷ codes "protected" ∷ []
 
 abbrev pub is_among : List ℕ → List (List ℕ) → Bool
 is_among k [] = false
@@ -148,7 +148,7 @@ entry_with (Some at) (Some who) (Some invert) (Some action) (Some protected) =
     Some (record { at = at; who = who; invert = invert; deny = action.0; names = action.1; protected = protected })
 
 abbrev pub entry_in : Members → Option EntryText
-entry_in ms = if has_only (keys_of Listed) ms
+entry_in ms = if has_only (keys_of Entry) ms
     then entry_with (text_at (codes "at") ms) (text_at (codes "who") ms) (mark_of (get_member (codes "invert") ms))
     (action_of (get_member (codes "grant") ms) (get_member (codes "deny") ms)) (mark_of (get_member (codes "protected") ms))
     else None

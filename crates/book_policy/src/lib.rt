@@ -19,4 +19,6 @@ pub use faults::PolicyFault;
 pub use laws::{
     policies_are_one, policies_exclude_faults, policy_faults_are_one, texts_have_policy_or_fault,
 };
+pub use parts::{EntryText, Parts};
 pub use policies::read_policy;
+pub use shapes::TableKind;

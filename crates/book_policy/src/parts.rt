@@ -5,30 +5,30 @@ use book_policy_values::{BookPart, GroupPart, PersonPart};
 
 /// An entry as it was written; what it names may be wrong.
 #[derive(Drop)]
-pub(crate) struct EntryText {
+pub struct EntryText {
     /// The path of the resource at which it stands.
-    pub(crate) at: Text,
+    pub at: Text,
     /// A word for a principal form, or the path of a principal.
-    pub(crate) who: Text,
+    pub who: Text,
     /// Whether it applies where its form does not.
-    pub(crate) invert: bool,
+    pub invert: bool,
     /// Whether it denies, and else grants.
-    pub(crate) deny: bool,
+    pub deny: bool,
     /// The names of its privileges, 1 to 16.
-    pub(crate) names: Items<Text>,
+    pub names: Items<Text>,
     /// Whether it stands in the protected list, and else in the own list.
-    pub(crate) protected: bool,
+    pub protected: bool,
 }
 
 /// What a text of the right shape says.
 #[derive(Drop)]
-pub(crate) struct Parts {
+pub struct Parts {
     /// The persons, in order.
-    pub(crate) persons: Items<PersonPart>,
+    pub persons: Items<PersonPart>,
     /// The groups, in order.
-    pub(crate) groups: Items<GroupPart>,
+    pub groups: Items<GroupPart>,
     /// The books, in order.
-    pub(crate) books: Items<BookPart>,
+    pub books: Items<BookPart>,
     /// The entries, in order.
-    pub(crate) entries: Items<EntryText>,
+    pub entries: Items<EntryText>,
 }

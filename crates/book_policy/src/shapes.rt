@@ -12,9 +12,9 @@ use book_policy_values::{BookPart, GroupPart, PersonPart};
 use std::alloc::{AllocError, Global};
 use toml::{Table, Value};
 
-/// The kinds of tables.
-#[derive(Clone, Copy)]
-enum TableKind {
+/// The kinds of tables of a policy's text.
+#[derive(Clone, Copy, Debug, PartialEq, Eq, Drop)]
+pub enum TableKind {
     /// The whole text.
     Top,
     /// A person.
@@ -24,27 +24,33 @@ enum TableKind {
     /// A book.
     Book,
     /// An entry.
-    Listed,
+    Entry,
 }
 
-/// Whether a table of this kind may have the key.
-fn is_key(kind: TableKind, key: &str) -> bool
-    ensures { result ≡ is_among key.now (keys_of kind) }
-{
-    match kind {
-        TableKind::Top => {
-            key == "version" || key == "person" || key == "group" || key == "book" || key == "entry"
-        }
-        TableKind::Person => key == "name" || key == "label",
-        TableKind::Group => key == "name" || key == "label" || key == "members",
-        TableKind::Book => key == "name" || key == "label" || key == "owner",
-        TableKind::Listed => {
-            key == "at"
-                || key == "who"
-                || key == "invert"
-                || key == "grant"
-                || key == "deny"
-                || key == "protected"
+impl TableKind {
+    /// Whether a table of this kind may have the key.
+    pub fn has_key(self, key: &str) -> bool
+        ensures { result ≡ is_among key.now (keys_of self) }
+    {
+        match self {
+            TableKind::Top => {
+                key == "version"
+                    || key == "person"
+                    || key == "group"
+                    || key == "book"
+                    || key == "entry"
+            }
+            TableKind::Person => key == "name" || key == "label",
+            TableKind::Group => key == "name" || key == "label" || key == "members",
+            TableKind::Book => key == "name" || key == "label" || key == "owner",
+            TableKind::Entry => {
+                key == "at"
+                    || key == "who"
+                    || key == "invert"
+                    || key == "grant"
+                    || key == "deny"
+                    || key == "protected"
+            }
         }
     }
 }
@@ -54,7 +60,7 @@ fn has_only(table: &Table, kind: TableKind) -> bool
     ensures { result ≡ has_only (keys_of kind) (table_view table.now) }
 {
     for (key, _value) in table.iter() {
-        if !is_key(kind, key.as_str()) {
+        if !kind.has_key(key.as_str()) {
             return false;
         }
     }
@@ -323,7 +329,7 @@ fn action_of(
 fn entry_in(alloc: Global, table: &Table) -> Result<Option<EntryText>, AllocError>
     ensures { IfOk result (λ part. part ≡ entry_in (table_view table.now)) }
 {
-    if !has_only(table, TableKind::Listed) {
+    if !has_only(table, TableKind::Entry) {
         return Ok(None);
     }
     let Some(at) = text_at(table, "at") else {

@@ -1,32 +1,16 @@
 -- What is told of a text, and its lines.
-use Rattle.std.proofs.Common.{◌≡◌, ◌≢◌, ◌⊎◌, ◌≤◌, ◌<◌, ◌+◌, ℕ, suc, List, [], ◌∷◌, ◌++◌, length, drop, get_or, true, codes, inl, inr, refl, sym, ap, ◌∙◌, subst, arith, append_assoc}
-use Rattle.std.specs.Prelude.{IfOk, Option, Result, Ok, Err}
+use Rattle.std.proofs.Common.{◌≡◌, ◌<◌, ◌+◌, ℕ, suc, List, [], ◌∷◌, ◌++◌, length, drop, get_or, true, codes, refl, sym, ap, ◌∙◌, subst, arith, append_assoc}
+use Rattle.std.specs.Prelude.{Option}
 use Rattle.std.proofs.Math.Seq.{drop-cons}
 use Rattle.std.specs.Str.{IsUtf8}
-use Rattle.book_limits.specs.declared.TheConstants.{MAX_POLICY_BYTES}
-use Rattle.book_policy.specs.Rules.{IsFaultOf}
-use Rattle.book_policy.specs.declared.faults.PolicyFault.{PolicyFault}
 use Rattle.book_policy.specs.declared.faults.PolicyFault.TheVariants.{Memory}
-use Rattle.book_policy_checks.specs.Reports.{AddsFault, AddsFaults, AreLinesOf, IsReportOf, TellsFault, head_text, is_one_line, joined, more_text}
+use Rattle.book_policy_checks.specs.Reports.{AddsFault, AddsFaults, AreLinesOf, IsReportOf, head_text, is_one_line, joined, more_text}
 use Rattle.book_policy_checks.specs.declared.places.PlacedFault.{PlacedFault}
 use Rattle.book_policy_checks.specs.Telling.{TellsChecked, TellsReport}
 use Rattle.book_policy_checks.specs.declared.reports.Report.{Report}
-use Rattle.book_policy_checks.specs.declared.reports.Report.TheVariants.{Sound, TooLong, NotToml, Faults}
+use Rattle.book_policy_checks.specs.declared.reports.Report.TheVariants.{Sound}
 use Rattle.book_policy_checks.specs.declared.telling.Checked.{Checked}
 use Rattle.book_policy_checks.specs.declared.telling.Checked.TheVariants as checked
-
-pub report_is : (text : List ℕ) (fault : PolicyFault) (report : Report) → length text ≤ MAX_POLICY_BYTES
-    → (fault ≡ Memory) ⊎ IsFaultOf text fault → fault ≢ Memory → TellsFault text fault report → IsReportOf text report
-report_is text fault report short (inl memory) not told = absurd (not memory)
-report_is text fault Sound short (inr has) not told = absurd told
-report_is text fault TooLong short (inr has) not told = absurd told
-report_is text fault (NotToml place) short (inr has) not told = subst (IsFaultOf text) told has
-report_is text fault (Faults table faults) short (inr has) not told = (short, (fault, has, told))
-
-pub all_reported : {E : Type 0} (text : List ℕ) (fault : PolicyFault) (r : Result Report E) → length text ≤ MAX_POLICY_BYTES
-    → (fault ≡ Memory) ⊎ IsFaultOf text fault → IfOk r (TellsFault text fault) → IfOk r (λ _. fault ≢ Memory) → IfOk r (IsReportOf text)
-all_reported text fault (Ok report) short has told known = report_is text fault report short has known told
-all_reported text fault (Err e) short has told known = tt
 
 nothing : (xs : List ℕ) → xs ++ [] ≡ xs
 nothing [] = refl

@@ -1,7 +1,9 @@
 -- Tests of texts: a name, the name of a privilege.
-use Rattle.std.proofs.Common.{◌≡◌, ◌≢◌, ◌<◌, ◌≤◌, ℕ, List, [], ◌∷◌, Bool, true, false, IsTrue, length, slice_index, nat_lt, nat_le, nat_eq, ◌&&◌, not, refl, arith, map}
+use Rattle.std.proofs.Common.{◌≡◌, ◌≢◌, ◌<◌, ◌≤◌, ℕ, List, [], ◌∷◌, Bool, true, false, if◌then◌else◌, IsTrue, IsUtf8, None, Some, is_some, length, slice_index, nat_lt, nat_le, nat_eq, ◌&&◌, not, refl, sym, ap, arith, map}
 use Rattle.std.specs.List.{AllByRecursion, list_all}
-use Rattle.std.specs.Str.{bytes_eq}
+use Rattle.std.specs.Str.{bytes_eq, is_utf8}
+use Rattle.std.proofs.lemmas.Str.{is_utf8-from_IsUtf8}
+use Rattle.book_limits.specs.declared.TheConstants.{MAX_LABEL_BYTES}
 use Rattle.std.proofs.lemmas.Bool.{false≢true}
 use Rattle.std.proofs.lemmas.Bool.Decides.{nat_tests}
 use Rattle.std.proofs.lemmas.List.Elements.{All-from_recursion, recursion_from_All}
@@ -13,7 +15,8 @@ use Rattle.book_policy.specs.Shapes.{is_among}
 use Rattle.toml.specs.View.{items_view}
 use Rattle.toml.specs.declared.value.Value.{Value}
 use Rattle.book_policy_checks.specs.Known.{is_name}
-use Rattle.book_policy_checks.specs.Problems.{count}
+use Rattle.book_policy_checks.specs.Problems.{count, label_with, unless}
+use Rattle.book_policy_checks.specs.declared.places.Problem.TheVariants.{LongLabel}
 
 both : (a b : Bool) → (a && b) ≡ true → (a ≡ true) × (b ≡ true)
 both true true h = (refl, refl)
@@ -77,3 +80,22 @@ none_among t (p ∷ ps) never = rw (apart t (name_of p) (never p), none_among t 
 pub count_items : (vs : List Value) → count (items_view vs) ≡ length vs
 count_items [] = refl
 count_items (v ∷ vs) = let e = count_items vs in omega (arith, e)
+
+-- ---- texts of labels
+with_tests : (t : List ℕ) (a b : Bool) → a ≡ true → b ≡ true → is_some (if a && b then Some t else None) ≡ true
+with_tests t a b p q = rw (p, q) refl
+
+pub short_text : (t : List ℕ) → IsUtf8 t → length t ≤ MAX_LABEL_BYTES → None ≡ label_with (Some t)
+short_text t utf8 short =
+    ap (λ b. unless b LongLabel)
+    (sym (with_tests t (is_utf8 t) (nat_le (length t) MAX_LABEL_BYTES) (is_utf8-from_IsUtf8 t utf8) (most (length t) MAX_LABEL_BYTES short)))
+
+too_long : (t : List ℕ) (a b : Bool) → b ≡ false → is_some (if a && b then Some t else None) ≡ false
+too_long t true b q = rw q refl
+too_long t false b q = refl
+
+above : (m n : ℕ) → n < m → nat_le m n ≡ false
+above m n h = grind (arith, nat_tests)
+
+pub long_text : (t : List ℕ) → MAX_LABEL_BYTES < length t → Some LongLabel ≡ label_with (Some t)
+long_text t long = ap (λ b. unless b LongLabel) (sym (too_long t (is_utf8 t) (nat_le (length t) MAX_LABEL_BYTES) (above (length t) MAX_LABEL_BYTES long)))

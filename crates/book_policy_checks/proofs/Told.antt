@@ -1,14 +1,15 @@
 -- The faults that are told, and the least of all.
-use Rattle.std.proofs.Common.{◌≡◌, ◌≢◌, ◌⊎◌, ◌≤◌, ◌<◌, ◌+◌, ℕ, List, [], ◌∷◌, ◌++◌, length, take, Bool, true, false, if◌then◌else◌, nat_lt, inl, inr, refl, sym, ap, ◌∙◌, arith, append_assoc}
+use Rattle.std.proofs.Common.{◌≡◌, ◌≢◌, ◌⊎◌, ◌≤◌, ◌<◌, ◌+◌, ℕ, List, [], ◌∷◌, ◌++◌, length, take, Bool, true, false, if◌then◌else◌, nat_lt, inl, inr, refl, sym, subst, ap, ◌∙◌, ◌==◌, arith, append_assoc}
 use Rattle.std.specs.List.{AllByRecursion}
 use Rattle.std.proofs.Math.Seq.{take-append_seam}
+use Rattle.std.proofs.lemmas.Bool.{eqb-true}
 use Rattle.std.proofs.lemmas.Bool.Decides.{nat_tests}
 use Rattle.std.proofs.lemmas.List.{take_all}
 use Rattle.book_policy.specs.Rules.{number}
 use Rattle.book_policy.specs.declared.faults.PolicyFault.{PolicyFault}
 use Rattle.book_policy.specs.declared.faults.PolicyFault.TheVariants.{NotToml, OtherVersion, BadKey, BadName, NameTwice, UnknownPrincipal, UnknownResource, UnknownPrivilege, TooMany, Memory}
 use Rattle.book_policy_checks.specs.Laws.{HasNumber, LeastIsTold, ToldAreFirst, least_of, order_of, told_of}
-use Rattle.book_policy_checks.specs.Placing.{fault_of, least, no_faults, noted, pushed}
+use Rattle.book_policy_checks.specs.Placing.{fault_of, has_none, least, no_faults, noted, pushed}
 use Rattle.book_policy_checks.specs.declared.places.PlacedFault.{PlacedFault}
 use Rattle.book_policy_checks.specs.declared.places.PlacedFaults.{PlacedFaults}
 use Rattle.book_policy_checks.specs.declared.places.TheConstants.{MAX_TOLD}
@@ -59,6 +60,13 @@ told_from t (f ∷ fs) short = elim (nat_lt (length t) MAX_TOLD) as (λ b. nat_l
 
 pub told_first : ToldAreFirst
 told_first fs = told_is no_faults fs ∙ told_from [] fs (omega arith)
+
+-- where none is told there is none
+pub none_told : (fs : List PlacedFault) → has_none (noted no_faults fs) ≡ true → fs ≡ []
+none_told [] none = refl
+none_told (f ∷ fs) none =
+    let zero : length (take MAX_TOLD (f ∷ fs)) ≡ 0 = eqb-true (length (take MAX_TOLD (f ∷ fs))) 0 (subst (λ (xs : List PlacedFault). (length xs == 0) ≡ true) (told_first (f ∷ fs)) none) in
+    absurd (omega (arith, zero))
 
 -- ---- the least
 

@@ -1,16 +1,15 @@
 -- What a policy's text names, by each text that spells a path of it.
-use Rattle.std.specs.Prelude.{ℕ, List, ◌++◌, length, codes, slice_index, nat_le, nat_lt, ◌==◌, ◌&&◌, not, if◌then◌else◌, is_some, Bool, true, false, Option, Some, None, option_and_then}
+use Rattle.std.specs.Prelude.{ℕ, ◌+◌, List, ◌++◌, length, codes, slice_index, nat_le, nat_lt, ◌==◌, ◌&&◌, not, if◌then◌else◌, is_some, Bool, true, false, Option, Some, None, option_and_then}
 use Rattle.std.specs.List.{list_all}
 use Rattle.std.specs.FinMap.{empty, get, insert}
 use Rattle.toml.specs.Data.{Data, Items, no_items, item, Members, get_member, as_array, as_str, as_table}
 use Rattle.book_lists.specs.Names.{is_name_byte}
 use Rattle.book_office_values.specs.Names.{NamesTo}
 use Rattle.book_policy_checks.specs.Keys.{key_text}
-use Rattle.book_policy_checks.specs.Placing.{next}
 use Rattle.book_policy_checks.specs.declared.known.Known.{Known}
 use Rattle.book_policy_checks.specs.declared.places.Key.TheVariants as key
-use Rattle.book_policy_checks.specs.declared.places.TableKind.{TableKind}
-use Rattle.book_policy_checks.specs.declared.places.TableKind.TheVariants.{Top, Person, Group, Book, Entry}
+use Rattle.book_policy.specs.declared.shapes.TableKind.{TableKind}
+use Rattle.book_policy.specs.declared.shapes.TableKind.TheVariants.{Top, Person, Group, Book, Entry}
 
 -- a name of 1 to 64 bytes, each an ASCII letter, a digit, `.`, `_` or `-`, the first of them no dot
 abbrev pub is_name : List ℕ → Bool
@@ -66,7 +65,7 @@ with_named m kind n d = with_name m kind n (name_in d)
 -- the tables in turn, from number n on
 abbrev pub with_paths : Paths → TableKind → ℕ → Items → Paths
 with_paths m kind n no_items = m
-with_paths m kind n (item d ds) = with_paths (with_named m kind n d) kind (next n) ds
+with_paths m kind n (item d ds) = with_paths (with_named m kind n d) kind (n + 1) ds
 
 abbrev pub homes : Paths
 homes =
@@ -90,3 +89,8 @@ is_principal_kind Entry = false
 
 abbrev pub is_principal : Known → Bool
 is_principal k = is_principal_kind k.kind
+
+-- a text spells the path of a person or a group
+abbrev pub is_some_principal : Option Known → Bool
+is_some_principal None = false
+is_some_principal (Some k) = is_principal k

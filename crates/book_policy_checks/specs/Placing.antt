@@ -1,5 +1,5 @@
 -- Faults with their places, and those of them that are told.
-use Rattle.std.specs.Prelude.{ℕ, ◌+◌, ◌-◌, ◌^◌, min, List, [], ◌∷◌, ◌++◌, length, nat_lt, if◌then◌else◌, Option, Some, None}
+use Rattle.std.specs.Prelude.{ℕ, ◌+◌, ◌-◌, ◌^◌, ◌==◌, min, List, [], ◌∷◌, ◌++◌, length, nat_lt, if◌then◌else◌, Bool, Option, Some, None}
 use Rattle.book_policy.specs.Rules.{number}
 use Rattle.book_policy.specs.declared.faults.PolicyFault.{PolicyFault}
 use Rattle.book_policy.specs.declared.faults.PolicyFault.TheVariants as faults
@@ -7,7 +7,7 @@ use Rattle.book_policy_checks.specs.declared.places.PlacedFault.{PlacedFault}
 use Rattle.book_policy_checks.specs.declared.places.PlacedFaults.{PlacedFaults}
 use Rattle.book_policy_checks.specs.declared.places.Spot.{Spot}
 use Rattle.book_policy_checks.specs.declared.places.Problem.{Problem}
-use Rattle.book_policy_checks.specs.declared.places.Problem.TheVariants.{UnknownKey, Missing, OtherKind, OtherVersion, LongLabel, NamesCount, Both, BadName, NameTwice, UnknownPrincipal, UnknownResource, UnknownPrivilege, TooMany, LongList, Elsewhere}
+use Rattle.book_policy_checks.specs.declared.places.Problem.TheVariants.{UnknownKey, Missing, OtherKind, OtherVersion, LongLabel, NamesCount, Both, BadName, NameTwice, UnknownPrincipal, UnknownResource, UnknownPrivilege, TooMany, LongList}
 use Rattle.book_policy_checks.specs.declared.places.TheConstants.{MAX_TOLD}
 
 -- the fault of a text that has the problem
@@ -26,7 +26,6 @@ fault_of UnknownResource = faults.UnknownResource
 fault_of UnknownPrivilege = faults.UnknownPrivilege
 fault_of TooMany = faults.TooMany
 fault_of LongList = faults.TooMany
-fault_of (Elsewhere fault) = fault
 
 abbrev pub number_of : PolicyFault → ℕ
 number_of = number
@@ -60,3 +59,7 @@ pushed s f = record {
 abbrev pub noted : PlacedFaults → List PlacedFault → PlacedFaults
 noted s [] = s
 noted s (f ∷ fs) = noted (pushed s f) fs
+
+-- nothing is told
+abbrev pub has_none : PlacedFaults → Bool
+has_none s = length s.told == 0

@@ -1,18 +1,18 @@
 -- What is wrong with one value of a policy's text.
-use Rattle.std.specs.Prelude.{ℕ, ◌+◌, List, ◌++◌, length, map, nat_le, ◌==◌, ◌&&◌, if◌then◌else◌, is_some, Bool, Option, Some, None, option_and_then, option_map}
-use Rattle.toml.specs.Data.{Data, Items, no_items, item, as_array, as_bool, as_integer, as_str}
-use Rattle.book_limits.specs.declared.TheConstants.{MAX_LABEL_BYTES, MAX_PRIVILEGE_NAMES}
+use Rattle.std.specs.Prelude.{ℕ, ◌+◌, List, ◌++◌, map, nat_le, ◌==◌, ◌&&◌, if◌then◌else◌, is_some, Bool, Option, Some, None, option_and_then, option_map}
+use Rattle.toml.specs.Data.{Data, Items, no_items, item, as_array, as_integer, as_str}
+use Rattle.book_limits.specs.declared.TheConstants.{MAX_PRIVILEGE_NAMES}
 use Rattle.book_rights.specs.Privileges.{name_of}
 use Rattle.book_policy.specs.Passes.{is_word}
 use Rattle.book_policy.specs.Rules.{all_privileges}
-use Rattle.book_policy.specs.Shapes.{is_among, is_some_one}
-use Rattle.book_policy_checks.specs.Known.{Paths, is_name, is_principal, known_at, prefix_of}
+use Rattle.book_policy.specs.Shapes.{is_among, is_some_one, mark_of, short_label}
+use Rattle.book_policy_checks.specs.Known.{Paths, is_name, is_some_principal, known_at, prefix_of}
 use Rattle.book_policy_checks.specs.declared.known.Known.{Known}
 use Rattle.book_policy_checks.specs.declared.places.Problem.{Problem}
 use Rattle.book_policy_checks.specs.declared.places.Problem.TheVariants.{Missing, OtherKind, OtherVersion, LongLabel, NamesCount, BadName, NameTwice, UnknownPrincipal, UnknownResource, UnknownPrivilege, TooMany}
 use Rattle.book_policy_checks.specs.declared.problems.ItemRule.{ItemRule}
 use Rattle.book_policy_checks.specs.declared.problems.ItemRule.TheVariants.{Principals, Privileges}
-use Rattle.book_policy_checks.specs.declared.places.TableKind.{TableKind}
+use Rattle.book_policy.specs.declared.shapes.TableKind.{TableKind}
 
 -- none where the fact holds, else the problem
 abbrev pub unless : Bool → Problem → Option Problem
@@ -60,23 +60,18 @@ name_problem m kind n (Some d) = name_with m kind n (as_str d)
 -- ---- labels and marks
 abbrev pub label_with : Option (List ℕ) → Option Problem
 label_with None = Some OtherKind
-label_with (Some text) = unless (nat_le (length text) MAX_LABEL_BYTES) LongLabel
+label_with (Some text) = unless (is_some (short_label text)) LongLabel
 
 abbrev pub label_problem : Option Data → Option Problem
 label_problem None = None
 label_problem (Some d) = label_with (as_str d)
 
 abbrev pub mark_problem : Option Data → Option Problem
-mark_problem None = None
-mark_problem (Some d) = unless (is_some (as_bool d)) OtherKind
+mark_problem o = unless (is_some (mark_of o)) OtherKind
 
 -- ---- principals and places
-abbrev pub principal_known : Option Known → Option Problem
-principal_known None = Some UnknownPrincipal
-principal_known (Some k) = unless (is_principal k) UnknownPrincipal
-
 abbrev pub principal_problem : Paths → List ℕ → Option Problem
-principal_problem m text = principal_known (known_at m text)
+principal_problem m text = unless (is_some_principal (known_at m text)) UnknownPrincipal
 
 abbrev pub owner_with : Paths → Option (List ℕ) → Option Problem
 owner_with m None = Some OtherKind

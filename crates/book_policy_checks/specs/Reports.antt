@@ -1,21 +1,19 @@
 -- What is told of a policy's text.
-use Rattle.std.specs.Prelude.{◌≡◌, ◌<◌, ◌≤◌, ◌+◌, ℕ, List, [], ◌∷◌, ◌++◌, length, codes, Bool, true, false, ◌==◌, ◌||◌, not, nat_le, nat_lt, if◌then◌else◌, decimal, Some}
+use Rattle.std.specs.Prelude.{◌≡◌, ◌≢◌, ◌<◌, ◌≤◌, ◌+◌, ℕ, List, [], ◌∷◌, ◌++◌, length, codes, Bool, true, false, ◌==◌, ◌||◌, not, nat_le, nat_lt, if◌then◌else◌, decimal, Some}
 use Rattle.std.specs.List.{list_any}
+use Rattle.toml.specs.Data.{Members}
 use Rattle.toml.specs.Parse.{parse_document}
 use Rattle.toml.specs.View.{table_view}
 use Rattle.book_limits.specs.declared.TheConstants.{MAX_POLICY_BYTES}
-use Rattle.book_policy.specs.Rules.{IsFaultOf, IsPolicyOf}
+use Rattle.book_policy.specs.Rules.{IsFaultOf, IsPolicyOf, number}
 use Rattle.book_policy.specs.declared.faults.PolicyFault.{PolicyFault}
 use Rattle.book_policy.specs.declared.faults.PolicyFault.TheVariants as names
 use Rattle.book_policy_values.specs.declared.parts.PolicyTables.{PolicyTables}
-use Rattle.book_policy_checks.specs.Placing.{next, no_faults, noted, number_of, pushed}
+use Rattle.book_policy_checks.specs.Placing.{next, no_faults, noted}
 use Rattle.book_policy_checks.specs.Tables.{faults_in}
-use Rattle.book_policy_checks.specs.declared.places.Key.TheVariants as key
 use Rattle.book_policy_checks.specs.declared.places.PlacedFault.{PlacedFault}
-use Rattle.book_policy_checks.specs.declared.places.PlacedFaults.{PlacedFaults}
-use Rattle.book_policy_checks.specs.declared.places.Problem.TheVariants.{Elsewhere}
-use Rattle.book_policy_checks.specs.declared.places.TableKind.{TableKind}
-use Rattle.book_policy_checks.specs.declared.places.TableKind.TheVariants.{Top, Person, Group, Book, Entry}
+use Rattle.book_policy.specs.declared.shapes.TableKind.{TableKind}
+use Rattle.book_policy.specs.declared.shapes.TableKind.TheVariants.{Top, Person, Group, Book, Entry}
 use Rattle.book_policy_checks.specs.declared.reports.NotToml.{NotToml as NotTomlPlace}
 use Rattle.book_policy_checks.specs.declared.reports.Report.{Report}
 use Rattle.book_policy_checks.specs.declared.reports.Report.TheVariants.{Sound, TooLong, NotToml, Faults}
@@ -28,28 +26,29 @@ place_in line column (b ∷ bs) =
     else if nat_lt b 128 || nat_le 192 b then place_in line (next column) bs
     else place_in line column bs
 
--- all of them, where the least is the fault that the whole text has; else that one, without a place
-abbrev pub settled : PolicyFault → PlacedFaults → PlacedFaults
-settled fault s =
-    if s.least == number_of fault then s
-    else pushed no_faults (record { kind = Top; number = 0; key = key.Itself; item = 0; problem = Elsewhere fault })
+-- what is told of a table: that it has no fault, or its faults
+abbrev pub IsTold : Members → Report → Type 0
+IsTold ms Sound = faults_in ms ≡ []
+IsTold ms TooLong = ⊥
+IsTold ms (NotToml place) = ⊥
+IsTold ms (Faults table told) = (table_view table ≡ ms) × (told ≡ noted no_faults (faults_in ms)) × (faults_in ms ≢ [])
 
--- what is told of a text that has the fault
-abbrev pub TellsFault : List ℕ → PolicyFault → Report → Type 0
-TellsFault text fault Sound = ⊥
-TellsFault text fault TooLong = ⊥
-TellsFault text fault (NotToml place) = fault ≡ names.NotToml
-TellsFault text fault (Faults table told) =
-    (parse_document text ≡ Some (table_view table)) × (told ≡ settled fault (noted no_faults (faults_in (table_view table))))
-
--- a policy is sound; too long a text is that alone; else the text has a fault, and what is told of it is that it is not TOML, or its
--- faults, of which the least is that one
+-- a policy is sound; too long a text is that alone, and one that is not TOML too; of any other text all faults of its table are told, of
+-- which the least is the one that the text has
 abbrev pub IsReportOf : List ℕ → Report → Type 0
 IsReportOf text Sound = (policy : PolicyTables) × IsPolicyOf text policy
 IsReportOf text TooLong = MAX_POLICY_BYTES < length text
 IsReportOf text (NotToml place) = IsFaultOf text names.NotToml
 IsReportOf text (Faults table told) =
-    (length text ≤ MAX_POLICY_BYTES) × ((f : PolicyFault) × IsFaultOf text f × TellsFault text f (Faults table told))
+    (length text ≤ MAX_POLICY_BYTES) × (parse_document text ≡ Some (table_view table)) × (told ≡ noted no_faults (faults_in (table_view table)))
+    × ((f : PolicyFault) × IsFaultOf text f × (number f ≡ told.least))
+
+-- the fault that a text has, where a report of it tells one
+abbrev pub AgreesOn : Report → PolicyFault → Type 0
+AgreesOn Sound fault = ⊥
+AgreesOn TooLong fault = fault ≡ names.TooMany
+AgreesOn (NotToml place) fault = fault ≡ names.NotToml
+AgreesOn (Faults table told) fault = number fault ≡ told.least
 
 -- ---- its text
 abbrev pub is_sound : Report → Bool

@@ -1,12 +1,13 @@
 -- All faults of a policy's text, in the order of their places: the keys of the whole text, then the persons, the groups, the books
 -- and the entries, each with the keys that it may not have and then its values in the order of `keys_of`.
-use Rattle.std.specs.Prelude.{ℕ, ◌+◌, List, [], ◌∷◌, ◌++◌, nat_le, ◌==◌, if◌then◌else◌, is_some, unwrap_or, Bool, true, false, Option, Some, None, option_map}
+use Rattle.std.specs.Prelude.{ℕ, ◌+◌, List, [], ◌∷◌, ◌++◌, nat_le, ◌==◌, if◌then◌else◌, is_some, not, unwrap_or, Bool, true, false, Option, Some, None, option_map}
 use Rattle.std.specs.List.{list_any}
 use Rattle.std.specs.FinMap.{empty, get, insert}
-use Rattle.toml.specs.Data.{Data, Items, no_items, item, Members, no_members, member, get_member, as_bool, as_str, as_table}
+use Rattle.toml.specs.Data.{Data, Items, no_items, item, Members, no_members, member, get_member, as_str, as_table}
 use Rattle.book_limits.specs.declared.TheConstants.{MAX_ENTRIES, MAX_MEMBERS, MAX_NAMED}
 use Rattle.book_office_values.specs.Names.{NamesTo}
-use Rattle.book_policy_checks.specs.Keys.{has_key, key_text}
+use Rattle.book_policy.specs.Shapes.{is_among, keys_of, mark_of}
+use Rattle.book_policy_checks.specs.Keys.{key_text}
 use Rattle.book_policy_checks.specs.Known.{Paths, known_at, paths_of, rows_of}
 use Rattle.book_policy_checks.specs.Placing.{next, placed}
 use Rattle.book_policy_checks.specs.Problems.{array_problem, at_problem, item_problem, label_problem, mark_problem, name_problem, names_problem, owner_problem, unless, version_problem, who_problem}
@@ -17,8 +18,8 @@ use Rattle.book_policy_checks.specs.declared.places.PlacedFault.{PlacedFault}
 use Rattle.book_policy_checks.specs.declared.places.Problem.{Problem}
 use Rattle.book_policy_checks.specs.declared.places.Problem.TheVariants.{UnknownKey, Missing, OtherKind, Both, TooMany, LongList}
 use Rattle.book_policy_checks.specs.declared.places.Spot.{Spot}
-use Rattle.book_policy_checks.specs.declared.places.TableKind.{TableKind}
-use Rattle.book_policy_checks.specs.declared.places.TableKind.TheVariants.{Top, Person, Group, Book, Entry}
+use Rattle.book_policy.specs.declared.shapes.TableKind.{TableKind}
+use Rattle.book_policy.specs.declared.shapes.TableKind.TheVariants.{Top, Person, Group, Book, Entry}
 use Rattle.book_policy_checks.specs.declared.problems.ItemRule.{ItemRule}
 use Rattle.book_policy_checks.specs.declared.problems.ItemRule.TheVariants.{Principals, Privileges}
 use Rattle.book_policy_checks.specs.declared.tables.Counts.{Counts}
@@ -46,13 +47,9 @@ place_of m (Some ms) = path_at m (get_member (key_text key.At) ms)
 abbrev pub entry_place : Paths → Data → Option (List ℕ)
 entry_place m d = place_of m (as_table d)
 
-abbrev pub mark_at : Option Data → Bool
-mark_at None = false
-mark_at (Some d) = unwrap_or (as_bool d) false
-
 abbrev pub protected_of : Option Members → Bool
 protected_of None = false
-protected_of (Some ms) = mark_at (get_member (key_text key.Protected) ms)
+protected_of (Some ms) = unwrap_or (mark_of (get_member (key_text key.Protected) ms)) false
 
 abbrev pub is_protected : Data → Bool
 is_protected d = protected_of (as_table d)
@@ -85,7 +82,7 @@ counted_entry m c n d = counted_place c n (is_protected d) (entry_place m d)
 
 abbrev pub counted_all : Paths → Counts → ℕ → Items → Counts
 counted_all m c n no_items = c
-counted_all m c n (item d ds) = counted_all m (counted_entry m c n d) (next n) ds
+counted_all m c n (item d ds) = counted_all m (counted_entry m c n d) (n + 1) ds
 
 abbrev pub full_lists : Paths → Items → List ℕ
 full_lists m ds = let c = counted_all m (record { protected = empty; own = empty; full = [] }) 1 ds in c.full
@@ -99,7 +96,7 @@ named_of ms = record { paths = paths_of ms; full = full_lists (paths_of ms) (row
 abbrev pub unknown_keys : TableKind → ℕ → ℕ → Members → List PlacedFault
 unknown_keys kind n i no_members = []
 unknown_keys kind n i (member k d ms) =
-    placed (record { kind = kind; number = n; key = key.Itself; item = i }) (unless (has_key kind k) UnknownKey)
+    placed (record { kind = kind; number = n; key = key.Itself; item = i }) (unless (is_among k (keys_of kind)) UnknownKey)
     ++ unknown_keys kind n (next i) ms
 
 abbrev pub spot_at : TableKind → ℕ → Key → Spot
@@ -164,7 +161,7 @@ action_faults m n ms =
     ++ names_faults m (spot_at Entry n key.Deny) (get_member (key_text key.Deny) ms))
 
 abbrev pub list_problem : List ℕ → ℕ → Option Problem
-list_problem full n = if list_any (λ k. k == n) full then Some LongList else None
+list_problem full n = unless (not (list_any (λ k. k == n) full)) LongList
 
 abbrev pub entry_faults : Named → ℕ → Members → List PlacedFault
 entry_faults named n ms =
@@ -195,7 +192,7 @@ table_faults named kind n d = row_faults named kind n (as_table d)
 -- the tables of a kind, from number n on
 abbrev pub rows_faults : Named → TableKind → ℕ → Items → List PlacedFault
 rows_faults named kind n no_items = []
-rows_faults named kind n (item d ds) = table_faults named kind n d ++ rows_faults named kind (next n) ds
+rows_faults named kind n (item d ds) = table_faults named kind n d ++ rows_faults named kind (n + 1) ds
 
 abbrev pub array_faults : Key → Option ℕ → Members → List PlacedFault
 array_faults k most ms = placed (spot_at Top 0 k) (array_problem (get_member (key_text k) ms) most)

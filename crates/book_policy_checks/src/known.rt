@@ -6,9 +6,10 @@ ghost use Rattle.toml.specs.View.{items_view, table_view, view};
 ghost use Rattle.book_policy_checks.specs.Keys.{key_text};
 ghost use Rattle.book_policy_checks.specs.Known.{homes, is_name, is_principal, known_at, name_in, paths_of, prefix_of, rows_of, with_both, with_named, with_path, with_paths};
 
-use crate::places::{Key, TableKind};
+use crate::places::Key;
 use book_lists::Name;
 use book_office_values::{Text, TextMap};
+use book_policy::TableKind;
 use std::alloc::{AllocError, Global};
 use toml::{Table, Value};
 
@@ -166,7 +167,7 @@ fn add_all(
     let mut number = 1usize;
     for value in values {
         add_named(alloc, paths, kind, number, value)?;
-        number = number.saturating_add(1);
+        number += 1;
     }
     Ok(())
 }

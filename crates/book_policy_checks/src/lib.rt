@@ -9,6 +9,7 @@
 //! prints a fault, `telling`, and `laws`.
 #![tactic(auto)]
 
+mod agreement;
 mod known;
 mod laws;
 mod places;
@@ -18,7 +19,9 @@ mod sentences;
 mod tables;
 mod telling;
 
+pub use agreement::{checks_agree, reports_agree};
+pub use book_policy::TableKind;
 pub use laws::{least_is_told, told_are_first};
-pub use places::{Key, PlacedFault, PlacedFaults, Problem, TableKind};
+pub use places::{Key, PlacedFault, PlacedFaults, Problem};
 pub use reports::{NotToml, Report, check_policy};
 pub use telling::{Checked, tell_faults};

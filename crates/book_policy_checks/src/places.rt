@@ -1,30 +1,15 @@
 //! Faults with their places.
 
 ghost use Rattle.std.specs.Prelude.{◌≡◌, OnOk};
-ghost use Rattle.book_policy_checks.specs.Keys.{has_key, key_text};
-ghost use Rattle.book_policy_checks.specs.Placing.{fault_of, least, no_faults, noted, number_of, placed, pushed};
+ghost use Rattle.book_policy_checks.specs.Keys.{key_text};
+ghost use Rattle.book_policy_checks.specs.Placing.{fault_of, has_none, least, no_faults, noted, number_of, placed, pushed};
 
 use book_office_values::Items;
-use book_policy::PolicyFault;
+use book_policy::{PolicyFault, TableKind};
 use std::alloc::{AllocError, Global};
 
 /// The most faults that are told, each with its place.
 pub const MAX_TOLD: usize = 1_000;
-
-/// The kinds of tables of a policy's text.
-#[derive(Clone, Copy, Debug, PartialEq, Eq, Drop)]
-pub enum TableKind {
-    /// The whole text.
-    Top,
-    /// A person.
-    Person,
-    /// A group.
-    Group,
-    /// A book.
-    Book,
-    /// An entry.
-    Entry,
-}
 
 /// The keys that tables may have.
 #[derive(Clone, Copy, Debug, PartialEq, Eq, Drop)]
@@ -94,8 +79,6 @@ pub enum Problem {
     TooMany,
     /// It is the 65th entry of its list.
     LongList,
-    /// The text has the fault, and no place of it was found.
-    Elsewhere(PolicyFault),
 }
 
 /// A fault of a policy's text with its place.
@@ -140,34 +123,6 @@ impl Key {
     }
 }
 
-impl TableKind {
-    /// Whether a table of this kind may have the key.
-    pub fn has_key(self, key: &str) -> bool
-        ensures { result ≡ has_key self key.now }
-    {
-        match self {
-            TableKind::Top => {
-                key == "version"
-                    || key == "person"
-                    || key == "group"
-                    || key == "book"
-                    || key == "entry"
-            }
-            TableKind::Person => key == "name" || key == "label",
-            TableKind::Group => key == "name" || key == "label" || key == "members",
-            TableKind::Book => key == "name" || key == "label" || key == "owner",
-            TableKind::Entry => {
-                key == "at"
-                    || key == "who"
-                    || key == "invert"
-                    || key == "grant"
-                    || key == "deny"
-                    || key == "protected"
-            }
-        }
-    }
-}
-
 impl Problem {
     /// The fault of a text that has this somewhere.
     pub fn fault(self) -> PolicyFault
@@ -187,7 +142,6 @@ impl Problem {
             Problem::UnknownResource => PolicyFault::UnknownResource,
             Problem::UnknownPrivilege => PolicyFault::UnknownPrivilege,
             Problem::TooMany | Problem::LongList => PolicyFault::TooMany,
-            Problem::Elsewhere(fault) => fault,
         }
     }
 }
@@ -229,6 +183,13 @@ pub struct PlacedFaults {
 }
 
 impl PlacedFaults {
+    /// Whether there is no fault.
+    pub fn is_empty(&self) -> bool
+        ensures { result ≡ has_none self.now }
+    {
+        self.told.len() == 0
+    }
+
     /// No faults. Takes no memory.
     pub(crate) fn new(alloc: Global) -> PlacedFaults
         ensures { result ≡ no_faults }

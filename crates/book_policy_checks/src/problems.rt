@@ -1,15 +1,16 @@
 //! What is wrong with one value.
 
-ghost use Rattle.std.specs.Prelude.{◌≡◌, ◌&&◌, nat_le, option_map, IfOk};
+ghost use Rattle.std.specs.Prelude.{◌≡◌, ◌&&◌, Some, nat_le, option_map, IfOk};
 ghost use Rattle.toml.specs.View.{items_view, view};
 ghost use Rattle.book_limits.specs.declared.TheConstants.{MAX_PRIVILEGE_NAMES};
 ghost use Rattle.book_policy.specs.Passes.{is_word};
-ghost use Rattle.book_policy_checks.specs.Problems.{array_problem, at_problem, count, first_named, item_problem, label_problem, mark_problem, name_problem, names_problem, owner_problem, principal_problem, privilege_problem, twice_problem, unless, version_problem, who_problem};
+ghost use Rattle.book_policy_checks.specs.Problems.{array_problem, at_problem, count, first_named, item_problem, label_problem, label_with, mark_problem, name_problem, names_problem, owner_problem, principal_problem, privilege_problem, twice_problem, unless, version_problem, who_problem};
 ghost use Rattle.book_policy_checks.specs.declared.places.Problem.TheVariants.{NamesCount, TooMany};
 
 use crate::known::{Paths, is_name, is_principal, known_at, path_of};
-use crate::places::{Problem, TableKind};
+use crate::places::Problem;
 use book_limits::{MAX_LABEL_BYTES, MAX_PRIVILEGE_NAMES};
+use book_policy::TableKind;
 use book_rights::Privilege;
 use std::alloc::{AllocError, Global};
 use toml::Value;
@@ -117,6 +118,16 @@ pub(crate) fn name_problem(
     Ok(twice_problem(number, first))
 }
 
+/// What is wrong with the text of a label.
+fn text_problem(text: &str) -> Option<Problem>
+    ensures { result ≡ label_with (Some text.now) }
+{
+    if text.len() > MAX_LABEL_BYTES {
+        return Some(Problem::LongLabel);
+    }
+    None
+}
+
 /// What is wrong with a label.
 pub(crate) fn label_problem(value: Option<&Value>) -> Option<Problem>
     ensures { result ≡ label_problem (option_map (λ v. view v.now) value.entry) }
@@ -125,13 +136,7 @@ pub(crate) fn label_problem(value: Option<&Value>) -> Option<Problem>
         return None;
     };
     match value.as_str() {
-        Some(text) => {
-            if text.len() > MAX_LABEL_BYTES {
-                Some(Problem::LongLabel)
-            } else {
-                None
-            }
-        }
+        Some(text) => text_problem(text),
         None => Some(Problem::OtherKind),
     }
 }

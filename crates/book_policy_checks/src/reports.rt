@@ -1,15 +1,15 @@
 //! What is told of a policy's text.
 
-ghost use Rattle.std.specs.Prelude.{◌≡◌, ◌≢◌, ◌++◌, codes, true, string_bytes, IfOk, OnOk};
-ghost use Rattle.book_policy.specs.declared.faults.PolicyFault.TheVariants.{Memory};
-ghost use Rattle.book_policy_checks.specs.Reports.{AddsFault, AddsFaults, IsReportOf, IsTextOf, TellsFault, is_one_line, is_sound, more_text, place_in, settled};
+ghost use Rattle.std.specs.Prelude.{◌≡◌, ◌++◌, Some, None, codes, true, string_bytes, IfOk, MatchResult, OnOk};
+ghost use Rattle.toml.specs.Parse.{parse_document};
+ghost use Rattle.toml.specs.View.{table_view};
+ghost use Rattle.book_policy_checks.specs.Reports.{AddsFault, AddsFaults, IsReportOf, IsTextOf, IsTold, is_one_line, is_sound, more_text, place_in};
 ghost use Rattle.book_policy_checks.specs.declared.reports.Report.TheVariants as Report;
 
-use crate::places::{Key, PlacedFault, PlacedFaults, Problem, TableKind, number_of};
+use crate::places::{PlacedFault, PlacedFaults};
 use crate::sentences::{head, more_words, not_toml_place, not_toml_words, tail};
 use crate::tables::faults_of;
 use book_limits::MAX_POLICY_BYTES;
-use book_policy::{PolicyFault, read_policy};
 use std::alloc::{AllocError, Global};
 use toml::Table;
 
@@ -55,84 +55,54 @@ fn place_in(text: &[u8]) -> (usize, usize)
 }
 
 /// Where and why the text is not TOML. An error is want of memory.
-fn not_toml(alloc: Global, text: &str) -> Result<NotToml, AllocError> {
+fn not_toml(alloc: Global, text: &str, start: usize, message: &str) -> Result<NotToml, AllocError> {
+    let (front, _) = text.as_bytes().split_at(start.min(text.len()));
+    let (line, column) = place_in(front);
+    Ok(NotToml {
+        line,
+        column,
+        message: String::from_str(alloc, message)?,
+    })
+}
+
+/// The table of a text, or where and why it is not TOML. An error is want of memory.
+fn table_of(alloc: Global, text: &str) -> Result<Result<Table, NotToml>, AllocError>
+    ensures { IfOk result (λ read. MatchResult read (λ table. parse_document text.now ≡ Some (table_view table))
+        (λ _. parse_document text.now ≡ None)) }
+{
     match toml::table_from_str(alloc, text) {
-        Ok(_) => Err(AllocError),
+        Ok(table) => Ok(Ok(table)),
         Err(error) => {
             let Some(span) = error.span() else {
                 return Err(AllocError);
             };
-            let (front, _) = text.as_bytes().split_at(span.start.min(text.len()));
-            let (line, column) = place_in(front);
-            Ok(NotToml {
-                line,
-                column,
-                message: String::from_str(alloc, error.message())?,
-            })
+            Ok(Err(not_toml(alloc, text, span.start, error.message())?))
         }
     }
 }
 
-/// The faults, where the least of them is the one that the whole text has; else that one, without a place.
-fn settled(
-    alloc: Global,
-    fault: PolicyFault,
-    faults: PlacedFaults,
-) -> Result<PlacedFaults, AllocError>
-    ensures { IfOk result (λ told. told ≡ settled fault faults) }
+/// What is told of a table. An error is want of memory.
+fn report_of(alloc: Global, table: Table) -> Result<Report, AllocError>
+    ensures { IfOk result (IsTold (table_view table)) }
 {
-    if faults.least == number_of(fault) {
-        return Ok(faults);
-    }
-    let mut told = PlacedFaults::new(alloc);
-    told.push(PlacedFault {
-        kind: TableKind::Top,
-        number: 0,
-        key: Key::Itself,
-        item: 0,
-        problem: Problem::Elsewhere(fault),
-    })?;
-    Ok(told)
-}
-
-/// All faults of a text that is TOML and has the fault. An error is want of memory.
-fn all_faults(alloc: Global, text: &str, fault: PolicyFault) -> Result<Report, AllocError>
-    ensures { IfOk result (TellsFault text.now fault) }
-{
-    let Ok(table) = toml::table_from_str(alloc, text) else {
-        return Err(AllocError);
-    };
     let faults = faults_of(alloc, &table)?;
-    let faults = settled(alloc, fault, faults)?;
+    if faults.is_empty() {
+        return Ok(Report::Sound);
+    }
     Ok(Report::Faults(table, faults))
 }
 
-/// What is told of a text that has the fault. An error is want of memory.
-fn report_of(alloc: Global, text: &str, fault: PolicyFault) -> Result<Report, AllocError>
-    ensures told { IfOk result (TellsFault text.now fault) }
-    ensures known { IfOk result (λ _. fault ≢ Memory) }
-{
-    match fault {
-        PolicyFault::Memory => Err(AllocError),
-        PolicyFault::NotToml => Ok(Report::NotToml(not_toml(alloc, text)?)),
-        _ => all_faults(alloc, text, fault),
-    }
-}
-
-/// What is told of a policy's text: that it is a policy (`read_policy`), that it is too long or not TOML, and else all
-/// its faults, each with its place. An error is want of memory.
+/// What is told of a policy's text: that it is a policy, that it is too long or not TOML, and else all its faults, each
+/// with its place. The least of them is the one that `read_policy` tells. An error is want of memory.
 pub fn check_policy(alloc: Global, text: &str) -> Result<Report, AllocError>
     ensures { IfOk result (IsReportOf text.now) }
 {
     if text.len() > MAX_POLICY_BYTES {
         return Ok(Report::TooLong);
     }
-    match read_policy(alloc, text) {
-        Ok(policy) => {
-            drop(policy);
-            Ok(Report::Sound)
-        }
-        Err(fault) => report_of(alloc, text, fault),
+    match table_of(alloc, text)? {
+        Ok(table) => report_of(alloc, table),
+        Err(place) => Ok(Report::NotToml(place)),
     }
 }
 

@@ -4,9 +4,10 @@ ghost use Rattle.std.specs.Prelude.{◌≡◌, ◌++◌, codes, decimal, string_
 ghost use Rattle.book_policy_checks.specs.Reports.{head_text, kind_word, place_text};
 
 use crate::known::{member, rows_of};
-use crate::places::{Key, PlacedFault, Problem, TableKind};
+use crate::places::{Key, PlacedFault, Problem};
 use crate::reports::NotToml;
 use book_limits::{MAX_LABEL_BYTES, MAX_MEMBERS, MAX_NAMED, MAX_PRIVILEGE_NAMES};
+use book_policy::TableKind;
 use std::alloc::{AllocError, Global};
 use strsim::levenshtein;
 use toml::{Table, Value};
@@ -443,10 +444,6 @@ pub(crate) fn tail(alloc: Global, top: &Table, fault: &PlacedFault) -> Result<St
         Problem::UnknownPrivilege => {
             push_key(alloc, &mut line, fault)?;
             push_unknown(alloc, &mut line, top, fault, "unknown-privilege")?;
-        }
-        Problem::Elsewhere(name) => {
-            let text = format!(in alloc; "{name}")?;
-            line.push_str(text.as_str())?;
         }
         _ => {
             push_key(alloc, &mut line, fault)?;

@@ -4,20 +4,21 @@ ghost use Rattle.std.specs.Prelude.{◌≡◌, nat_le, option_map, IfOk, OnOk};
 ghost use Rattle.std.specs.FinMap.{insert};
 ghost use Rattle.book_limits.specs.declared.TheConstants.{MAX_MEMBERS};
 ghost use Rattle.toml.specs.View.{items_view, table_view, view};
-ghost use Rattle.book_policy_checks.specs.Keys.{has_key};
+ghost use Rattle.book_policy.specs.Shapes.{is_among, keys_of};
 ghost use Rattle.book_policy_checks.specs.Placing.{next, no_faults, noted};
 ghost use Rattle.book_policy_checks.specs.Problems.{unless};
 ghost use Rattle.book_policy_checks.specs.declared.places.Problem.TheVariants.{TooMany, UnknownKey};
 ghost use Rattle.book_policy_checks.specs.Tables.{action_faults, action_problem, array_faults, body_faults, count_in, counted_entry, distinct, entry_faults, entry_place, faults_in, full_lists, is_protected, items_faults, list_problem, members_faults, named_faults, named_of, names_faults, noted_full, path_in, rows_faults, seen_after, spot_at, table_faults, top_faults, unknown_keys};
 
 use crate::known::{Paths, known_at, member, paths_of, rows_of};
-use crate::places::{Key, PlacedFaults, Problem, Spot, TableKind, note};
+use crate::places::{Key, PlacedFaults, Problem, Spot, note};
 use crate::problems::{
     ItemRule, array_problem, at_problem, item_problem, label_problem, mark_problem, name_problem,
     names_problem, owner_problem, version_problem, who_problem,
 };
 use book_limits::{MAX_ENTRIES, MAX_MEMBERS, MAX_NAMED};
 use book_office_values::{Items, Text, TextMap};
+use book_policy::TableKind;
 use std::alloc::{AllocError, Global};
 use toml::{Table, Value};
 
@@ -139,7 +140,7 @@ fn full_lists(alloc: Global, paths: &Paths, values: &[Value]) -> Result<Items<us
     let mut number = 1usize;
     for value in values {
         count_entry(alloc, paths, &mut counts, number, value)?;
-        number = number.saturating_add(1);
+        number += 1;
     }
     Ok(counts.full)
 }
@@ -156,7 +157,7 @@ fn named_of(alloc: Global, table: &Table) -> Result<Named, AllocError>
 
 /// What is wrong with a key of a table of a kind.
 fn key_problem(kind: TableKind, key: &str) -> Option<Problem>
-    ensures { result ≡ unless (has_key kind key.now) UnknownKey }
+    ensures { result ≡ unless (is_among key.now (keys_of kind)) UnknownKey }
 {
     if kind.has_key(key) {
         None
@@ -483,7 +484,7 @@ fn rows_faults(
     let mut number = 1usize;
     for value in values {
         table_faults(alloc, named, kind, number, value, faults)?;
-        number = number.saturating_add(1);
+        number += 1;
     }
     Ok(())
 }
