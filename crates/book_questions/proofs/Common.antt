@@ -4,4 +4,5 @@ pub use Rattle.std.specs.List.{AllZip, flat_map}
 pub use Rattle.book_office_values.specs.declared.offices.Office.{Office}
 pub use Rattle.book_office.specs.Keeping.{Reads, Standing}
 pub use Rattle.book_questions.specs.Whys.{AreWhys, IsWhyNeed}
+pub use Rattle.book_questions.specs.declared.whys.Why.{Why}
 pub use Rattle.book_questions.specs.declared.whys.WhyNeed.{WhyNeed}

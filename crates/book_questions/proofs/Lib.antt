@@ -3,3 +3,4 @@ pub mod InTurn
 pub mod RuledVerdicts
 pub mod WhyTold
 pub mod Earliest
+pub mod WhoIs

@@ -12,6 +12,7 @@ use Rattle.book_machine.proofs.OnePlan.{verdicts_exclude, one_denial}
 use Rattle.book_machine.proofs.StepLaws.{denials_are_told}
 use Rattle.book_questions.specs.RulingVerdicts.{denial_of}
 use Rattle.book_questions.specs.Whys.{denial_at, first_denial, or_else, AreWhys, IsWhyNeed, IsWhy, WhyTellsTheVerdict, WhyTellsTheReply}
+use Rattle.book_questions.specs.declared.whys.Why.{Why}
 use Rattle.book_questions.specs.declared.whys.WhyNeed.{WhyNeed}
 use Rattle.book_questions.proofs.RuledVerdicts.{rulings_tell}
 
@@ -45,8 +46,8 @@ abbrev Told : Office → Ready → Option Denial → Type 0
 Told o ready None = IsGranted o ready
 Told o ready (Some denial) = IsDenied o ready denial
 
-told : (o : Office) (ready : Ready) (whys : List WhyNeed) → IsWhy o (needed_of ready) whys → Told o ready (first_denial whys)
-told o ready whys w = go (first_denial whys) (all_told o w.circle (destination_in ready.asked) ready.target.path (needs_at ready) whys w.needs)
+told : (o : Office) (ready : Ready) (why : Why) → IsWhy o (needed_of ready) why → Told o ready (first_denial why.needs)
+told o ready why w = go (first_denial why.needs) (all_told o w.circle (destination_in ready.asked) ready.target.path (needs_at ready) why.needs w.needs)
   where
     go : (found : Option Denial) → Verdict o w.circle (destination_in ready.asked) ready.target.path (needs_at ready) found → Told o ready found
     go None granted = record { circle = w.circle; is_circle = w.is_circle; granted = granted }
@@ -64,10 +65,10 @@ denied_tells o ready (Some it) denied denial = (
 )
 
 pub why_verdict : WhyTellsTheVerdict
-why_verdict o ready whys w = (granted_tells o ready (first_denial whys) (told o ready whys w), denied_tells o ready (first_denial whys) (told o ready whys w))
+why_verdict o ready why w = (granted_tells o ready (first_denial why.needs) (told o ready why w), denied_tells o ready (first_denial why.needs) (told o ready why w))
 
 pub why_reply : WhyTellsTheReply
-why_reply o after name request reply ready whys denial is w steps =
+why_reply o after name request reply ready why denial is w steps =
     let here = denials_are_told o name request ready reply after denial is steps in
-    let there = (why_verdict o ready whys w).1 denial in
+    let there = (why_verdict o ready why w).1 denial in
     (λ e. there.1 (here.1 e), λ e. here.0 (there.0 e))

@@ -2,3 +2,4 @@ pub mod RulingVerdicts
 pub mod Whys
 pub mod Lines
 pub mod Questions
+pub mod Who

@@ -30,7 +30,7 @@ use Rattle.book_questions.specs.Whys.{IsWhy}
 use Rattle.book_questions.specs.declared.questions.Asking.{Asking}
 use Rattle.book_questions.specs.declared.questions.Question.{Question}
 use Rattle.book_questions.specs.declared.questions.Question.TheVariants.{OfRequest, OfPrivilege}
-use Rattle.book_questions.specs.declared.whys.WhyNeed.{WhyNeed}
+use Rattle.book_questions.specs.declared.whys.Why.{Why}
 
 -- a body in order for each method; a REPORT has none by itself
 abbrev pub usual_body : Method → Body
@@ -101,7 +101,7 @@ needed_for o name (OfPrivilege privilege p) = needed_at o name p (contained priv
 
 -- the text that tells why
 abbrev pub IsWhyText : Office → Needed → List ℕ → Type 0
-IsWhyText o needed text = (whys : List WhyNeed) × IsWhy o needed whys × (text ≡ why_text whys)
+IsWhyText o needed text = (why : Why) × IsWhy o needed why × (text ≡ why_text why)
 
 -- the answer to a question: the text, or the refusal of a stage before the verdict, or want of memory or a failed store
 abbrev pub TellsWhy : Office → Option (List ℕ) → Question → Result (List ℕ) Refusal → Type 0

@@ -6,6 +6,7 @@ use Rattle.book_lists.specs.Callers.{IsCircle}
 use Rattle.book_lists.specs.Circles.{CircleOf}
 use Rattle.book_office.specs.Levels.{effective_at}
 use Rattle.book_office_values.specs.declared.offices.Office.{Office}
+use Rattle.book_office_values.specs.declared.paths.Path.{Path}
 use Rattle.book_office_listings.specs.Rulings.{AreRulings}
 use Rattle.book_office_listings.specs.Verdicts.{here_of}
 use Rattle.book_office_listings.specs.declared.messages.Denial.{Denial}
@@ -21,7 +22,10 @@ use Rattle.book_machine.specs.declared.needing.Needed.{Needed}
 use Rattle.book_machine.specs.declared.needing.PlacedNeed.{PlacedNeed}
 use Rattle.book_machine.specs.declared.refusals.Refusal.TheVariants.{NeedPrivileges}
 use Rattle.book_questions.specs.RulingVerdicts.{denial_of}
+use Rattle.book_questions.specs.declared.whys.InForce.{InForce}
+use Rattle.book_questions.specs.declared.whys.Why.{Why}
 use Rattle.book_questions.specs.declared.whys.WhyNeed.{WhyNeed}
+use Rattle.book_questions_chains.specs.Chains.{AreChainsOf}
 
 -- the denial of one need, if it is not granted
 abbrev pub denial_at : WhyNeed → Option Denial
@@ -36,31 +40,37 @@ abbrev pub first_denial : List WhyNeed → Option Denial
 first_denial [] = None
 first_denial (why ∷ rest) = or_else (denial_at why) (first_denial rest)
 
+-- the list in force at a path, and what its entries ask of the resource there
+pub record IsInForce (o : Office) (p : Path) (force : InForce) : Type 0 where
+  pub list : force.list ≡ effective_at o p
+  pub here : force.here ≡ here_of o p
+
 module _ (o : Office) (circle : CircleOf) where
   -- what is told of a need: its resource and leaves, the list in force there, and the ruling on each leaf that there is
   pub record IsWhyNeed (need : PlacedNeed) (why : WhyNeed) : Type 0 where
     pub resource : why.resource ≡ need.resource
     pub set : why.set ≡ need.set
-    pub list : why.list ≡ effective_at o need.resource
+    pub force : IsInForce o need.resource why.force
     pub rulings : AreRulings (effective_at o need.resource) circle (here_of o need.resource) why.rulings
 
   abbrev pub AreWhys : List PlacedNeed → List WhyNeed → Type 0
   AreWhys needs whys = AllZip IsWhyNeed needs whys
 
--- the same for the principals to which the caller belongs
-pub record IsWhy (o : Office) (needed : Needed) (whys : List WhyNeed) : Type 0 where
+-- the same for the principals to which the caller belongs, and a shortest chain to each of them
+pub record IsWhy (o : Office) (needed : Needed) (why : Why) : Type 0 where
   pub circle : CircleOf
   pub is_circle : IsCircle o.pairs needed.caller circle
-  pub needs : AreWhys o circle needed.needs whys
+  pub needs : AreWhys o circle needed.needs why.needs
+  pub chains : AreChainsOf o.pairs needed.caller why.chains
 
 -- what is told of a request that has passed the stages before its verdict is granted exactly where the verdict is, and its denial
 -- is exactly the verdict's
 abbrev pub WhyTellsTheVerdict : Type 0
-WhyTellsTheVerdict = (o : Office) (ready : Ready) (whys : List WhyNeed) → IsWhy o (needed_of ready) whys
-    → ((first_denial whys ≡ None) ↔ IsGranted o ready) × ((denial : Denial) → (first_denial whys ≡ Some denial) ↔ IsDenied o ready denial)
+WhyTellsTheVerdict = (o : Office) (ready : Ready) (why : Why) → IsWhy o (needed_of ready) why
+    → ((first_denial why.needs ≡ None) ↔ IsGranted o ready) × ((denial : Denial) → (first_denial why.needs ≡ Some denial) ↔ IsDenied o ready denial)
 
 -- and so it is what `serve` answers: the reply is a denial exactly where it is told, with the same resource, privilege and entry
 abbrev pub WhyTellsTheReply : Type 0
-WhyTellsTheReply = (o after : Office) (name : Option (List ℕ)) (request : Request) (reply : Reply) (ready : Ready) (whys : List WhyNeed) (denial : Denial)
-    → ready_of o name request ≡ Ok ready → IsWhy o (needed_of ready) whys → Steps o name request reply after
-    → (reply ≡ refused (NeedPrivileges denial)) ↔ (first_denial whys ≡ Some denial)
+WhyTellsTheReply = (o after : Office) (name : Option (List ℕ)) (request : Request) (reply : Reply) (ready : Ready) (why : Why) (denial : Denial)
+    → ready_of o name request ≡ Ok ready → IsWhy o (needed_of ready) why → Steps o name request reply after
+    → (reply ≡ refused (NeedPrivileges denial)) ↔ (first_denial why.needs ≡ Some denial)

@@ -48,7 +48,7 @@ fn better<'a>(best: Option<&'a Ruling>, ruling: &'a Ruling, set: LeafSet) -> Opt
 
 /// Of the rulings on leaves of a set that do not grant, the one whose entry stands first, and of those with one entry the
 /// first.
-fn earliest<'a>(rulings: &'a [Ruling], set: LeafSet) -> Option<&'a Ruling>
+pub(crate) fn earliest<'a>(rulings: &'a [Ruling], set: LeafSet) -> Option<&'a Ruling>
     ensures { option_copied result ≡ earliest None (ungranted set rulings.now) }
 {
     let mut best = None;

@@ -2,23 +2,29 @@
 //! at a resource (own profile; the decisions are those of RFC 3744, section 6).
 //!
 //! It stands on `book_machine`, which tells what a request needs (`Machine::needed`), on `book_office_listings` for the
-//! rulings, and on `book_office_audit`, as which entries are written. The program above uses that `why` tells, over any
-//! keeper, for each need the entry that decides each leaf (`IsWhyText`), and the verdict that `serve` answers
-//! (`why_tells_the_reply`).
+//! rulings, on `book_questions_chains` for the chains of groups by which entries apply, and on `book_office_audit`, as
+//! which entries are written. The program above uses that `why` tells, over any
+//! keeper, for each need the entry that decides each leaf (`TellsWhy`), and the verdict that `serve` answers
+//! (`why_tells_the_reply`); and that `who` tells exactly the callers to whom a privilege is granted (`TellsWho`,
+//! `who_is_exact`).
 //!
-//! Read `whys` first, which is what is told; then `rulings`, `denials`, `places` and `lines`; then `answers`, and `laws`.
+//! Read `whys` first, which is what is told; then `rulings`, `denials`, `places` and `lines`; then `holders` and
+//! `who_lines`; then `questions` and `answers`, and `laws`.
 #![tactic(auto)]
 
 mod answers;
 mod denials;
+mod holders;
 mod laws;
 mod lines;
 mod places;
 mod questions;
 mod rulings;
+mod who_lines;
 mod whys;
 
-pub use answers::why;
-pub use laws::{rulings_tell_the_verdict, why_tells_the_reply};
+pub use answers::{who, why};
+pub use holders::Holder;
+pub use laws::{rulings_tell_the_verdict, who_is_exact, why_tells_the_reply};
 pub use questions::{Question, question_of};
-pub use whys::WhyNeed;
+pub use whys::{InForce, Why, WhyNeed};

@@ -7,11 +7,12 @@ ghost use Rattle.book_questions.specs.Lines.{by_text, decided_lines, decision_wo
 
 use crate::denials::first_denial;
 use crate::places::count_in;
-use crate::whys::WhyNeed;
+use crate::whys::{InForce, Why, WhyNeed};
 use book_lists_explain::short_privileges;
 use book_office::EffectiveEntry;
 use book_office_audit::push_entry;
 use book_office_listings::{DecidingEntry, Denial, Ruling};
+use book_questions_chains::{Chain, push_chain_by};
 use book_rights::{LeafSet, Privilege};
 use std::alloc::{AllocError, Global};
 
@@ -27,38 +28,46 @@ fn push_number(alloc: Global, text: &mut String, number: usize) -> Result<(), Al
 fn push_standing(
     alloc: Global,
     text: &mut String,
-    list: &[EffectiveEntry],
+    force: &InForce,
+    chains: &[Chain],
     index: usize,
     entry: &EffectiveEntry,
 ) -> Result<(), AllocError>
-    requires { index < length list.now }
-    ensures { OnOk result (string_bytes text.new ≡ string_bytes text.old ++ standing_lines list.now index entry.now) }
+    requires { index < length force.now.list }
+    ensures { OnOk result (string_bytes text.new ≡ string_bytes text.old ++ standing_lines force.now chains.now index entry.now) }
 {
     let place = entry.path.text(alloc)?;
-    let number = count_in(alloc, place.as_str(), entry.protected, &list[..index])? + 1;
+    let number = count_in(
+        alloc,
+        place.as_str(),
+        entry.protected,
+        &force.list.as_slice()[..index],
+    )? + 1;
     text.push_str(", ")?;
     push_number(alloc, text, number)?;
     text.push_str(" at ")?;
     text.push_str(place.as_str())?;
     text.push_str("\n")?;
-    push_entry(alloc, text, entry.protected, &entry.entry)
+    push_entry(alloc, text, entry.protected, &entry.entry)?;
+    push_chain_by(text, &force.here, chains, &entry.entry)
 }
 
 /// Adds the entry with a number of the effective list, which counts from 1.
 fn push_numbered(
     alloc: Global,
     text: &mut String,
-    list: &[EffectiveEntry],
+    force: &InForce,
+    chains: &[Chain],
     number: usize,
 ) -> Result<(), AllocError>
-    ensures { OnOk result (string_bytes text.new ≡ string_bytes text.old ++ numbered_lines list.now number) }
+    ensures { OnOk result (string_bytes text.new ≡ string_bytes text.old ++ numbered_lines force.now chains.now number) }
 {
     if number == 0 {
         return text.push_str("\n");
     }
     let index = number - 1;
-    match list.get(index) {
-        Some(entry) => push_standing(alloc, text, list, index, entry),
+    match force.list.as_slice().get(index) {
+        Some(entry) => push_standing(alloc, text, force, chains, index, entry),
         None => text.push_str("\n"),
     }
 }
@@ -74,17 +83,18 @@ fn decision_word(grant: bool) -> &'static str
 fn push_decided(
     alloc: Global,
     text: &mut String,
-    list: &[EffectiveEntry],
+    force: &InForce,
+    chains: &[Chain],
     ruling: &Ruling,
 ) -> Result<(), AllocError>
-    ensures { OnOk result (string_bytes text.new ≡ string_bytes text.old ++ decided_lines list.now ruling.now.grant ruling.now.entry) }
+    ensures { OnOk result (string_bytes text.new ≡ string_bytes text.old ++ decided_lines force.now chains.now ruling.now.grant ruling.now.entry) }
 {
     match &ruling.entry {
         None => text.push_str(" denied, none granted\n"),
         Some(entry) => {
             text.push_str(decision_word(ruling.grant))?;
             push_number(alloc, text, entry.number)?;
-            push_numbered(alloc, text, list, entry.number)
+            push_numbered(alloc, text, force, chains, entry.number)
         }
     }
 }
@@ -93,28 +103,30 @@ fn push_decided(
 fn push_ruling(
     alloc: Global,
     text: &mut String,
-    list: &[EffectiveEntry],
+    force: &InForce,
+    chains: &[Chain],
     ruling: &Ruling,
 ) -> Result<(), AllocError>
-    ensures { OnOk result (string_bytes text.new ≡ string_bytes text.old ++ ruling_lines list.now ruling.now) }
+    ensures { OnOk result (string_bytes text.new ≡ string_bytes text.old ++ ruling_lines force.now chains.now ruling.now) }
 {
     text.push_str(" ")?;
     text.push_str(ruling.leaf.name())?;
-    push_decided(alloc, text, list, ruling)
+    push_decided(alloc, text, force, chains, ruling)
 }
 
 /// Adds the lines of a ruling, where its leaf is one of the set.
 fn push_ruled(
     alloc: Global,
     text: &mut String,
-    list: &[EffectiveEntry],
+    force: &InForce,
+    chains: &[Chain],
     set: LeafSet,
     ruling: &Ruling,
 ) -> Result<(), AllocError>
-    ensures { OnOk result (string_bytes text.new ≡ string_bytes text.old ++ ruled_lines list.now set ruling.now) }
+    ensures { OnOk result (string_bytes text.new ≡ string_bytes text.old ++ ruled_lines force.now chains.now set ruling.now) }
 {
     if set.has(ruling.leaf) {
-        push_ruling(alloc, text, list, ruling)
+        push_ruling(alloc, text, force, chains, ruling)
     } else {
         Ok(())
     }
@@ -124,14 +136,15 @@ fn push_ruled(
 pub(crate) fn push_set(
     alloc: Global,
     text: &mut String,
-    list: &[EffectiveEntry],
+    force: &InForce,
+    chains: &[Chain],
     set: LeafSet,
     rulings: &[Ruling],
 ) -> Result<(), AllocError>
-    ensures { OnOk result (string_bytes text.new ≡ string_bytes text.old ++ set_lines list.now set rulings.now) }
+    ensures { OnOk result (string_bytes text.new ≡ string_bytes text.old ++ set_lines force.now chains.now set rulings.now) }
 {
     for ruling in rulings {
-        push_ruled(alloc, text, list, set, ruling)?;
+        push_ruled(alloc, text, force, chains, set, ruling)?;
     }
     Ok(())
 }
@@ -148,8 +161,13 @@ fn push_names(text: &mut String, names: &[Privilege]) -> Result<(), AllocError>
 }
 
 /// Adds the lines of a need.
-fn push_need(alloc: Global, text: &mut String, why: &WhyNeed) -> Result<(), AllocError>
-    ensures { OnOk result (string_bytes text.new ≡ string_bytes text.old ++ need_lines why.now) }
+fn push_need(
+    alloc: Global,
+    text: &mut String,
+    chains: &[Chain],
+    why: &WhyNeed,
+) -> Result<(), AllocError>
+    ensures { OnOk result (string_bytes text.new ≡ string_bytes text.old ++ need_lines chains.now why.now) }
 {
     let names = short_privileges(alloc, why.set)?;
     text.push_str("need")?;
@@ -160,18 +178,24 @@ fn push_need(alloc: Global, text: &mut String, why: &WhyNeed) -> Result<(), Allo
     push_set(
         alloc,
         text,
-        why.list.as_slice(),
+        &why.force,
+        chains,
         why.set,
         why.rulings.as_slice(),
     )
 }
 
 /// Adds the lines of each need.
-fn push_needs(alloc: Global, text: &mut String, whys: &[WhyNeed]) -> Result<(), AllocError>
-    ensures { OnOk result (string_bytes text.new ≡ string_bytes text.old ++ flat_map need_lines whys.now) }
+fn push_needs(
+    alloc: Global,
+    text: &mut String,
+    chains: &[Chain],
+    whys: &[WhyNeed],
+) -> Result<(), AllocError>
+    ensures { OnOk result (string_bytes text.new ≡ string_bytes text.old ++ flat_map (need_lines chains.now) whys.now) }
 {
     for why in whys {
-        push_need(alloc, text, why)?;
+        push_need(alloc, text, chains, why)?;
     }
     Ok(())
 }
@@ -211,12 +235,17 @@ fn push_verdict(alloc: Global, text: &mut String, denial: &Option<Denial>) -> Re
 }
 
 /// The verdict, and then each need.
-pub(crate) fn why_text(alloc: Global, whys: &[WhyNeed]) -> Result<String, AllocError>
-    ensures { IfOk result (λ text. string_bytes text ≡ why_text whys.now) }
+pub(crate) fn why_text(alloc: Global, why: &Why) -> Result<String, AllocError>
+    ensures { IfOk result (λ text. string_bytes text ≡ why_text why.now) }
 {
-    let denial = first_denial(whys)?;
+    let denial = first_denial(why.needs.as_slice())?;
     let mut text = String::new(alloc);
     push_verdict(alloc, &mut text, &denial)?;
-    push_needs(alloc, &mut text, whys)?;
+    push_needs(
+        alloc,
+        &mut text,
+        why.chains.as_slice(),
+        why.needs.as_slice(),
+    )?;
     Ok(text)
 }

@@ -5,14 +5,17 @@ ghost use Rattle.book_office.specs.Keeping.{Reads};
 ghost use Rattle.book_office.specs.Levels.{effective_at};
 ghost use Rattle.book_office_listings.specs.Rulings.{AreRulings};
 ghost use Rattle.book_office_listings.specs.Verdicts.{here_of, owner_at};
-ghost use Rattle.book_questions.specs.Whys.{AreWhys, IsWhy, IsWhyNeed};
+ghost use Rattle.book_lists.specs.Memberships.{set_of};
+ghost use Rattle.book_questions.specs.Whys.{AreWhys, IsInForce, IsWhy, IsWhyNeed};
+ghost use Rattle.book_questions_chains.specs.Chains.{AreChainsOf};
 
-use crate::whys::WhyNeed;
-use book_lists::{Circle, Here, Principal};
+use crate::whys::{InForce, Why, WhyNeed};
+use book_lists::{Caller, Circle, Here, Membership, Principal};
 use book_machine::{Needed, PlacedNeed, principal_of};
 use book_office::{Keeper, StoreFault, effective};
 use book_office_listings::{Ruling, rulings};
 use book_office_values::{Items, Path};
+use book_questions_chains::{Chain, chains_of};
 use std::alloc::Global;
 
 /// The owner of the resource at a path, if there is one.
@@ -29,6 +32,32 @@ fn owner_at<K: Keeper>(
     }
 }
 
+/// What entries ask of the resource at a path.
+pub(crate) fn here_at<K: Keeper>(
+    alloc: Global,
+    keeper: &mut K,
+    path: &Path,
+) -> Result<Here, StoreFault>
+    ensures { Reads (K.standing keeper.old) (K.standing keeper.new) result (λ o here. here ≡ here_of o path.now) }
+{
+    let principal = principal_of(alloc, path)?;
+    let owner = owner_at(alloc, keeper, path)?;
+    Ok(Here { owner, principal })
+}
+
+/// The entries in force at a path, and what they ask of the resource there.
+pub(crate) fn in_force<K: Keeper>(
+    alloc: Global,
+    keeper: &mut K,
+    path: &Path,
+) -> Result<InForce, StoreFault>
+    ensures { Reads (K.standing keeper.old) (K.standing keeper.new) result (λ o force. IsInForce o path.now force) }
+{
+    let list = effective(alloc, keeper, path)?;
+    let here = here_at(alloc, keeper, path)?;
+    Ok(InForce { list, here })
+}
+
 /// The rulings on all leaves at a path, in order, by the entries in force there, for the principals of a circle.
 fn rulings_in_force<K: Keeper>(
     alloc: Global,
@@ -39,10 +68,8 @@ fn rulings_in_force<K: Keeper>(
     ensures { Reads (K.standing keeper.old) (K.standing keeper.new) result
         (λ o rulings. AreRulings (effective_at o path.now) circle.now (here_of o path.now) rulings) }
 {
-    let principal = principal_of(alloc, path)?;
-    let owner = owner_at(alloc, keeper, path)?;
+    let here = here_at(alloc, keeper, path)?;
     let lists = keeper.lists(alloc, path)?;
-    let here = Here { owner, principal };
     Ok(rulings(alloc, lists.levels.as_slice(), circle, &here)?)
 }
 
@@ -56,12 +83,12 @@ fn why_need<K: Keeper>(
     ensures { Reads (K.standing keeper.old) (K.standing keeper.new) result (λ o why. IsWhyNeed o circle.now need.now why) }
 {
     let resource = need.resource.clone()?;
-    let list = effective(alloc, keeper, &need.resource)?;
     let rulings = rulings_in_force(alloc, keeper, circle, &need.resource)?;
+    let force = in_force(alloc, keeper, &need.resource)?;
     Ok(WhyNeed {
         resource,
         set: need.set,
-        list,
+        force,
         rulings,
     })
 }
@@ -88,15 +115,42 @@ fn why_each<K: Keeper>(
     Ok(whys)
 }
 
-/// What decides each need of a request, for its caller.
-pub(crate) fn whys_of<K: Keeper>(
+/// The direct members of all groups, each as a pair.
+pub(crate) fn listed_pairs<K: Keeper>(
+    alloc: Global,
+    keeper: &mut K,
+) -> Result<Vec<Membership>, StoreFault>
+    ensures { Reads (K.standing keeper.old) (K.standing keeper.new) result (λ o pairs. set_of pairs.items ≡ o.pairs) }
+{
+    let pairs = keeper.pairs(alloc)?;
+    Ok(pairs.list()?)
+}
+
+/// A shortest chain to each principal to which a caller belongs.
+fn chains_at<K: Keeper>(
+    alloc: Global,
+    keeper: &mut K,
+    caller: &Caller,
+) -> Result<Items<Chain>, StoreFault>
+    ensures { Reads (K.standing keeper.old) (K.standing keeper.new) result (λ o chains. AreChainsOf o.pairs caller.now chains) }
+{
+    let pairs = listed_pairs(alloc, keeper)?;
+    Ok(chains_of(alloc, pairs.as_slice(), caller)?)
+}
+
+/// What decides each need of a request, for its caller, with the chains by which it belongs to principals.
+pub(crate) fn why_of<K: Keeper>(
     alloc: Global,
     keeper: &mut K,
     needed: &Needed,
-) -> Result<Items<WhyNeed>, StoreFault>
-    ensures { Reads (K.standing keeper.old) (K.standing keeper.new) result (λ o whys. IsWhy o needed.now whys) }
+) -> Result<Why, StoreFault>
+    ensures { Reads (K.standing keeper.old) (K.standing keeper.new) result (λ o why. IsWhy o needed.now why) }
 {
     let circle = keeper.circle(alloc, &needed.caller)?;
     let whys = why_each(alloc, keeper, &circle, needed.needs.as_slice())?;
-    Ok(Items::from_vec(whys))
+    let chains = chains_at(alloc, keeper, &needed.caller)?;
+    Ok(Why {
+        needs: Items::from_vec(whys),
+        chains,
+    })
 }

@@ -4,6 +4,10 @@
 #![tactic(auto)]
 
 #[cfg(test)]
+mod chains;
+#[cfg(test)]
+mod everybody;
+#[cfg(test)]
 mod offices;
 #[cfg(test)]
 mod whys;

@@ -66,7 +66,7 @@ const ENTRIES: &[Asked] = &[
          x-read-texts denied by 7, 1 at /books\n  own deny /people/bob read\n \
          write-content denied by 5, 2 at /books/sales/b.vcf\n  own deny /people/bob write-content\n \
          write-properties denied, none granted\n \
-         bind granted by 6, 1 at /books/sales\n  own grant /groups/crew bind\n \
+         bind granted by 6, 1 at /books/sales\n  own grant /groups/crew bind\n  by /people/bob in /groups/staff in /groups/crew\n \
          unbind denied, none granted\n \
          read-acl denied, none granted\n \
          write-acl denied, none granted\n \
@@ -89,7 +89,7 @@ const NEEDS: &[Asked] = &[
         "bob PUT /books/sales/new.vcf",
         "granted\n\
          need bind at /books/sales\n \
-         bind granted by 4, 1 at /books/sales\n  own grant /groups/crew bind\n",
+         bind granted by 4, 1 at /books/sales\n  own grant /groups/crew bind\n  by /people/bob in /groups/staff in /groups/crew\n",
     ),
     (
         "ann DELETE /books/sales",
@@ -115,7 +115,7 @@ const NEEDS: &[Asked] = &[
          x-read-texts denied by 7, 1 at /books\n  own deny /people/bob read\n \
          x-read-names denied by 7, 1 at /books\n  own deny /people/bob read\n\
          need bind at /books/sales\n \
-         bind granted by 4, 1 at /books/sales\n  own grant /groups/crew bind\n",
+         bind granted by 4, 1 at /books/sales\n  own grant /groups/crew bind\n  by /people/bob in /groups/staff in /groups/crew\n",
     ),
     (
         "- PROPFIND:acl /books",

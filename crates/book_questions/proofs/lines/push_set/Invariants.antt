@@ -4,4 +4,4 @@ use Rattle.book_questions.proofs.lines.push_set.Given as goal
 
 -- the rulings so far
 abbrev pub invariant-loop-ruling : goal.invariant-loop-ruling
-invariant-loop-ruling l = string_bytes l.text ≡ string_bytes l.fn.text ++ flat_map (ruled_lines l.list l.set) (take l.ruling-index l.rulings)
+invariant-loop-ruling l = string_bytes l.text ≡ string_bytes l.fn.text ++ flat_map (ruled_lines l.force l.chains l.set) (take l.ruling-index l.rulings)

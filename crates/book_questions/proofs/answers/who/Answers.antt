@@ -1,0 +1,21 @@
+use Rattle.book_questions.proofs.Common.{◌∙◌, Ok, string_bytes, subst, sym}
+use Rattle.book_questions.specs.Who.{IsWhoText, TellsWho}
+use Rattle.book_questions.proofs.answers.who.Goals as goal
+
+pub returns : goal.returns
+returns g c =
+    let first = c.in_ok-at.ensures in
+    let second = c.in_ok-text.ensures in
+    record {
+      was_honest = λ h. first.was_honest (second.was_honest h);
+      tells = λ h o stands.
+          let was = second.was_honest h in
+          subst (λ text. TellsWho o c.args.denied c.args.privilege c.args.path.now (Ok text)) (sym c.from_string.ensures) (
+            c.in_ok-at.at,
+            first.tells was o stands,
+            subst (λ set. IsWhoText o c.args.denied c.in_ok-at.at set (string_bytes c.in_ok-text.text)) c.leaves.ensures (second.value h o (first.kept was o stands)),
+          );
+      kept = λ h o stands. let was = second.was_honest h in second.kept h o (first.kept was o stands);
+      left = λ h x left. first.left (second.was_honest h) x (second.left h x left);
+      counted = second.counted ∙ first.counted;
+    }

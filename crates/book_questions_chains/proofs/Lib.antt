@@ -1,0 +1,2 @@
+pub mod Climbs
+pub mod ChainLaws
