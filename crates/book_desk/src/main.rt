@@ -18,8 +18,8 @@ mod progress;
 use beginnings::BEGINNING;
 use book_desk_app::{
     DONE, Failure, InputFault, Lines, Noting, Prepared, REFUSED, StoreFailure, TextCommand,
-    WhyWords, Work, begin, prepare, run, run_migration, run_text, run_why, serve, serve_many, tell,
-    tell_line,
+    WhoWords, WhyWords, Work, begin, prepare, run, run_migration, run_text, run_who, run_why,
+    serve, serve_many, tell, tell_line,
 };
 use book_desk_loop::{Limits, Polled};
 use book_desk_words::{Command, WordsFault, command_of, words_not_text};
@@ -198,6 +198,15 @@ fn words_of_why<'a>(
     }
 }
 
+/// The words of a question about everybody.
+fn words_of_who<'a>(privilege: &'a str, path: &'a str, denied: bool) -> WhoWords<'a> {
+    WhoWords {
+        privilege,
+        path,
+        denied,
+    }
+}
+
 /// The command `why`: the store's file, which has to be there, is opened, and the question answered.
 fn why<W: Write, E: Lines>(
     rt: &HostRuntime,
@@ -215,6 +224,27 @@ fn why<W: Write, E: Lines>(
         return tell(errors, &Failure::Store(StoreFailure::NoStore));
     };
     let (status, left) = run_why(rt.alloc(), words, store, writer, errors);
+    close(left);
+    status
+}
+
+/// The command `who`: the store's file, which has to be there, is opened, and the question answered.
+fn who<W: Write, E: Lines>(
+    rt: &HostRuntime,
+    store: String,
+    words: &WhoWords<'_>,
+    writer: &mut W,
+    errors: &mut E,
+) -> u8 {
+    let Opened { store, policy } = match open_inputs(rt, &Some(store), &None, true) {
+        Ok(opened) => opened,
+        Err(failure) => return tell(errors, &failure),
+    };
+    drop(policy);
+    let Some(store) = store else {
+        return tell(errors, &Failure::Store(StoreFailure::NoStore));
+    };
+    let (status, left) = run_who(rt.alloc(), words, store, writer, errors);
     close(left);
     status
 }
@@ -432,6 +462,15 @@ fn perform<W: Write, E: Lines>(
                 destination.as_deref(),
             );
             why(rt, store, &words, writer, errors)
+        }
+        Command::Who {
+            store,
+            privilege,
+            path,
+            denied,
+        } => {
+            let words = words_of_who(privilege.as_str(), path.as_str(), denied);
+            who(rt, store, &words, writer, errors)
         }
         Command::Serve {
             port,

@@ -1,4 +1,4 @@
-pub mod Asking
+pub mod EndedQuestions
 pub mod Common
 pub mod Answering
 pub mod ShortTexts
@@ -7,3 +7,4 @@ pub mod Behind
 pub mod GivenBack
 pub mod InTurn
 pub mod AtOnce
+pub mod RefusalNames

@@ -18,3 +18,8 @@ pub record Tells (was_whole is_whole : Bool) (held holds : Option (List ℕ)) (t
 pub record TellsFailure (is_whole : Bool) (held holds : Option (List ℕ)) (failure : Failure) : Type 0 where
   pub front : IsTold (failure_text failure) held holds
   pub line : IsTrue is_whole → Appends held holds (failure_text failure ++ codes "\n")
+
+-- the same of any text
+pub record TellsLine (is_whole : Bool) (held holds : Option (List ℕ)) (text : List ℕ) : Type 0 where
+  pub front : IsTold text held holds
+  pub line : IsTrue is_whole → Appends held holds (text ++ codes "\n")

@@ -16,8 +16,8 @@
 //! Read `text_commands` and `dispatch` first, then `explaining`, `card_summaries`, and `streams` and `short_texts`,
 //! which read. Then `works`, which makes a task, `tasks`, which joins `policies`, `importing`, `auditing` and `piping`,
 //! and `memory`; `stores` and `running`; `adoptions`, `preparing`, `connections`, `listening`, and `looping`, which
-//! serves many connections at once; `beginning`; `questions`, which `run_why` answers over a store. `failures`, `lines`, `text_failures` and `serving_failures` have what is told on
-//! standard error.
+//! serves many connections at once; `beginning`; `questions`, which `run_why` and `run_who` answer over a store.
+//! `failures`, `lines`, `text_failures` and `serving_failures` have what is told on standard error.
 #![tactic(auto)]
 
 mod adoptions;
@@ -64,7 +64,7 @@ pub use migrations::run_migration;
 pub use piping::pipe;
 pub use policies::policy_of;
 pub use preparing::{Prepared, prepare};
-pub use questions::{Unanswered, WhyWords, run_why};
+pub use questions::{Asked, Asking, Unanswered, WhoWords, WhyWords, run_who, run_why};
 pub use running::run;
 pub use serving_failures::{AdoptionFailure, StreamFailure};
 pub use short_texts::read_short_text;

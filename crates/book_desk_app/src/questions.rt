@@ -1,13 +1,15 @@
-//! Telling why something is granted or denied in a store.
+//! Answering questions about a store: why something is granted to a caller, or denied; and to whom a privilege is granted.
 
-ghost use Rattle.std.specs.Prelude.{◌≡◌, ◌++◌, IfErr, OnOk, codes};
+ghost use Rattle.std.specs.Prelude.{◌≡◌, ◌++◌, ◌≤◌, IfErr, IfOk, OnOk, codes, length};
 ghost use Rattle.std.specs.Option.{option_copied};
 ghost use Rattle.std.specs.Io.KnownBytes.{Keeps};
 ghost use Rattle.sqlite.specs.Held.{state};
-ghost use Rattle.book_desk_app.specs.Failures.{IsTold};
-ghost use Rattle.book_desk_app.specs.Questions.{Answers, AnswersIn, AnswersOver, EndsWhy, FailsToAnswer, RunsWhy, caller_in, refused_status, unanswered_status, unanswered_text};
+ghost use Rattle.book_machine.specs.Asking.{StageAsks};
+ghost use Rattle.book_desk_app.specs.Questions.{Answers, AnswersIn, AnswersOver, AsksWho, AsksWhoNothing, AsksWhy, AsksWhyNothing, EndsAsked, FailsToAnswer, RunsAsked, TellsAsked, asking_name, asking_of, caller_in, refused_status, unanswered_status, unanswered_text};
+ghost use Rattle.book_machine.specs.Refusals.{refusal_name};
 ghost use Rattle.book_desk_app.specs.Runs.{IsNotHad};
-ghost use Rattle.book_desk_app.specs.declared.questions.Unanswered.TheVariants.{Refused};
+ghost use Rattle.book_desk_app.specs.Telling.{TellsLine};
+ghost use Rattle.book_desk_app.specs.declared.questions.Asking.TheVariants as asking;
 ghost use Rattle.book_tables.specs.declared.tables.Tables.{Tables};
 
 use crate::failures::Failure;
@@ -15,13 +17,19 @@ use crate::lines::Lines;
 use crate::stores::open_store;
 use crate::telling::tell_line;
 use crate::text_failures::{BROKEN, DONE, REFUSED};
+use arrayvec::ArrayString;
 use book_machine::{Machine, Refusal};
 use book_office::Keeper;
-use book_questions::{Question, question_of, why};
+use book_office_values::{Path, PathFault, Text};
+use book_questions::{Question, question_of, who, why};
+use book_rights::Privilege;
 use book_tables::Tables;
 use sqlite::{Alter, Connection};
 use std::alloc::Global;
 use std::io::Write;
+
+/// The most bytes of a line that tells why a question was not answered.
+const MAX_LINE: usize = 64;
 
 /// The words of a question about a caller.
 #[derive(Clone, Copy, Drop)]
@@ -36,13 +44,42 @@ pub struct WhyWords<'a> {
     pub destination: Option<&'a str>,
 }
 
+/// The words of a question about everybody.
+#[derive(Clone, Copy, Drop)]
+pub struct WhoWords<'a> {
+    /// The privilege.
+    pub privilege: &'a str,
+    /// The path of the resource.
+    pub path: &'a str,
+    /// Whether those to whom it is denied are told.
+    pub denied: bool,
+}
+
+/// The command that asks.
+#[derive(Clone, Copy, Debug, PartialEq, Eq)]
+pub enum Asking {
+    /// `why`.
+    Why,
+    /// `who`.
+    Who,
+}
+
+/// A question about a store.
+#[derive(Debug, Drop)]
+pub enum Asked {
+    /// Why something is granted to a caller, by the word that names the caller, or denied.
+    Why(Text, Question),
+    /// To whom a privilege is granted at a path, or with the flag to whom it is denied; no path where its text was none.
+    Who(Privilege, Option<Path>, bool),
+}
+
 /// Why a question was not answered (own profile).
 #[derive(Debug, Drop)]
 pub enum Unanswered {
-    /// `why: NAME`: the refusal of a request that ends before its needs; `why: unavailable`: memory was refused, or the
-    /// store failed.
+    /// `why: NAME`, `who: NAME`: the refusal of a request that ends before its needs; `unavailable`: memory was refused,
+    /// or the store failed.
     Refused(Refusal),
-    /// `why: unknown-privilege`: a word is neither a method nor a privilege.
+    /// `why: unknown-privilege`: a word is neither a method nor a privilege; `who: unknown-privilege`: it is none.
     UnknownPrivilege,
     /// `output: write`: the answer could not be written.
     Output,
@@ -91,65 +128,99 @@ fn status_of(failure: &Unanswered) -> u8
     }
 }
 
-/// The line of a refusal.
-fn refused_line(refusal: &Refusal) -> &'static str
-    ensures { result.now ≡ unanswered_text (Refused refusal.now) ++ codes "\n" }
+/// The name of the command.
+fn asking_name(asking: Asking) -> &'static str
+    ensures { result.now ≡ asking_name asking }
 {
-    match refusal {
-        Refusal::BadRequest => "why: bad-request\n",
-        Refusal::UnknownCaller => "why: unknown-caller\n",
-        Refusal::BadCard(_) => "why: bad-card\n",
-        Refusal::NeedPrivileges(_) => "why: need-privileges\n",
-        Refusal::NoProtectedAceConflict => "why: no-protected-ace-conflict\n",
-        Refusal::NoInheritedAceConflict => "why: no-inherited-ace-conflict\n",
-        Refusal::LimitedNumberOfAces => "why: limited-number-of-aces\n",
-        Refusal::NotSupportedPrivilege => "why: not-supported-privilege\n",
-        Refusal::RecognizedPrincipal => "why: recognized-principal\n",
-        Refusal::ValidSyncToken => "why: valid-sync-token\n",
-        Refusal::NotFound => "why: not-found\n",
-        Refusal::NotAllowed(_) => "why: not-allowed\n",
-        Refusal::NoParent => "why: no-parent\n",
-        Refusal::Overwrite => "why: overwrite\n",
-        Refusal::BodyOnMkcol => "why: body-on-mkcol\n",
-        Refusal::Full => "why: full\n",
-        Refusal::Unavailable => "why: unavailable\n",
+    match asking {
+        Asking::Why => "why",
+        Asking::Who => "who",
     }
 }
 
+/// The command of a question.
+fn asking_of(asked: &Asked) -> Asking
+    ensures { result ≡ asking_of asked.now }
+{
+    match asked {
+        Asked::Why(_, _) => Asking::Why,
+        Asked::Who(_, _, _) => Asking::Who,
+    }
+}
+
+/// A line of a command and a name.
+fn named_line(command: &str, name: &str) -> ArrayString<MAX_LINE>
+    requires command { length command.now ≤ 8 }
+    requires name { length name.now ≤ 32 }
+    ensures { result.bytes ≡ (command.now ++ (codes ": " ++ name.now)) ++ codes "\n" }
+{
+    let mut line = ArrayString::new();
+    line.push_str(command);
+    line.push_str(": ");
+    line.push_str(name);
+    line.push_str("\n");
+    line
+}
+
+/// The line of a refusal, whose names are those that a reply has.
+#[tactic(auto, using(crate::proofs::RefusalNames::refusal_names_are_short))]
+fn refused_line(command: &str, refusal: &Refusal) -> ArrayString<MAX_LINE>
+    requires { length command.now ≤ 8 }
+    ensures { result.bytes ≡ (command.now ++ (codes ": " ++ refusal_name refusal.now)) ++ codes "\n" }
+{
+    named_line(command, refusal.name())
+}
+
 /// The line that is told.
-fn line_of(failure: &Unanswered) -> &'static str
-    ensures { result.now ≡ unanswered_text failure.now ++ codes "\n" }
+#[tactic(auto, using(crate::proofs::RefusalNames::asking_names_are_short))]
+fn line_of(asking: Asking, failure: &Unanswered) -> ArrayString<MAX_LINE>
+    ensures { result.bytes ≡ unanswered_text asking failure.now ++ codes "\n" }
 {
     match failure {
-        Unanswered::Refused(refusal) => refused_line(refusal),
-        Unanswered::UnknownPrivilege => "why: unknown-privilege\n",
-        Unanswered::Output => "output: write\n",
+        Unanswered::Refused(refusal) => refused_line(asking_name(asking), refusal),
+        Unanswered::UnknownPrivilege => named_line(asking_name(asking), "unknown-privilege"),
+        Unanswered::Output => named_line("output", "write"),
     }
 }
 
 /// Tells why a question was not answered, and gives the status of the program.
-fn tell_unanswered<E: Lines>(errors: &mut E, failure: &Unanswered) -> u8
+fn tell_unanswered<E: Lines>(errors: &mut E, asking: Asking, failure: &Unanswered) -> u8
     ensures status { result ≡ unanswered_status failure.now }
-    ensures told { IsTold (unanswered_text failure.now) (E.Write.contents errors.old) (E.Write.contents errors.new) }
+    ensures told { TellsLine (E.is_whole errors.new) (E.Write.contents errors.old) (E.Write.contents errors.new)
+        (unanswered_text asking failure.now) }
 {
-    errors.put(line_of(failure).as_bytes());
+    let line = line_of(asking, failure);
+    errors.put(line.as_str().as_bytes());
     status_of(failure)
+}
+
+/// The answer to a question.
+fn answer_of<K: Keeper>(
+    alloc: Global,
+    machine: &mut Machine<K>,
+    asked: &Asked,
+) -> Result<Text, Refusal>
+    ensures { StageAsks K.standing machine.old machine.new result (λ o r. TellsAsked o asked.now r) }
+{
+    match asked {
+        Asked::Why(caller, question) => why(alloc, machine, caller_in(caller.as_str()), question),
+        Asked::Who(privilege, path, denied) => who(alloc, machine, *privilege, path, *denied),
+    }
 }
 
 /// Writes the answer to a question.
 fn write_answer<K: Keeper, W: Write>(
     alloc: Global,
     machine: &mut Machine<K>,
-    name: Option<&str>,
-    question: &Question,
+    asked: &Asked,
     writer: &mut W,
 ) -> Result<(), Unanswered>
-    ensures told { OnOk result (Answers (K.standing machine.old.keeper) (option_copied name.entry) question.now (W.contents writer.old) (W.contents writer.new)
+    ensures told { OnOk result (Answers (K.standing machine.old.keeper) asked.now (W.contents writer.old) (W.contents writer.new)
         (K.standing machine.new.keeper)) }
-    ensures failed { IfErr result (FailsToAnswer (K.standing machine.old.keeper) (option_copied name.entry) question.now (W.contents writer.old) (W.contents writer.new)
+    ensures failed { IfErr result (FailsToAnswer (K.standing machine.old.keeper) asked.now (W.contents writer.old) (W.contents writer.new)
         (K.standing machine.new.keeper)) }
 {
-    let text = match why(alloc, machine, name, question) {
+    let text = match answer_of(alloc, machine, asked) {
         Ok(text) => text,
         Err(refusal) => return Err(Unanswered::Refused(refusal)),
     };
@@ -163,64 +234,90 @@ fn write_answer<K: Keeper, W: Write>(
 fn answer<K: Keeper, W: Write, E: Lines>(
     alloc: Global,
     machine: &mut Machine<K>,
-    name: Option<&str>,
-    question: &Question,
+    asked: &Asked,
     writer: &mut W,
     errors: &mut E,
 ) -> u8
-    ensures ends { EndsWhy (λ text. IsTold text (E.Write.contents errors.old) (E.Write.contents errors.new)) (K.standing machine.old.keeper)
-        (option_copied name.entry) question.now (W.contents writer.old) (W.contents writer.new) result (K.standing machine.new.keeper) }
+    ensures ends { EndsAsked (TellsLine (E.is_whole errors.new) (E.Write.contents errors.old) (E.Write.contents errors.new))
+        (K.standing machine.old.keeper) asked.now (W.contents writer.old) (W.contents writer.new) result (K.standing machine.new.keeper) }
     ensures silent { result ≡ 0 → Keeps (E.Write.contents errors.old) (E.Write.contents errors.new) }
 {
-    match write_answer(alloc, machine, name, question, writer) {
+    match write_answer(alloc, machine, asked, writer) {
         Ok(()) => DONE,
-        Err(failure) => tell_unanswered(errors, &failure),
+        Err(failure) => tell_unanswered(errors, asking_of(asked), &failure),
     }
 }
 
 /// Answers a question over the tables of a store, and gives them back.
 fn answer_over<S: Alter + Drop, W: Write, E: Lines>(
     alloc: Global,
-    words: &WhyWords<'_>,
-    question: &Question,
+    asked: &Asked,
     tables: Tables<S>,
     writer: &mut W,
     errors: &mut E,
 ) -> (u8, Tables<S>)
     ensures ends { AnswersOver (state S.Store) (λ t. t.connection) (λ t. t.failures)
-        (λ text. IsTold text (E.Write.contents errors.old) (E.Write.contents errors.new)) words.now question.now tables
+        (TellsLine (E.is_whole errors.new) (E.Write.contents errors.old) (E.Write.contents errors.new)) asked.now tables
         (W.contents writer.old) (W.contents writer.new) result.0 result.1 }
     ensures silent { result.0 ≡ 0 → Keeps (E.Write.contents errors.old) (E.Write.contents errors.new) }
 {
     let mut machine = Machine::new(tables);
-    let name = caller_in(words.caller);
-    let status = answer(alloc, &mut machine, name, question, writer, errors);
+    let status = answer(alloc, &mut machine, asked, writer, errors);
     (status, machine.release())
 }
 
 /// Answers a question over a store, and gives the connection back where its tables were had.
 fn answer_in<S: Alter + Drop, W: Write, E: Lines>(
     alloc: Global,
-    words: &WhyWords<'_>,
-    question: &Question,
+    asked: &Asked,
     store: Connection<S>,
     writer: &mut W,
     errors: &mut E,
 ) -> (u8, Option<Connection<S>>)
     ensures runs { AnswersIn {K = Tables S} (state S.Store) (λ t. t.connection) (λ t. t.failures)
-        (λ text. IsTold text (E.Write.contents errors.old) (E.Write.contents errors.new)) (IsNotHad S.Store) words.now question.now store
+        (TellsLine (E.is_whole errors.new) (E.Write.contents errors.old) (E.Write.contents errors.new)) (IsNotHad S.Store) asked.now store
         (W.contents writer.old) (W.contents writer.new) result.0 result.1 }
     ensures silent { result.0 ≡ 0 → Keeps (E.Write.contents errors.old) (E.Write.contents errors.new) }
 {
     match open_store(alloc, store) {
         Ok(tables) => {
-            let (status, tables) = answer_over(alloc, words, question, tables, writer, errors);
+            let (status, tables) = answer_over(alloc, asked, tables, writer, errors);
             (status, Some(tables.release()))
         }
         Err((failure, left)) => {
             drop(left);
             (tell_line(errors, &Failure::Store(failure)), None)
         }
+    }
+}
+
+/// What the words ask about a caller.
+fn asked_of_caller(alloc: Global, words: &WhyWords<'_>) -> Result<Asked, Unanswered>
+    ensures asks { IfOk result (AsksWhy words.now) }
+    ensures nothing { IfErr result (AsksWhyNothing words.now) }
+{
+    let Ok(caller) = String::from_str(alloc, words.caller) else {
+        return Err(Unanswered::Refused(Refusal::Unavailable));
+    };
+    match question_of(alloc, words.what, words.path, words.destination) {
+        Ok(Some(question)) => Ok(Asked::Why(Text::from_string(caller), question)),
+        Ok(None) => Err(Unanswered::UnknownPrivilege),
+        Err(_) => Err(Unanswered::Refused(Refusal::Unavailable)),
+    }
+}
+
+/// What the words ask about everybody.
+fn asked_of_all(alloc: Global, words: &WhoWords<'_>) -> Result<Asked, Unanswered>
+    ensures asks { IfOk result (AsksWho words.now) }
+    ensures nothing { IfErr result (AsksWhoNothing words.now) }
+{
+    let Some(privilege) = Privilege::from_name(words.privilege) else {
+        return Err(Unanswered::UnknownPrivilege);
+    };
+    match Path::parse(alloc, words.path) {
+        Ok(path) => Ok(Asked::Who(privilege, Some(path), words.denied)),
+        Err(PathFault::BadPath) => Ok(Asked::Who(privilege, None, words.denied)),
+        Err(PathFault::Memory) => Err(Unanswered::Refused(Refusal::Unavailable)),
     }
 }
 
@@ -236,20 +333,36 @@ pub fn run_why<S: Alter + Drop, W: Write, E: Lines>(
     writer: &mut W,
     errors: &mut E,
 ) -> (u8, Option<Connection<S>>)
-    ensures runs { RunsWhy {K = Tables S} (state S.Store) (λ t. t.connection) (λ t. t.failures)
-        (λ text. IsTold text (E.Write.contents errors.old) (E.Write.contents errors.new)) (IsNotHad S.Store) words.now store
-        (W.contents writer.old) (W.contents writer.new) result.0 result.1 }
+    ensures runs { RunsAsked {K = Tables S} (state S.Store) (λ t. t.connection) (λ t. t.failures)
+        (TellsLine (E.is_whole errors.new) (E.Write.contents errors.old) (E.Write.contents errors.new)) (IsNotHad S.Store)
+        asking.Why (AsksWhy words.now) (AsksWhyNothing words.now) store (W.contents writer.old) (W.contents writer.new) result.0 result.1 }
     ensures silent { result.0 ≡ 0 → Keeps (E.Write.contents errors.old) (E.Write.contents errors.new) }
 {
-    match question_of(alloc, words.what, words.path, words.destination) {
-        Ok(Some(question)) => answer_in(alloc, words, &question, store, writer, errors),
-        Ok(None) => (
-            tell_unanswered(errors, &Unanswered::UnknownPrivilege),
-            Some(store),
-        ),
-        Err(_) => (
-            tell_unanswered(errors, &Unanswered::Refused(Refusal::Unavailable)),
-            Some(store),
-        ),
+    match asked_of_caller(alloc, words) {
+        Ok(asked) => answer_in(alloc, &asked, store, writer, errors),
+        Err(failure) => (tell_unanswered(errors, Asking::Why, &failure), Some(store)),
+    }
+}
+
+/// Tells to whom a privilege is granted at a path in a store, or denied, and gives the status of the program: 0 where it
+/// is told, 1 where the question was refused, 3 where memory was refused, or the store or a write failed. A failure is
+/// told on `errors`. The Office stays. The connection comes back, but where the tables could not be opened.
+///
+/// Faults come in this order: the words, the tables, the question.
+pub fn run_who<S: Alter + Drop, W: Write, E: Lines>(
+    alloc: Global,
+    words: &WhoWords<'_>,
+    store: Connection<S>,
+    writer: &mut W,
+    errors: &mut E,
+) -> (u8, Option<Connection<S>>)
+    ensures runs { RunsAsked {K = Tables S} (state S.Store) (λ t. t.connection) (λ t. t.failures)
+        (TellsLine (E.is_whole errors.new) (E.Write.contents errors.old) (E.Write.contents errors.new)) (IsNotHad S.Store)
+        asking.Who (AsksWho words.now) (AsksWhoNothing words.now) store (W.contents writer.old) (W.contents writer.new) result.0 result.1 }
+    ensures silent { result.0 ≡ 0 → Keeps (E.Write.contents errors.old) (E.Write.contents errors.new) }
+{
+    match asked_of_all(alloc, words) {
+        Ok(asked) => answer_in(alloc, &asked, store, writer, errors),
+        Err(failure) => (tell_unanswered(errors, Asking::Who, &failure), Some(store)),
     }
 }

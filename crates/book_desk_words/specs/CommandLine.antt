@@ -10,7 +10,7 @@ use Rattle.clap.specs.declared.builder.value_parser.ValueParser.TheVariants as p
 use Rattle.clap.specs.declared.error.kind.ErrorKind.{ErrorKind}
 use Rattle.clap.specs.declared.error.kind.ErrorKind.TheVariants as kind
 use Rattle.book_desk_words.specs.declared.commands.Command.{Command}
-use Rattle.book_desk_words.specs.declared.commands.Command.TheVariants.{Explain, Card, Init, Import, Check, Audit, Migrate, Why, Pipe, Serve, Help, Version}
+use Rattle.book_desk_words.specs.declared.commands.Command.TheVariants.{Explain, Card, Init, Import, Check, Audit, Migrate, Why, Who, Pipe, Serve, Help, Version}
 use Rattle.book_desk_words.specs.declared.commands.WordsFault.{WordsFault}
 use Rattle.book_desk_words.specs.declared.commands.WordsFault.TheVariants.{Usage, Memory}
 use Rattle.book_desk_words.specs.WordsFaults.{IsUsage, serve_wants}
@@ -71,6 +71,13 @@ with_places app = with_rule (with_rule app (word_rule (codes "path"))) (last_wor
 abbrev pub why_app : App
 why_app = with_places (with_question (with_rule (new_app (codes "why")) (required_rule (codes "store"))))
 
+-- a privilege, and where
+abbrev pub with_privilege : App → App
+with_privilege app = with_rule (with_rule app (word_rule (codes "privilege"))) (word_rule (codes "path"))
+
+abbrev pub who_app : App
+who_app = with_rule (with_privilege (with_rule (new_app (codes "who")) (required_rule (codes "store")))) (flag_rule (codes "denied"))
+
 -- the options that name the files of the store and of the policy
 abbrev pub with_files : App → App
 with_files app = with_rule (with_rule app (option_rule (codes "store"))) (option_rule (codes "policy"))
@@ -97,8 +104,8 @@ top_app = on_top (λ s. record s { no_binary_name = true; subcommand_required = 
 -- the whole command line
 abbrev pub program_app : App
 program_app =
-    with_subcommand (with_subcommand (with_subcommand (with_subcommand (with_subcommand (with_subcommand (with_subcommand (with_subcommand (with_subcommand (with_subcommand top_app
-    (new_app (codes "explain")).top) (new_app (codes "card")).top) init_app.top) import_app.top) audit_app.top) migrate_app.top) why_app.top) pipe_app.top) serve_app.top) check_app.top
+    with_subcommand (with_subcommand (with_subcommand (with_subcommand (with_subcommand (with_subcommand (with_subcommand (with_subcommand (with_subcommand (with_subcommand (with_subcommand top_app
+    (new_app (codes "explain")).top) (new_app (codes "card")).top) init_app.top) import_app.top) audit_app.top) migrate_app.top) why_app.top) pipe_app.top) serve_app.top) check_app.top) who_app.top
 
 -- ---- the command that the matches give
 
@@ -156,6 +163,9 @@ ReadsAs name rows (Why store caller what path destination) =
     (name ≡ codes "why") × NamesFile rows (codes "store") (Some store) × NamesFile rows (codes "caller") (Some caller) × NamesFile rows (codes "what") (Some what)
     × NamesFile rows (codes "path") (Some path) × NamesFile rows (codes "destination") destination
     × (leads_on (string_bytes what) ≡ true → is_some destination ≡ true)
+ReadsAs name rows (Who store privilege path denied) =
+    (name ≡ codes "who") × NamesFile rows (codes "store") (Some store) × NamesFile rows (codes "privilege") (Some privilege)
+    × NamesFile rows (codes "path") (Some path) × (denied ≡ has_flag rows (codes "denied"))
 ReadsAs name rows (Pipe store policy) =
     (name ≡ codes "pipe") × NamesFile rows (codes "store") store × NamesFile rows (codes "policy") policy
 ReadsAs name rows (Serve port connections at_once idle store policy existing) =

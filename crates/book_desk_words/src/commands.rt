@@ -9,7 +9,7 @@ ghost use Rattle.book_desk_words.specs.WordsFaults.{IsUsage, not_text, usage_tex
 
 use crate::helps::{NOT_TEXT, SERVE_WANTS, USAGE_LINES};
 use crate::programs::program;
-use crate::questions::why_of;
+use crate::questions::{who_of, why_of};
 use clap::ArgMatches;
 use clap::error::ErrorKind;
 use std::alloc::{AllocError, Global};
@@ -77,6 +77,17 @@ pub enum Command {
         path: String,
         /// The path of a destination. Never missing where `what` is COPY or MOVE.
         destination: Option<String>,
+    },
+    /// Tell to whom a privilege is granted in a store.
+    Who {
+        /// The file of the store.
+        store: String,
+        /// The privilege.
+        privilege: String,
+        /// The path of the resource.
+        path: String,
+        /// Whether those to whom it is denied are told.
+        denied: bool,
     },
     /// Serve the requests on standard input.
     Pipe {
@@ -203,7 +214,7 @@ fn count_in(found: &ArgMatches<'_>, id: &str, most: u16) -> Option<Option<u16>>
 }
 
 /// Whether the words have an option without a value.
-fn flag_in(found: &ArgMatches<'_>, id: &str) -> bool
+pub(crate) fn flag_in(found: &ArgMatches<'_>, id: &str) -> bool
     ensures { result ≡ has_flag (rows_of (found_of found.now)) id.now }
 {
     match found.get_str(id) {
@@ -370,6 +381,7 @@ fn command_named(
         "audit" => audit_of(alloc, found),
         "migrate" => migrate_of(alloc, found),
         "why" => why_of(alloc, found),
+        "who" => who_of(alloc, found),
         "pipe" => pipe_of(alloc, found),
         "serve" => serve_of(alloc, found),
         _ => Ok(None),

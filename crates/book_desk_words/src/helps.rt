@@ -218,7 +218,9 @@ and then for each need, and for each of its leaves
   need NAME .. at PATH
    LEAF granted by N, M at PATH | LEAF denied by N, M at PATH | LEAF denied, none granted
     protected|own grant|deny [not] WHO NAME ..
-N is the number of the entry in the list in force, from 1, and M in the list that stands at PATH.
+    by PERSON in GROUP ..
+N is the number of the entry in the list in force, from 1, and M in the list that stands at PATH. The last line has the
+fewest groups by which the caller belongs to WHO, where there are any.
 
 Told on standard error, on a line
   why: unknown-caller     the caller is no person
@@ -228,6 +230,29 @@ Told on standard error, on a line
   why: no-parent          what would hold the resource is not there
   why: bad-request        the method lacks its report
   why: unavailable        memory was refused, or the store failed
+  store: FAULT            as audit
+  output: write           it could not be written
+
+Status: 0 answered, 1 the question was refused, 2 usage, 3 memory, the store, or a failed write.
+";
+
+pub(crate) const WHO: &str = "Tells to whom a privilege is granted in a store";
+
+pub(crate) const PRIVILEGE: &str = "The privilege";
+
+pub(crate) const DENIED: &str = "Tells those to whom it is denied";
+
+pub(crate) const WHO_TEXT: &str = "\
+It decides as serve does, and changes nothing. As in:
+  book_desk who --store office.db read /books/sales
+A PRIVILEGE is one that explain knows, and something has to be there at PATH.
+
+Output: the path of each person, or nobody, on a line, and below it for each leaf of the privilege the lines of why.
+
+Told on standard error, on a line
+  who: unknown-privilege  there is no such privilege
+  who: not-found          nothing is there
+  who: unavailable        memory was refused, or the store failed
   store: FAULT            as audit
   output: write           it could not be written
 

@@ -3,13 +3,14 @@
 ghost use Rattle.std.specs.Prelude.{◌≡◌, IfOk, false, codes};
 ghost use Rattle.clap.specs.Words.{app_of, new_app, rule_of};
 ghost use Rattle.clap.specs.declared.builder.command.Command.TheViews.{out-Command};
-ghost use Rattle.book_desk_words.specs.CommandLine.{program_app, top_app, audit_app, check_app, import_app, init_app, migrate_app, pipe_app, serve_app, why_app, flag_rule, last_word_rule, option_rule, counted_rule, number_rule, required_rule, with_ends, with_files, with_pace, with_places, with_question, word_rule};
+ghost use Rattle.book_desk_words.specs.CommandLine.{program_app, top_app, audit_app, check_app, import_app, init_app, migrate_app, pipe_app, serve_app, who_app, why_app, flag_rule, last_word_rule, option_rule, counted_rule, number_rule, required_rule, with_ends, with_files, with_pace, with_places, with_privilege, with_question, word_rule};
 
 use crate::helps::{
     ABOUT, ASKED_STORE, AT_ONCE, AUDIT, AUDIT_TEXT, CALLER, CARD, CARD_TEXT, CHECK, CHECK_TEXT,
-    CONNECTIONS, DESTINATION, EXISTING, EXPLAIN, FIRST_STORE, FOLDER, FOREVER, FOUNDED_STORE, IDLE,
-    IMPORT, IMPORT_TEXT, INIT, INIT_TEXT, KEPT_STORE, MIGRATE, MIGRATE_TEXT, PIPE, PIPE_TEXT,
-    POLICY, POLICY_WORD, PORT, QUESTION, RESOURCE, SERVE, SERVE_TEXT, VERSION, WHAT, WHY, WHY_TEXT,
+    CONNECTIONS, DENIED, DESTINATION, EXISTING, EXPLAIN, FIRST_STORE, FOLDER, FOREVER,
+    FOUNDED_STORE, IDLE, IMPORT, IMPORT_TEXT, INIT, INIT_TEXT, KEPT_STORE, MIGRATE, MIGRATE_TEXT,
+    PIPE, PIPE_TEXT, POLICY, POLICY_WORD, PORT, PRIVILEGE, QUESTION, RESOURCE, SERVE, SERVE_TEXT,
+    VERSION, WHAT, WHO, WHO_TEXT, WHY, WHY_TEXT,
 };
 use clap::{Arg, ArgAction, value_parser};
 use std::alloc::{AllocError, Global};
@@ -194,6 +195,29 @@ fn why<'a>(alloc: Global) -> Result<clap::Command<'a>, AllocError>
     with_places(alloc, command)
 }
 
+/// The command with the words that name a privilege, and where.
+fn with_privilege<'a>(
+    alloc: Global,
+    command: clap::Command<'a>,
+) -> Result<clap::Command<'a>, AllocError>
+    ensures app { IfOk result (λ c. app_of c ≡ with_privilege (app_of command.entry)) }
+    ensures local { (out-Command command.entry).has_globals ≡ false → IfOk result (λ c. (out-Command c).has_globals ≡ false) }
+{
+    command
+        .arg(word_needed(alloc, "privilege", "PRIVILEGE", PRIVILEGE))?
+        .arg(word_needed(alloc, "path", "PATH", RESOURCE))
+}
+
+fn who<'a>(alloc: Global) -> Result<clap::Command<'a>, AllocError>
+    ensures { IfOk result (λ c. (app_of c ≡ who_app) × ((out-Command c).has_globals ≡ false)) }
+{
+    let command = clap::Command::new(alloc, "who")
+        .about(WHO)
+        .after_help(WHO_TEXT)
+        .arg(file_needed(alloc, "store", ASKED_STORE))?;
+    with_privilege(alloc, command)?.arg(flag_option(alloc, "denied", DENIED))
+}
+
 /// The command with the options that name the files of the store and of the policy.
 fn with_files<'a>(
     alloc: Global,
@@ -274,5 +298,6 @@ pub(crate) fn program<'a>(alloc: Global) -> Result<clap::Command<'a>, AllocError
         .subcommand(why(alloc)?)?
         .subcommand(pipe(alloc)?)?
         .subcommand(serve(alloc)?)?
-        .subcommand(check(alloc)?)
+        .subcommand(check(alloc)?)?
+        .subcommand(who(alloc)?)
 }

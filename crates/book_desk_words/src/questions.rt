@@ -4,7 +4,7 @@ ghost use Rattle.std.specs.Prelude.{◌≡◌, IfNone, IfOk, IfSome, codes};
 ghost use Rattle.clap.specs.Words.{found_of, rows_of};
 ghost use Rattle.book_desk_words.specs.CommandLine.{ReadsAs, ReadsNone, leads_on};
 
-use crate::commands::{Command, file_in};
+use crate::commands::{Command, file_in, flag_in};
 use clap::ArgMatches;
 use std::alloc::{AllocError, Global};
 
@@ -43,5 +43,28 @@ pub(crate) fn why_of(alloc: Global, found: &ArgMatches<'_>) -> Result<Option<Com
         what,
         path,
         destination,
+    }))
+}
+
+/// The command `who` with what the words give it; none where something is missing.
+pub(crate) fn who_of(alloc: Global, found: &ArgMatches<'_>) -> Result<Option<Command>, AllocError>
+    ensures read { IfOk result (λ command. IfSome command (ReadsAs (codes "who") (rows_of (found_of found.now)))) }
+    ensures none { IfOk result (λ command. IfNone command (ReadsNone (codes "who") (rows_of (found_of found.now)))) }
+{
+    let Some(store) = file_in(alloc, found, "store")? else {
+        return Ok(None);
+    };
+    let Some(privilege) = file_in(alloc, found, "privilege")? else {
+        return Ok(None);
+    };
+    let Some(path) = file_in(alloc, found, "path")? else {
+        return Ok(None);
+    };
+    let denied = flag_in(found, "denied");
+    Ok(Some(Command::Who {
+        store,
+        privilege,
+        path,
+        denied,
     }))
 }

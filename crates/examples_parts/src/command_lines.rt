@@ -39,6 +39,14 @@ const COMMANDS: &[(&str, &str)] = &[
         "Why { store: \"office.db\", caller: \"bob\", what: \"COPY\", path: \"/books/a/b.vcf\", destination: Some(\"/books/c/d.vcf\") }",
     ),
     ("why --store office.db bob MOVE /books/a/b.vcf", SERVE_WANTS),
+    (
+        "who --store office.db read /books",
+        "Who { store: \"office.db\", privilege: \"read\", path: \"/books\", denied: false }",
+    ),
+    (
+        "who read --denied /books --store office.db",
+        "Who { store: \"office.db\", privilege: \"read\", path: \"/books\", denied: true }",
+    ),
     ("pipe", "Pipe { store: None, policy: None }"),
     (
         "pipe --policy office.toml --store office.db",
@@ -98,6 +106,10 @@ const REFUSED: &[(&str, &str)] = &[
     ),
     (
         "audit",
+        "2 error: the following required arguments were not provided:",
+    ),
+    (
+        "who --store office.db read",
         "2 error: the following required arguments were not provided:",
     ),
     (

@@ -18,5 +18,6 @@ returns c =
     let seven = c.in_ok-subcommand-7.ensures.shape c.in_ok-why.ensures.1 ∙ ap₂ with_subcommand six (ap top_of c.in_ok-why.ensures.0) in
     let eight = c.in_ok-subcommand-8.ensures.shape c.in_ok-pipe.ensures.1 ∙ ap₂ with_subcommand seven (ap top_of c.in_ok-pipe.ensures.0) in
     let nine = c.in_ok-subcommand-9.ensures.shape c.in_ok-serve.ensures.1 ∙ ap₂ with_subcommand eight (ap top_of c.in_ok-serve.ensures.0) in
-    IfOk-weaker c.subcommand-10.result _ _
-    (λ r h. h.shape c.in_ok-check.ensures.1 ∙ ap₂ with_subcommand nine (ap top_of c.in_ok-check.ensures.0)) c.subcommand-10.ensures
+    let ten = c.in_ok-subcommand-10.ensures.shape c.in_ok-check.ensures.1 ∙ ap₂ with_subcommand nine (ap top_of c.in_ok-check.ensures.0) in
+    IfOk-weaker c.subcommand-11.result _ _
+    (λ r h. h.shape c.in_ok-who.ensures.1 ∙ ap₂ with_subcommand ten (ap top_of c.in_ok-who.ensures.0)) c.subcommand-11.ensures
