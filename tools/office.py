@@ -9,6 +9,7 @@ import socket
 import subprocess
 import sys
 import tempfile
+import typing
 
 TOP = pathlib.Path(__file__).resolve().parent.parent
 SECONDS = 60
@@ -129,3 +130,36 @@ class Server:
         self.process.terminate()
         self.process.wait(SECONDS)
         self.process.stdout.close()
+
+
+class Verdict(typing.NamedTuple):
+    """What is decided: granted, denied, or the name of a refusal; and of a denial the privilege, the resource and the entry."""
+
+    word: str
+    privilege: str | None = None
+    resource: str | None = None
+    number: int | None = None
+    place: str | None = None
+
+
+def told(done):
+    """The verdict that a run of `why` tells, with the place that it tells of the entry."""
+    if done.returncode:
+        return Verdict(done.stderr.decode().strip().removeprefix("why: "))
+    lines = done.stdout.decode().splitlines()
+    if lines[0] == "granted":
+        return Verdict("granted")
+    first, none, _ = lines[0].partition(", none granted")
+    if none:
+        privilege, _, resource = first.removeprefix("denied ").partition(" at ")
+        return Verdict("denied", privilege, resource)
+    privilege, _, rest = first.removeprefix("denied ").partition(" at ")
+    resource, _, number = rest.rpartition(" by ")
+    place = next(line.rpartition(" at ")[2] for line in lines if f" denied by {number}, " in line)
+    return Verdict("denied", privilege, resource, int(number), place)
+
+
+def is_late(word):
+    """Whether a refusal comes after the verdict, so that `why` tells that the request is granted."""
+    late = ["bad-card", "recognized-principal", "valid-sync-token", "full"]
+    return word in late or word.startswith(("no-protected", "no-inherited", "limited-number", "not-supported"))
