@@ -3,7 +3,11 @@ pub mod PathSets
 pub mod Passed
 pub mod FirstBearings
 pub mod OneLeaf
+pub mod FirstFound
 pub mod GoingScans
+pub mod KeptDeciders
+pub mod ToldDeciders
+pub mod JudgedNeeds
 pub mod OneReader
 pub mod Pairing
 pub mod GroupLists

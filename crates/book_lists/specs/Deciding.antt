@@ -1,6 +1,7 @@
 -- Which of some things in order decides a leaf: the first that bears on it (RFC 3744, section 6). An entry bears on the
 -- leaves that it holds where it applies.
-use Rattle.std.specs.Prelude.{◌≡◌, ℕ, Bool, true, false, ◌<◌, ◌≤◌, ◌⊎◌, ◌↔◌, List, Option, None, Some, slice_get}
+use Rattle.std.specs.Prelude.{◌≡◌, ℕ, suc, Bool, true, false, not, ◌<◌, ◌≤◌, ◌⊎◌, ◌↔◌, List, [], ◌∷◌, Option, None, Some, option_map, is_none, slice_get, if◌then◌else◌}
+use Rattle.std.specs.Option.{option_map_or}
 use Rattle.book_rights.specs.declared.privileges.Leaf.{Leaf}
 use Rattle.book_rights.specs.Leaves.{place_of}
 
@@ -37,3 +38,20 @@ module _ {X : Type 0} (bears : Leaf → X → Bool) (denying : X → Bool) (xs :
   -- the set of the leaves that are granted
   abbrev pub IsGrantedSetBy : (Leaf → Bool) → Type 0
   IsGrantedSetBy set = (leaf : Leaf) → (set leaf ≡ true) ↔ GrantsBy leaf
+
+-- ---- the same as functions
+-- the first that bears on the leaf, with its index: it decides the leaf
+abbrev pub decider : {X : Type 0} → (Leaf → X → Bool) → List X → Leaf → Option (ℕ × X)
+decider bears [] leaf = None
+decider bears (x ∷ xs) leaf = if bears leaf x then Some (0, x) else option_map (λ found. (suc found.0, found.1)) (decider bears xs leaf)
+
+module _ {X : Type 0} (bears : Leaf → X → Bool) (denying : X → Bool) (xs : List X) where
+  -- the leaves that it grants, those that it denies, and those that none decides
+  abbrev pub granted : Leaf → Bool
+  granted leaf = option_map_or (λ found. not (denying found.1)) (decider bears xs leaf) false
+
+  abbrev pub denied : Leaf → Bool
+  denied leaf = option_map_or (λ found. denying found.1) (decider bears xs leaf) false
+
+  abbrev pub undecided : Leaf → Bool
+  undecided leaf = is_none (decider bears xs leaf)

@@ -1,12 +1,12 @@
 -- The decision over a list of entries (RFC 3744, section 6).
-use Rattle.std.specs.Prelude.{ℕ, Bool, ◌&&◌, List, Option}
+use Rattle.std.specs.Prelude.{◌≡◌, ◌↔◌, ℕ, Bool, ◌&&◌, List, Option, Some}
 use Rattle.book_rights.specs.declared.privileges.Leaf.{Leaf}
 use Rattle.book_lists.specs.declared.entries.Entry.{Entry}
 use Rattle.book_lists.specs.declared.entries.Here.{Here}
 use Rattle.book_lists.specs.declared.decisions.Outcome.{Outcome}
 use Rattle.book_lists.specs.declared.decisions.Outcome.TheVariants.{Allowed, Denied}
 use Rattle.book_lists.specs.Circles.{CircleOf}
-use Rattle.book_lists.specs.Deciding.{DecidesBy, DeniesBy, GrantsBy, IsUndecidedBy, IsAllowedBy, IsDenialBy, IsGrantedSetBy}
+use Rattle.book_lists.specs.Deciding.{DecidesBy, DeniesBy, GrantsBy, IsUndecidedBy, IsAllowedBy, IsDenialBy, IsGrantedSetBy, decider}
 use Rattle.book_lists.specs.Entries.{applies}
 
 -- whether the entry applies and holds the leaf
@@ -49,3 +49,8 @@ module _ (entries : List Entry) (circle : CircleOf) (here : Here) where
 abbrev pub IfDenied : Outcome → (Leaf → Option ℕ → Type 0) → Type 0
 IfDenied Allowed P = Unit {0}
 IfDenied (Denied leaf entry) P = P leaf entry
+
+-- what is found as the decider of a leaf is exactly what decides it
+abbrev pub DecidersDecide : Type 0
+DecidersDecide = (entries : List Entry) (circle : CircleOf) (here : Here) (i : ℕ) (leaf : Leaf) (entry : Entry)
+    → (decider (bears circle here) entries leaf ≡ Some (i, entry)) ↔ Decides entries circle here i leaf entry

@@ -4,6 +4,7 @@ pub mod Circles
 pub mod PrincipalSets
 pub mod Entries
 pub mod Deciding
+pub mod Deciders
 pub mod Decisions
 pub mod Scans
 pub mod ListEdits

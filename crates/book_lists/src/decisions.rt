@@ -4,8 +4,8 @@ ghost use Rattle.std.specs.Prelude.{◌≡◌, ◌↔◌};
 ghost use Rattle.book_lists.specs.Decisions.{IsAllowed, IsDenial, IfDenied, IsGrantedSet};
 
 use crate::circles::Circle;
+use crate::deciders::Deciders;
 use crate::entries::{Entry, Here};
-use crate::scans::{GrantScan, Scan};
 use book_rights::{Leaf, LeafSet};
 
 /// The answer to a need.
@@ -25,9 +25,9 @@ pub fn decide(entries: &[Entry], circle: &Circle, here: &Here, need: LeafSet) ->
     ensures allowed { (result ≡ Outcome.Allowed) ↔ IsAllowed entries.now circle.now here.now need }
     ensures denied { IfDenied result (IsDenial entries.now circle.now here.now need) }
 {
-    let mut scan = Scan::start(need);
-    scan.over(entries, circle, here);
-    scan.outcome()
+    let mut deciders = Deciders::start(need);
+    deciders.judge_over(entries, circle, here);
+    deciders.outcome()
 }
 
 /// The leaves that the entries grant: those that the first entry that applies and holds them grants (RFC 3744,
@@ -37,7 +37,7 @@ pub fn decide(entries: &[Entry], circle: &Circle, here: &Here, need: LeafSet) ->
 pub fn granted(entries: &[Entry], circle: &Circle, here: &Here) -> LeafSet
     ensures { IsGrantedSet entries.now circle.now here.now result }
 {
-    let mut scan = GrantScan::start();
-    scan.over(entries, circle, here);
-    scan.granted()
+    let mut deciders = Deciders::start(LeafSet::all());
+    deciders.over(entries, circle, here);
+    deciders.granted()
 }

@@ -1,5 +1,6 @@
 //! Laws of the definitions.
 
+ghost use Rattle.book_lists.specs.Decisions.{DecidersDecide};
 ghost use Rattle.book_lists.specs.Widening.{NeedsAreWidened, WidenedListsDecideAlike, WidenedMasksAreWidenedSets};
 
 /// Laws of what becomes of entries of schema version 1, which knew eight leaves: of a list and a need the decision stays
@@ -9,4 +10,9 @@ pub fn widened_lists_decide_alike()
     ensures decided { WidenedListsDecideAlike }
     ensures needs { NeedsAreWidened }
     ensures masks { WidenedMasksAreWidenedSets }
+{}
+
+/// A law of the decision: what is found as the decider of a leaf is exactly what decides it.
+pub fn deciders_decide()
+    ensures { DecidersDecide }
 {}

@@ -12,6 +12,7 @@
 #![tactic(auto)]
 
 mod circles;
+mod deciders;
 mod decisions;
 mod entries;
 mod laws;
@@ -24,9 +25,10 @@ mod scans;
 mod submitted;
 
 pub use circles::{Caller, Circle, closures_make_circles, expand, reached_in};
+pub use deciders::{Decider, Deciders};
 pub use decisions::{Outcome, decide, granted};
 pub use entries::{Entry, Here, Who, applies};
-pub use laws::widened_lists_decide_alike;
+pub use laws::{deciders_decide, widened_lists_decide_alike};
 pub use list_edits::{EditFault, check_edit};
 pub use memberships::{Membership, Pairs, closure};
 pub use names::Name;

@@ -12,7 +12,7 @@ use crate::entries::{Entry, Here, applies};
 use book_rights::{Leaf, LeafSet};
 
 /// The leaves of both sets.
-fn intersection(set: LeafSet, other: LeafSet) -> LeafSet
+pub(crate) fn intersection(set: LeafSet, other: LeafSet) -> LeafSet
     ensures { (leaf : Leaf) → result leaf ≡ (set leaf && other leaf) }
 {
     set.minus(set.minus(other))
