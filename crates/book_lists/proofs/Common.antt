@@ -20,6 +20,6 @@ pub use Rattle.book_lists.specs.Decisions.{IsAllowed, IsDenial}
 pub use Rattle.book_lists.specs.GroupEntries.{groups_at, pairs_in, pairs_of}
 pub use Rattle.book_lists.specs.Memberships.{membership_cmp, set_of}
 pub use Rattle.book_lists.specs.Principals.{path_cmp}
-pub use Rattle.book_lists.specs.Scans.{Reading, IsGrantScan, IsScan, read_by}
+pub use Rattle.book_lists.specs.Readings.{Reading, read_by}
 pub use Rattle.book_lists.specs.declared.entries.Entry.{Entry}
 pub use Rattle.book_lists.specs.declared.entries.Here.{Here}

@@ -1,6 +1,6 @@
 -- What decides a leaf among things in order, and what it does among more of them.
 use Rattle.book_lists.proofs.Common.{◌≡◌, ℕ, ◌<◌, ◌≤◌, ◌⊎◌, inl, inr, zero, suc, Bool, true, false, List, [], ◌∷◌, ◌++◌, length, slice_get, Option, Some, None, refl, subst, arith, both_ways, cases_lt, slice_get_within, Leaf}
-use Rattle.book_lists.specs.Deciding.{DecidesBy, DeniesBy, GrantsBy, IsUndecidedBy, IsAllowedBy, IsDenialBy}
+use Rattle.book_lists.specs.Deciding.{DecidesBy, DeniesBy, GrantsBy, IsAllowedBy, IsDenialBy}
 
 -- ---- places in two lists
 pub left_at : {A : Type 0} (xs ys : List A) (i : ℕ) (x : A) → slice_get xs i ≡ Some x → slice_get (xs ++ ys) i ≡ Some x
@@ -87,28 +87,3 @@ module _ {X : Type 0} (bears : Leaf → X → Bool) (denying : X → Bool) where
         | inr past ↦ inl (let within = slice_get_within xs i d.1.0 d.1.1.there in omega (arith, within, past))
       ],
     )
-
-  -- ---- leaves on which none bears
-  abbrev pub NoneBears : List X → (Leaf → Bool) → Type 0
-  NoneBears xs left = (leaf : Leaf) → left leaf ≡ true → (k : ℕ) (earlier : X) → slice_get xs k ≡ Some earlier → bears leaf earlier ≡ false
-
-  module _ (xs : List X) (left : Leaf → Bool) (none : NoneBears xs left) where
-    -- what decides one of them is no place of the list
-    pub left_undecided : (leaf : Leaf) → left leaf ≡ true → IsUndecidedBy bears denying xs leaf
-    left_undecided leaf still k x d = both_ways _ (none leaf still k x d.there) d.bearing
-
-    -- one more that bears on such a leaf decides it
-    pub last_decides : (x : X) (leaf : Leaf) → bears leaf x ≡ true → left leaf ≡ true → DecidesBy bears (xs ++ x ∷ []) (length xs) leaf x
-    last_decides x leaf bearing still = record {
-      there = last_at xs x;
-      bearing = bearing;
-      first = λ k earlier lt at. none leaf still k earlier (left_back xs (x ∷ []) k earlier at lt);
-    }
-
-    -- one more that bears on none of those that stay left
-    pub none_bears_more : (x : X) (rest : Leaf → Bool) → ((leaf : Leaf) → rest leaf ≡ true → left leaf ≡ true) → ((leaf : Leaf) → rest leaf ≡ true → bears leaf x ≡ false)
-        → NoneBears (xs ++ x ∷ []) rest
-    none_bears_more x rest within unborne leaf still k earlier at = elim (split_last xs x k earlier at) [
-      | inl old ↦ none leaf (within leaf still) k earlier old
-      | inr new ↦ subst (λ y. bears leaf y ≡ false) new.1 (unborne leaf still)
-    ]

@@ -4,11 +4,11 @@ use Rattle.std.proofs.Common.{min, is_some, append_assoc}
 use Rattle.std.specs.Option.{option_map_or}
 use Rattle.std.proofs.lemmas.Bool.{cases_Bool, and_from}
 use Rattle.book_rights.specs.Leaves.{IsLeast}
-use Rattle.book_lists.specs.Scans.{bears_read, denying_read, IsAllowedRead, IsDenialRead, Settles}
+use Rattle.book_lists.specs.Readings.{bears_read, denying_read, IsAllowedRead, IsDenialRead, Settles}
 use Rattle.book_lists.specs.Deciders.{index_in, IsFirstDenied, IsDeciders, IsJudged}
 use Rattle.book_lists.specs.declared.deciders.Deciders.{Deciders}
 use Rattle.book_lists.proofs.FirstBearings.{allowed_more, denial_more, denied_or_allowed}
-use Rattle.book_lists.proofs.GoingScans.{settles_more}
+use Rattle.book_lists.proofs.IdleReadings.{settles_more}
 use Rattle.book_lists.proofs.KeptDeciders.{outcome_denied, outcome_allowed, left_unallowed, none_denied, decided_more}
 use Rattle.book_lists.proofs.FirstFound.{decides_found}
 

@@ -5,13 +5,13 @@ use Rattle.std.proofs.lemmas.Bool.{cases_Bool, and_from, and_left, and_right}
 use Rattle.std.specs.Option.{option_map_or}
 use Rattle.book_rights.specs.Leaves.{place_of, union, IsLeast}
 use Rattle.book_lists.specs.Deciding.{DecidesBy, decider}
-use Rattle.book_lists.specs.Scans.{bears_read, denying_read, DeniesRead, GrantsRead, IsAllowedRead, IsDenialRead}
+use Rattle.book_lists.specs.Readings.{bears_read, denying_read, DeniesRead, GrantsRead, IsAllowedRead, IsDenialRead}
 use Rattle.book_lists.specs.Deciders.{told_decider, granted_read, denied_read, undecided_read, AreDecided, index_in, IsFirstDenied, IsDeciders}
 use Rattle.book_lists.specs.declared.deciders.Decider.{Decider}
 use Rattle.book_lists.specs.declared.deciders.Deciders.{Deciders}
 use Rattle.book_lists.proofs.FirstBearings.{denial_more}
 use Rattle.book_lists.proofs.FirstFound.{or_else, when, found_or_none, found_decides, decides_found, found_more, found_last}
-use Rattle.book_lists.proofs.GoingScans.{IsShared, reads, Idle}
+use Rattle.book_lists.proofs.IdleReadings.{IsShared, reads, Idle}
 
 -- ---- of one leaf
 same_on : {A : Type 0} (g : Option A → Bool) (n : Bool) (f h : Option A) → (n ≡ true → h ≡ f) → (n && g h) ≡ (n && g f)
@@ -91,7 +91,7 @@ module _ (need : Leaf → Bool) (readings : List Reading) (d : Deciders) (s : Is
         let was = s.passed in
         omega (arith, is, was, long)
 
-    pub look_passed : Idle readings d.open r → (next : Deciders) → next.open ≡ d.open → next.granted ≡ d.granted → next.denied ≡ d.denied → next.first ≡ d.first
+    pub look_passed : Idle d.open r → (next : Deciders) → next.open ≡ d.open → next.granted ≡ d.granted → next.denied ≡ d.denied → next.first ≡ d.first
         → next.indexes ≡ d.indexes → next.passed ≡ min (d.passed + 1) (2 ^ 64 - 1) → IsDeciders need (readings ++ r ∷ []) next
     look_passed idle next left grants denies first indexes counted = stays (r ∷ [])
         (λ leaf wanted. found_last bears_read leaf readings r

@@ -4,7 +4,7 @@ pub mod Passed
 pub mod FirstBearings
 pub mod OneLeaf
 pub mod FirstFound
-pub mod GoingScans
+pub mod IdleReadings
 pub mod KeptDeciders
 pub mod ToldDeciders
 pub mod JudgedNeeds

@@ -5,7 +5,7 @@ use Rattle.std.proofs.lemmas.List.{take_all, take_more, take-append-drop}
 use Rattle.std.proofs.lemmas.Option.{slice_get-map}
 use Rattle.book_lists.specs.Deciding.{DecidesBy, IsUndecidedBy}
 use Rattle.book_lists.specs.Decisions.{Decides, Denies, Grants, IsUndecided, IsGrantedSet, IfDenied}
-use Rattle.book_lists.specs.Scans.{bears_read, denying_read, DeniesRead, GrantsRead, IsAllowedRead, IsDenialRead, IsGrantedRead}
+use Rattle.book_lists.specs.Readings.{bears_read, denying_read, DeniesRead, GrantsRead, IsAllowedRead, IsDenialRead, IsGrantedRead}
 use Rattle.book_lists.specs.declared.decisions.Outcome.{Outcome}
 use Rattle.book_lists.specs.declared.decisions.Outcome.TheVariants.{Allowed, Denied}
 

@@ -5,7 +5,7 @@ use Rattle.book_lists.specs.Deciding.{decider}
 use Rattle.book_lists.specs.declared.entries.Entry.{Entry}
 use Rattle.book_lists.specs.declared.entries.Here.{Here}
 use Rattle.book_lists.specs.Decisions.{bears, Decides, IsUndecided}
-use Rattle.book_lists.specs.Scans.{bears_read, denying_read}
+use Rattle.book_lists.specs.Readings.{bears_read, denying_read}
 use Rattle.book_lists.specs.Deciders.{told_decider}
 use Rattle.book_lists.specs.declared.deciders.Decider.{Decider}
 use Rattle.book_lists.proofs.FirstFound.{found_or_none, decides_found}

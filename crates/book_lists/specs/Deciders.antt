@@ -5,7 +5,7 @@ use Rattle.book_rights.specs.Leaves.{place_of}
 use Rattle.book_lists.specs.declared.deciders.Decider.{Decider}
 use Rattle.book_lists.specs.declared.deciders.Deciders.{Deciders}
 use Rattle.book_lists.specs.Deciding.{decider, granted, denied, undecided}
-use Rattle.book_lists.specs.Scans.{Reading, bears_read, denying_read, IsDenialRead}
+use Rattle.book_lists.specs.Readings.{Reading, bears_read, denying_read, IsDenialRead}
 
 -- which of the readings decides the leaf, as it is told: its index, and whether it denies
 abbrev pub told_decider : List Reading → Leaf → Option Decider

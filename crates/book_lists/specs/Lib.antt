@@ -6,7 +6,7 @@ pub mod Entries
 pub mod Deciding
 pub mod Deciders
 pub mod Decisions
-pub mod Scans
+pub mod Readings
 pub mod ListEdits
 pub mod Memberships
 pub mod GroupEntries

@@ -5,12 +5,11 @@ ghost use Rattle.book_rights.specs.declared.privileges.Leaf.{Leaf};
 ghost use Rattle.book_rights.specs.Leaves.{place_of};
 ghost use Rattle.book_lists.specs.Decisions.{IfDenied};
 ghost use Rattle.book_lists.specs.Deciders.{index_in, told_decider, granted_read, AreDecided, IsDeciders, IfDeciders, IsJudged, IfJudged};
-ghost use Rattle.book_lists.specs.Scans.{read_by, IsAllowedRead, IsDenialRead, Settles};
+ghost use Rattle.book_lists.specs.Readings.{read_by, IsAllowedRead, IsDenialRead, Settles};
 
 use crate::circles::Circle;
 use crate::decisions::Outcome;
 use crate::entries::{Entry, Here, applies};
-use crate::scans::intersection;
 use book_rights::{Leaf, LeafSet};
 
 /// The entry that decides a leaf: its index, from 0 at the first entry of the first list, and whether it denies.
@@ -20,8 +19,8 @@ pub struct Decider {
     pub deny: bool,
 }
 
-/// A scan for a set of leaves: for each of them which entry decides it, of those that it has come over, each read by the
-/// circle and at the resource of its own call (RFC 3744, section 6). No call of it takes memory.
+/// A scan for a set of leaves: for each of them which entry decides it, of those that it has come over, each read by
+/// the circle and at the resource of its own call (RFC 3744, section 6). No call of it takes memory.
 #[derive(Clone, Copy, Debug)]
 pub struct Deciders {
     /// The leaves that no entry decides yet.
@@ -35,6 +34,13 @@ pub struct Deciders {
     indexes: [usize; 9],
     /// How many entries it has come over.
     passed: usize,
+}
+
+/// The leaves of both sets.
+fn intersection(set: LeafSet, other: LeafSet) -> LeafSet
+    ensures { (leaf : Leaf) → result leaf ≡ (set leaf && other leaf) }
+{
+    set.minus(set.minus(other))
 }
 
 /// The place of the leaf in the order of the leaves, from 0.
@@ -63,7 +69,8 @@ fn chosen(set: LeafSet, leaf: Leaf, index: usize, other: usize) -> usize
 
 /// The indexes with this one for each leaf of a set.
 fn indexes_with(indexes: [usize; 9], set: LeafSet, index: usize) -> [usize; 9]
-    ensures { (leaf : Leaf) → index_in result leaf ≡ (if set leaf then index else index_in indexes leaf) }
+    ensures { (leaf : Leaf)
+        → index_in result leaf ≡ (if set leaf then index else index_in indexes leaf) }
 {
     [
         chosen(set, Leaf::ReadTexts, index, indexes[0]),
@@ -100,7 +107,7 @@ impl Deciders {
         self.open.least().is_none()
     }
 
-    /// Goes over one entry more: where it applies, it decides the leaves that it holds and that none before it decides.
+    /// Goes over one entry more: where it applies, it decides the leaves that it holds and none before it decides.
     fn look(&mut self, entry: &Entry, circle: &Circle, here: &Here)
         ensures { IfDeciders self.old (λ need readings.
             IsDeciders need (readings ++ read_by circle.now here.now (entry.now ∷ [])) self.new) }
@@ -126,16 +133,16 @@ impl Deciders {
         }
     }
 
-    /// Goes on over the entries, each by this circle at this resource, and tells whether each leaf is decided: then no later
-    /// entry changes that.
+    /// Goes on over the entries, each by this circle at this resource, and tells whether each leaf is decided: then no
+    /// later entry changes anything.
     ///
-    /// It looks at no entry after that which decides the last leaf, and looks principals up in the circle only for entries
-    /// that hold a leaf still open. That a slice has less than 2^64 entries is told for the caller.
+    /// It looks at no entry after that which decides the last leaf, and looks principals up in the circle only for
+    /// entries that hold a leaf still open. That a slice has less than 2^64 entries is told for the caller.
     pub fn over(&mut self, entries: &[Entry], circle: &Circle, here: &Here) -> bool
-        ensures scanned { IfDeciders self.old
-            (λ need readings. IsDeciders need (readings ++ read_by circle.now here.now entries.now) self.new) }
-        ensures ended { IfDeciders self.old
-            (λ need readings. (result ≡ true) ↔ AreDecided need (readings ++ read_by circle.now here.now entries.now)) }
+        ensures scanned { IfDeciders self.old (λ need readings.
+            IsDeciders need (readings ++ read_by circle.now here.now entries.now) self.new) }
+        ensures ended { IfDeciders self.old (λ need readings. (result ≡ true)
+            ↔ AreDecided need (readings ++ read_by circle.now here.now entries.now)) }
         ensures fits { length entries.now < 2 ^ 64 }
     {
         let passed = self.passed.saturating_add(entries.len());
@@ -156,13 +163,13 @@ impl Deciders {
         self.first.is_some() || self.open.least().is_none()
     }
 
-    /// Goes on over the entries as `over` does, but no further than what settles the set as a need, and tells whether it is
-    /// settled.
+    /// Goes on over the entries as `over` does, but no further than what settles the set as a need, and tells whether
+    /// it is settled.
     pub fn judge_over(&mut self, entries: &[Entry], circle: &Circle, here: &Here) -> bool
-        ensures scanned { IfJudged self.old
-            (λ need readings. IsJudged need (readings ++ read_by circle.now here.now entries.now) self.new) }
-        ensures ended { IfJudged self.old
-            (λ need readings. (result ≡ true) ↔ Settles (readings ++ read_by circle.now here.now entries.now) need) }
+        ensures scanned { IfJudged self.old (λ need readings.
+            IsJudged need (readings ++ read_by circle.now here.now entries.now) self.new) }
+        ensures ended { IfJudged self.old (λ need readings. (result ≡ true)
+            ↔ Settles (readings ++ read_by circle.now here.now entries.now) need) }
         ensures fits { length entries.now < 2 ^ 64 }
     {
         let passed = self.passed.saturating_add(entries.len());
@@ -203,16 +210,18 @@ impl Deciders {
 
     /// The leaves of the set that are granted by what the scan has come over, as one list.
     pub fn granted(&self) -> LeafSet
-        ensures { IfDeciders self.now (λ need readings. (leaf : Leaf) → result leaf ≡ (need leaf && granted_read readings leaf)) }
+        ensures { IfDeciders self.now (λ need readings.
+            (leaf : Leaf) → result leaf ≡ (need leaf && granted_read readings leaf)) }
     {
         self.granted
     }
 
     /// The decision on the set as a need, by what the scan has come over, as one list.
     pub fn outcome(&self) -> Outcome
-        ensures allowed { IfJudged self.now (λ need readings. (result ≡ Outcome.Allowed) ↔ IsAllowedRead readings need) }
-        ensures denied { IfJudged self.now
-            (λ need readings. length readings < 2 ^ 64 → IfDenied result (IsDenialRead readings need)) }
+        ensures allowed { IfJudged self.now (λ need readings.
+            (result ≡ Outcome.Allowed) ↔ IsAllowedRead readings need) }
+        ensures denied { IfJudged self.now (λ need readings. length readings < 2 ^ 64
+            → IfDenied result (IsDenialRead readings need)) }
     {
         if let Some(leaf) = self.first {
             return Outcome::Denied {

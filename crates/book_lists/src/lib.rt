@@ -3,10 +3,11 @@
 //! It stands on `book_limits` and `book_rights`. The crate above uses that `expand` gives exactly the principals to
 //! which a caller belongs, and `closure` exactly the pairs of a group and whoever a chain leads to from it, that
 //! `decide` answers by the first applicable entry for each needed leaf and names it in a denial, and that `granted`
-//! gives exactly the leaves that a grant decides; that a `Scan` and a `GrantScan` tell the same of several lists, each
-//! gone over by its own call, without joining them; and that `check_edit` accepts exactly the lists without a fault.
+//! gives exactly the leaves that a grant decides; that `Deciders` tells the same of several lists, each gone over by its
+//! own call, without joining them, and which entry decides each leaf; and that `check_edit` accepts exactly the lists
+//! without a fault.
 //!
-//! Read `names`, `principals`, `memberships` and `circles` first, then `entries`, `decisions` and `scans`, then
+//! Read `names`, `principals`, `memberships` and `circles` first, then `entries`, `decisions` and `deciders`, then
 //! `submitted`, the entries of an edit, and `list_edits`; `principal_sets` has the sets of which memberships and
 //! circles are made.
 #![tactic(auto)]
@@ -21,7 +22,6 @@ mod memberships;
 mod names;
 mod principal_sets;
 mod principals;
-mod scans;
 mod submitted;
 
 pub use circles::{Caller, Circle, closures_make_circles, expand, reached_in};
@@ -33,5 +33,4 @@ pub use list_edits::{EditFault, check_edit};
 pub use memberships::{Membership, Pairs, closure};
 pub use names::Name;
 pub use principals::Principal;
-pub use scans::{GrantScan, Scan};
 pub use submitted::Submitted;

@@ -11,10 +11,11 @@ pub use Rattle.std.specs.Vec.Iter.{into_iter_items, into_iter_len}
 pub use Rattle.book_limits.specs.declared.TheConstants.{LAST_NUMBER}
 pub use Rattle.book_rights.specs.declared.privileges.Leaf.{Leaf}
 pub use Rattle.book_lists.proofs.Pairing.{memberships_exact, memberships_total}
+pub use Rattle.book_lists.specs.Deciders.{IsJudged}
 pub use Rattle.book_lists.specs.Decisions.{IsAllowed}
 pub use Rattle.book_lists.specs.Memberships.{Memberships, members_of, membership_cmp}
 pub use Rattle.book_lists.specs.Names.{IsName, name_cmp}
-pub use Rattle.book_lists.specs.Scans.{read_by, IsScan, Reading}
+pub use Rattle.book_lists.specs.Readings.{read_by, Reading}
 pub use Rattle.book_lists.specs.declared.entries.Entry.{Entry}
 pub use Rattle.book_lists.specs.declared.memberships.Membership.{Membership}
 pub use Rattle.book_office_values.proofs.NameMapLaws.{at_some, insert_same, same}

@@ -3,7 +3,7 @@ use Rattle.book_office.proofs.Common.{◌≡◌, ℕ, ◌+◌, ◌<◌, ◌↔�
 use Rattle.std.proofs.Common.{get_or, append_assoc}
 use Rattle.std.proofs.lemmas.List.{take_more, flat_map_more}
 use Rattle.book_lists.specs.Circles.{CircleOf}
-use Rattle.book_lists.specs.Scans.{IsAllowedRead}
+use Rattle.book_lists.specs.Readings.{IsAllowedRead}
 use Rattle.book_lists.specs.declared.entries.Here.{Here}
 use Rattle.book_lists.proofs.OneReader.{allowed_one, read_append}
 use Rattle.book_office.specs.Resources.{book_resource}

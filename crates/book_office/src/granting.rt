@@ -3,7 +3,8 @@
 ghost use Rattle.std.specs.Prelude.{◌≡◌, ◌↔◌, ◌∷◌, ◌++◌, [], true, map, option_map, unwrap_or};
 ghost use Rattle.std.specs.List.{flat_map};
 ghost use Rattle.book_lists.specs.Decisions.{IsAllowed};
-ghost use Rattle.book_lists.specs.Scans.{IfScanned, IsAllowedRead, IsScan, read_by};
+ghost use Rattle.book_lists.specs.Deciders.{IfJudged, IsJudged};
+ghost use Rattle.book_lists.specs.Readings.{IsAllowedRead, read_by};
 ghost use Rattle.book_office.specs.InForce.{in_force, in_force_at, list_in, lists_in};
 ghost use Rattle.book_office.specs.Levels.{level_at};
 ghost use Rattle.book_office.specs.Resources.{Resource, card_in};
@@ -12,15 +13,16 @@ ghost use Rattle.book_office_values.specs.declared.paths.Path.TheVariants as pat
 
 use crate::nodes::Level;
 use crate::reads::{own_list, protected_list};
-use book_lists::{Circle, Entry, Here, Name, Outcome, Scan};
+use book_lists::{Circle, Deciders, Entry, Here, Name, Outcome};
 use book_office_values::{Book, Office, Path};
 use book_rights::LeafSet;
 
 /// Whether all of the need is granted by what the scan has come over.
-fn is_granted(scan: &Scan) -> bool
-    ensures { IfScanned scan.now (λ need readings. (result ≡ true) ↔ IsAllowedRead readings need) }
+fn is_granted(deciders: &Deciders) -> bool
+    ensures { IfJudged deciders.now (λ need readings.
+        (result ≡ true) ↔ IsAllowedRead readings need) }
 {
-    match scan.outcome() {
+    match deciders.outcome() {
         Outcome::Allowed => true,
         Outcome::Denied { .. } => false,
     }
@@ -37,23 +39,30 @@ fn list_in(level: &Level, protected: bool) -> &[Entry]
     }
 }
 
-/// The scan after the lists of one kind of levels in turn.
-fn over_levels(levels: &[Level], protected: bool, circle: &Circle, here: &Here, scan: Scan) -> Scan
-    ensures { IfScanned scan (λ need readings. IsScan need (readings ++ read_by circle.now here.now (lists_in protected levels.now)) result) }
+/// Goes over the lists of one kind of levels in turn.
+fn over_levels(
+    levels: &[Level],
+    protected: bool,
+    circle: &Circle,
+    here: &Here,
+    deciders: &mut Deciders,
+)
+    ensures { IfJudged deciders.old (λ need readings. IsJudged need
+        (readings ++ read_by circle.now here.now (lists_in protected levels.now)) deciders.new) }
 {
-    let mut scan = scan;
     for level in levels {
-        scan.over(list_in(level, protected), circle, here);
+        deciders.judge_over(list_in(level, protected), circle, here);
     }
-    scan
 }
 
 /// Whether the lists of these levels grant the set.
 pub(crate) fn grant(levels: &[Level], circle: &Circle, here: &Here, set: LeafSet) -> bool
     ensures { (result ≡ true) ↔ IsAllowed (in_force levels.now) circle.now here.now set }
 {
-    let scan = over_levels(levels, true, circle, here, Scan::start(set));
-    is_granted(&over_levels(levels, false, circle, here, scan))
+    let mut deciders = Deciders::start(set);
+    over_levels(levels, true, circle, here, &mut deciders);
+    over_levels(levels, false, circle, here, &mut deciders);
+    is_granted(&deciders)
 }
 
 /// The protected list that stands at a path, or the own list.
@@ -71,26 +80,24 @@ fn list_at<'a>(office: &'a Office, path: &Path, protected: bool) -> &'a [Entry]
     }
 }
 
-/// The scan after a list.
-fn over_list(list: &[Entry], circle: &Circle, here: &Here, scan: Scan) -> Scan
-    ensures { IfScanned scan (λ need readings. IsScan need (readings ++ read_by circle.now here.now list.now) result) }
+/// Goes over a list.
+fn over_list(list: &[Entry], circle: &Circle, here: &Here, deciders: &mut Deciders)
+    ensures { IfJudged deciders.old (λ need readings.
+        IsJudged need (readings ++ read_by circle.now here.now list.now) deciders.new) }
 {
-    let mut scan = scan;
     if !list.is_empty() {
-        scan.over(list, circle, here);
+        deciders.judge_over(list, circle, here);
     }
-    scan
 }
 
-/// The scan after lists in turn.
-fn over_lists(lists: &[&[Entry]], circle: &Circle, here: &Here, scan: Scan) -> Scan
-    ensures { IfScanned scan (λ need readings. IsScan need (readings ++ read_by circle.now here.now (flat_map (λ l. l.now) lists.now)) result) }
+/// Goes over lists in turn.
+fn over_lists(lists: &[&[Entry]], circle: &Circle, here: &Here, deciders: &mut Deciders)
+    ensures { IfJudged deciders.old (λ need readings. IsJudged need
+        (readings ++ read_by circle.now here.now (flat_map (λ l. l.now) lists.now)) deciders.new) }
 {
-    let mut scan = scan;
     for list in lists {
-        scan = over_list(list, circle, here, scan);
+        over_list(list, circle, here, deciders);
     }
-    scan
 }
 
 /// Whether the protected lists and then the own lists grant the set.
@@ -101,10 +108,14 @@ fn grant_in(
     here: &Here,
     set: LeafSet,
 ) -> bool
-    ensures { (result ≡ true) ↔ IsAllowed (flat_map (λ l. l.now) protected.now ++ flat_map (λ l. l.now) own.now) circle.now here.now set }
+    ensures { (result ≡ true) ↔ IsAllowed
+        (flat_map (λ l. l.now) protected.now ++ flat_map (λ l. l.now) own.now)
+        circle.now here.now set }
 {
-    let scan = over_lists(protected, circle, here, Scan::start(set));
-    is_granted(&over_lists(own, circle, here, scan))
+    let mut deciders = Deciders::start(set);
+    over_lists(protected, circle, here, &mut deciders);
+    over_lists(own, circle, here, &mut deciders);
+    is_granted(&deciders)
 }
 
 /// The own list of the card that has a name in a book.

@@ -7,7 +7,7 @@ pub use Rattle.book_rights.specs.declared.privileges.Leaf.{Leaf}
 pub use Rattle.book_lists.specs.Circles.{CircleOf}
 pub use Rattle.book_lists.specs.Decisions.{bears, Grants, IsAllowed}
 pub use Rattle.book_lists.specs.Memberships.{membership_cmp}
-pub use Rattle.book_lists.specs.Scans.{read_by, IsGrantScan}
+pub use Rattle.book_lists.specs.Readings.{read_by}
 pub use Rattle.book_lists.specs.declared.entries.Entry.{Entry}
 pub use Rattle.book_lists.specs.declared.entries.Here.{Here}
 pub use Rattle.book_lists_explain.specs.ShortNames.{all_leaves}
@@ -20,8 +20,7 @@ pub use Rattle.book_office.specs.declared.nodes.Level.{Level}
 pub use Rattle.book_office_sync.specs.Sifting.{AppliesAs}
 pub use Rattle.book_office_listings.specs.Listings.{IsResponse, IsResponseTo, listed_paths, asks_members, asks_token, subject_of}
 pub use Rattle.book_office_listings.specs.Reading.{IsChildResponse}
-pub use Rattle.book_office_listings.specs.RulingScans.{IsProgress}
-pub use Rattle.book_office_listings.specs.Scanning.{standing_in, IsTurn}
+pub use Rattle.book_office_listings.specs.Scanning.{standing_in}
 pub use Rattle.book_office_listings.specs.Sifting.{entries_of_levels}
 pub use Rattle.book_office_listings.specs.Values.{acl_entry}
 pub use Rattle.book_office_listings.specs.Verdicts.{bare_entries, paths_of, here_of}

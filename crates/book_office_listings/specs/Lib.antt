@@ -7,4 +7,3 @@ pub mod Sifting
 pub mod Reading
 pub mod Laws
 pub mod Rulings
-pub mod RulingScans

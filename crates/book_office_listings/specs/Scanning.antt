@@ -1,8 +1,9 @@
 -- How entries are looked at: one list after another, the protected lists of all levels first. Nothing is joined.
-use Rattle.std.specs.Prelude.{◌≡◌, Bool, List, map, length, Option, Some, None}
+use Rattle.std.specs.Prelude.{◌≡◌, Bool, List, map, Option, Some, None}
 use Rattle.book_rights.specs.declared.privileges.Leaf.{Leaf}
 use Rattle.book_lists.specs.Circles.{CircleOf}
-use Rattle.book_lists.specs.Scans.{IsScan, read_by}
+use Rattle.book_lists.specs.Readings.{read_by}
+use Rattle.book_lists.specs.Deciders.{IsDeciders}
 use Rattle.book_lists.specs.declared.entries.Here.{Here}
 use Rattle.book_office_values.specs.declared.paths.Path.{Path}
 use Rattle.book_office.specs.InForce.{list_in}
@@ -10,7 +11,7 @@ use Rattle.book_office.specs.Levels.{standing_at}
 use Rattle.book_office.specs.declared.nodes.EffectiveEntry.{EffectiveEntry}
 use Rattle.book_office.specs.declared.nodes.Level.{Level}
 use Rattle.book_office_listings.specs.Verdicts.{bare_entries, IsGrantedBy, IsDeniedBy}
-use Rattle.book_office_listings.specs.declared.denials.Turn.{Turn}
+use Rattle.book_lists.specs.declared.deciders.Deciders.{Deciders}
 use Rattle.book_office_listings.specs.declared.messages.Denial.{Denial}
 
 -- the entries of the protected list of a level, or of its own list, with where they stand
@@ -18,10 +19,9 @@ abbrev pub standing_in : Bool → Level → List EffectiveEntry
 standing_in protected level = map (standing_at level.path protected) (list_in protected level)
 
 module _ (list : List EffectiveEntry) (circle : CircleOf) (here : Here) where
-  -- a scan for a set has come over these entries, which are counted
-  pub record IsTurn (set : Leaf → Bool) (turn : Turn) : Type 0 where
-    pub scanned : IsScan set (read_by circle here (bare_entries list)) turn.scan
-    pub counted : turn.passed ≡ length list
+  -- which entry decides each leaf of a set was asked of these entries
+  abbrev pub IsWalk : (Leaf → Bool) → Deciders → Type 0
+  IsWalk set deciders = IsDeciders set (read_by circle here (bare_entries list)) deciders
 
   -- the decision on a set at a resource: none where it is granted, and else the denial
   abbrev pub IsVerdict : Path → (Leaf → Bool) → Option Denial → Type 0

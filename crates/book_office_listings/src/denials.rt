@@ -7,23 +7,16 @@ ghost use Rattle.book_office.specs.Levels.{effective_of, standing_at};
 ghost use Rattle.book_office.specs.declared.nodes.EffectiveEntry.{EffectiveEntry};
 ghost use Rattle.book_office_values.specs.declared.paths.Path.{Path as PathModel};
 ghost use Rattle.book_office.specs.InForce.{list_in};
-ghost use Rattle.book_office_listings.specs.Scanning.{IsTurn, IsVerdict, standing_in};
+ghost use Rattle.book_office_listings.specs.Scanning.{IsVerdict, IsWalk, standing_in};
 ghost use Rattle.book_office_listings.specs.Verdicts.{deciding_entry, paths_of};
 
 use crate::messages::{DecidingEntry, Denial};
-use book_lists::{Circle, Entry, Here, Outcome, Scan};
+use book_lists::{Circle, Deciders, Entry, Here, Outcome};
 use book_office::Level;
 use book_office_values::Path;
 use book_rights::{LeafSet, denied_name};
 use std::alloc::AllocError;
 use std::slice;
-
-/// A scan over lists in turn, and how many entries they have.
-#[derive(Clone, Copy, Debug)]
-pub(crate) struct Turn {
-    scan: Scan,
-    passed: usize,
-}
 
 /// The sum. An error is a sum past the last `usize`, which no Office has entries for.
 fn sum(a: usize, b: usize) -> Result<usize, AllocError>
@@ -50,35 +43,24 @@ pub(crate) fn list_in(level: &Level, protected: bool) -> &[Entry]
     }
 }
 
-/// Goes over one more list, which stands at any path.
-fn go_over(list: &[Entry], circle: &Circle, here: &Here, turn: Turn) -> Result<Turn, AllocError>
-    ensures { IfOk result (λ next. (before : List EffectiveEntry) (p : PathModel) (protected : Bool) (set : Leaf → Bool)
-        → IsTurn before circle.now here.now set turn
-        → IsTurn (before ++ map (standing_at p protected) list.now) circle.now here.now set next) }
-{
-    let mut scan = turn.scan;
-    scan.over(list, circle, here);
-    let passed = sum(turn.passed, list.len())?;
-    Ok(Turn { scan, passed })
-}
-
 /// Goes over the protected lists of levels in turn, or over their own lists.
-fn go_over_levels(
+fn go_over(
     levels: &[Level],
     protected: bool,
     circle: &Circle,
     here: &Here,
-    turn: Turn,
-) -> Result<Turn, AllocError>
-    ensures { IfOk result (λ next. (before : List EffectiveEntry) (set : Leaf → Bool)
-        → IsTurn before circle.now here.now set turn
-        → IsTurn (before ++ flat_map (standing_in protected) levels.now) circle.now here.now set next) }
+    deciders: Deciders,
+) -> Deciders
+    ensures { (before : List EffectiveEntry) (set : Leaf → Bool)
+        → IsWalk before circle.now here.now set deciders
+        → IsWalk (before ++ flat_map (standing_in protected) levels.now)
+        circle.now here.now set result }
 {
-    let mut turn = turn;
+    let mut deciders = deciders;
     for level in levels {
-        turn = go_over(list_in(level, protected), circle, here, turn)?;
+        deciders.over(list_in(level, protected), circle, here);
     }
-    Ok(turn)
+    deciders
 }
 
 /// Where the entry at an index stands, counted from the first of these lists. Where it stands in none of them, the
@@ -119,7 +101,7 @@ fn place<'a>(own: &'a [Level], above: &'a [Level], index: usize) -> Option<&'a P
 }
 
 /// The entry at an index of the effective list, if there is one, as a denial names it.
-fn deciding_entry(
+pub(crate) fn deciding_entry(
     own: &[Level],
     above: &[Level],
     index: Option<usize>,
@@ -138,6 +120,24 @@ fn deciding_entry(
     }
 }
 
+/// Which entry decides each leaf of a set at a resource, by its levels in two parts, of which the first is nearer to
+/// it: the protected lists of all levels are gone over, and then their own lists, once; no list is joined (RFC 3744,
+/// sections 5.5 and 6). Takes no memory.
+pub(crate) fn walk(
+    own: &[Level],
+    above: &[Level],
+    circle: &Circle,
+    here: &Here,
+    set: LeafSet,
+) -> Deciders
+    ensures { IsWalk (effective_of (own.now ++ above.now)) circle.now here.now set result }
+{
+    let deciders = go_over(own, true, circle, here, Deciders::start(set));
+    let deciders = go_over(above, true, circle, here, deciders);
+    let deciders = go_over(own, false, circle, here, deciders);
+    go_over(above, false, circle, here, deciders)
+}
+
 /// The decision on a set at the resource at a path, by its levels in two parts, of which the first is nearer to it:
 /// none where the set is granted (RFC 3744, section 6). It is one scan, over the protected lists of all levels and then
 /// over their own lists; no list is joined, and no path copied but for a denial. An error is want of memory.
@@ -151,15 +151,11 @@ pub fn verdict(
 ) -> Result<Option<Denial>, AllocError>
     ensures { IfOk result (IsVerdict (effective_of (own.now ++ above.now)) circle.now here.now path.now set) }
 {
-    let turn = Turn {
-        scan: Scan::start(set),
-        passed: 0,
-    };
-    let turn = go_over_levels(own, true, circle, here, turn)?;
-    let turn = go_over_levels(above, true, circle, here, turn)?;
-    let turn = go_over_levels(own, false, circle, here, turn)?;
-    let turn = go_over_levels(above, false, circle, here, turn)?;
-    match turn.scan.outcome() {
+    let deciders = walk(own, above, circle, here, set);
+    if !deciders.are_counted() {
+        return Err(AllocError);
+    }
+    match deciders.outcome() {
         Outcome::Allowed => Ok(None),
         Outcome::Denied { leaf, entry } => Ok(Some(Denial {
             resource: copy_of(path)?,

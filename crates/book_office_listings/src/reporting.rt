@@ -8,12 +8,13 @@ ghost use Rattle.book_office.specs.Keeping.{Reads};
 ghost use Rattle.book_office.specs.Levels.{effective_of};
 ghost use Rattle.book_office_listings.specs.Rulings.{AreRulings, AreRulingsAt};
 
+use crate::denials::walk;
 use crate::messages::Ruling;
 use crate::ruling::rule;
 use book_lists::{Circle, Here, Principal};
 use book_office::{Keeper, Level, StoreFault};
 use book_office_values::{Items, Path};
-use book_rights::Leaf;
+use book_rights::{Leaf, LeafSet};
 use std::alloc::{AllocError, Global};
 
 /// The resource itself, where it is a principal.
@@ -31,7 +32,7 @@ fn principal_of(alloc: Global, path: &Path) -> Result<Option<Principal>, AllocEr
 /// One ruling for each leaf, in order, by the levels of a resource: its own first, and the root's last. The circle is
 /// that of the principal asked about. An error is want of memory.
 ///
-/// Each leaf is looked for in each entry once, and no further than the entry that decides it.
+/// The lists are gone over once for all leaves, and no further than the entry that decides the last.
 pub fn rulings(
     alloc: Global,
     levels: &[Level],
@@ -40,9 +41,10 @@ pub fn rulings(
 ) -> Result<Items<Ruling>, AllocError>
     ensures { IfOk result (AreRulings (effective_of levels.now) circle.now here.now) }
 {
+    let deciders = walk(&[], levels, circle, here, LeafSet::all());
     let mut rulings = Vec::new(alloc);
     for leaf in Leaf::ALL {
-        rulings.push(rule(levels, circle, here, leaf)?)?;
+        rulings.push(rule(&deciders, levels, circle, here, leaf)?)?;
     }
     Ok(Items::from_vec(rulings))
 }

@@ -9,7 +9,7 @@ ghost use Rattle.book_office_listings.specs.Sifting.{IsSifted, entries_of_levels
 
 use crate::denials::{judge, list_in};
 use crate::messages::Denial;
-use book_lists::{Circle, Entry, Here, Outcome, Scan};
+use book_lists::{Circle, Deciders, Entry, Here, Outcome};
 use book_office::Level;
 use book_office_sync::may_apply;
 use book_office_values::Items;
@@ -77,12 +77,12 @@ pub(crate) fn judge_below(
     ensures { IsSifted circle.now above.now sifted.now → IfOk result
         (IsVerdict (effective_of (own.now ∷ above.now)) circle.now here.now own.now.path set) }
 {
-    let mut scan = Scan::start(set);
-    scan.over(own.protected.as_slice(), circle, here);
-    scan.over(sifted.protected.as_slice(), circle, here);
-    scan.over(own.own.as_slice(), circle, here);
-    scan.over(sifted.own.as_slice(), circle, here);
-    match scan.outcome() {
+    let mut deciders = Deciders::start(set);
+    deciders.judge_over(own.protected.as_slice(), circle, here);
+    deciders.judge_over(sifted.protected.as_slice(), circle, here);
+    deciders.judge_over(own.own.as_slice(), circle, here);
+    deciders.judge_over(sifted.own.as_slice(), circle, here);
+    match deciders.outcome() {
         Outcome::Allowed => Ok(None),
         Outcome::Denied { .. } => judge(own, above, circle, here, set),
     }

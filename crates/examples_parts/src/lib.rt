@@ -14,6 +14,8 @@ mod collections;
 #[cfg(test)]
 mod command_lines;
 #[cfg(test)]
+mod deciders;
+#[cfg(test)]
 mod entry_lines;
 #[cfg(test)]
 mod explanations;
@@ -31,8 +33,6 @@ mod paths;
 mod policies_in_toml;
 #[cfg(test)]
 mod policy_faults;
-#[cfg(test)]
-mod scans;
 #[cfg(test)]
 mod syncs;
 #[cfg(test)]

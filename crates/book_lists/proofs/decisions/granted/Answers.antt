@@ -1,6 +1,6 @@
 use Rattle.book_lists.proofs.Common.{◌≡◌, ◌&&◌, Bool, [], ap, sym, ◌∙◌, read_by, Leaf}
 use Rattle.book_lists.specs.Deciders.{granted_read}
-use Rattle.book_lists.specs.Scans.{bears_read, denying_read}
+use Rattle.book_lists.specs.Readings.{bears_read, denying_read}
 use Rattle.book_lists.proofs.FirstFound.{grants_tells}
 use Rattle.book_lists.proofs.OneReader.{granted_one}
 use Rattle.book_lists.proofs.decisions.granted.Goals as goal

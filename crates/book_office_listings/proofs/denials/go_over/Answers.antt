@@ -1,13 +1,26 @@
-use Rattle.book_office_listings.proofs.Common.{◌+◌, length, map, sym, ap, ◌∙◌, subst, length-map, read_by, standing_at, bare_entries}
-use Rattle.std.proofs.lemmas.List.{length-append}
-use Rattle.book_lists.specs.Scans.{IsScan}
-use Rattle.book_office_listings.proofs.InTurn.{read_standing}
+use Rattle.book_office_listings.proofs.Common.{◌++◌, take, ap, ◌∙◌, subst, arith, flat_map, take_all, read_by, standing_in, bare_entries}
+use Rattle.book_lists.specs.Deciders.{IsDeciders}
+use Rattle.book_office_listings.specs.Scanning.{IsWalk}
+use Rattle.book_office_listings.proofs.InTurn.{read_standing, levels_more}
 use Rattle.book_office_listings.proofs.denials.go_over.Goals as goal
 
+pub loop-level-preserved : goal.loop-level-preserved
+loop-level-preserved c = λ before set begun.
+    let i = c.loop-level.level-index in
+    let levels = c.args.levels.now in
+    let level = c.level-item.result in
+    let protected = c.args.protected in
+    let circle = c.args.circle.now in
+    let here = c.args.here.now in
+    let so_far = before ++ flat_map (standing_in protected) (take i levels) in
+    subst (λ readings. IsDeciders set readings c.over.new.self)
+    (ap (λ list. read_by circle here (bare_entries so_far) ++ read_by circle here list) c.list_in.ensures
+    ∙ read_standing level.path protected circle here so_far _
+    ∙ ap (λ list. read_by circle here (bare_entries list)) (levels_more protected levels i level (omega arith) c.level-item.is before))
+    (c.over.ensures.scanned set (read_by circle here (bare_entries so_far)) (c.loop-level.invariant before set begun))
+
 pub returns : goal.returns
-returns c = λ before p protected set turn. record {
-  scanned = subst (λ rs. IsScan set rs c.over.new.self) (read_standing p protected c.args.circle.now c.args.here.now before c.args.list.now)
-      (c.over.ensures.scanned set (read_by c.args.circle.now c.args.here.now (bare_entries before)) turn.scanned);
-  counted = c.in_ok-passed.ensures ∙ ap (λ n. n + length c.args.list.now) turn.counted
-      ∙ sym (length-append before (map (standing_at p protected) c.args.list.now) ∙ ap (λ n. length before + n) (length-map c.args.list.now (standing_at p protected)));
-}
+returns c = λ before set begun.
+    subst (λ levels. IsWalk (before ++ flat_map (standing_in c.args.protected) levels) c.args.circle.now c.args.here.now set c.loop-level.deciders)
+    (take_all c.loop-level.level-index c.args.levels.now c.loop-level-test.false)
+    (c.loop-level.invariant before set begun)

@@ -1,8 +1,9 @@
 use Rattle.book_office_listings.proofs.Common.{◌≡◌, [], ◌++◌, ◌∷◌, sym, ap, ◌∙◌, subst, read_by, effective_of, bare_entries}
-use Rattle.book_lists.specs.Scans.{IsAllowedRead}
+use Rattle.book_lists.specs.Readings.{IsAllowedRead}
 use Rattle.book_lists.proofs.OneReader.{allowed_one, read_append}
 use Rattle.book_office_listings.proofs.AppliedEntries.{allowed_same}
 use Rattle.book_office_listings.proofs.SiftedLevels.{sifted_as}
+use Rattle.book_lists.proofs.JudgedNeeds.{judged}
 use Rattle.book_office_listings.proofs.sifting.judge_below.Goals as goal
 
 pub returns-in-Allowed : goal.returns-in-Allowed
@@ -13,10 +14,10 @@ returns-in-Allowed c = λ is.
     let own = c.args.own.now in
     let above = c.args.above.now in
     let kept = c.args.sifted.now in
-    let first = c.over.ensures.scanned set [] c.start-scan.ensures in
-    let second = c.over-2.ensures.scanned set _ first in
-    let third = c.over-3.ensures.scanned set _ second in
-    let fourth = c.over-4.ensures.scanned set _ third in
+    let first = c.judge_over.ensures.scanned set [] (judged set [] _ c.start-deciders.ensures) in
+    let second = c.judge_over-2.ensures.scanned set _ first in
+    let third = c.judge_over-3.ensures.scanned set _ second in
+    let fourth = c.judge_over-4.ensures.scanned set _ third in
     let read : ((read_by circle here c.as_slice.result.now ++ read_by circle here c.as_slice-2.result.now) ++ read_by circle here c.as_slice-3.result.now) ++ read_by circle here c.as_slice-4.result.now
     ≡ read_by circle here (((own.protected ++ kept.protected) ++ own.own) ++ kept.own) =
     (λ k. ((read_by circle here (c.as_slice.ensures k) ++ read_by circle here (c.as_slice-2.ensures k)) ++ read_by circle here (c.as_slice-3.ensures k)) ++ read_by circle here (c.as_slice-4.ensures k))

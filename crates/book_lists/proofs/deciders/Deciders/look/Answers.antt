@@ -1,7 +1,7 @@
 use Rattle.book_lists.proofs.Common.{refl, sym, ap, ◌∙◌, not, Reading, None, Option, Some, ◌≡◌, true, false, both_ways}
 use Rattle.std.proofs.Common.{is_some}
 use Rattle.book_lists.proofs.KeptDeciders.{look_passed, look_granted, look_denied, denied_first, denied_later}
-use Rattle.book_lists.proofs.GoingScans.{idle_unshared, idle_elsewhere}
+use Rattle.book_lists.proofs.IdleReadings.{idle_unshared, idle_elsewhere}
 use Rattle.book_lists.proofs.deciders.Deciders.look.Goals as goal
 
 none_there : {A : Type 0} (x : Option A) → is_some x ≡ false → x ≡ None
@@ -13,7 +13,7 @@ pub returns-in_default : goal.returns-in_default
 returns-in_default c need readings s =
     let d = c.args.self.now in
     let r : Reading = record { circle = c.args.circle.now; here = c.args.here.now; entry = c.args.entry.now } in
-    look_passed need readings d s r (idle_unshared readings d.open r c.intersection-decided.result c.intersection-decided.ensures c.in_default.ensures) _
+    look_passed need readings d s r (idle_unshared d.open r c.intersection-decided.result c.intersection-decided.ensures c.in_default.ensures) _
     refl refl refl refl refl c.saturating_add-self.ensures
 
 -- an entry that does not apply
@@ -21,7 +21,7 @@ pub returns-then-not-applies : goal.returns-then-not-applies
 returns-then-not-applies c need readings s =
     let d = c.args.self.now in
     let r : Reading = record { circle = c.args.circle.now; here = c.args.here.now; entry = c.args.entry.now } in
-    look_passed need readings d s r (idle_elsewhere readings d.open r (sym c.applies.ensures ∙ c.if-not-applies.true)) _
+    look_passed need readings d s r (idle_elsewhere d.open r (sym c.applies.ensures ∙ c.if-not-applies.true)) _
     refl refl refl refl refl c.saturating_add-self.ensures
 
 -- an entry that grants

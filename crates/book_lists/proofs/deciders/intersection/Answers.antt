@@ -1,5 +1,5 @@
 use Rattle.book_lists.proofs.Common.{◌≡◌, ◌∙◌, ap, refl, Bool, true, false, not, ◌&&◌, Leaf, difference}
-use Rattle.book_lists.proofs.scans.intersection.Goals as goal
+use Rattle.book_lists.proofs.deciders.intersection.Goals as goal
 
 both : (a b : Bool) → (a && not (a && not b)) ≡ (a && b)
 both false b = refl

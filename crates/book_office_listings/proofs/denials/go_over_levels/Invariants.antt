@@ -1,7 +1,0 @@
-use Rattle.book_office_listings.proofs.Common.{◌++◌, take, Bool, List, flat_map, Leaf, EffectiveEntry, IsTurn, standing_in}
-use Rattle.book_office_listings.proofs.denials.go_over_levels.Given as goal
-
--- the levels so far are gone over
-abbrev pub invariant-loop-level : goal.invariant-loop-level
-invariant-loop-level l = (before : List EffectiveEntry) (set : Leaf → Bool) → IsTurn before l.circle l.here set l.initial.turn
-    → IsTurn (before ++ flat_map (standing_in l.protected) (take l.level-index l.levels)) l.circle l.here set l.turn
