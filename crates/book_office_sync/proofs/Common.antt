@@ -13,7 +13,6 @@ pub use Rattle.book_office_values.specs.declared.offices.StoredCard.{StoredCard}
 pub use Rattle.book_office.specs.Resources.{number_of}
 pub use Rattle.book_office.specs.declared.nodes.Level.{Level}
 pub use Rattle.book_office_sync.specs.Copies.{Right, item_of, patch, report, seen, shown, Kept, Later, found_of, is_valid, last_change, start_of, sync}
-pub use Rattle.book_office_sync.specs.Reading.{first_bearing}
 pub use Rattle.book_office_sync.specs.declared.messages.Item.{Item}
 pub use Rattle.book_office_sync.specs.declared.messages.Seen.{Seen}
 pub use Rattle.book_office_sync.specs.declared.messages.Token.{Token}

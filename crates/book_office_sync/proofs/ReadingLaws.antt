@@ -1,9 +1,13 @@
 -- The items that are read, and those of the definition.
-use Rattle.book_office_sync.proofs.Common.{◌≡◌, ℕ, Bool, true, false, List, [], ◌∷◌, ◌++◌, map, Option, Some, None, option_map, unwrap_or, refl, sym, ap, ◌∙◌, if◌then◌else◌, get, CircleOf, Change, Book, StoredCard, Office, Level, number_of, found_of, item_of, shown, first_bearing}
+use Rattle.book_office_sync.proofs.Common.{◌≡◌, ℕ, suc, ◌&&◌, Bool, true, false, List, [], ◌∷◌, ◌++◌, map, Option, Some, None, option_map, unwrap_or, refl, sym, ap, ◌∙◌, if◌then◌else◌, get, CircleOf, Change, Book, StoredCard, Office, Level, number_of, found_of, item_of, shown}
 use Rattle.std.proofs.Common.{not}
 use Rattle.std.specs.List.{flat_map}
+use Rattle.std.specs.Option.{option_map_or}
 use Rattle.book_rights.specs.declared.privileges.Leaf.{Leaf}
+use Rattle.book_lists.specs.Deciding.{decider}
 use Rattle.book_lists.specs.Decisions.{bears}
+use Rattle.book_lists.specs.Deciders.{granted_read}
+use Rattle.book_lists.specs.Readings.{Reading, read_by, bears_read, denying_read}
 use Rattle.book_lists.specs.declared.entries.Entry.{Entry}
 use Rattle.book_lists.specs.declared.entries.Here.{Here}
 use Rattle.book_office_values.specs.declared.paths.Path.{Path}
@@ -16,33 +20,24 @@ use Rattle.book_office_sync.specs.Reading.{above_of, entries_under, is_granted, 
 use Rattle.book_office_sync.specs.declared.reports.Above.{Above}
 use Rattle.book_office_sync.proofs.CopiesKept.{seen_by, above, in_force, seen_at}
 
--- one list after another: the first that has an entry which applies and holds the leaf
-abbrev pub or_go_on : Option Bool → Bool → Bool
-or_go_on (Some deny) rest = not deny
-or_go_on None rest = rest
+-- ---- what a scan of entries tells granted
+granted_is_grants : (circle : CircleOf) (here : Here) (leaf : Leaf) (entries : List Entry) → granted_read (read_by circle here entries) leaf ≡ grants entries circle here leaf
+granted_is_grants circle here leaf [] = refl
+granted_is_grants circle here leaf (e ∷ es) = go (bears circle here leaf e) (decider bears_read (read_by circle here es) leaf) (granted_is_grants circle here leaf es)
+  where
+    go : (b : Bool) (found : Option (ℕ × Reading)) → option_map_or (λ (f : ℕ × Reading). not (denying_read f.1)) found false ≡ grants es circle here leaf
+        → option_map_or (λ (f : ℕ × Reading). not (denying_read f.1))
+        (if b then Some (0, record { circle = circle; here = here; entry = e }) else option_map (λ (f : ℕ × Reading). (suc f.0, f.1)) found) false
+        ≡ (if b then not e.deny else grants es circle here leaf)
+    go true found same = refl
+    go false None same = same
+    go false (Some f) same = same
 
-pub grants_joined : (xs ys : List Entry) (circle : CircleOf) (here : Here) (leaf : Leaf) → grants (xs ++ ys) circle here leaf ≡ or_go_on (first_bearing xs circle here leaf) (grants ys circle here leaf)
-grants_joined [] ys circle here leaf = refl
-grants_joined (x ∷ xs) ys circle here leaf = elim (bears circle here leaf x) as (λ b.
-    (if b then not x.deny else grants (xs ++ ys) circle here leaf) ≡ or_go_on (if b then Some x.deny else first_bearing xs circle here leaf) (grants ys circle here leaf)) [
-      | true ↦ refl
-      | false ↦ grants_joined xs ys circle here leaf
-    ]
-
-pub grants_one : (xs : List Entry) (circle : CircleOf) (here : Here) (leaf : Leaf) → grants xs circle here leaf ≡ or_go_on (first_bearing xs circle here leaf) false
-grants_one [] circle here leaf = refl
-grants_one (x ∷ xs) circle here leaf = elim (bears circle here leaf x) as (λ b.
-    (if b then not x.deny else grants xs circle here leaf) ≡ or_go_on (if b then Some x.deny else first_bearing xs circle here leaf) false) [
-      | true ↦ refl
-      | false ↦ grants_one xs circle here leaf
-    ]
-
--- three lists in turn
-pub granted_in_turn : (a : Above) (circle : CircleOf) (here : Here) (own : List Entry) (leaf : Leaf)
-    → is_granted a circle here own leaf ≡ or_go_on (first_bearing a.protected circle here leaf) (or_go_on (first_bearing own circle here leaf) (or_go_on (first_bearing a.own circle here leaf) false))
-granted_in_turn a circle here own leaf =
-    grants_joined a.protected (own ++ a.own) circle here leaf
-    ∙ ap (or_go_on (first_bearing a.protected circle here leaf)) (grants_joined own a.own circle here leaf ∙ ap (or_go_on (first_bearing own circle here leaf)) (grants_one a.own circle here leaf))
+-- of a leaf for which the entries were gone over, it tells what they grant
+pub told_granted : (circle : CircleOf) (here : Here) (entries : List Entry) (need set : Leaf → Bool) (leaf : Leaf)
+    → ((l : Leaf) → set l ≡ (need l && granted_read (read_by circle here entries) l)) → need leaf ≡ true → set leaf ≡ grants entries circle here leaf
+told_granted circle here entries need set leaf told held =
+    told leaf ∙ ap (λ b. b && granted_read (read_by circle here entries) leaf) held ∙ granted_is_grants circle here leaf entries
 
 -- entries with the paths where they stand, without these
 standing_entries : (p : Path) (b : Bool) (xs : List Entry) (ys : List EffectiveEntry) → map (λ (e : EffectiveEntry). e.entry) (map (standing_at p b) xs ++ ys) ≡ xs ++ map (λ (e : EffectiveEntry). e.entry) ys

@@ -1,10 +1,9 @@
 -- How a report is read: by the lists above a book's cards, read once, and each card's own list.
-use Rattle.std.specs.Prelude.{ℕ, Bool, true, List, [], ◌∷◌, ◌++◌, ◌==◌, ◌&&◌, nat_le, Option, Some, None, if◌then◌else◌}
+use Rattle.std.specs.Prelude.{ℕ, Bool, true, List, ◌++◌, ◌==◌, ◌&&◌, nat_le, Option, Some, None, if◌then◌else◌}
 use Rattle.std.specs.List.{flat_map}
 use Rattle.std.specs.Str.{bytes_eq}
 use Rattle.book_rights.specs.declared.privileges.Leaf.{Leaf}
 use Rattle.book_lists.specs.Circles.{CircleOf}
-use Rattle.book_lists.specs.Decisions.{bears}
 use Rattle.book_lists.specs.declared.entries.Entry.{Entry}
 use Rattle.book_lists.specs.declared.entries.Here.{Here}
 use Rattle.book_office_values.specs.declared.offices.StoredCard.{StoredCard}
@@ -15,11 +14,6 @@ use Rattle.book_office_sync.specs.declared.messages.Found.{Found}
 use Rattle.book_office_sync.specs.declared.messages.Item.{Item}
 use Rattle.book_office_sync.specs.declared.messages.Token.{Token}
 use Rattle.book_office_sync.specs.declared.reports.Above.{Above}
-
--- whether the first entry that applies and holds the leaf denies it
-abbrev pub first_bearing : List Entry → CircleOf → Here → Leaf → Option Bool
-first_bearing [] circle here leaf = None
-first_bearing (e ∷ es) circle here leaf = if bears circle here leaf e then Some e.deny else first_bearing es circle here leaf
 
 -- the entries of all levels
 abbrev pub above_of : List Level → Above

@@ -3,21 +3,23 @@
 ghost use Rattle.std.specs.Prelude.{◌≡◌, ◌++◌, ◌<◌, Some, IfOk, IfSome, OnOk, map, option_map};
 ghost use Rattle.std.specs.FinMap.{get};
 ghost use Rattle.std.specs.Option.{option_copied};
+ghost use Rattle.book_lists.specs.Deciders.{IsDeciders};
+ghost use Rattle.book_lists.specs.Readings.{read_by};
 ghost use Rattle.book_office_values.specs.declared.offices.Book.{Book};
 ghost use Rattle.book_office.specs.Keeping.{Reads};
 ghost use Rattle.book_office_sync.specs.Copies.{is_cut, item_of, reported, start_of, sync, BringsCopies, IsLimit};
 ghost use Rattle.book_office_sync.specs.Limits.{AreEnough, last_told, told_items, told_report};
-ghost use Rattle.book_office_sync.specs.Reading.{first_bearing, found_in, is_granted, is_readable, item_in};
+ghost use Rattle.book_office_sync.specs.Reading.{entries_under, found_in, is_granted, is_readable, item_in};
 ghost use Rattle.book_office_sync.specs.Reading.{names_place};
 ghost use Rattle.book_office_sync.specs.Sifting.{IsAboveOf};
 
 use crate::messages::{Found, Item, Report, Token};
 use crate::pages::{PAGE, Page, read_page};
 use crate::sifting::keep;
-use book_lists::{Circle, Entry, Here, Name, applies};
+use book_lists::{Circle, Deciders, Entry, Here, Name};
 use book_office::{Changed, Items, Keeper, Level, Lists, Path, StoreFault};
 use book_office_values::StoredCard;
-use book_rights::Leaf;
+use book_rights::{Leaf, LeafSet, Privilege};
 use std::alloc::{AllocError, Global};
 
 /// How many cards an initial report reads at once at least.
@@ -54,16 +56,21 @@ pub(crate) fn join_levels(alloc: Global, lists: Lists, circle: &Circle) -> Resul
     })
 }
 
-/// Whether the first entry that applies and holds the leaf denies it; none where there is no such entry.
-fn first_bearing(entries: &[Entry], circle: &Circle, here: &Here, leaf: Leaf) -> Option<bool>
-    ensures { result ≡ first_bearing entries.now circle.now here.now leaf }
+/// Which entry decides each leaf of a set at a card with this own list, by the entries in force there.
+fn deciders_at(
+    above: &Above,
+    circle: &Circle,
+    here: &Here,
+    own: &Items<Entry>,
+    set: LeafSet,
+) -> Deciders
+    ensures { IsDeciders set (read_by circle.now here.now (entries_under above.now own.now)) result }
 {
-    for entry in entries {
-        if applies(entry, circle, here) && entry.set.has(leaf) {
-            return Some(entry.deny);
-        }
-    }
-    None
+    let mut deciders = Deciders::start(set);
+    deciders.over(above.protected.as_slice(), circle, here);
+    deciders.over(own.as_slice(), circle, here);
+    deciders.over(above.own.as_slice(), circle, here);
+    deciders
 }
 
 /// Whether the entries in force at a card with this own list grant the leaf.
@@ -76,24 +83,19 @@ pub(crate) fn is_granted(
 ) -> bool
     ensures { result ≡ is_granted above.now circle.now here.now own.now leaf }
 {
-    if let Some(deny) = first_bearing(above.protected.as_slice(), circle, here, leaf) {
-        return !deny;
-    }
-    if let Some(deny) = first_bearing(own.as_slice(), circle, here, leaf) {
-        return !deny;
-    }
-    match first_bearing(above.own.as_slice(), circle, here, leaf) {
-        Some(deny) => !deny,
-        None => false,
-    }
+    let set = LeafSet::empty().with(leaf);
+    deciders_at(above, circle, here, own, set)
+        .granted()
+        .has(leaf)
 }
 
 /// Whether a card with this own list may be read.
 fn is_readable(above: &Above, circle: &Circle, here: &Here, own: &Items<Entry>) -> bool
     ensures { result ≡ is_readable above.now circle.now here.now own.now }
 {
-    is_granted(above, circle, here, own, Leaf::ReadTexts)
-        && is_granted(above, circle, here, own, Leaf::ReadNames)
+    let read = Privilege::Read.leaves();
+    let granted = deciders_at(above, circle, here, own, read).granted();
+    granted.has(Leaf::ReadTexts) && granted.has(Leaf::ReadNames)
 }
 
 /// What a report says of the card, if there is one and it may be read. Takes no memory: the text is handed on.
