@@ -1,6 +1,7 @@
 -- How entries are looked at: one list after another, the protected lists of all levels first. Nothing is joined.
 use Rattle.std.specs.Prelude.{◌≡◌, Bool, List, map, Option, Some, None}
 use Rattle.book_rights.specs.declared.privileges.Leaf.{Leaf}
+use Rattle.book_rights.specs.Leaves.{every_leaf}
 use Rattle.book_lists.specs.Circles.{CircleOf}
 use Rattle.book_lists.specs.Readings.{read_by}
 use Rattle.book_lists.specs.Deciders.{IsDeciders}
@@ -10,9 +11,11 @@ use Rattle.book_office.specs.InForce.{list_in}
 use Rattle.book_office.specs.Levels.{standing_at}
 use Rattle.book_office.specs.declared.nodes.EffectiveEntry.{EffectiveEntry}
 use Rattle.book_office.specs.declared.nodes.Level.{Level}
+use Rattle.book_office_listings.specs.Rulings.{IsRuling}
 use Rattle.book_office_listings.specs.Verdicts.{bare_entries, IsGrantedBy, IsDeniedBy}
 use Rattle.book_lists.specs.declared.deciders.Deciders.{Deciders}
 use Rattle.book_office_listings.specs.declared.messages.Denial.{Denial}
+use Rattle.book_office_listings.specs.declared.messages.Ruling.{Ruling}
 
 -- the entries of the protected list of a level, or of its own list, with where they stand
 abbrev pub standing_in : Bool → Level → List EffectiveEntry
@@ -27,3 +30,7 @@ module _ (list : List EffectiveEntry) (circle : CircleOf) (here : Here) where
   abbrev pub IsVerdict : Path → (Leaf → Bool) → Option Denial → Type 0
   IsVerdict p set None = IsGrantedBy list circle here set
   IsVerdict p set (Some denial) = IsDeniedBy list circle here p set denial
+
+-- the ruling on a leaf by these entries, which were asked for every leaf
+pub record IsRuledBy (list : List EffectiveEntry) (deciders : Deciders) (leaf : Leaf) (ruling : Ruling) : Type 0 where
+  pub rules : (circle : CircleOf) (here : Here) → IsWalk list circle here every_leaf deciders → IsRuling list circle here leaf ruling

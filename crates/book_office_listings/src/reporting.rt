@@ -44,7 +44,7 @@ pub fn rulings(
     let deciders = walk(&[], levels, circle, here, LeafSet::all());
     let mut rulings = Vec::new(alloc);
     for leaf in Leaf::ALL {
-        rulings.push(rule(&deciders, levels, circle, here, leaf)?)?;
+        rulings.push(rule(&deciders, levels, leaf)?)?;
     }
     Ok(Items::from_vec(rulings))
 }
