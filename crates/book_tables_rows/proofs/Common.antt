@@ -60,6 +60,6 @@ pub use Rattle.book_tables_rows.specs.Columns.{ace_node_place, node_label, node_
 pub use Rattle.book_tables_rows.specs.Nodes.{Finds, told, Told, ShowsEpoch, number_in, said, told_of}
 pub use Rattle.book_tables_rows.specs.Rows.{IsBook, rows_of, has, Rows}
 pub use Rattle.book_tables_rows.specs.Schema.{book_schema, node_table, ace_table, gone_table, member_table, meta_table}
-pub use Rattle.book_tables_rows.specs.Steps.{Looks, Becomes, BecomesIf, Makes, Keeps}
+pub use Rattle.book_tables_rows.specs.Steps.{Looks, Becomes, BecomesIf, Keeps}
 pub use Rattle.book_tables_rows.specs.Writes.{is_at, flag, is_under, or_null, AreFree, HasMeta, is_entry, is_mapped, IsMeta, Said, by_place, delete_entries}
 pub use Rattle.book_tables_rows.specs.declared.nodes.FoundNode.{FoundNode}

@@ -9,7 +9,7 @@ use Rattle.book_tables_rows.specs.declared.adopting.ListsRow.{ListsRow}
 use Rattle.book_tables_rows.specs.declared.adopting.PlaceRow.{PlaceRow}
 use Rattle.book_tables_rows.specs.Nodes.{FitEpoch, said}
 use Rattle.book_tables_rows.specs.Rows.{Rows}
-use Rattle.book_tables_rows.specs.Steps.{Change, change_of}
+use Rattle.book_tables_rows.specs.Steps.{Change}
 use Rattle.book_tables_rows.specs.Writes.{Pair, Said, IsMeta, is_at, insert_node, renew_reach, set_epoch, set_place, write_both, write_members}
 
 -- ---- what is written
@@ -82,10 +82,6 @@ CanPlace place rows = HasRow place.path rows ⊎ HasRow place.parent rows
 
 abbrev pub CanList : Listed → Rows → Type 0
 CanList lists rows = HasRow lists.path rows
-
--- a node is added under its parent
-abbrev pub adding : Place → Change
-adding place = change_of (λ rows after. HasRow place.parent rows × (after ≡ add_place place rows))
 
 -- ---- all of them
 

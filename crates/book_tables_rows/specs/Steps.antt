@@ -27,12 +27,6 @@ pub record BecomesIf (old new : State) (Fit : Rows → Type 0) (write : Rows →
   pub is_open : IsTrue new.is_open
   pub rows : IsBook old.now → Fit (rows_of old.now.trees) → IsBook new.now × (rows_of new.now.trees ≡ write (rows_of old.now.trees))
 
--- the same, where the step may have been a read alone
-pub record Turns (old new : State) (Fit : Rows → Type 0) (write : Rows → Rows) : Type 0 where
-  pub inside : IsTrue new.in_transaction
-  pub was_open : IsTrue old.is_open
-  pub rows : IsBook old.now → Fit (rows_of old.now.trees) → IsBook new.now × (rows_of new.now.trees ≡ write (rows_of old.now.trees))
-
 -- a step that answers Ok has made the rows so
 abbrev pub Writes : State → State → Result (Unit {0}) Error → (Rows → Rows) → Type 0
 Writes old new result write = HasCleanDisk new → IsTrue old.in_transaction → OnOk result (Becomes old new write)
@@ -82,17 +76,6 @@ change_of Makes = record { Fits = λ rows. ⊤; Makes = Makes }
 abbrev pub Changed : Change → Database → Database → Type 0
 Changed change old new =
     IsBook old → change.Fits (rows_of old.trees) → IsBook new × change.Makes (rows_of old.trees) (rows_of new.trees)
-
--- inside a transaction: the change was made
-pub record Makes (old new : State) (change : Change) : Type 0 where
-  pub inside : IsTrue new.in_transaction
-  pub was_open : IsTrue old.is_open
-  pub is_open : IsTrue new.is_open
-  pub made : Changed change old.now new.now
-
--- a function that answers Ok has made the change
-abbrev pub Performs : State → State → Result (Unit {0}) Error → Change → Type 0
-Performs old new result change = HasCleanDisk new → IsTrue old.in_transaction → OnOk result (Makes old new change)
 
 -- ---- a whole transaction
 
