@@ -1,9 +1,10 @@
 //! The program `book_desk` of the shared contact books. Its words are read by `book_desk_words`. `book_desk_app` does
 //! the rest, over any store, reader and writers: `run_text` what `explain`, `card` and help do, `run` what `import`,
 //! `audit` and `pipe` do, `run_migration` and `serve` what the commands of their names do, and `prepare` what `serve`
-//! does before it listens, and `begin` what `init` does in a folder. Their contracts say what is written where these tell
-//! their bytes. Nothing stands above it: `main` joins them to the process, to the files (`files`, `folders`) and to the
-//! port, and tells each stage before it calls it, where standard error is a terminal (`progress`).
+//! does before it listens, and `begin` what `init` does in a folder. `run_question` of `book_desk_questions` does what
+//! `why` and `who` do. Their contracts say what is written where these tell their bytes. Nothing stands above it: `main`
+//! joins them to the process, to the files (`files`, `folders`) and to the port, and tells each stage before it calls
+//! it, where standard error is a terminal (`progress`).
 #![tactic(auto)]
 
 ghost use Rattle.std.specs.Prelude.{◌≡◌};
@@ -18,10 +19,10 @@ mod progress;
 use beginnings::BEGINNING;
 use book_desk_app::{
     DONE, Failure, InputFault, Lines, Noting, Prepared, REFUSED, StoreFailure, TextCommand,
-    WhoWords, WhyWords, Work, begin, prepare, run, run_migration, run_text, run_who, run_why,
-    serve, serve_many, tell, tell_line,
+    Work, begin, prepare, run, run_migration, run_text, serve, serve_many, tell, tell_line,
 };
 use book_desk_loop::{Limits, Polled};
+use book_desk_questions::{WhoWords, WhyWords, Words, run_question};
 use book_desk_words::{Command, WordsFault, command_of, words_not_text};
 use book_machine::Machine;
 use book_office::Keeper;
@@ -183,35 +184,35 @@ fn migrate<W: Write, E: Lines>(
     status
 }
 
-/// The words of a question.
+/// The words of `why`.
 fn words_of_why<'a>(
     caller: &'a str,
     what: &'a str,
     path: &'a str,
     destination: Option<&'a str>,
-) -> WhyWords<'a> {
-    WhyWords {
+) -> Words<'a> {
+    Words::Why(WhyWords {
         caller,
         what,
         path,
         destination,
-    }
+    })
 }
 
-/// The words of a question about everybody.
-fn words_of_who<'a>(privilege: &'a str, path: &'a str, denied: bool) -> WhoWords<'a> {
-    WhoWords {
+/// The words of `who`.
+fn words_of_who<'a>(privilege: &'a str, path: &'a str, denied: bool) -> Words<'a> {
+    Words::Who(WhoWords {
         privilege,
         path,
         denied,
-    }
+    })
 }
 
-/// The command `why`: the store's file, which has to be there, is opened, and the question answered.
-fn why<W: Write, E: Lines>(
+/// The commands that ask: the store's file, which has to be there, is opened, and the question answered.
+fn ask<W: Write, E: Lines>(
     rt: &HostRuntime,
     store: String,
-    words: &WhyWords<'_>,
+    words: &Words<'_>,
     writer: &mut W,
     errors: &mut E,
 ) -> u8 {
@@ -223,28 +224,7 @@ fn why<W: Write, E: Lines>(
     let Some(store) = store else {
         return tell(errors, &Failure::Store(StoreFailure::NoStore));
     };
-    let (status, left) = run_why(rt.alloc(), words, store, writer, errors);
-    close(left);
-    status
-}
-
-/// The command `who`: the store's file, which has to be there, is opened, and the question answered.
-fn who<W: Write, E: Lines>(
-    rt: &HostRuntime,
-    store: String,
-    words: &WhoWords<'_>,
-    writer: &mut W,
-    errors: &mut E,
-) -> u8 {
-    let Opened { store, policy } = match open_inputs(rt, &Some(store), &None, true) {
-        Ok(opened) => opened,
-        Err(failure) => return tell(errors, &failure),
-    };
-    drop(policy);
-    let Some(store) = store else {
-        return tell(errors, &Failure::Store(StoreFailure::NoStore));
-    };
-    let (status, left) = run_who(rt.alloc(), words, store, writer, errors);
+    let (status, left) = run_question(rt.alloc(), words, store, writer, errors);
     close(left);
     status
 }
@@ -461,7 +441,7 @@ fn perform<W: Write, E: Lines>(
                 path.as_str(),
                 destination.as_deref(),
             );
-            why(rt, store, &words, writer, errors)
+            ask(rt, store, &words, writer, errors)
         }
         Command::Who {
             store,
@@ -470,7 +450,7 @@ fn perform<W: Write, E: Lines>(
             denied,
         } => {
             let words = words_of_who(privilege.as_str(), path.as_str(), denied);
-            who(rt, store, &words, writer, errors)
+            ask(rt, store, &words, writer, errors)
         }
         Command::Serve {
             port,

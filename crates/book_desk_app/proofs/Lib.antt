@@ -1,4 +1,3 @@
-pub mod EndedQuestions
 pub mod Common
 pub mod Answering
 pub mod ShortTexts
@@ -7,4 +6,3 @@ pub mod Behind
 pub mod GivenBack
 pub mod InTurn
 pub mod AtOnce
-pub mod RefusalNames

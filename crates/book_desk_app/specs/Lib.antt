@@ -11,7 +11,6 @@ pub mod Streams
 pub mod Failures
 pub mod Runs
 pub mod Preparing
-pub mod Questions
 pub mod Migrations
 pub mod Connections
 pub mod AtOnce

@@ -16,7 +16,7 @@
 //! Read `text_commands` and `dispatch` first, then `explaining`, `card_summaries`, and `streams` and `short_texts`,
 //! which read. Then `works`, which makes a task, `tasks`, which joins `policies`, `importing`, `auditing` and `piping`,
 //! and `memory`; `stores` and `running`; `adoptions`, `preparing`, `connections`, `listening`, and `looping`, which
-//! serves many connections at once; `beginning`; `questions`, which `run_why` and `run_who` answer over a store.
+//! serves many connections at once; and `beginning`.
 //! `failures`, `lines`, `text_failures` and `serving_failures` have what is told on standard error.
 #![tactic(auto)]
 
@@ -37,7 +37,6 @@ mod migrations;
 mod piping;
 mod policies;
 mod preparing;
-mod questions;
 mod running;
 mod serving_failures;
 mod short_texts;
@@ -64,7 +63,6 @@ pub use migrations::run_migration;
 pub use piping::pipe;
 pub use policies::policy_of;
 pub use preparing::{Prepared, prepare};
-pub use questions::{Asked, Asking, Unanswered, WhoWords, WhyWords, run_who, run_why};
 pub use running::run;
 pub use serving_failures::{AdoptionFailure, StreamFailure};
 pub use short_texts::read_short_text;

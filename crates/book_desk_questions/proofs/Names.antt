@@ -1,12 +1,12 @@
 -- No name of a refusal has more than 32 bytes, and no name of a command that asks more than 8.
-use Rattle.book_desk_app.proofs.Common.{ℕ}
+use Rattle.book_desk_questions.proofs.Common.{ℕ}
 use Rattle.std.proofs.Common.{◌≤◌, length, lit≤}
 use Rattle.book_machine.specs.Refusals.{refusal_name}
 use Rattle.book_machine.specs.declared.refusals.Refusal.{Refusal}
 use Rattle.book_machine.specs.declared.refusals.Refusal.TheVariants.{BadRequest, UnknownCaller, BadCard, NeedPrivileges, NoProtectedAceConflict, NoInheritedAceConflict, LimitedNumberOfAces, NotSupportedPrivilege, RecognizedPrincipal, ValidSyncToken, NotFound, NotAllowed, NoParent, Overwrite, BodyOnMkcol, Full, Unavailable}
-use Rattle.book_desk_app.specs.Questions.{asking_name}
-use Rattle.book_desk_app.specs.declared.questions.Asking.{Asking}
-use Rattle.book_desk_app.specs.declared.questions.Asking.TheVariants as asking
+use Rattle.book_desk_questions.specs.Asked.{asking_name}
+use Rattle.book_desk_questions.specs.declared.asked.Asking.{Asking}
+use Rattle.book_desk_questions.specs.declared.asked.Asking.TheVariants as asking
 
 pub refusal_names_are_short : (refusal : Refusal) → length (refusal_name refusal) ≤ 32
 refusal_names_are_short BadRequest = lit≤ tt

@@ -1,10 +1,10 @@
 -- How a question ends: no failure has the status of what was done.
-use Rattle.book_desk_app.proofs.Common.{◌≡◌, arith}
+use Rattle.book_desk_questions.proofs.Common.{◌≡◌, arith}
 use Rattle.book_machine.specs.declared.refusals.Refusal.{Refusal}
 use Rattle.book_machine.specs.declared.refusals.Refusal.TheVariants as refusals
-use Rattle.book_desk_app.specs.Questions.{refused_status, unanswered_status}
-use Rattle.book_desk_app.specs.declared.questions.Unanswered.{Unanswered}
-use Rattle.book_desk_app.specs.declared.questions.Unanswered.TheVariants.{Refused, UnknownPrivilege, Output}
+use Rattle.book_desk_questions.specs.Failures.{refused_status, unanswered_status}
+use Rattle.book_desk_questions.specs.declared.failures.Unanswered.{Unanswered}
+use Rattle.book_desk_questions.specs.declared.failures.Unanswered.TheVariants.{Refused, UnknownPrivilege, Output}
 
 refused_not_done : (refusal : Refusal) → refused_status refusal ≡ 0 → ⊥
 refused_not_done refusals.Unavailable e = omega (arith, e)

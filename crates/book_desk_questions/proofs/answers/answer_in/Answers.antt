@@ -1,7 +1,7 @@
-use Rattle.book_desk_app.proofs.Common.{◌∙◌, ap, inl, inr, refl, sym, Some, Keeps-refl}
+use Rattle.book_desk_questions.proofs.Common.{◌∙◌, ap, inl, inr, refl, sym, Some, Keeps-refl}
 use Rattle.book_desk_app.proofs.Ending.{not_done}
 use Rattle.book_desk_app.specs.declared.failures.Failure.TheVariants.{Store}
-use Rattle.book_desk_app.proofs.questions.answer_in.Goals as goal
+use Rattle.book_desk_questions.proofs.answers.answer_in.Goals as goal
 
 pub returns-in-Ok-clause-runs : goal.returns-in-Ok-clause-runs
 returns-in-Ok-clause-runs g c = inr (c.in-Ok.tables, c.answer_over-status.result.1, c.in-Ok.ensures.opened, c.answer_over-status.ensures.ends, ap Some c.release.ensures)

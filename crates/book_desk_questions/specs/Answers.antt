@@ -1,0 +1,68 @@
+-- What the program does where it answers a question about a store (own profile).
+use Rattle.std.specs.Prelude.{◌≡◌, ◌⊎◌, ℕ, List, Option, Some, None, Result, Ok, Err}
+use Rattle.std.specs.Io.KnownBytes.{Appends, Keeps}
+use Rattle.sqlite.specs.State.{State}
+use Rattle.book_office.specs.Keeping.{Standing}
+use Rattle.book_office_values.specs.declared.offices.Office.{Office}
+use Rattle.book_machine.specs.Asking.{Asks}
+use Rattle.book_machine.specs.declared.refusals.Refusal.{Refusal}
+use Rattle.book_questions.specs.Questions.{TellsWhy}
+use Rattle.book_questions.specs.Who.{TellsWho}
+use Rattle.book_desk_app.specs.Failures.{store_text}
+use Rattle.book_desk_app.specs.Runs.{AreTablesOf, standing_in}
+use Rattle.book_desk_app.specs.declared.failures.StoreFailure.{StoreFailure}
+use Rattle.book_desk_questions.specs.Asked.{AsksFor, AsksForNothing, asking_of, caller_in}
+use Rattle.book_desk_questions.specs.Failures.{unanswered_status, unanswered_text}
+use Rattle.book_desk_questions.specs.declared.asked.Asked.{Asked}
+use Rattle.book_desk_questions.specs.declared.asked.Asked.TheVariants as asked
+use Rattle.book_desk_questions.specs.declared.asked.Asking.{Asking}
+use Rattle.book_desk_questions.specs.declared.asked.Words.{Words}
+use Rattle.book_desk_questions.specs.declared.failures.Unanswered.{Unanswered}
+use Rattle.book_desk_questions.specs.declared.failures.Unanswered.TheVariants.{Refused, UnknownPrivilege, Output}
+
+-- ---- the answer, over what a keeper stands for
+abbrev pub TellsAsked : Office → Asked → Result (List ℕ) Refusal → Type 0
+TellsAsked o (asked.Why caller question) r = TellsWhy o (caller_in caller) question r
+TellsAsked o (asked.Who privilege p denied) r = TellsWho o denied privilege p r
+
+module _ (old : Standing) (a : Asked) (held holds : Option (List ℕ)) (new : Standing) where
+  -- the text that was told of the Office, which stays
+  abbrev pub IsTextOf : List ℕ → Type 0
+  IsTextOf text = Asks old new (Ok text) (λ o r. TellsAsked o a r)
+
+  -- what was written is the answer
+  abbrev pub Answers : Type 0
+  Answers = (text : List ℕ) × IsTextOf text × Appends held holds text
+
+  -- it was refused, and nothing was written; or its text could not be written
+  abbrev pub FailsToAnswer : Unanswered → Type 0
+  FailsToAnswer (Refused refusal) = Asks {A = List ℕ} old new (Err refusal) (λ o r. TellsAsked o a r) × Keeps held holds
+  FailsToAnswer UnknownPrivilege = ⊥
+  FailsToAnswer Output = (text : List ℕ) × IsTextOf text
+
+-- it was answered; or it was not, with the status of what was told. With how a line is told, the command, and the status
+abbrev pub EndsAsked : (List ℕ → Type 0) → Asking → Standing → Asked → Option (List ℕ) → Option (List ℕ) → ℕ → Standing → Type 0
+EndsAsked Told command old a held holds status new =
+    ((status ≡ 0) × Answers old a held holds new)
+    ⊎ ((failure : Unanswered) × (status ≡ unanswered_status failure) × FailsToAnswer old a held holds new failure × Told (unanswered_text command failure))
+
+-- ---- a run over a store
+module _ {C K : Type 0} (state : C → State) (connection : K → C) (failures : K → ℕ) (Told : List ℕ → Type 0) where
+  -- the question was answered over the tables, or not, and the Office stays. With what the writer held and holds, the status, and
+  -- the tables afterwards
+  abbrev pub AnswersOver : Asking → Asked → K → Option (List ℕ) → Option (List ℕ) → ℕ → K → Type 0
+  AnswersOver command a old held holds status new =
+      EndsAsked Told command (standing_in state connection failures old) a held holds status (standing_in state connection failures new)
+
+  -- the tables of the store were not had; or it was answered over them
+  abbrev pub AnswersIn : (C → StoreFailure → Type 0) → Asking → Asked → C → Option (List ℕ) → Option (List ℕ) → ℕ → Option C → Type 0
+  AnswersIn is_not_had command a store held holds status back =
+      ((failure : StoreFailure) × is_not_had store failure × (status ≡ 3) × (back ≡ None) × Keeps held holds × Told (store_text failure))
+      ⊎ ((old : K) × (new : K) × AreTablesOf state connection failures store old × AnswersOver command a old held holds status new × (back ≡ Some (connection new)))
+
+  -- the words ask nothing, and the store was not touched; or what they ask was answered over it
+  abbrev pub RunsAsked : (C → StoreFailure → Type 0) → Words → C → Option (List ℕ) → Option (List ℕ) → ℕ → Option C → Type 0
+  RunsAsked is_not_had words store held holds status back =
+      ((failure : Unanswered) × AsksForNothing words failure × (status ≡ unanswered_status failure) × (back ≡ Some store) × Keeps held holds
+      × Told (unanswered_text (asking_of words) failure))
+      ⊎ ((a : Asked) × AsksFor words a × AnswersIn is_not_had (asking_of words) a store held holds status back)

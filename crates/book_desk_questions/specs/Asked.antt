@@ -1,0 +1,61 @@
+-- What the words of a question ask (own profile).
+use Rattle.std.specs.Prelude.{◌≡◌, ◌≢◌, ◌⊎◌, ℕ, List, codes, Option, Some, None, if◌then◌else◌}
+use Rattle.std.specs.Option.{option_copied}
+use Rattle.std.specs.Str.{bytes_eq}
+use Rattle.book_rights.specs.Privileges.{name_of}
+use Rattle.book_rights.specs.declared.privileges.Privilege.{Privilege}
+use Rattle.book_office_values.specs.declared.paths.Path.{Path}
+use Rattle.book_machine.specs.declared.refusals.Refusal.TheVariants.{Unavailable}
+use Rattle.book_questions.specs.Questions.{ReadsPath, ReadsQuestion}
+use Rattle.book_questions.specs.declared.questions.Question.{Question}
+use Rattle.book_desk_questions.specs.declared.asked.Asked.{Asked}
+use Rattle.book_desk_questions.specs.declared.asked.Asked.TheVariants as asked
+use Rattle.book_desk_questions.specs.declared.asked.Asking.{Asking}
+use Rattle.book_desk_questions.specs.declared.asked.Asking.TheVariants as asking
+use Rattle.book_desk_questions.specs.declared.asked.WhoWords.{WhoWords}
+use Rattle.book_desk_questions.specs.declared.asked.WhyWords.{WhyWords}
+use Rattle.book_desk_questions.specs.declared.asked.Words.{Words}
+use Rattle.book_desk_questions.specs.declared.asked.Words.TheVariants as words
+use Rattle.book_desk_questions.specs.declared.failures.Unanswered.{Unanswered}
+use Rattle.book_desk_questions.specs.declared.failures.Unanswered.TheVariants.{Refused, UnknownPrivilege}
+
+-- the bare name of a caller; a dash is nobody
+abbrev pub caller_in : List ℕ → Option (List ℕ)
+caller_in word = if bytes_eq word (codes "-") then None else Some word
+
+abbrev pub asking_name : Asking → List ℕ
+asking_name asking.Why = codes "why"
+asking_name asking.Who = codes "who"
+
+abbrev pub asking_of : Words → Asking
+asking_of (words.Why w) = asking.Why
+asking_of (words.Who w) = asking.Who
+
+-- ---- why something is granted to a caller, or denied
+-- the words ask this of a caller
+abbrev pub AsksWhy : WhyWords → Asked → Type 0
+AsksWhy w a = (question : Question) × (a ≡ asked.Why w.caller.now question) × ReadsQuestion w.what.now w.path.now (option_copied w.destination) (Some question)
+
+-- they name neither a method nor a privilege; or memory was refused
+abbrev pub AsksWhyNothing : WhyWords → Unanswered → Type 0
+AsksWhyNothing w failure =
+    ((failure ≡ UnknownPrivilege) × ReadsQuestion w.what.now w.path.now (option_copied w.destination) None) ⊎ (failure ≡ Refused Unavailable)
+
+-- ---- to whom a privilege is granted, or denied
+-- the words ask this of everybody
+abbrev pub AsksWho : WhoWords → Asked → Type 0
+AsksWho w a = (privilege : Privilege) × (p : Option Path) × (a ≡ asked.Who privilege p w.denied) × (w.privilege.now ≡ name_of privilege) × ReadsPath w.path.now p
+
+-- they name no privilege; or memory was refused
+abbrev pub AsksWhoNothing : WhoWords → Unanswered → Type 0
+AsksWhoNothing w failure =
+    ((failure ≡ UnknownPrivilege) × ((privilege : Privilege) → w.privilege.now ≢ name_of privilege)) ⊎ (failure ≡ Refused Unavailable)
+
+-- ---- any question
+abbrev pub AsksFor : Words → Asked → Type 0
+AsksFor (words.Why w) a = AsksWhy w a
+AsksFor (words.Who w) a = AsksWho w a
+
+abbrev pub AsksForNothing : Words → Unanswered → Type 0
+AsksForNothing (words.Why w) failure = AsksWhyNothing w failure
+AsksForNothing (words.Who w) failure = AsksWhoNothing w failure
