@@ -1,5 +1,4 @@
 -- No name of a refusal has more than 32 bytes, and no name of a command that asks more than 8.
-use Rattle.book_desk_questions.proofs.Common.{ℕ}
 use Rattle.std.proofs.Common.{◌≤◌, length, lit≤}
 use Rattle.book_machine.specs.Refusals.{refusal_name}
 use Rattle.book_machine.specs.declared.refusals.Refusal.{Refusal}

@@ -1,5 +1,5 @@
 -- What the deciders of the leaves tell of rulings.
-use Rattle.book_office_listings.proofs.Common.{◌≡◌, ℕ, ◌<◌, Bool, true, false, List, [], ◌∷◌, length, Option, Some, None, refl, sym, ap, ◌∙◌, Leaf, CircleOf, bears, Grants, Entry, Here, bare_entries, read_by, EffectiveEntry, AllZip}
+use Rattle.book_office_listings.proofs.Common.{◌≡◌, ℕ, Bool, true, false, List, [], ◌∷◌, Option, Some, None, refl, sym, ap, ◌∙◌, Leaf, CircleOf, bears, Grants, Entry, Here, bare_entries, read_by, EffectiveEntry, AllZip}
 use Rattle.std.proofs.Common.{◌↔◌, not}
 use Rattle.std.proofs.lemmas.Bool.{both_ways, not-true}
 use Rattle.book_lists.specs.Decisions.{denying}

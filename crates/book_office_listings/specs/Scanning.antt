@@ -1,5 +1,5 @@
 -- How entries are looked at: one list after another, the protected lists of all levels first. Nothing is joined.
-use Rattle.std.specs.Prelude.{◌≡◌, Bool, List, map, Option, Some, None}
+use Rattle.std.specs.Prelude.{Bool, List, map, Option, Some, None}
 use Rattle.book_rights.specs.declared.privileges.Leaf.{Leaf}
 use Rattle.book_rights.specs.Leaves.{every_leaf}
 use Rattle.book_lists.specs.Circles.{CircleOf}

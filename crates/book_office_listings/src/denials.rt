@@ -1,11 +1,10 @@
 //! Decisions by one scan over several lists in turn, which are joined nowhere.
 
-ghost use Rattle.std.specs.Prelude.{◌≡◌, ◌+◌, ◌++◌, ◌∷◌, None, Some, Bool, List, MatchOption, map, slice_get, IfOk};
+ghost use Rattle.std.specs.Prelude.{◌≡◌, ◌+◌, ◌++◌, ◌∷◌, None, Some, Bool, List, MatchOption, slice_get, IfOk};
 ghost use Rattle.std.specs.List.{flat_map};
 ghost use Rattle.book_rights.specs.declared.privileges.Leaf.{Leaf};
-ghost use Rattle.book_office.specs.Levels.{effective_of, standing_at};
+ghost use Rattle.book_office.specs.Levels.{effective_of};
 ghost use Rattle.book_office.specs.declared.nodes.EffectiveEntry.{EffectiveEntry};
-ghost use Rattle.book_office_values.specs.declared.paths.Path.{Path as PathModel};
 ghost use Rattle.book_office.specs.InForce.{list_in};
 ghost use Rattle.book_office_listings.specs.Scanning.{IsVerdict, IsWalk, standing_in};
 ghost use Rattle.book_office_listings.specs.Verdicts.{deciding_entry, paths_of};

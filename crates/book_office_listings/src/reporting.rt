@@ -1,8 +1,6 @@
 //! The rulings on all leaves.
 
 ghost use Rattle.std.specs.Prelude.{◌≡◌, IfOk};
-ghost use Rattle.std.specs.List.{AllZip};
-ghost use Rattle.book_lists_explain.specs.ShortNames.{all_leaves};
 ghost use Rattle.book_office_listings.specs.Verdicts.{principal_of};
 ghost use Rattle.book_office.specs.Keeping.{Reads};
 ghost use Rattle.book_office.specs.Levels.{effective_of};

@@ -16,8 +16,7 @@ use Rattle.book_office.specs.declared.nodes.EffectiveEntry.{EffectiveEntry}
 use Rattle.book_office.specs.Levels.{standing_at, protected_entries, own_entries, effective_of, lists_at}
 use Rattle.book_office.specs.Resources.{Resource, book_resource, changed_in}
 use Rattle.book_office_sync.specs.Copies.{grants, grants_read, here_of_card}
-use Rattle.book_office_sync.specs.Reading.{above_of, entries_under, is_granted, found_in, item_in}
-use Rattle.book_office_sync.specs.declared.reports.Above.{Above}
+use Rattle.book_office_sync.specs.Reading.{above_of, entries_under, found_in, item_in}
 use Rattle.book_office_sync.proofs.CopiesKept.{seen_by, above, in_force, seen_at}
 
 -- ---- what a scan of entries tells granted
