@@ -18,8 +18,10 @@ pub fn adopt_or_fail<K: Keeper>(
     machine: &mut Machine<K>,
     policy: &Policy,
 ) -> Result<Adopted, AdoptionFailure>
-    ensures adopted { IfOk result (λ adopted. AdoptPromise (K.standing machine.old.keeper) (K.standing machine.new.keeper) policy.now (Ok adopted)) }
-    ensures refused { IfErr result (λ failure. AdoptPromise (K.standing machine.old.keeper) (K.standing machine.new.keeper) policy.now (Err failure.fault)) }
+    ensures adopted { IfOk result (λ adopted. AdoptPromise (K.standing machine.old.keeper)
+        (K.standing machine.new.keeper) policy.now (Ok adopted)) }
+    ensures refused { IfErr result (λ failure. AdoptPromise (K.standing machine.old.keeper)
+        (K.standing machine.new.keeper) policy.now (Err failure.fault)) }
 {
     match machine.adopt(alloc, policy) {
         Ok(adopted) => Ok(adopted),

@@ -21,9 +21,10 @@ pub fn audit<K: Keeper, W: Write>(
     keeper: &mut K,
     writer: &mut W,
 ) -> Result<(), Failure>
-    ensures told { OnOk result (Audits (K.standing keeper.old) (W.contents writer.old) (W.contents writer.new) (K.standing keeper.new)) }
-    ensures failed { IfErr result (λ failure. FailsToAudit (K.standing keeper.old) failure (W.contents writer.old) (W.contents writer.new)
-        (K.standing keeper.new)) }
+    ensures told { OnOk result (Audits (K.standing keeper.old) (W.contents writer.old)
+        (W.contents writer.new) (K.standing keeper.new)) }
+    ensures failed { IfErr result (λ failure. FailsToAudit (K.standing keeper.old) failure
+        (W.contents writer.old) (W.contents writer.new) (K.standing keeper.new)) }
 {
     let text = match audit_text(alloc, keeper) {
         Ok(text) => text,

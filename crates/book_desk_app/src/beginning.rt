@@ -35,7 +35,8 @@ pub trait Folder {
     fn make(&mut self, name: &str, text: &str) -> Result<(), InitFault>
         ensures made { OnOk result (AddsFile (files self.old) (files self.new) name.now text.now) }
         ensures failed { IfErr result (λ fault. KeepsFiles (files self.old) (files self.new)) }
-        ensures there { IfErr result (λ fault. fault ≡ Exists → IfSome (files self.old) (λ known. is_named name.now known ≡ true)) };
+        ensures there { IfErr result (λ fault. fault ≡ Exists
+            → IfSome (files self.old) (λ known. is_named name.now known ≡ true)) };
 
     /// Removes the file of that name, if it was made last.
     fn remove(&mut self, name: &str)
@@ -59,7 +60,8 @@ pub struct Beginning<'a> {
 ///
 /// `Exists` where one of them is there, and `Write` where one could not be made. Nothing is left then.
 fn make_both<F: Folder>(folder: &mut F, policy: &str, settings: &str) -> Result<(), InitFault>
-    ensures made { OnOk result (MakesBoth (F.files folder.old) (F.files folder.new) policy.now settings.now) }
+    ensures made { OnOk result (MakesBoth (F.files folder.old)
+        (F.files folder.new) policy.now settings.now) }
     ensures failed { IfErr result (FailsToMake (F.files folder.old) (F.files folder.new)) }
 {
     if folder.has(POLICY_NAME) || folder.has(SETTINGS_NAME) {
@@ -81,10 +83,12 @@ fn make_and_tell<F: Folder, W: Write>(
     beginning: &Beginning<'_>,
     writer: &mut W,
 ) -> Result<(), Failure>
-    ensures begun { OnOk result (Begins (F.files folder.old) (F.files folder.new) beginning.now.policy.now beginning.now.settings.now beginning.now.next.now
+    ensures begun { OnOk result (Begins (F.files folder.old)
+        (F.files folder.new) beginning.now.policy.now beginning.now.settings.now
+        beginning.now.next.now (W.contents writer.old) (W.contents writer.new)) }
+    ensures failed { IfErr result (λ failure. FailsToBegin (F.files folder.old)
+        (F.files folder.new) beginning.now.policy.now beginning.now.settings.now failure
         (W.contents writer.old) (W.contents writer.new)) }
-    ensures failed { IfErr result (λ failure. FailsToBegin (F.files folder.old) (F.files folder.new) beginning.now.policy.now beginning.now.settings.now
-        failure (W.contents writer.old) (W.contents writer.new)) }
 {
     if let Err(fault) = make_both(folder, beginning.policy, beginning.settings) {
         return Err(Failure::Init(fault));
@@ -105,12 +109,15 @@ pub fn begin<F: Folder, W: Write, E: Lines>(
     writer: &mut W,
     errors: &mut E,
 ) -> u8
-    ensures ends { EndsWith (TellsFailure (E.is_whole errors.new) (E.Write.contents errors.old) (E.Write.contents errors.new))
-        (Begins (F.files folder.old) (F.files folder.new) beginning.now.policy.now beginning.now.settings.now beginning.now.next.now
-        (W.contents writer.old) (W.contents writer.new))
-        (λ failure. FailsToBegin (F.files folder.old) (F.files folder.new) beginning.now.policy.now beginning.now.settings.now
-        failure (W.contents writer.old) (W.contents writer.new)) result }
-    ensures silent { result ≡ 0 → Keeps (E.Write.contents errors.old) (E.Write.contents errors.new) }
+    ensures ends { EndsWith (TellsFailure (E.is_whole errors.new) (E.Write.contents errors.old)
+        (E.Write.contents errors.new)) (Begins (F.files folder.old)
+        (F.files folder.new) beginning.now.policy.now beginning.now.settings.now
+        beginning.now.next.now (W.contents writer.old) (W.contents writer.new))
+        (λ failure. FailsToBegin (F.files folder.old)
+        (F.files folder.new) beginning.now.policy.now beginning.now.settings.now failure
+        (W.contents writer.old) (W.contents writer.new)) result }
+    ensures silent { result ≡ 0 → Keeps (E.Write.contents errors.old)
+        (E.Write.contents errors.new) }
 {
     let outcome = make_and_tell(folder, beginning, writer);
     ended(errors, outcome)

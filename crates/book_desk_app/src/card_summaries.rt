@@ -20,7 +20,8 @@ use std::io::{Read, Write};
 
 /// Adds a line that names the value.
 fn push_line(text: &mut String, name: &str, value: &str) -> Result<(), AllocError>
-    ensures { OnOk result (string_bytes text.new ≡ string_bytes text.old ++ summary_line name.now value.now) }
+    ensures { OnOk result (string_bytes text.new ≡
+        string_bytes text.old ++ summary_line name.now value.now) }
 {
     text.push_str(name)?;
     text.push_str(": ")?;
@@ -44,8 +45,10 @@ fn summary_text(alloc: Global, card: &Card) -> Result<String, AllocError>
 
 /// What is told of the card that the text is.
 fn summarize(alloc: Global, text: &str) -> Result<String, CardFault>
-    ensures told { IfOk result (λ told. IsCard text.now × (string_bytes told ≡ summary_text (unfolded text.now))) }
-    ensures faulty { IfErr result (λ fault. (fault ≡ out_of_memory) ⊎ (card_fault text.now ≡ Some fault)) }
+    ensures told { IfOk result (λ told. IsCard text.now
+        × (string_bytes told ≡ summary_text (unfolded text.now))) }
+    ensures faulty { IfErr result (λ fault. (fault ≡ out_of_memory)
+        ⊎ (card_fault text.now ≡ Some fault)) }
 {
     let card = read_card(alloc, text)?;
     Ok(summary_text(alloc, &card)?)
@@ -68,9 +71,12 @@ pub fn summarize_input<R: Read + Drop, W: Write>(
     reader: R,
     writer: &mut W,
 ) -> Result<(), TextFailure>
-    ensures written { OnOk result (Does commands.Card (R.remaining reader) (W.contents writer.old) (W.contents writer.new)) }
-    ensures refused { IfErr result (λ failure. IfSome (R.remaining reader) (λ input. Refuses commands.Card input failure)) }
-    ensures unwritten { IfErr result (λ failure. failure ≢ Output → Keeps (W.contents writer.old) (W.contents writer.new)) }
+    ensures written { OnOk result (Does commands.Card (R.remaining reader) (W.contents writer.old)
+        (W.contents writer.new)) }
+    ensures refused { IfErr result (λ failure. IfSome (R.remaining reader)
+        (λ input. Refuses commands.Card input failure)) }
+    ensures unwritten { IfErr result (λ failure. failure ≢ Output
+        → Keeps (W.contents writer.old) (W.contents writer.new)) }
 {
     let found = read_short_text(alloc, MAX_CARD_BYTES, reader)?;
     let Some(text) = found else {

@@ -28,10 +28,13 @@ fn serve_one<K: Keeper, R: Read, W: Write, E: Lines>(
     writer: &mut W,
     errors: &mut E,
 ) -> Result<Served, StreamFault>
-    ensures served { ComesTo (K.standing machine.old.keeper) (R.remaining reader.old) (R.remaining reader.new)
-        (W.contents writer.old) (W.contents writer.new) result (K.standing machine.new.keeper) }
-    ensures silent { had_no_fault result ≡ true → Keeps (E.Write.contents errors.old) (E.Write.contents errors.new) }
-    ensures told { Tells (E.is_whole errors.old) (E.is_whole errors.new) (E.Write.contents errors.old) (E.Write.contents errors.new) (line_of_connection result) }
+    ensures served { ComesTo (K.standing machine.old.keeper) (R.remaining reader.old)
+        (R.remaining reader.new) (W.contents writer.old) (W.contents writer.new) result
+        (K.standing machine.new.keeper) }
+    ensures silent { had_no_fault result ≡ true
+        → Keeps (E.Write.contents errors.old) (E.Write.contents errors.new) }
+    ensures told { Tells (E.is_whole errors.old) (E.is_whole errors.new)
+        (E.Write.contents errors.old) (E.Write.contents errors.new) (line_of_connection result) }
 {
     match serve_stream(alloc, machine, reader, writer) {
         Ok(served) => Ok(served),
@@ -91,11 +94,17 @@ pub fn serve_connections<
     count: u64,
     errors: &mut E,
 ) -> io::Result<bool>
-    ensures served { (connections : List (ServedConnection S)) × AreConnections S.remaining S.contents K.standing machine.old.keeper connections machine.new.keeper
-        × Tells (E.is_whole errors.old) (E.is_whole errors.new) (E.Write.contents errors.old) (E.Write.contents errors.new) (lines_of_connections (outcomes_of connections))
-        × IfOk result (λ sound. (length connections ≡ count) × (sound ≡ none_had_a_fault (outcomes_of connections))) }
-    ensures runs { (answered : List Answered) × Runs (K.standing machine.old.keeper) (K.standing machine.new.keeper) answered }
-    ensures silent { IfOk result (λ sound. sound ≡ true → Keeps (E.Write.contents errors.old) (E.Write.contents errors.new)) }
+    ensures served { (connections : List (ServedConnection S))
+        × AreConnections S.remaining S.contents K.standing machine.old.keeper connections
+        machine.new.keeper × Tells (E.is_whole errors.old) (E.is_whole errors.new)
+        (E.Write.contents errors.old) (E.Write.contents errors.new)
+        (lines_of_connections (outcomes_of connections))
+        × IfOk result (λ sound. (length connections ≡ count)
+        × (sound ≡ none_had_a_fault (outcomes_of connections))) }
+    ensures runs { (answered : List Answered)
+        × Runs (K.standing machine.old.keeper) (K.standing machine.new.keeper) answered }
+    ensures silent { IfOk result (λ sound. sound ≡ true
+        → Keeps (E.Write.contents errors.old) (E.Write.contents errors.new)) }
 {
     let mut sound = true;
     for _ in 0..count {

@@ -19,9 +19,12 @@ fn answer<R: Read + Drop, W: Write>(
     reader: R,
     writer: &mut W,
 ) -> Result<(), TextFailure>
-    ensures written { OnOk result (Does command.now (R.remaining reader) (W.contents writer.old) (W.contents writer.new)) }
-    ensures refused { IfErr result (λ failure. IfSome (R.remaining reader) (λ input. Refuses command.now input failure)) }
-    ensures unwritten { IfErr result (λ failure. failure ≢ Output → Keeps (W.contents writer.old) (W.contents writer.new)) }
+    ensures written { OnOk result (Does command.now (R.remaining reader) (W.contents writer.old)
+        (W.contents writer.new)) }
+    ensures refused { IfErr result (λ failure. IfSome (R.remaining reader)
+        (λ input. Refuses command.now input failure)) }
+    ensures unwritten { IfErr result (λ failure. failure ≢ Output
+        → Keeps (W.contents writer.old) (W.contents writer.new)) }
 {
     match command {
         TextCommand::Explain => explain_input(alloc, reader, writer),
@@ -40,9 +43,11 @@ pub fn run_text<R: Read + Drop, W: Write, E: Write>(
     writer: &mut W,
     errors: &mut E,
 ) -> u8
-    ensures done { result ≡ 0 → Does command.now (R.remaining reader) (W.contents writer.old) (W.contents writer.new) }
+    ensures done { result ≡ 0 → Does command.now (R.remaining reader) (W.contents writer.old)
+        (W.contents writer.new) }
     ensures silent { result ≡ 0 → Keeps (E.contents errors.old) (E.contents errors.new) }
-    ensures failed { result ≢ 0 → Fails command.now (R.remaining reader) (W.contents writer.old) (W.contents writer.new) result }
+    ensures failed { result ≢ 0 → Fails command.now (R.remaining reader) (W.contents writer.old)
+        (W.contents writer.new) result }
     ensures refused { result ≡ 1 → Keeps (W.contents writer.old) (W.contents writer.new) }
 {
     match answer(alloc, command, reader, writer) {

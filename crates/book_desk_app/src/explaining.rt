@@ -18,9 +18,12 @@ pub fn explain_input<R: Read + Drop, W: Write>(
     reader: R,
     writer: &mut W,
 ) -> Result<(), TextFailure>
-    ensures written { OnOk result (Does commands.Explain (R.remaining reader) (W.contents writer.old) (W.contents writer.new)) }
-    ensures refused { IfErr result (λ failure. IfSome (R.remaining reader) (λ input. Refuses commands.Explain input failure)) }
-    ensures unwritten { IfErr result (λ failure. failure ≢ Output → Keeps (W.contents writer.old) (W.contents writer.new)) }
+    ensures written { OnOk result (Does commands.Explain (R.remaining reader)
+        (W.contents writer.old) (W.contents writer.new)) }
+    ensures refused { IfErr result (λ failure. IfSome (R.remaining reader)
+        (λ input. Refuses commands.Explain input failure)) }
+    ensures unwritten { IfErr result (λ failure. failure ≢ Output
+        → Keeps (W.contents writer.old) (W.contents writer.new)) }
 {
     let text = read_text(alloc, reader)?;
     match explain(alloc, text.as_str()) {

@@ -187,7 +187,8 @@ impl Error for Failure {}
 /// end, a beginning of it was, and the status alone tells it.
 pub fn tell<E: Write>(errors: &mut E, failure: &Failure) -> u8
     ensures status { result ≡ failure_status failure.now }
-    ensures told { IsTold (failure_text failure.now) (E.contents errors.old) (E.contents errors.new) }
+    ensures told { IsTold (failure_text failure.now) (E.contents errors.old)
+        (E.contents errors.new) }
 {
     let mut line = ArrayString::<MAX_LINE>::new();
     // No failure has a longer text.

@@ -20,8 +20,10 @@ pub fn adopt_given<K: Keeper>(
     machine: &mut Machine<K>,
     policy: &Option<Policy>,
 ) -> Result<(), Failure>
-    ensures adopted { OnOk result (AdoptsGiven (K.standing machine.old.keeper) policy.now (K.standing machine.new.keeper)) }
-    ensures refused { IfErr result (λ failure. FailsToAdopt (K.standing machine.old.keeper) policy.now failure (K.standing machine.new.keeper)) }
+    ensures adopted { OnOk result (AdoptsGiven (K.standing machine.old.keeper) policy.now
+        (K.standing machine.new.keeper)) }
+    ensures refused { IfErr result (λ failure. FailsToAdopt
+        (K.standing machine.old.keeper) policy.now failure (K.standing machine.new.keeper)) }
 {
     let Some(policy) = policy else {
         return Ok(());
@@ -45,10 +47,11 @@ pub fn import<K: Keeper, W: Write>(
     policy: &Policy,
     writer: &mut W,
 ) -> Result<(), Failure>
-    ensures imported { OnOk result (Imports (K.standing machine.old.keeper) policy.now (W.contents writer.old) (W.contents writer.new)
-        (K.standing machine.new.keeper)) }
-    ensures failed { IfErr result (λ failure. FailsToImport (K.standing machine.old.keeper) policy.now failure
+    ensures imported { OnOk result (Imports (K.standing machine.old.keeper) policy.now
         (W.contents writer.old) (W.contents writer.new) (K.standing machine.new.keeper)) }
+    ensures failed { IfErr result (λ failure. FailsToImport
+        (K.standing machine.old.keeper) policy.now failure (W.contents writer.old)
+        (W.contents writer.new) (K.standing machine.new.keeper)) }
 {
     let adopted = match adopt_or_fail(alloc, machine, policy) {
         Ok(adopted) => adopted,

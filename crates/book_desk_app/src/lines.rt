@@ -8,9 +8,12 @@ use std::io::{self, Write};
 /// Writes a text as far as the writer takes it, and tells whether it took all of it. A write that fails, or takes nothing,
 /// is not repeated.
 fn put_text<W: Write>(writer: &mut W, text: &[u8]) -> bool
-    ensures front { (front left : List ℕ) × (text.now ≡ front ++ left) × Appends (W.contents writer.old) (W.contents writer.new) front }
-    ensures whole { IsTrue result → Appends (W.contents writer.old) (W.contents writer.new) text.now }
-    ensures cut { IsFalse result → (front left : List ℕ) × (text.now ≡ front ++ left) × (left ≢ []) × Appends (W.contents writer.old) (W.contents writer.new) front }
+    ensures front { (front left : List ℕ) × (text.now ≡ front ++ left)
+        × Appends (W.contents writer.old) (W.contents writer.new) front }
+    ensures whole { IsTrue result → Appends (W.contents writer.old)
+        (W.contents writer.new) text.now }
+    ensures cut { IsFalse result → (front left : List ℕ) × (text.now ≡ front ++ left) × (left ≢ [])
+        × Appends (W.contents writer.old) (W.contents writer.new) front }
 {
     let mut written = 0;
     while written < text.len() {
@@ -25,7 +28,8 @@ fn put_text<W: Write>(writer: &mut W, text: &[u8]) -> bool
 
 /// Writes a text as far as the writer takes it.
 pub(crate) fn put_front<W: Write>(writer: &mut W, text: &[u8])
-    ensures { (front left : List ℕ) × (text.now ≡ front ++ left) × Appends (W.contents writer.old) (W.contents writer.new) front }
+    ensures { (front left : List ℕ) × (text.now ≡ front ++ left)
+        × Appends (W.contents writer.old) (W.contents writer.new) front }
 {
     let _is_whole = put_text(writer, text);
 }
@@ -39,10 +43,12 @@ pub trait Lines: Write {
     fn put(&mut self, text: &[u8])
         ensures front { (front left : List ℕ) × (text.now ≡ front ++ left)
             × Appends (Self.Write.contents self.old) (Self.Write.contents self.new) front }
-        ensures whole { IsTrue (is_whole self.new) → Appends (Self.Write.contents self.old) (Self.Write.contents self.new) text.now }
+        ensures whole { IsTrue (is_whole self.new)
+            → Appends (Self.Write.contents self.old) (Self.Write.contents self.new) text.now }
         ensures before { IsTrue (is_whole self.new) → IsTrue (is_whole self.old) }
-        ensures cut { IsTrue (is_whole self.old) → IsFalse (is_whole self.new) → (front left : List ℕ) × (text.now ≡ front ++ left)
-            × (left ≢ []) × Appends (Self.Write.contents self.old) (Self.Write.contents self.new) front };
+        ensures cut { IsTrue (is_whole self.old) → IsFalse (is_whole self.new)
+            → (front left : List ℕ) × (text.now ≡ front ++ left) × (left ≢ [])
+            × Appends (Self.Write.contents self.old) (Self.Write.contents self.new) front };
 }
 
 /// A writer over another one, which notes whether that took each text to its end.

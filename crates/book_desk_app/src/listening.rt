@@ -29,7 +29,8 @@ pub(crate) fn say_where<L: OpenListener, W: Write>(
     listener: &L,
     writer: &mut W,
 ) -> Result<(), Failure>
-    ensures said { OnOk result ((address : SocketAddr) × Appends (W.contents writer.old) (W.contents writer.new) (listening_line address)) }
+    ensures said { OnOk result ((address : SocketAddr)
+        × Appends (W.contents writer.old) (W.contents writer.new) (listening_line address)) }
     ensures broken { IfErr result (λ failure. failure_status failure ≡ 3) }
     ensures why { IfErr result (λ failure. (failure ≡ Listen) ⊎ (failure ≡ Output)) }
 {
@@ -62,13 +63,16 @@ pub fn serve<
     errors: &mut E,
 ) -> u8
     ensures statuses { (result ≡ 0) ⊎ (result ≡ 3) }
-    ensures sound { result ≡ 0 → ServesSoundly S.remaining S.contents K.standing machine.old.keeper (W.contents writer.old) (W.contents writer.new)
-        connections machine.new.keeper }
-    ensures runs { (answered : List Answered) × Runs (K.standing machine.old.keeper) (K.standing machine.new.keeper) answered }
-    ensures silent { result ≡ 0 → Keeps (E.Write.contents errors.old) (E.Write.contents errors.new) }
-    ensures serves { Serves S.remaining S.contents K.standing (E.is_whole errors.old) (E.is_whole errors.new)
-        (E.Write.contents errors.old) (E.Write.contents errors.new) machine.old.keeper (W.contents writer.old) (W.contents writer.new)
-        connections result machine.new.keeper }
+    ensures sound { result ≡ 0 → ServesSoundly S.remaining S.contents K.standing machine.old.keeper
+        (W.contents writer.old) (W.contents writer.new) connections machine.new.keeper }
+    ensures runs { (answered : List Answered)
+        × Runs (K.standing machine.old.keeper) (K.standing machine.new.keeper) answered }
+    ensures silent { result ≡ 0 → Keeps (E.Write.contents errors.old)
+        (E.Write.contents errors.new) }
+    ensures serves { Serves S.remaining S.contents K.standing (E.is_whole errors.old)
+        (E.is_whole errors.new) (E.Write.contents errors.old)
+        (E.Write.contents errors.new) machine.old.keeper (W.contents writer.old)
+        (W.contents writer.new) connections result machine.new.keeper }
 {
     if let Err(failure) = say_where(listener, writer) {
         return tell_line(errors, &failure);

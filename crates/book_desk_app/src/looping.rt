@@ -70,7 +70,8 @@ fn failure_of(stop: Stop) -> Failure
 /// Tells what ended it, where it did not end well, and gives the status.
 fn status_of<E: Lines>(errors: &mut E, served: Result<(), Stop>, sound: bool) -> u8
     ensures status { result ≡ cond sound (served_status [] served) 3 }
-    ensures line { Tells (E.is_whole errors.old) (E.is_whole errors.new) (E.Write.contents errors.old) (E.Write.contents errors.new) (last_line served) }
+    ensures line { Tells (E.is_whole errors.old) (E.is_whole errors.new)
+        (E.Write.contents errors.old) (E.Write.contents errors.new) (last_line served) }
 {
     match served {
         Ok(()) => { if sound { DONE } else { BROKEN } }
@@ -102,9 +103,12 @@ pub fn serve_many<
     writer: &mut W,
     mut errors: E,
 ) -> (Machine<K>, E, u8)
-    ensures served { ServesAtOnce S.remaining S.contents K.standing limits machine.keeper (E.is_whole errors) (E.is_whole result.1)
-        (E.Write.contents errors) (E.Write.contents result.1) (W.contents writer.old) (W.contents writer.new) result.2 result.0.keeper }
-    ensures runs { (answered : List Answered) × Runs (K.standing machine.keeper) (K.standing result.0.keeper) answered }
+    ensures served { ServesAtOnce S.remaining S.contents K.standing limits machine.keeper
+        (E.is_whole errors) (E.is_whole result.1) (E.Write.contents errors)
+        (E.Write.contents result.1) (W.contents writer.old)
+        (W.contents writer.new) result.2 result.0.keeper }
+    ensures runs { (answered : List Answered)
+        × Runs (K.standing machine.keeper) (K.standing result.0.keeper) answered }
 {
     if let Err(failure) = say_where(listener, writer) {
         let status = tell_line(&mut errors, &failure);

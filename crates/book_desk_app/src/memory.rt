@@ -24,10 +24,12 @@ pub fn perform_in_memory<R: Read, W: Write, E: Lines>(
     writer: &mut W,
     errors: &mut E,
 ) -> u8
-    ensures ends { (after : Office) × Performs (TellsFailure (E.is_whole errors.new) (E.Write.contents errors.old) (E.Write.contents errors.new))
-        in_memory task.now empty_office (R.remaining reader.old) (R.remaining reader.new)
-        (W.contents writer.old) (W.contents writer.new) result after }
-    ensures silent { result ≡ 0 → Keeps (E.Write.contents errors.old) (E.Write.contents errors.new) }
+    ensures ends { (after : Office) × Performs
+        (TellsFailure (E.is_whole errors.new) (E.Write.contents errors.old)
+        (E.Write.contents errors.new)) in_memory task.now empty_office (R.remaining reader.old)
+        (R.remaining reader.new) (W.contents writer.old) (W.contents writer.new) result after }
+    ensures silent { result ≡ 0 → Keeps (E.Write.contents errors.old)
+        (E.Write.contents errors.new) }
 {
     let mut machine = Machine::new(MemoryKeeper::new(alloc));
     perform(alloc, task, &mut machine, reader, writer, errors)

@@ -19,7 +19,8 @@ use std::io::Write;
 
 /// Writes a line: `version 2, entries N`.
 fn write_entries<W: Write>(writer: &mut W, entries: u64) -> Result<(), Failure>
-    ensures written { OnOk result (Appends (W.contents writer.old) (W.contents writer.new) (migration_line entries)) }
+    ensures written { OnOk result (Appends (W.contents writer.old) (W.contents writer.new)
+        (migration_line entries)) }
     ensures failed { IfErr result (λ failure. failure ≡ Output) }
 {
     if writeln!(writer, "version 2, entries {entries}").is_err() || writer.flush().is_err() {
@@ -38,9 +39,11 @@ pub fn run_migration<S: Alter + Drop, W: Write, E: Lines>(
     errors: &mut E,
 ) -> (u8, Unopened<S>)
     ensures runs { MigratesStore S.Store
-        (TellsFailure (E.is_whole errors.new) (E.Write.contents errors.old) (E.Write.contents errors.new)) store
-        (W.contents writer.old) (W.contents writer.new) result.0 result.1 }
-    ensures silent { result.0 ≡ 0 → Keeps (E.Write.contents errors.old) (E.Write.contents errors.new) }
+        (TellsFailure (E.is_whole errors.new) (E.Write.contents errors.old)
+        (E.Write.contents errors.new)) store (W.contents writer.old)
+        (W.contents writer.new) result.0 result.1 }
+    ensures silent { result.0 ≡ 0 → Keeps (E.Write.contents errors.old)
+        (E.Write.contents errors.new) }
 {
     match migrate(alloc, store) {
         Ok((tables, entries)) => {

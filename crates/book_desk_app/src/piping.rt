@@ -38,10 +38,13 @@ pub fn pipe<K: Keeper, R: Read, W: Write, E: Lines>(
 ) -> u8
     ensures ended { result ≢ 3 → Pipes (K.standing machine.old.keeper) (R.remaining reader.old)
         (W.contents writer.old) (W.contents writer.new) result (K.standing machine.new.keeper) }
-    ensures stopped { result ≡ 3 → StopsToPipe (TellsFailure (E.is_whole errors.new) (E.Write.contents errors.old) (E.Write.contents errors.new))
-        (K.standing machine.old.keeper) (R.remaining reader.old) (R.remaining reader.new)
-        (W.contents writer.old) (W.contents writer.new) (K.standing machine.new.keeper) }
-    ensures silent { result ≢ 3 → Keeps (E.Write.contents errors.old) (E.Write.contents errors.new) }
+    ensures stopped { result ≡ 3 → StopsToPipe
+        (TellsFailure (E.is_whole errors.new) (E.Write.contents errors.old)
+        (E.Write.contents errors.new)) (K.standing machine.old.keeper) (R.remaining reader.old)
+        (R.remaining reader.new) (W.contents writer.old) (W.contents writer.new)
+        (K.standing machine.new.keeper) }
+    ensures silent { result ≢ 3 → Keeps (E.Write.contents errors.old)
+        (E.Write.contents errors.new) }
 {
     match serve_stream(alloc, machine, reader, writer) {
         Ok(served) => ended_status(served.ended),

@@ -66,8 +66,10 @@ fn prepare_over<S: Alter + Drop>(
     store: Connection<S>,
     policy: &Option<Policy>,
 ) -> Result<Machine<Cached<Tables<S>>>, (Failure, Unopened<S>)>
-    ensures ready { IfOk result (λ machine. IsReadyOver (state S.Store) (λ t. t.connection) (λ t. t.failures) store policy.now machine.keeper) }
-    ensures refused { IfErr result (λ e. FailsOverStore {K = Tables S} S.Store (λ t. t.connection) (λ t. t.failures) store policy.now e.0 e.1) }
+    ensures ready { IfOk result (λ machine. IsReadyOver (state S.Store) (λ t. t.connection)
+        (λ t. t.failures) store policy.now machine.keeper) }
+    ensures refused { IfErr result (λ e. FailsOverStore {K = Tables S} S.Store (λ t. t.connection)
+        (λ t. t.failures) store policy.now e.0 e.1) }
 {
     let tables = match open_store(alloc, store) {
         Ok(tables) => tables,
@@ -86,8 +88,10 @@ fn prepare_given<S: Alter + Drop>(
     store: Option<Connection<S>>,
     policy: &Option<Policy>,
 ) -> Result<Prepared<S>, (Failure, Option<Unopened<S>>)>
-    ensures ready { IfOk result (IsPrepared (state S.Store) (λ t. t.connection) (λ t. t.failures) store policy.now) }
-    ensures refused { IfErr result (λ e. FailsOver {K = Tables S} S.Store (λ t. t.connection) (λ t. t.failures) store policy.now e.0 e.1) }
+    ensures ready { IfOk result (IsPrepared (state S.Store) (λ t. t.connection)
+        (λ t. t.failures) store policy.now) }
+    ensures refused { IfErr result (λ e. FailsOver {K = Tables S} S.Store (λ t. t.connection)
+        (λ t. t.failures) store policy.now e.0 e.1) }
 {
     match store {
         Some(store) => match prepare_over(alloc, store, policy) {
@@ -124,8 +128,10 @@ pub fn prepare<S: Alter + Drop>(
     store: Option<Connection<S>>,
     policy: Option<Vec<u8>>,
 ) -> Result<Prepared<S>, (Failure, Option<Unopened<S>>)>
-    ensures ready { IfOk result (Prepares (state S.Store) (λ t. t.connection) (λ t. t.failures) (λ given. given.items) store policy) }
-    ensures refused { IfErr result (λ e. FailsToPrepare {K = Tables S} S.Store (λ t. t.connection) (λ t. t.failures) (λ given. given.items) store policy e.0 e.1) }
+    ensures ready { IfOk result (Prepares (state S.Store) (λ t. t.connection) (λ t. t.failures)
+        (λ given. given.items) store policy) }
+    ensures refused { IfErr result (λ e. FailsToPrepare {K = Tables S} S.Store (λ t. t.connection)
+        (λ t. t.failures) (λ given. given.items) store policy e.0 e.1) }
 {
     match given_policy(alloc, policy) {
         Ok(policy) => {

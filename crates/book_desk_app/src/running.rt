@@ -34,11 +34,13 @@ fn pipe_over<S: Alter + Drop, R: Read, W: Write, E: Lines>(
     writer: &mut W,
     errors: &mut E,
 ) -> (u8, Tables<S>)
-    ensures ends { EndsPipe (TellsFailure (E.is_whole errors.new) (E.Write.contents errors.old) (E.Write.contents errors.new))
-        (standing_in (state S.Store) (λ t. t.connection) (λ t. t.failures) tables)
-        (R.remaining reader.old) (R.remaining reader.new) (W.contents writer.old) (W.contents writer.new) result.0
+    ensures ends { EndsPipe (TellsFailure (E.is_whole errors.new) (E.Write.contents errors.old)
+        (E.Write.contents errors.new)) (standing_in (state S.Store) (λ t. t.connection)
+        (λ t. t.failures) tables) (R.remaining reader.old) (R.remaining reader.new)
+        (W.contents writer.old) (W.contents writer.new) result.0
         (standing_in (state S.Store) (λ t. t.connection) (λ t. t.failures) result.1) }
-    ensures silent { result.0 ≢ 3 → Keeps (E.Write.contents errors.old) (E.Write.contents errors.new) }
+    ensures silent { result.0 ≢ 3 → Keeps (E.Write.contents errors.old)
+        (E.Write.contents errors.new) }
 {
     let mut machine = Machine::new(Cached::new(alloc, tables));
     let status = pipe(alloc, &mut machine, reader, writer, errors);
@@ -55,10 +57,12 @@ fn pipe_after<S: Alter + Drop, R: Read, W: Write, E: Lines>(
     writer: &mut W,
     errors: &mut E,
 ) -> (u8, Tables<S>)
-    ensures ends { PipesAfter (TellsFailure (E.is_whole errors.new) (E.Write.contents errors.old) (E.Write.contents errors.new))
-        (standing_in (state S.Store) (λ t. t.connection) (λ t. t.failures)) policy.now tables
-        (R.remaining reader.old) (R.remaining reader.new) (W.contents writer.old) (W.contents writer.new) result.0 result.1 }
-    ensures silent { result.0 ≡ 0 → Keeps (E.Write.contents errors.old) (E.Write.contents errors.new) }
+    ensures ends { PipesAfter (TellsFailure (E.is_whole errors.new) (E.Write.contents errors.old)
+        (E.Write.contents errors.new)) (standing_in (state S.Store) (λ t. t.connection)
+        (λ t. t.failures)) policy.now tables (R.remaining reader.old) (R.remaining reader.new)
+        (W.contents writer.old) (W.contents writer.new) result.0 result.1 }
+    ensures silent { result.0 ≡ 0 → Keeps (E.Write.contents errors.old)
+        (E.Write.contents errors.new) }
 {
     let mut machine = Machine::new(tables);
     match adopt_given(alloc, &mut machine, policy) {
@@ -76,10 +80,12 @@ fn perform_over<S: Alter + Drop, R: Read, W: Write, E: Lines>(
     writer: &mut W,
     errors: &mut E,
 ) -> (u8, Tables<S>)
-    ensures ends { Performs (TellsFailure (E.is_whole errors.new) (E.Write.contents errors.old) (E.Write.contents errors.new))
-        (standing_in (state S.Store) (λ t. t.connection) (λ t. t.failures)) task.now tables
-        (R.remaining reader.old) (R.remaining reader.new) (W.contents writer.old) (W.contents writer.new) result.0 result.1 }
-    ensures silent { result.0 ≡ 0 → Keeps (E.Write.contents errors.old) (E.Write.contents errors.new) }
+    ensures ends { Performs (TellsFailure (E.is_whole errors.new) (E.Write.contents errors.old)
+        (E.Write.contents errors.new)) (standing_in (state S.Store) (λ t. t.connection)
+        (λ t. t.failures)) task.now tables (R.remaining reader.old) (R.remaining reader.new)
+        (W.contents writer.old) (W.contents writer.new) result.0 result.1 }
+    ensures silent { result.0 ≡ 0 → Keeps (E.Write.contents errors.old)
+        (E.Write.contents errors.new) }
 {
     match task {
         Task::Pipe(policy) => pipe_after(alloc, policy, tables, reader, writer, errors),
@@ -101,9 +107,11 @@ fn perform_in<S: Alter + Drop, R: Read, W: Write, E: Lines>(
     errors: &mut E,
 ) -> (u8, Option<Connection<S>>)
     ensures runs { RunsOver {K = Tables S} (state S.Store) (λ t. t.connection) (λ t. t.failures)
-        (TellsFailure (E.is_whole errors.new) (E.Write.contents errors.old) (E.Write.contents errors.new)) (IsNotHad S.Store) task.now store
-        (R.remaining reader.old) (R.remaining reader.new) (W.contents writer.old) (W.contents writer.new) result.0 result.1 }
-    ensures silent { result.0 ≡ 0 → Keeps (E.Write.contents errors.old) (E.Write.contents errors.new) }
+        (TellsFailure (E.is_whole errors.new) (E.Write.contents errors.old)
+        (E.Write.contents errors.new)) (IsNotHad S.Store) task.now store (R.remaining reader.old)
+        (R.remaining reader.new) (W.contents writer.old) (W.contents writer.new) result.0 result.1 }
+    ensures silent { result.0 ≡ 0 → Keeps (E.Write.contents errors.old)
+        (E.Write.contents errors.new) }
 {
     match open_store(alloc, store) {
         Ok(tables) => {
@@ -127,9 +135,11 @@ fn perform_given<S: Alter + Drop, R: Read, W: Write, E: Lines>(
     errors: &mut E,
 ) -> (u8, Option<Connection<S>>)
     ensures runs { RunsIn {K = Tables S} (state S.Store) (λ t. t.connection) (λ t. t.failures)
-        (TellsFailure (E.is_whole errors.new) (E.Write.contents errors.old) (E.Write.contents errors.new)) (IsNotHad S.Store) task.now store
-        (R.remaining reader.old) (R.remaining reader.new) (W.contents writer.old) (W.contents writer.new) result.0 result.1 }
-    ensures silent { result.0 ≡ 0 → Keeps (E.Write.contents errors.old) (E.Write.contents errors.new) }
+        (TellsFailure (E.is_whole errors.new) (E.Write.contents errors.old)
+        (E.Write.contents errors.new)) (IsNotHad S.Store) task.now store (R.remaining reader.old)
+        (R.remaining reader.new) (W.contents writer.old) (W.contents writer.new) result.0 result.1 }
+    ensures silent { result.0 ≡ 0 → Keeps (E.Write.contents errors.old)
+        (E.Write.contents errors.new) }
 {
     match store {
         Some(store) => perform_in(alloc, task, store, reader, writer, errors),
@@ -156,9 +166,12 @@ pub fn run<S: Alter + Drop, R: Read, W: Write, E: Lines>(
     errors: &mut E,
 ) -> (u8, Option<Connection<S>>)
     ensures runs { Runs {K = Tables S} (state S.Store) (λ t. t.connection) (λ t. t.failures)
-        (TellsFailure (E.is_whole errors.new) (E.Write.contents errors.old) (E.Write.contents errors.new)) (IsNotHad S.Store) (λ given. given.items) work store policy
-        (R.remaining reader.old) (R.remaining reader.new) (W.contents writer.old) (W.contents writer.new) result.0 result.1 }
-    ensures silent { result.0 ≡ 0 → Keeps (E.Write.contents errors.old) (E.Write.contents errors.new) }
+        (TellsFailure (E.is_whole errors.new) (E.Write.contents errors.old)
+        (E.Write.contents errors.new)) (IsNotHad S.Store) (λ given. given.items) work store policy
+        (R.remaining reader.old) (R.remaining reader.new) (W.contents writer.old)
+        (W.contents writer.new) result.0 result.1 }
+    ensures silent { result.0 ≡ 0 → Keeps (E.Write.contents errors.old)
+        (E.Write.contents errors.new) }
 {
     match task_of(alloc, work, policy) {
         Ok(task) => perform_given(alloc, &task, store, reader, writer, errors),

@@ -34,7 +34,8 @@ impl TextTest {
     /// Takes one byte more.
     fn take(&mut self, byte: u8)
         requires { self.old.filled < 64 }
-        ensures { (taken : List ℕ) → HasTaken self.old taken → HasTaken self.new (taken ++ byte ∷ []) }
+        ensures { (taken : List ℕ) → HasTaken self.old taken
+            → HasTaken self.new (taken ++ byte ∷ []) }
     {
         self.block[self.filled] = byte;
         if self.filled == 63 {
@@ -80,9 +81,12 @@ pub fn read_short_text<R: Read + Drop>(
     most: usize,
     reader: R,
 ) -> Result<Option<String>, InputFault>
-    ensures text { IfOk result (λ found. IfSome found (λ text. IfSome (R.remaining reader) (λ input. string_bytes text ≡ input))) }
-    ensures longer { IfOk result (λ found. IfNone found (IfSome (R.remaining reader) (λ input. IsUtf8 input × (most < length input)))) }
-    ensures refused { IfErr result (λ fault. IfSome (R.remaining reader) (λ input. GivesNoText input fault)) }
+    ensures text { IfOk result (λ found. IfSome found
+        (λ text. IfSome (R.remaining reader) (λ input. string_bytes text ≡ input))) }
+    ensures longer { IfOk result (λ found. IfNone found
+        (IfSome (R.remaining reader) (λ input. IsUtf8 input × (most < length input)))) }
+    ensures refused { IfErr result (λ fault. IfSome (R.remaining reader)
+        (λ input. GivesNoText input fault)) }
 {
     let mut kept = Vec::new(alloc);
     let mut test = TextTest::new();

@@ -36,7 +36,8 @@ pub fn open_store<S: Alter + Drop>(
     alloc: Global,
     connection: Connection<S>,
 ) -> Result<Tables<S>, (StoreFailure, Unopened<S>)>
-    ensures opened { IfOk result (AreTablesOf (state S.Store) (λ t. t.connection) (λ t. t.failures) connection) }
+    ensures opened { IfOk result (AreTablesOf (state S.Store) (λ t. t.connection)
+        (λ t. t.failures) connection) }
     ensures refused { IfErr result (λ e. FailsToOpen S.Store connection e.0 e.1) }
 {
     if is_empty(&connection) {

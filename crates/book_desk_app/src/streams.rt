@@ -11,8 +11,10 @@ use std::io::{Read, Write};
 
 /// All that the reader gives, as text.
 pub fn read_text<R: Read + Drop>(alloc: Global, mut reader: R) -> Result<String, InputFault>
-    ensures text { IfOk result (λ text. IfSome (R.remaining reader) (λ input. string_bytes text ≡ input)) }
-    ensures refused { IfErr result (λ fault. IfSome (R.remaining reader) (λ input. GivesNoText input fault)) }
+    ensures text { IfOk result (λ text. IfSome (R.remaining reader)
+        (λ input. string_bytes text ≡ input)) }
+    ensures refused { IfErr result (λ fault. IfSome (R.remaining reader)
+        (λ input. GivesNoText input fault)) }
 {
     let mut bytes = Vec::new(alloc);
     if reader.read_to_end(&mut bytes).is_err() {
@@ -26,7 +28,8 @@ pub fn read_text<R: Read + Drop>(alloc: Global, mut reader: R) -> Result<String,
 
 /// Writes the text, and everything that the writer still holds back.
 pub fn print<W: Write>(writer: &mut W, text: &str) -> Result<(), TextFailure>
-    ensures written { OnOk result (Appends (W.contents writer.old) (W.contents writer.new) text.now) }
+    ensures written { OnOk result (Appends (W.contents writer.old)
+        (W.contents writer.new) text.now) }
     ensures failed { IfErr result (λ failure. failure ≡ Output) }
 {
     if writer.write_all(text.as_bytes()).is_err() || writer.flush().is_err() {

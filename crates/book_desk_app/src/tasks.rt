@@ -31,9 +31,11 @@ pub enum Task {
 
 /// The status of what was done, or failed: a failure is told on `errors`.
 pub(crate) fn ended<E: Lines>(errors: &mut E, outcome: Result<(), Failure>) -> u8
-    ensures done { OnOk outcome ((result ≡ 0) × Keeps (E.Write.contents errors.old) (E.Write.contents errors.new)) }
+    ensures done { OnOk outcome ((result ≡ 0)
+        × Keeps (E.Write.contents errors.old) (E.Write.contents errors.new)) }
     ensures failed { IfErr outcome (λ failure. (result ≡ failure_status failure)
-        × TellsFailure (E.is_whole errors.new) (E.Write.contents errors.old) (E.Write.contents errors.new) failure) }
+        × TellsFailure (E.is_whole errors.new) (E.Write.contents errors.old)
+        (E.Write.contents errors.new) failure) }
 {
     match outcome {
         Ok(()) => DONE,
@@ -51,10 +53,12 @@ fn pipe_after<K: Keeper, R: Read, W: Write, E: Lines>(
     writer: &mut W,
     errors: &mut E,
 ) -> u8
-    ensures ends { PipesAfter (TellsFailure (E.is_whole errors.new) (E.Write.contents errors.old) (E.Write.contents errors.new))
-        K.standing policy.now machine.old.keeper (R.remaining reader.old) (R.remaining reader.new)
-        (W.contents writer.old) (W.contents writer.new) result machine.new.keeper }
-    ensures silent { result ≡ 0 → Keeps (E.Write.contents errors.old) (E.Write.contents errors.new) }
+    ensures ends { PipesAfter (TellsFailure (E.is_whole errors.new) (E.Write.contents errors.old)
+        (E.Write.contents errors.new)) K.standing policy.now machine.old.keeper
+        (R.remaining reader.old) (R.remaining reader.new) (W.contents writer.old)
+        (W.contents writer.new) result machine.new.keeper }
+    ensures silent { result ≡ 0 → Keeps (E.Write.contents errors.old)
+        (E.Write.contents errors.new) }
 {
     match adopt_given(alloc, machine, policy) {
         Ok(()) => pipe(alloc, machine, reader, writer, errors),
@@ -73,10 +77,12 @@ pub fn perform<K: Keeper, R: Read, W: Write, E: Lines>(
     writer: &mut W,
     errors: &mut E,
 ) -> u8
-    ensures ends { Performs (TellsFailure (E.is_whole errors.new) (E.Write.contents errors.old) (E.Write.contents errors.new))
-        K.standing task.now machine.old.keeper (R.remaining reader.old) (R.remaining reader.new)
-        (W.contents writer.old) (W.contents writer.new) result machine.new.keeper }
-    ensures silent { result ≡ 0 → Keeps (E.Write.contents errors.old) (E.Write.contents errors.new) }
+    ensures ends { Performs (TellsFailure (E.is_whole errors.new) (E.Write.contents errors.old)
+        (E.Write.contents errors.new)) K.standing task.now machine.old.keeper
+        (R.remaining reader.old) (R.remaining reader.new) (W.contents writer.old)
+        (W.contents writer.new) result machine.new.keeper }
+    ensures silent { result ≡ 0 → Keeps (E.Write.contents errors.old)
+        (E.Write.contents errors.new) }
 {
     match task {
         Task::Import(policy) => {

@@ -98,8 +98,10 @@ fn line_of(failure: &Failure) -> &'static str
 /// end the line is told whole; else a beginning of it may be told, and the status alone tells it.
 pub fn tell_line<E: Lines>(errors: &mut E, failure: &Failure) -> u8
     ensures status { result ≡ failure_status failure.now }
-    ensures told { TellsFailure (E.is_whole errors.new) (E.Write.contents errors.old) (E.Write.contents errors.new) failure.now }
-    ensures line { Tells (E.is_whole errors.old) (E.is_whole errors.new) (E.Write.contents errors.old) (E.Write.contents errors.new)
+    ensures told { TellsFailure (E.is_whole errors.new) (E.Write.contents errors.old)
+        (E.Write.contents errors.new) failure.now }
+    ensures line { Tells (E.is_whole errors.old) (E.is_whole errors.new)
+        (E.Write.contents errors.old) (E.Write.contents errors.new)
         (failure_text failure.now ++ codes "\n") }
 {
     errors.put(line_of(failure).as_bytes());

@@ -43,7 +43,8 @@ pub fn given_policy(alloc: Global, bytes: Option<Vec<u8>>) -> Result<Option<Poli
 /// As `policy_of`; and `Input` where there is nothing to import.
 pub fn task_of(alloc: Global, work: Work, bytes: Option<Vec<u8>>) -> Result<Task, Failure>
     ensures task { IfOk result (λ task. SpellsTask (λ given. given.items) work bytes task) }
-    ensures refused { IfErr result (λ failure. GivesNoTask (λ given. given.items) work bytes failure) }
+    ensures refused { IfErr result (λ failure. GivesNoTask
+        (λ given. given.items) work bytes failure) }
 {
     match work {
         Work::Import => match bytes {

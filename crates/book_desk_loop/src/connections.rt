@@ -41,7 +41,8 @@ fn may_have_whole(connection: &Connection) -> bool
 
 /// Whether a request began and is not whole.
 fn is_within(connection: &Connection) -> bool
-    ensures { result ≡ true → (connection.now.closing ≡ false) × (connection.now.stalled ≡ false) × (connection.now.unread ≢ []) }
+    ensures { result ≡ true → (connection.now.closing ≡ false) × (connection.now.stalled ≡ false)
+        × (connection.now.unread ≢ []) }
 {
     if connection.is_between_requests() || connection.is_closing() {
         return false;
@@ -103,8 +104,10 @@ impl<K: Keeper> Connections<K> {
 
     /// Whether the Office can't be read now: its epoch is asked for.
     pub(crate) fn shows_nothing(&mut self) -> bool
-        ensures runs { Runs (K.standing self.old.machine.keeper) (K.standing self.new.machine.keeper) [] }
-        ensures places { (self.new.places.items ≡ self.old.places.items) × (self.new.opened ≡ self.old.opened) }
+        ensures runs { Runs (K.standing self.old.machine.keeper)
+            (K.standing self.new.machine.keeper) [] }
+        ensures places { (self.new.places.items ≡ self.old.places.items)
+            × (self.new.opened ≡ self.old.opened) }
     {
         self.machine.keeper.epoch().is_err()
     }
@@ -137,11 +140,14 @@ impl<K: Keeper> Connections<K> {
     ///
     /// Want of memory, or 18,446,744,073,709,551,615 connections came.
     pub fn open(&mut self, alloc: Global) -> Result<usize, AllocError>
-        ensures place { IfOk result (λ place. (l : Accepted) × Holds self.new.places.items place l × (l.number ≡ self.old.opened) × (l.connection ≡ fresh)) }
+        ensures place { IfOk result (λ place. (l : Accepted) × Holds self.new.places.items place l
+            × (l.number ≡ self.old.opened) × (l.connection ≡ fresh)) }
         ensures free { IfOk result (λ place. get_or self.old.places.items place None ≡ None) }
-        ensures others { IfOk result (λ place. OthersStay place self.old.places.items self.new.places.items) }
+        ensures others { IfOk result (λ place.
+            OthersStay place self.old.places.items self.new.places.items) }
         ensures opened { IfOk result (λ place. self.new.opened ≡ self.old.opened + 1) }
-        ensures err { OnErr result ((self.new.opened ≡ self.old.opened) × AllStay self.old.places.items self.new.places.items) }
+        ensures err { OnErr result ((self.new.opened ≡ self.old.opened)
+            × AllStay self.old.places.items self.new.places.items) }
         ensures machine { self.new.machine ≡ self.old.machine }
         ensures served { (histories : ℕ → History) (log : List Entry)
             → AreServed histories log self.old.opened self.old.places.items
@@ -177,8 +183,9 @@ impl<K: Keeper> Connections<K> {
 
     /// The beginning of what waits to be sent to a connection, if it is there: all of it, or at least 8,192 bytes.
     pub fn unsent(&self, place: usize) -> Option<&[u8]>
-        ensures there { IfSome result (λ bytes. (l : Accepted) × Holds self.now.places.items place l × (more : List ℕ)
-            × (l.connection.unsent ≡ bytes.now ++ more) × ((more ≡ []) ⊎ (8192 ≤ length bytes.now))) }
+        ensures there { IfSome result (λ bytes. (l : Accepted) × Holds self.now.places.items place l
+            × (more : List ℕ) × (l.connection.unsent ≡ bytes.now ++ more)
+            × ((more ≡ []) ⊎ (8192 ≤ length bytes.now))) }
         ensures none { result ≡ None → get_or self.now.places.items place None ≡ None }
     {
         match self.places.get(place) {
@@ -203,7 +210,8 @@ impl<K: Keeper> Connections<K> {
 
     /// Whether whole requests of the connection may be unread: `feed` goes on with them.
     pub(crate) fn is_stalled(&self, place: usize) -> bool
-        ensures { result ≡ false → (l : Accepted) → Holds self.now.places.items place l → HasNoWhole l.connection }
+        ensures { result ≡ false → (l : Accepted) → Holds self.now.places.items place l
+            → HasNoWhole l.connection }
     {
         match self.places.get(place) {
             Some(Some(accepted)) => may_have_whole(&accepted.connection),
@@ -254,12 +262,15 @@ impl<K: Keeper> Connections<K> {
     /// Where memory was refused for what comes next of a long body: the connection was let go.
     #[tactic(auto, using(crate::proofs::Places::others_set, crate::proofs::Places::others_twice))]
     pub fn did_send(&mut self, alloc: Global, place: usize, count: usize) -> Result<(), StreamFault>
-        requires { (l : Accepted) × Holds self.old.places.items place l × (count ≤ length l.connection.unsent) }
+        requires { (l : Accepted) × Holds self.old.places.items place l
+            × (count ≤ length l.connection.unsent) }
         ensures machine { self.new.machine ≡ self.old.machine }
         ensures others { OthersStay place self.old.places.items self.new.places.items }
-        ensures sent { (l : Accepted) → Holds self.old.places.items place l → (histories : ℕ → History) (log : List Entry)
+        ensures sent { (l : Accepted) → Holds self.old.places.items place l
+            → (histories : ℕ → History) (log : List Entry)
             → AreServed histories log self.old.opened self.old.places.items
-            → AreServed (is_sent histories l.number (take count l.connection.unsent)) log self.new.opened self.new.places.items }
+            → AreServed (is_sent histories l.number (take count l.connection.unsent)) log
+            self.new.opened self.new.places.items }
         ensures left { OnOk result ((l : Accepted) → Holds self.old.places.items place l
             → (m : Accepted) × Holds self.new.places.items place m × (m.number ≡ l.number)
             × (m.connection.unsent ≡ drop count l.connection.unsent)) }
@@ -304,14 +315,17 @@ impl<K: Keeper> Connections<K> {
     #[tactic(auto, using(crate::proofs::Places::others_set, crate::proofs::Places::others_twice))]
     pub fn feed(&mut self, alloc: Global, place: usize, bytes: &[u8]) -> Result<(), StreamFault>
         requires { TakesBytes self.old.places.items place }
-        ensures served { (l : Accepted) → Holds self.old.places.items place l → (histories : ℕ → History) (log : List Entry)
-            → AreServed histories log self.old.opened self.old.places.items
-            → (more : List Exchange)
-            × AreServed (receives histories l.number bytes.now) (log ++ entries l.number more) self.new.opened self.new.places.items
-            × Runs (K.standing self.old.machine.keeper) (K.standing self.new.machine.keeper) (map answered_of more) }
+        ensures served { (l : Accepted) → Holds self.old.places.items place l
+            → (histories : ℕ → History) (log : List Entry)
+            → AreServed histories log self.old.opened self.old.places.items → (more : List Exchange)
+            × AreServed (receives histories l.number bytes.now)
+            (log ++ entries l.number more) self.new.opened self.new.places.items
+            × Runs (K.standing self.old.machine.keeper) (K.standing self.new.machine.keeper)
+            (map answered_of more) }
         ensures others { OthersStay place self.old.places.items self.new.places.items }
         ensures there { OnOk result ((l : Accepted) → Holds self.old.places.items place l
-            → (m : Accepted) × Holds self.new.places.items place m × (m.number ≡ l.number) × IsAnswered m.connection) }
+            → (m : Accepted) × Holds self.new.places.items place m × (m.number ≡ l.number)
+            × IsAnswered m.connection) }
         ensures gone { OnErr result (get_or self.new.places.items place None ≡ None) }
         ensures opened { self.new.opened ≡ self.old.opened }
     {

@@ -62,7 +62,8 @@ struct Server<K, S> {
 impl<K: Keeper, S: Read + Write + OpenStream + Drop> Server<K, S> {
     /// Whether no more are to come, and none is there.
     fn is_done(&self) -> bool
-        ensures { result ≡ true → (self.now.left ≡ Some 0) × (self.now.held ≡ None) × ((i : ℕ) → line_at self.now.sockets.items i ≡ None) }
+        ensures { result ≡ true → (self.now.left ≡ Some 0) × (self.now.held ≡ None)
+            × ((i : ℕ) → line_at self.now.sockets.items i ≡ None) }
     {
         none_left(self.left)
             && self.open == 0
@@ -109,7 +110,8 @@ impl<K: Keeper, S: Read + Write + OpenStream + Drop> Server<K, S> {
 
     /// Lets a connection go that may go.
     fn release(&mut self, place: usize)
-        requires { MayGoAt S.remaining S.contents self.old.limits self.old.connections.places.items self.old.sockets.items place }
+        requires { MayGoAt S.remaining S.contents self.old.limits self.old.connections.places.items
+            self.old.sockets.items place }
         ensures { KeepsOn S.remaining S.contents K.standing self.old self.new }
     {
         self.let_go(place);
@@ -124,8 +126,10 @@ impl<K: Keeper, S: Read + Write + OpenStream + Drop> Server<K, S> {
         now: Instant,
     ) -> io::Result<()>
         ensures begins { Begins S.remaining S.contents K.standing self.old self.new }
-        ensures ok { OnOk result ((place : ℕ) × BeginsAt S.remaining S.contents K.standing place stream self.old self.new) }
-        ensures err { OnErr result (BeginsNone S.remaining S.contents K.standing self.old self.new) }
+        ensures ok { OnOk result ((place : ℕ)
+            × BeginsAt S.remaining S.contents K.standing place stream self.old self.new) }
+        ensures err { OnErr result (BeginsNone S.remaining S.contents K.standing self.old
+            self.new) }
     {
         stream.set_nonblocking(true)?;
         // Without it a reply in two writes waits for the client's acknowledgement of the first.
@@ -207,7 +211,8 @@ impl<K: Keeper, S: Read + Write + OpenStream + Drop> Server<K, S> {
         now: Instant,
         faults: &mut F,
     )
-        ensures { GoesOn S.remaining S.contents K.standing F.tells self.old faults.old self.new faults.new }
+        ensures { GoesOn S.remaining S.contents K.standing F.tells self.old faults.old self.new
+            faults.new }
     {
         if self.open >= self.limits.at_once {
             return;
@@ -229,7 +234,8 @@ impl<K: Keeper, S: Read + Write + OpenStream + Drop> Server<K, S> {
         now: Instant,
         faults: &mut F,
     )
-        ensures { GoesOn S.remaining S.contents K.standing F.tells self.old faults.old self.new faults.new }
+        ensures { GoesOn S.remaining S.contents K.standing F.tells self.old faults.old self.new
+            faults.new }
     {
         self.make_room(now);
         self.begin_held(alloc, readiness, now, faults);
@@ -244,7 +250,8 @@ impl<K: Keeper, S: Read + Write + OpenStream + Drop> Server<K, S> {
         now: Instant,
         faults: &mut F,
     ) -> io::Result<()>
-        ensures { GoesOn S.remaining S.contents K.standing F.tells self.old faults.old self.new faults.new }
+        ensures { GoesOn S.remaining S.contents K.standing F.tells self.old faults.old self.new
+            faults.new }
     {
         self.take_waiting(listener)?;
         self.make_room_and_begin(alloc, readiness, now, faults);
@@ -260,7 +267,8 @@ impl<K: Keeper, S: Read + Write + OpenStream + Drop> Server<K, S> {
         now: Instant,
         faults: &mut F,
     ) -> io::Result<()>
-        ensures { GoesOn S.remaining S.contents K.standing F.tells self.old faults.old self.new faults.new }
+        ensures { GoesOn S.remaining S.contents K.standing F.tells self.old faults.old self.new
+            faults.new }
     {
         for _ in 0..self.limits.at_once {
             if !self.may_take() {
@@ -292,7 +300,8 @@ impl<K: Keeper, S: Read + Write + OpenStream + Drop> Server<K, S> {
 
     /// Whether the last reply of the connection is sent.
     fn is_lingering(&self, place: usize) -> bool
-        ensures { (line : Line S) → line_at self.now.sockets.items place ≡ Some line → line.lingers ≡ result }
+        ensures { (line : Line S) → line_at self.now.sockets.items place ≡ Some line
+            → line.lingers ≡ result }
     {
         match self.sockets.get(place) {
             Some(Some(socket)) => socket.dropped.is_some(),
@@ -305,7 +314,8 @@ impl<K: Keeper, S: Read + Write + OpenStream + Drop> Server<K, S> {
     /// sends is read and dropped, so that the reply reaches it (RFC 9112, section 9.6).
     fn begin_to_close(&mut self, place: usize)
         requires done { IsDoneAt self.old.connections.places.items place }
-        requires serves { (line : Line S) → line_at self.old.sockets.items place ≡ Some line → line.lingers ≡ false }
+        requires serves { (line : Line S) → line_at self.old.sockets.items place ≡ Some line
+            → line.lingers ≡ false }
         ensures { KeepsOn S.remaining S.contents K.standing self.old self.new }
     {
         close_for_writing(&mut self.sockets, place);
@@ -313,10 +323,13 @@ impl<K: Keeper, S: Read + Write + OpenStream + Drop> Server<K, S> {
 
     /// A turn of a connection whose last reply is sent: what came is dropped. It ends where no more comes, or enough did.
     fn linger(&mut self, place: usize, memory: &mut [u8]) -> Turn
-        requires { (line : Line S) → line_at self.old.sockets.items place ≡ Some line → line.lingers ≡ true }
+        requires { (line : Line S) → line_at self.old.sockets.items place ≡ Some line
+            → line.lingers ≡ true }
         ensures keeps { KeepsOn S.remaining S.contents K.standing self.old self.new }
         ensures done { result ≢ Turn.Done }
-        ensures ended { result ≡ Turn.Ended → MayGoAt S.remaining S.contents self.new.limits self.new.connections.places.items self.new.sockets.items place }
+        ensures ended { result ≡ Turn.Ended
+            → MayGoAt S.remaining S.contents self.new.limits self.new.connections.places.items
+            self.new.sockets.items place }
         ensures failed { (fault : Fault) → result ≢ Turn.Failed fault }
     {
         drop_at(&mut self.sockets, place, memory)
@@ -325,11 +338,12 @@ impl<K: Keeper, S: Read + Write + OpenStream + Drop> Server<K, S> {
     /// The turn of the connection at a place, by its own socket.
     fn turn_at(&mut self, alloc: Global, place: usize, memory: &mut [u8], now: Instant) -> Turn
         ensures none { line_at self.old.sockets.items place ≡ None → (result ≡ Turn.Waits)
-            × RestStays S.remaining S.contents K.standing self.old self.new × (self.new.connections ≡ self.old.connections)
+            × RestStays S.remaining S.contents K.standing self.old self.new
+            × (self.new.connections ≡ self.old.connections)
             × LinesStay self.old.sockets.items self.new.sockets.items }
         ensures turns { (line : Line S) → line_at self.old.sockets.items place ≡ Some line
-            → (line_then : Line S) × TurnsAt S.remaining S.contents K.standing place self.old self.new line line_then
-            × (((fault : Fault) → result ≢ Turn.Failed fault)
+            → (line_then : Line S) × TurnsAt S.remaining S.contents K.standing place self.old
+            self.new line line_then × (((fault : Fault) → result ≢ Turn.Failed fault)
             → IsStillAt place self.old.connections.places.items self.new.connections.places.items)
             × (result ≡ Turn.Ended → line_then.at_end ≡ true) }
         ensures done { result ≡ Turn.Done → IsDoneAt self.new.connections.places.items place }
@@ -364,11 +378,16 @@ impl<K: Keeper, S: Read + Write + OpenStream + Drop> Server<K, S> {
         now: Instant,
         faults: &mut F,
     ) -> Turn
-        requires { (line : Line S) → line_at self.old.sockets.items place ≡ Some line → line.lingers ≡ false }
-        ensures goes { GoesOn S.remaining S.contents K.standing F.tells self.old faults.old self.new faults.new }
+        requires { (line : Line S) → line_at self.old.sockets.items place ≡ Some line
+            → line.lingers ≡ false }
+        ensures goes { GoesOn S.remaining S.contents K.standing F.tells self.old faults.old self.new
+            faults.new }
         ensures done { result ≡ Turn.Done → IsDoneAt self.new.connections.places.items place }
-        ensures ended { result ≡ Turn.Ended → MayGoAt S.remaining S.contents self.new.limits self.new.connections.places.items self.new.sockets.items place }
-        ensures serves { (line : Line S) → line_at self.new.sockets.items place ≡ Some line → line.lingers ≡ false }
+        ensures ended { result ≡ Turn.Ended
+            → MayGoAt S.remaining S.contents self.new.limits self.new.connections.places.items
+            self.new.sockets.items place }
+        ensures serves { (line : Line S) → line_at self.new.sockets.items place ≡ Some line
+            → line.lingers ≡ false }
     {
         let turn = self.turn_at(alloc, place, memory, now);
         match turn {
@@ -387,8 +406,11 @@ impl<K: Keeper, S: Read + Write + OpenStream + Drop> Server<K, S> {
     /// What a turn of a connection comes to. Where it had a fault, that is told already.
     fn after_turn(&mut self, place: usize, turn: Turn) -> io::Result<()>
         requires done { turn ≡ Turn.Done → IsDoneAt self.old.connections.places.items place
-            × ((line : Line S) → line_at self.old.sockets.items place ≡ Some line → line.lingers ≡ false) }
-        requires ended { turn ≡ Turn.Ended → MayGoAt S.remaining S.contents self.old.limits self.old.connections.places.items self.old.sockets.items place }
+            × ((line : Line S) → line_at self.old.sockets.items place ≡ Some line
+            → line.lingers ≡ false) }
+        requires ended { turn ≡ Turn.Ended
+            → MayGoAt S.remaining S.contents self.old.limits self.old.connections.places.items
+            self.old.sockets.items place }
         ensures { KeepsOn S.remaining S.contents K.standing self.old self.new }
     {
         match turn {
@@ -414,8 +436,10 @@ impl<K: Keeper, S: Read + Write + OpenStream + Drop> Server<K, S> {
         now: Instant,
         faults: &mut F,
     ) -> io::Result<()>
-        requires { (line : Line S) → line_at self.old.sockets.items place ≡ Some line → line.lingers ≡ false }
-        ensures { GoesOn S.remaining S.contents K.standing F.tells self.old faults.old self.new faults.new }
+        requires { (line : Line S) → line_at self.old.sockets.items place ≡ Some line
+            → line.lingers ≡ false }
+        ensures { GoesOn S.remaining S.contents K.standing F.tells self.old faults.old self.new
+            faults.new }
     {
         let answered = self.connections.answered;
         let turn = self.serve(alloc, place, memory, now, faults);
@@ -427,7 +451,8 @@ impl<K: Keeper, S: Read + Write + OpenStream + Drop> Server<K, S> {
 
     /// Gives a connection its turn whose last reply is sent.
     fn give_lingering(&mut self, place: usize, memory: &mut [u8]) -> io::Result<()>
-        requires { (line : Line S) → line_at self.old.sockets.items place ≡ Some line → line.lingers ≡ true }
+        requires { (line : Line S) → line_at self.old.sockets.items place ≡ Some line
+            → line.lingers ≡ true }
         ensures { KeepsOn S.remaining S.contents K.standing self.old self.new }
     {
         let turn = self.linger(place, memory);
@@ -443,7 +468,8 @@ impl<K: Keeper, S: Read + Write + OpenStream + Drop> Server<K, S> {
         now: Instant,
         faults: &mut F,
     ) -> io::Result<()>
-        ensures { GoesOn S.remaining S.contents K.standing F.tells self.old faults.old self.new faults.new }
+        ensures { GoesOn S.remaining S.contents K.standing F.tells self.old faults.old self.new
+            faults.new }
     {
         if self.is_lingering(place) {
             return self.give_lingering(place, memory);
@@ -453,7 +479,8 @@ impl<K: Keeper, S: Read + Write + OpenStream + Drop> Server<K, S> {
 
     /// Whether the connection is there, and its time is up.
     fn is_over(&self, place: usize, now: Instant) -> bool
-        ensures { result ≡ true → MayGoAt S.remaining S.contents self.now.limits self.now.connections.places.items self.now.sockets.items place }
+        ensures { result ≡ true → MayGoAt S.remaining S.contents self.now.limits
+            self.now.connections.places.items self.now.sockets.items place }
     {
         match self.sockets.get(place) {
             Some(Some(socket)) => {
@@ -520,7 +547,8 @@ impl<K: Keeper, S: Read + Write + OpenStream + Drop> Server<K, S> {
         now: Instant,
         faults: &mut F,
     ) -> io::Result<()>
-        ensures { GoesOn S.remaining S.contents K.standing F.tells self.old faults.old self.new faults.new }
+        ensures { GoesOn S.remaining S.contents K.standing F.tells self.old faults.old self.new
+            faults.new }
     {
         let places = mem::replace(&mut self.again, Vec::new(alloc));
         for place in &places {
@@ -538,7 +566,8 @@ impl<K: Keeper, S: Read + Write + OpenStream + Drop> Server<K, S> {
         now: Instant,
         faults: &mut F,
     ) -> io::Result<()>
-        ensures { GoesOn S.remaining S.contents K.standing F.tells self.old faults.old self.new faults.new }
+        ensures { GoesOn S.remaining S.contents K.standing F.tells self.old faults.old self.new
+            faults.new }
     {
         if self.is_queued(place) {
             return Ok(());
@@ -555,7 +584,8 @@ impl<K: Keeper, S: Read + Write + OpenStream + Drop> Server<K, S> {
         now: Instant,
         faults: &mut F,
     ) -> io::Result<()>
-        ensures { GoesOn S.remaining S.contents K.standing F.tells self.old faults.old self.new faults.new }
+        ensures { GoesOn S.remaining S.contents K.standing F.tells self.old faults.old self.new
+            faults.new }
     {
         for place in ready {
             self.give_unqueued(alloc, *place, memory, now, faults)?;
@@ -574,7 +604,8 @@ impl<K: Keeper, S: Read + Write + OpenStream + Drop> Server<K, S> {
         now: Instant,
         faults: &mut F,
     ) -> io::Result<()>
-        ensures { GoesOn S.remaining S.contents K.standing F.tells self.old faults.old self.new faults.new }
+        ensures { GoesOn S.remaining S.contents K.standing F.tells self.old faults.old self.new
+            faults.new }
     {
         self.give_again(alloc, memory, now, faults)?;
         self.give_ready(alloc, ready, memory, now, faults)?;
@@ -643,7 +674,8 @@ impl<K: Keeper, S: Read + Write + OpenStream + Drop> Server<K, S> {
 
     /// Whether it ends since the store has failed more often than so.
     fn is_left(&self, failures: u64) -> bool
-        ensures { result ≡ true → EndsSo S.remaining S.contents K.standing Ended.StoreFailed self.now failures }
+        ensures { result ≡ true → EndsSo S.remaining S.contents K.standing Ended.StoreFailed
+            self.now failures }
     {
         matches!(self.store, StoreState::Left)
             && is_endless(self.limits.total)
@@ -685,7 +717,8 @@ impl<K: Keeper, S: Read + Write + OpenStream + Drop> Server<K, S> {
         swept: Instant,
         faults: &mut F,
     ) -> io::Result<Instant>
-        ensures { GoesOn S.remaining S.contents K.standing F.tells self.old faults.old self.new faults.new }
+        ensures { GoesOn S.remaining S.contents K.standing F.tells self.old faults.old self.new
+            faults.new }
     {
         let now = self.wait(readiness, ready)?;
         self.give_all(
@@ -714,8 +747,10 @@ impl<K: Keeper, S: Read + Write + OpenStream + Drop> Server<K, S> {
         faults: &mut F,
         failures: u64,
     ) -> io::Result<Ended>
-        ensures goes { GoesOn S.remaining S.contents K.standing F.tells self.old faults.old self.new faults.new }
-        ensures ended { IfOk result (λ ended. EndsSo S.remaining S.contents K.standing ended self.new failures) }
+        ensures goes { GoesOn S.remaining S.contents K.standing F.tells self.old faults.old self.new
+            faults.new }
+        ensures ended { IfOk result (λ ended.
+            EndsSo S.remaining S.contents K.standing ended self.new failures) }
     {
         let mut memory = vec![in alloc; 0u8; READ]?;
         let mut ready = Vec::new(alloc);
@@ -774,8 +809,10 @@ pub fn serve_at_once<
     faults: &mut F,
 ) -> (Machine<K>, Result<(), Stop>)
     ensures served { (told : List ToldFault) × AreTold F.tells faults.old told faults.new
-        × AreServedAtOnce S.remaining S.contents K.standing limits machine.keeper told result.1 result.0.keeper }
-    ensures runs { (answered : List Answered) × Runs (K.standing machine.keeper) (K.standing result.0.keeper) answered }
+        × AreServedAtOnce S.remaining S.contents K.standing limits machine.keeper told result.1
+        result.0.keeper }
+    ensures runs { (answered : List Answered)
+        × Runs (K.standing machine.keeper) (K.standing result.0.keeper) answered }
 {
     let wire = match Wire::new(alloc) {
         Ok(wire) => wire,

@@ -39,12 +39,15 @@ pub fn read_once<K: Keeper, R: Read>(
     memory: &mut [u8],
 ) -> Moved
     requires { TakesBytes connections.old.places.items place }
-    ensures served { (bytes : List ℕ) × Consumes (R.remaining reader.old) (R.remaining reader.new) bytes
-        × ((histories : ℕ → History) (log : List Entry) → AreServed histories log connections.old.opened connections.old.places.items
-        → (more : List Exchange)
-        × AreServed (receives histories (number_at connections.old.places.items place) bytes)
-        (log ++ entries (number_at connections.old.places.items place) more) connections.new.opened connections.new.places.items
-        × Runs (K.standing connections.old.machine.keeper) (K.standing connections.new.machine.keeper) (map answered_of more)) }
+    ensures served { (bytes : List ℕ) × Consumes (R.remaining reader.old)
+        (R.remaining reader.new) bytes ×
+        ((histories : ℕ → History) (log : List Entry)
+        → AreServed histories log connections.old.opened connections.old.places.items
+        → (more : List Exchange) × AreServed
+        (receives histories (number_at connections.old.places.items place) bytes)
+        (log ++ entries (number_at connections.old.places.items place) more) connections.new.opened
+        connections.new.places.items × Runs (K.standing connections.old.machine.keeper)
+        (K.standing connections.new.machine.keeper) (map answered_of more)) }
     ensures others { OthersStay place connections.old.places.items connections.new.places.items }
     ensures opened { connections.new.opened ≡ connections.old.opened }
     ensures there { ((fault : Fault) → result ≢ Moved.Failed fault)
@@ -79,8 +82,10 @@ pub fn write_once<K: Keeper, W: Write>(
     ensures there { ((fault : Fault) → result ≢ Moved.Failed fault)
         → IsStillAt place connections.old.places.items connections.new.places.items }
     ensures sent { (bytes : List ℕ) × Appends (W.contents writer.old) (W.contents writer.new) bytes
-        × ((histories : ℕ → History) (log : List Entry) → AreServed histories log connections.old.opened connections.old.places.items
-        → AreServed (is_sent histories (number_at connections.old.places.items place) bytes) log connections.new.opened connections.new.places.items) }
+        × ((histories : ℕ → History) (log : List Entry)
+        → AreServed histories log connections.old.opened connections.old.places.items
+        → AreServed (is_sent histories (number_at connections.old.places.items place) bytes) log
+        connections.new.opened connections.new.places.items) }
 {
     let bytes = match connections.unsent(place) {
         Some(bytes) => bytes,
@@ -132,8 +137,8 @@ fn send_some<K: Keeper, S: Read + Write>(
     place: usize,
     stream: &mut S,
 ) -> Moved
-    ensures served { (went : List ℕ) × Serves K.standing S.remaining S.contents place connections.old connections.new
-        stream.old stream.new [] went }
+    ensures served { (went : List ℕ) × Serves K.standing S.remaining S.contents place
+        connections.old connections.new stream.old stream.new [] went }
     ensures there { ((fault : Fault) → result ≢ Moved.Failed fault)
         → IsStillAt place connections.old.places.items connections.new.places.items }
 {
@@ -149,8 +154,8 @@ fn take_some<K: Keeper, S: Read + Write>(
     memory: &mut [u8],
 ) -> Moved
     requires { TakesBytes connections.old.places.items place }
-    ensures served { (came : List ℕ) × Serves K.standing S.remaining S.contents place connections.old connections.new
-        stream.old stream.new came [] }
+    ensures served { (came : List ℕ) × Serves K.standing S.remaining S.contents place
+        connections.old connections.new stream.old stream.new came [] }
     ensures there { ((fault : Fault) → result ≢ Moved.Failed fault)
         → IsStillAt place connections.old.places.items connections.new.places.items }
     ensures ended { result ≡ Moved.Ended → IsAtEnd (S.remaining stream.new) }
@@ -162,11 +167,13 @@ fn take_some<K: Keeper, S: Read + Write>(
 /// Goes on with the whole requests that are there. No byte is read for them.
 fn answer_more<K: Keeper>(alloc: Global, connections: &mut Connections<K>, place: usize) -> Moved
     requires { TakesBytes connections.old.places.items place }
-    ensures served { (histories : ℕ → History) (log : List Entry) → AreServed histories log connections.old.opened connections.old.places.items
-        → (more : List Exchange)
-        × AreServed (receives histories (number_at connections.old.places.items place) [])
-        (log ++ entries (number_at connections.old.places.items place) more) connections.new.opened connections.new.places.items
-        × Runs (K.standing connections.old.machine.keeper) (K.standing connections.new.machine.keeper) (map answered_of more) }
+    ensures served { (histories : ℕ → History) (log : List Entry)
+        → AreServed histories log connections.old.opened connections.old.places.items
+        → (more : List Exchange) × AreServed
+        (receives histories (number_at connections.old.places.items place) [])
+        (log ++ entries (number_at connections.old.places.items place) more) connections.new.opened
+        connections.new.places.items × Runs (K.standing connections.old.machine.keeper)
+        (K.standing connections.new.machine.keeper) (map answered_of more) }
     ensures others { OthersStay place connections.old.places.items connections.new.places.items }
     ensures opened { connections.new.opened ≡ connections.old.opened }
     ensures there { ((fault : Fault) → result ≢ Moved.Failed fault)
@@ -189,8 +196,9 @@ fn bring<K: Keeper, S: Read + Write>(
     at_end: bool,
 ) -> Moved
     requires { TakesBytes connections.old.places.items place }
-    ensures served { (came : List ℕ) × Serves K.standing S.remaining S.contents place connections.old connections.new
-        stream.old stream.new came [] × (at_end ≡ true → came ≡ []) }
+    ensures served { (came : List ℕ) × Serves K.standing S.remaining S.contents place
+        connections.old connections.new stream.old stream.new came []
+        × (at_end ≡ true → came ≡ []) }
     ensures there { ((fault : Fault) → result ≢ Moved.Failed fault)
         → IsStillAt place connections.old.places.items connections.new.places.items }
     ensures ended { result ≡ Moved.Ended → (at_end ≡ true) ⊎ IsAtEnd (S.remaining stream.new) }
@@ -233,7 +241,8 @@ fn rests<K: Keeper>(connections: &Connections<K>, place: usize, wrote: Moved) ->
 /// What a connection does next whose input is at its end.
 fn ends<K: Keeper>(connections: &Connections<K>, place: usize, wrote: Moved) -> Turn
     ensures done { result ≢ Turn.Done }
-    ensures ended { result ≡ Turn.Ended → (l : Accepted) × Holds connections.now.places.items place l × (l.connection.unsent ≡ []) }
+    ensures ended { result ≡ Turn.Ended → (l : Accepted)
+        × Holds connections.now.places.items place l × (l.connection.unsent ≡ []) }
 {
     match connections.unsent(place) {
         Some([]) => Turn::Ended,
@@ -251,14 +260,17 @@ fn step<K: Keeper, S: Read + Write>(
     memory: &mut [u8],
     at_end: &mut bool,
 ) -> Turn
-    ensures turn { TakesATurn K.standing S.remaining S.contents place connections.old connections.new stream.old stream.new at_end.old }
+    ensures turn { TakesATurn K.standing S.remaining S.contents place connections.old
+        connections.new stream.old stream.new at_end.old }
     ensures there { ((fault : Fault) → result ≢ Turn.Failed fault)
         → IsStillAt place connections.old.places.items connections.new.places.items }
-    ensures at_end { at_end.new ≡ true → (at_end.old ≡ true → WasAtEnd S.remaining S.contents stream.old)
+    ensures at_end { at_end.new ≡ true →
+        (at_end.old ≡ true → WasAtEnd S.remaining S.contents stream.old)
         → WasAtEnd S.remaining S.contents stream.new }
     ensures stays_at_end { at_end.old ≡ true → at_end.new ≡ true }
     ensures done { result ≡ Turn.Done → IsDoneAt connections.new.places.items place }
-    ensures ended { result ≡ Turn.Ended → (at_end.new ≡ true) × IsAnsweredAt connections.new.places.items place }
+    ensures ended { result ≡ Turn.Ended → (at_end.new ≡ true)
+        × IsAnsweredAt connections.new.places.items place }
 {
     let wrote = send_some(alloc, connections, place, stream);
     if let Moved::Failed(fault) = wrote {
@@ -288,8 +300,8 @@ fn finish<K: Keeper, S: Read + Write>(
     place: usize,
     stream: &mut S,
 ) -> Turn
-    ensures served { (went : List ℕ) × Serves K.standing S.remaining S.contents place connections.old connections.new
-        stream.old stream.new [] went }
+    ensures served { (went : List ℕ) × Serves K.standing S.remaining S.contents place
+        connections.old connections.new stream.old stream.new [] went }
     ensures there { ((fault : Fault) → result ≢ Turn.Failed fault)
         → IsStillAt place connections.old.places.items connections.new.places.items }
     ensures done { result ≡ Turn.Done → IsDoneAt connections.new.places.items place }
@@ -318,13 +330,16 @@ pub fn go_on<K: Keeper, S: Read + Write>(
     memory: &mut [u8],
     at_end: &mut bool,
 ) -> Turn
-    ensures turn { TakesATurn K.standing S.remaining S.contents place connections.old connections.new stream.old stream.new at_end.old }
+    ensures turn { TakesATurn K.standing S.remaining S.contents place connections.old
+        connections.new stream.old stream.new at_end.old }
     ensures there { ((fault : Fault) → result ≢ Turn.Failed fault)
         → IsStillAt place connections.old.places.items connections.new.places.items }
-    ensures at_end { at_end.new ≡ true → (at_end.old ≡ true → WasAtEnd S.remaining S.contents stream.old)
+    ensures at_end { at_end.new ≡ true →
+        (at_end.old ≡ true → WasAtEnd S.remaining S.contents stream.old)
         → WasAtEnd S.remaining S.contents stream.new }
     ensures done { result ≡ Turn.Done → IsDoneAt connections.new.places.items place }
-    ensures ended { result ≡ Turn.Ended → (at_end.new ≡ true) × IsAnsweredAt connections.new.places.items place }
+    ensures ended { result ≡ Turn.Ended → (at_end.new ≡ true)
+        × IsAnsweredAt connections.new.places.items place }
 {
     let turn = step(alloc, connections, place, stream, memory, at_end);
     match turn {
@@ -351,13 +366,16 @@ pub(crate) fn take_turn<K: Keeper, S: Read + Write + OpenStream>(
     memory: &mut [u8],
     at_end: &mut bool,
 ) -> Turn
-    ensures turn { TakesATurn K.standing S.remaining S.contents place connections.old connections.new stream.old stream.new at_end.old }
+    ensures turn { TakesATurn K.standing S.remaining S.contents place connections.old
+        connections.new stream.old stream.new at_end.old }
     ensures there { ((fault : Fault) → result ≢ Turn.Failed fault)
         → IsStillAt place connections.old.places.items connections.new.places.items }
-    ensures at_end { at_end.new ≡ true → (at_end.old ≡ true → WasAtEnd S.remaining S.contents stream.old)
+    ensures at_end { at_end.new ≡ true →
+        (at_end.old ≡ true → WasAtEnd S.remaining S.contents stream.old)
         → WasAtEnd S.remaining S.contents stream.new }
     ensures done { result ≡ Turn.Done → IsDoneAt connections.new.places.items place }
-    ensures ended { result ≡ Turn.Ended → (at_end.new ≡ true) × IsAnsweredAt connections.new.places.items place }
+    ensures ended { result ≡ Turn.Ended → (at_end.new ≡ true)
+        × IsAnsweredAt connections.new.places.items place }
 {
     if connections.is_stalled(place) && is_reset(stream) {
         return Turn::Failed(StreamFault::Read);

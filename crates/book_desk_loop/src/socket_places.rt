@@ -60,7 +60,8 @@ pub(crate) fn put<S: Drop>(
     stream: S,
     now: Instant,
 ) -> Result<(), AllocError>
-    ensures line { OnOk result (line_at sockets.new.items place ≡ Some (record { stream = stream; at_end = false; lingers = false })) }
+    ensures line { OnOk result (line_at sockets.new.items place ≡ Some
+        (record { stream = stream; at_end = false; lingers = false })) }
     ensures lines { OnOk result (OtherLinesStay place sockets.old.items sockets.new.items) }
     ensures none { OnErr result (LinesStay sockets.old.items sockets.new.items) }
 {
@@ -77,7 +78,8 @@ pub(crate) fn join<S: Drop, P: Readiness<S>>(
     stream: S,
     now: Instant,
 ) -> io::Result<()>
-    ensures line { OnOk result (line_at sockets.new.items place ≡ Some (record { stream = stream; at_end = false; lingers = false })) }
+    ensures line { OnOk result (line_at sockets.new.items place ≡ Some
+        (record { stream = stream; at_end = false; lingers = false })) }
     ensures lines { OnOk result (OtherLinesStay place sockets.old.items sockets.new.items) }
     ensures none { OnErr result (LinesStay sockets.old.items sockets.new.items) }
 {
@@ -131,7 +133,8 @@ pub(crate) fn close_for_writing<S: OpenStream + Drop>(
     place: usize,
 )
     ensures there { (line : Line S) → line_at sockets.old.items place ≡ Some line
-        → line_at sockets.new.items place ≡ Some (record { stream = line.stream; at_end = line.at_end; lingers = true }) }
+        → line_at sockets.new.items place ≡ Some
+        (record { stream = line.stream; at_end = line.at_end; lingers = true }) }
     ensures none { line_at sockets.old.items place ≡ None → line_at sockets.new.items place ≡ None }
     ensures lines { OtherLinesStay place sockets.old.items sockets.new.items }
 {
@@ -150,10 +153,12 @@ pub(crate) fn drop_at<S: Read + Drop>(
     place: usize,
     memory: &mut [u8],
 ) -> Turn
-    ensures there { (line : Line S) → line_at sockets.old.items place ≡ Some line → (line_then : Line S)
-        × (line_at sockets.new.items place ≡ Some line_then) × DropsSome (S.remaining line.stream) (S.remaining line_then.stream)
+    ensures there { (line : Line S) → line_at sockets.old.items place ≡ Some line
+        → (line_then : Line S) × (line_at sockets.new.items place ≡ Some line_then)
+        × DropsSome (S.remaining line.stream) (S.remaining line_then.stream)
         × (line_then.lingers ≡ true) }
-    ensures none { line_at sockets.old.items place ≡ None → (line_at sockets.new.items place ≡ None) × (result ≡ Turn.Waits) }
+    ensures none { line_at sockets.old.items place ≡ None → (line_at sockets.new.items place ≡ None)
+        × (result ≡ Turn.Waits) }
     ensures lines { OtherLinesStay place sockets.old.items sockets.new.items }
     ensures done { result ≢ Turn.Done }
     ensures failed { (fault : Fault) → result ≢ Turn.Failed fault }

@@ -28,7 +28,8 @@ fn answer_of<K: Keeper>(
     machine: &mut Machine<K>,
     asked: &Asked,
 ) -> Result<Text, Refusal>
-    ensures { StageAsks K.standing machine.old machine.new result (λ o r. TellsAsked o asked.now r) }
+    ensures { StageAsks K.standing machine.old machine.new result
+        (λ o r. TellsAsked o asked.now r) }
 {
     match asked {
         Asked::Why(caller, question) => why(alloc, machine, caller_in(caller.as_str()), question),
@@ -67,11 +68,11 @@ fn answer<K: Keeper, W: Write, E: Lines>(
     writer: &mut W,
     errors: &mut E,
 ) -> u8
-    ensures ends { EndsAsked
-        (TellsLine (E.is_whole errors.new) (E.Write.contents errors.old) (E.Write.contents errors.new))
-        asking (K.standing machine.old.keeper) asked.now (W.contents writer.old) (W.contents writer.new) result
-        (K.standing machine.new.keeper) }
-    ensures silent { result ≡ 0 → Keeps (E.Write.contents errors.old) (E.Write.contents errors.new) }
+    ensures ends { EndsAsked (TellsLine (E.is_whole errors.new) (E.Write.contents errors.old)
+        (E.Write.contents errors.new)) asking (K.standing machine.old.keeper) asked.now
+        (W.contents writer.old) (W.contents writer.new) result (K.standing machine.new.keeper) }
+    ensures silent { result ≡ 0 → Keeps (E.Write.contents errors.old)
+        (E.Write.contents errors.new) }
 {
     match write_answer(alloc, machine, asked, writer) {
         Ok(()) => DONE,
@@ -89,9 +90,11 @@ fn answer_over<S: Alter + Drop, W: Write, E: Lines>(
     errors: &mut E,
 ) -> (u8, Tables<S>)
     ensures ends { AnswersOver (state S.Store) (λ t. t.connection) (λ t. t.failures)
-        (TellsLine (E.is_whole errors.new) (E.Write.contents errors.old) (E.Write.contents errors.new))
-        asking asked.now tables (W.contents writer.old) (W.contents writer.new) result.0 result.1 }
-    ensures silent { result.0 ≡ 0 → Keeps (E.Write.contents errors.old) (E.Write.contents errors.new) }
+        (TellsLine (E.is_whole errors.new) (E.Write.contents errors.old)
+        (E.Write.contents errors.new)) asking asked.now tables (W.contents writer.old)
+        (W.contents writer.new) result.0 result.1 }
+    ensures silent { result.0 ≡ 0 → Keeps (E.Write.contents errors.old)
+        (E.Write.contents errors.new) }
 {
     let mut machine = Machine::new(tables);
     let status = answer(alloc, &mut machine, asking, asked, writer, errors);
@@ -108,9 +111,11 @@ fn answer_in<S: Alter + Drop, W: Write, E: Lines>(
     errors: &mut E,
 ) -> (u8, Option<Connection<S>>)
     ensures runs { AnswersIn {K = Tables S} (state S.Store) (λ t. t.connection) (λ t. t.failures)
-        (TellsLine (E.is_whole errors.new) (E.Write.contents errors.old) (E.Write.contents errors.new))
-        (IsNotHad S.Store) asking asked.now store (W.contents writer.old) (W.contents writer.new) result.0 result.1 }
-    ensures silent { result.0 ≡ 0 → Keeps (E.Write.contents errors.old) (E.Write.contents errors.new) }
+        (TellsLine (E.is_whole errors.new) (E.Write.contents errors.old)
+        (E.Write.contents errors.new)) (IsNotHad S.Store) asking asked.now store
+        (W.contents writer.old) (W.contents writer.new) result.0 result.1 }
+    ensures silent { result.0 ≡ 0 → Keeps (E.Write.contents errors.old)
+        (E.Write.contents errors.new) }
 {
     match open_store(alloc, store) {
         Ok(tables) => {
@@ -137,9 +142,11 @@ pub fn run_question<S: Alter + Drop, W: Write, E: Lines>(
     errors: &mut E,
 ) -> (u8, Option<Connection<S>>)
     ensures runs { RunsAsked {K = Tables S} (state S.Store) (λ t. t.connection) (λ t. t.failures)
-        (TellsLine (E.is_whole errors.new) (E.Write.contents errors.old) (E.Write.contents errors.new))
-        (IsNotHad S.Store) words.now store (W.contents writer.old) (W.contents writer.new) result.0 result.1 }
-    ensures silent { result.0 ≡ 0 → Keeps (E.Write.contents errors.old) (E.Write.contents errors.new) }
+        (TellsLine (E.is_whole errors.new) (E.Write.contents errors.old)
+        (E.Write.contents errors.new)) (IsNotHad S.Store) words.now store (W.contents writer.old)
+        (W.contents writer.new) result.0 result.1 }
+    ensures silent { result.0 ≡ 0 → Keeps (E.Write.contents errors.old)
+        (E.Write.contents errors.new) }
 {
     let asking = asking_of(words);
     match asked_of(alloc, words) {

@@ -80,7 +80,8 @@ fn named_line(command: &str, name: &str) -> ArrayString<MAX_LINE>
 #[tactic(auto, using(crate::proofs::Names::refusal_names_are_short))]
 fn refused_line(command: &str, refusal: &Refusal) -> ArrayString<MAX_LINE>
     requires { length command.now ≤ 8 }
-    ensures { result.bytes ≡ (command.now ++ (codes ": " ++ refusal_name refusal.now)) ++ codes "\n" }
+    ensures { result.bytes ≡ (command.now ++ (codes ": " ++ refusal_name refusal.now)) ++
+        codes "\n" }
 {
     named_line(command, refusal.name())
 }
@@ -100,8 +101,8 @@ fn line_of(asking: Asking, failure: &Unanswered) -> ArrayString<MAX_LINE>
 /// Tells why a question was not answered, and gives the status of the program.
 pub(crate) fn tell_unanswered<E: Lines>(errors: &mut E, asking: Asking, failure: &Unanswered) -> u8
     ensures status { result ≡ unanswered_status failure.now }
-    ensures told { TellsLine (E.is_whole errors.new) (E.Write.contents errors.old) (E.Write.contents errors.new)
-        (unanswered_text asking failure.now) }
+    ensures told { TellsLine (E.is_whole errors.new) (E.Write.contents errors.old)
+        (E.Write.contents errors.new) (unanswered_text asking failure.now) }
 {
     let line = line_of(asking, failure);
     errors.put(line.as_str().as_bytes());

@@ -81,7 +81,8 @@ impl<K: Keeper> Machine<K> {
     /// Over memory it takes a number of comparisons that grows with the policy, the resources and the members, up to a
     /// logarithm; no card is visited.
     pub fn adopt(&mut self, alloc: Global, policy: &Policy) -> Result<Adopted, AdoptFault>
-        ensures { AdoptPromise (K.standing self.old.keeper) (K.standing self.new.keeper) policy.now result }
+        ensures { AdoptPromise (K.standing self.old.keeper)
+            (K.standing self.new.keeper) policy.now result }
     {
         policy.known();
         let Some(adopted) = self.adopted(alloc, policy)? else {

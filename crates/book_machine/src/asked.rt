@@ -333,7 +333,8 @@ fn is_card(book: &Name, card: &Name, path: &Option<Path>) -> bool
 
 /// A card as a destination.
 fn destination_to(book: &Name, card: &Name, overwrite: bool) -> Result<Destination, AllocError>
-    ensures { IfOk result (λ to. to ≡ record { book = book.now; card = card.now; overwrite = overwrite }) }
+    ensures { IfOk result (λ to. to ≡ record
+        { book = book.now; card = card.now; overwrite = overwrite }) }
 {
     Ok(Destination {
         book: book.clone()?,
@@ -381,14 +382,18 @@ fn destination_asked(
 
 /// A COPY: where to.
 fn copy_asked(request: &Request) -> Result<Asked, Refusal>
-    ensures { Meets result (copy_asked (destination_asked request.now.path request.now.overwrite request.now.destination)) }
+    ensures { Meets result
+        (copy_asked (destination_asked request.now.path request.now.overwrite
+        request.now.destination)) }
 {
     Ok(Asked::Copy(destination_asked(&request.path, request.overwrite, &request.destination)?))
 }
 
 /// A MOVE: where to.
 fn move_asked(request: &Request) -> Result<Asked, Refusal>
-    ensures { Meets result (move_asked (destination_asked request.now.path request.now.overwrite request.now.destination)) }
+    ensures { Meets result
+        (move_asked (destination_asked request.now.path request.now.overwrite
+        request.now.destination)) }
 {
     Ok(Asked::Move(destination_asked(&request.path, request.overwrite, &request.destination)?))
 }

@@ -18,7 +18,8 @@ use std::alloc::Global;
 impl<K: Keeper> Machine<K> {
     /// Whether something is mapped at a destination: its book is there, and a card that is there may be replaced.
     fn replaces_at(&mut self, alloc: Global, to: &Destination) -> Result<bool, Refusal>
-        ensures { StageAsks K.standing self.old self.new result (λ o r. Meets r (destination_of o (Some to.now))) }
+        ensures { StageAsks K.standing self.old self.new result
+            (λ o r. Meets r (destination_of o (Some to.now))) }
     {
         if !self.has_book(alloc, &to.book)? {
             return Err(Refusal::NoParent);
@@ -30,7 +31,8 @@ impl<K: Keeper> Machine<K> {
 
     /// Whether something is mapped at the destination, where there is one.
     pub(crate) fn replaces(&mut self, alloc: Global, asked: &Asked) -> Result<bool, Refusal>
-        ensures { StageAsks K.standing self.old self.new result (λ o r. Meets r (destination_of o (destination_in asked.now))) }
+        ensures { StageAsks K.standing self.old self.new result
+            (λ o r. Meets r (destination_of o (destination_in asked.now))) }
     {
         match asked {
             Asked::Copy(to) => self.replaces_at(alloc, to),
@@ -64,7 +66,8 @@ impl<K: Keeper> Machine<K> {
         to: &Destination,
         taken: bool,
     ) -> Result<bool, Refusal>
-        ensures { StageAsks K.standing self.old self.new result (λ o r. Meets r (Ok (copy_limits o to.now taken))) }
+        ensures { StageAsks K.standing self.old self.new result
+            (λ o r. Meets r (Ok (copy_limits o to.now taken))) }
     {
         let path = to.path()?;
         self.keeps_put_limits(alloc, &path, taken)
@@ -78,7 +81,8 @@ impl<K: Keeper> Machine<K> {
         to: &Destination,
         taken: bool,
     ) -> Result<bool, Refusal>
-        ensures { StageAsks K.standing self.old self.new result (λ o r. Meets r (Ok (move_limits o path.now to.now taken))) }
+        ensures { StageAsks K.standing self.old self.new result
+            (λ o r. Meets r (Ok (move_limits o path.now to.now taken))) }
     {
         match path {
             Path::Card(book, _) => {

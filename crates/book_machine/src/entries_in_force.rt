@@ -15,7 +15,8 @@ use std::alloc::{AllocError, Global};
 
 /// The protected entries of all levels.
 pub(crate) fn protected_in(alloc: Global, lists: Lists) -> Result<Vec<Entry>, AllocError>
-    ensures { IfOk result (λ entries. entries.items ≡ flat_map (λ (level : Level). level.protected) lists.levels) }
+    ensures { IfOk result (λ entries. entries.items ≡ flat_map
+        (λ (level : Level). level.protected) lists.levels) }
 {
     let mut entries = Vec::new(alloc);
     for level in lists.levels.into_vec() {

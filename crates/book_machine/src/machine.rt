@@ -61,7 +61,8 @@ impl<K: Keeper> Machine<K> {
 
     /// The caller: nobody, or the person of that name.
     pub(crate) fn caller(&mut self, alloc: Global, name: Option<&str>) -> Result<Caller, Refusal>
-        ensures { StageAsks K.standing self.old self.new result (λ o r. Meets r (caller_of o (option_copied name.entry))) }
+        ensures { StageAsks K.standing self.old self.new result
+            (λ o r. Meets r (caller_of o (option_copied name.entry))) }
     {
         let Some(text) = name else {
             return Ok(Caller::Nobody);
@@ -78,7 +79,8 @@ impl<K: Keeper> Machine<K> {
 
     /// Whether a book is there.
     pub(crate) fn has_book(&mut self, alloc: Global, book: &Name) -> Result<bool, Refusal>
-        ensures { StageAsks K.standing self.old self.new result (λ o r. Meets r (Ok (is_some (get o.books book.now)))) }
+        ensures { StageAsks K.standing self.old self.new result
+            (λ o r. Meets r (Ok (is_some (get o.books book.now)))) }
     {
         let path = Path::Book(book.clone()?);
         Ok(self.keeper.has(alloc, &path)?)
@@ -86,7 +88,8 @@ impl<K: Keeper> Machine<K> {
 
     /// A PUT at a path where nothing is mapped: the path of a card whose book is there.
     fn check_new_card(&mut self, alloc: Global, path: &Path) -> Result<(), Refusal>
-        ensures { StageAsks K.standing self.old self.new result (λ o r. Meets r (new_card o path.now)) }
+        ensures { StageAsks K.standing self.old self.new result
+            (λ o r. Meets r (new_card o path.now)) }
     {
         match path {
             Path::Card(book, _) => match self.has_book(alloc, book)? {
@@ -105,7 +108,8 @@ impl<K: Keeper> Machine<K> {
 
     /// A MKCOL at a path where nothing is mapped: the path of a book.
     fn check_new_book(&mut self, alloc: Global, path: &Path) -> Result<(), Refusal>
-        ensures { StageAsks K.standing self.old self.new result (λ o r. Meets r (new_book_at o path.now)) }
+        ensures { StageAsks K.standing self.old self.new result
+            (λ o r. Meets r (new_book_at o path.now)) }
     {
         match path {
             Path::Book(_) => Ok(()),
@@ -124,7 +128,8 @@ impl<K: Keeper> Machine<K> {
 
     /// The path of a request at which nothing is mapped.
     fn check_unmapped(&mut self, alloc: Global, method: Method, path: &Path) -> Result<(), Refusal>
-        ensures { StageAsks K.standing self.old self.new result (λ o r. Meets r (at_unmapped o method path.now)) }
+        ensures { StageAsks K.standing self.old self.new result
+            (λ o r. Meets r (at_unmapped o method path.now)) }
     {
         match method {
             Method::Put => self.check_new_card(alloc, path),
@@ -150,7 +155,8 @@ impl<K: Keeper> Machine<K> {
         path: &'r Path,
         node: Option<Node>,
     ) -> Result<Target<'r>, Refusal>
-        ensures { StageAsks K.standing self.old self.new result (λ o r. MeetsSeen target_seen r (at_node o method path.now node)) }
+        ensures { StageAsks K.standing self.old self.new result
+            (λ o r. MeetsSeen target_seen r (at_node o method path.now node)) }
     {
         match node {
             None => {
@@ -208,7 +214,8 @@ impl<K: Keeper> Machine<K> {
 
     /// The owner of the resource at a path.
     fn owner(&mut self, alloc: Global, path: &Path) -> Result<Option<Principal>, Refusal>
-        ensures { StageAsks K.standing self.old self.new result (λ o r. Meets r (Ok (owner_at o path.now))) }
+        ensures { StageAsks K.standing self.old self.new result
+            (λ o r. Meets r (Ok (owner_at o path.now))) }
     {
         match self.keeper.find(alloc, path)? {
             Some(Node { owner, .. }) => Ok(owner),
@@ -245,7 +252,9 @@ impl<K: Keeper> Machine<K> {
         need: Need,
     ) -> Result<(), Refusal>
         ensures { StageAsks K.standing self.old self.new result
-            (λ o r. target.now ≡ here_of o ready.now.target.path.now → JudgesNeed o circle.now (place_path (destination_in ready.now.asked) ready.now.target.path.now need.place) need.set r) }
+            (λ o r. target.now ≡ here_of o ready.now.target.path.now
+            → JudgesNeed o circle.now (place_path
+            (destination_in ready.now.asked) ready.now.target.path.now need.place) need.set r) }
     {
         if need.place == Place::Target {
             return self.check_here(alloc, circle, ready.target.path, target, need.set);
@@ -266,7 +275,9 @@ impl<K: Keeper> Machine<K> {
         need: Option<Need>,
     ) -> Result<(), Refusal>
         ensures { StageAsks K.standing self.old self.new result
-            (λ o r. target.now ≡ here_of o ready.now.target.path.now → JudgesNeeds o circle.now (destination_in ready.now.asked) ready.now.target.path.now (listed_too need []) r) }
+            (λ o r. target.now ≡ here_of o ready.now.target.path.now
+            → JudgesNeeds o circle.now (destination_in ready.now.asked) ready.now.target.path.now
+            (listed_too need []) r) }
     {
         match need {
             Some(need) => self.check_need(alloc, circle, ready, target, need),
@@ -284,7 +295,9 @@ impl<K: Keeper> Machine<K> {
         others: Option<(Need, Option<Need>)>,
     ) -> Result<(), Refusal>
         ensures { StageAsks K.standing self.old self.new result
-            (λ o r. target.now ≡ here_of o ready.now.target.path.now → JudgesNeeds o circle.now (destination_in ready.now.asked) ready.now.target.path.now (listed_others others) r) }
+            (λ o r. target.now ≡ here_of o ready.now.target.path.now
+            → JudgesNeeds o circle.now (destination_in ready.now.asked) ready.now.target.path.now
+            (listed_others others) r) }
     {
         let Some((second, third)) = others else {
             return Ok(());
@@ -303,7 +316,9 @@ impl<K: Keeper> Machine<K> {
         needs: Needs,
     ) -> Result<(), Refusal>
         ensures { StageAsks K.standing self.old self.new result
-            (λ o r. target.now ≡ here_of o ready.now.target.path.now → JudgesNeeds o circle.now (destination_in ready.now.asked) ready.now.target.path.now (need_list needs) r) }
+            (λ o r. target.now ≡ here_of o ready.now.target.path.now
+            → JudgesNeeds o circle.now (destination_in ready.now.asked) ready.now.target.path.now
+            (need_list needs) r) }
     {
         let Needs { first, others } = needs;
         self.check_need(alloc, circle, ready, target, first)?;
@@ -319,7 +334,9 @@ impl<K: Keeper> Machine<K> {
         ready: &mut Ready<'_>,
     ) -> Result<(), Refusal>
         ensures judges { StageAsks K.standing self.old self.new result
-            (λ o r. IsTarget o (target_seen ready.old.target) → JudgesNeeds o circle.now (destination_in ready.old.asked) ready.old.target.path.now (needs_at (ready_seen ready.old)) r) }
+            (λ o r. IsTarget o (target_seen ready.old.target)
+            → JudgesNeeds o circle.now (destination_in ready.old.asked) ready.old.target.path.now
+            (needs_at (ready_seen ready.old)) r) }
         ensures kept { ready.new ≡ ready.old }
     {
         let needs = needs(ready.asked.method(), shape_at(ready));
@@ -363,14 +380,16 @@ impl<K: Keeper> Machine<K> {
 
     /// Whether the epoch can rise.
     fn epoch_can_rise(&mut self) -> Result<bool, Refusal>
-        ensures { StageAsks K.standing self.old self.new result (λ o r. Meets r (Ok (nat_lt o.epoch LAST_NUMBER))) }
+        ensures { StageAsks K.standing self.old self.new result
+            (λ o r. Meets r (Ok (nat_lt o.epoch LAST_NUMBER))) }
     {
         Ok(self.keeper.epoch()? < LAST_NUMBER)
     }
 
     /// Whether the limits are kept where a label is set: a card's takes a number.
     fn keeps_label_limits(&mut self, alloc: Global, path: &Path) -> Result<bool, Refusal>
-        ensures { StageAsks K.standing self.old self.new result (λ o r. Meets r (Ok (label_limits o path.now))) }
+        ensures { StageAsks K.standing self.old self.new result
+            (λ o r. Meets r (Ok (label_limits o path.now))) }
     {
         match path {
             Path::Card(book, _) => self.can_change(alloc, book),
@@ -391,7 +410,8 @@ impl<K: Keeper> Machine<K> {
         patch: &Patch,
         path: &Path,
     ) -> Result<bool, Refusal>
-        ensures { StageAsks K.standing self.old self.new result (λ o r. Meets r (Ok (patch_limits o patch.now path.now))) }
+        ensures { StageAsks K.standing self.old self.new result
+            (λ o r. Meets r (Ok (patch_limits o patch.now path.now))) }
     {
         match patch {
             Patch::DisplayName(_) => self.keeps_label_limits(alloc, path),
@@ -406,7 +426,8 @@ impl<K: Keeper> Machine<K> {
         path: &Path,
         mapped: bool,
     ) -> Result<bool, Refusal>
-        ensures { StageAsks K.standing self.old self.new result (λ o r. Meets r (Ok (put_limits o path.now mapped))) }
+        ensures { StageAsks K.standing self.old self.new result
+            (λ o r. Meets r (Ok (put_limits o path.now mapped))) }
     {
         match path {
             Path::Card(book, _) => {
@@ -430,7 +451,8 @@ impl<K: Keeper> Machine<K> {
 
     /// Whether the limits are kept where a resource is removed.
     fn keeps_delete_limits(&mut self, alloc: Global, path: &Path) -> Result<bool, Refusal>
-        ensures { StageAsks K.standing self.old self.new result (λ o r. Meets r (Ok (delete_limits o path.now))) }
+        ensures { StageAsks K.standing self.old self.new result
+            (λ o r. Meets r (Ok (delete_limits o path.now))) }
     {
         match path {
             Path::Card(book, _) => self.can_change(alloc, book),
@@ -452,7 +474,8 @@ impl<K: Keeper> Machine<K> {
         target: &Target<'_>,
     ) -> Result<bool, Refusal>
         ensures { StageAsks K.standing self.old self.new result
-            (λ o r. Meets r (Ok (keeps_limits o asked.now target.now.path.now (is_some target.now.node) target.now.replaces))) }
+            (λ o r. Meets r (Ok (keeps_limits o asked.now target.now.path.now
+            (is_some target.now.node) target.now.replaces))) }
     {
         match asked {
             Asked::Put(_) => self.keeps_put_limits(alloc, target.path, target.node.is_some()),
@@ -475,7 +498,8 @@ impl<K: Keeper> Machine<K> {
         asked: &Asked,
         target: &Target<'_>,
     ) -> Result<(), Refusal>
-        ensures { StageAsks K.standing self.old self.new result (λ o r. Meets r (limits_of o asked.now (target_seen target.now))) }
+        ensures { StageAsks K.standing self.old self.new result
+            (λ o r. Meets r (limits_of o asked.now (target_seen target.now))) }
     {
         match self.keeps_limits(alloc, asked, target)? {
             true => Ok(()),
@@ -489,7 +513,8 @@ impl<K: Keeper> Machine<K> {
         alloc: Global,
         principal: &Principal,
     ) -> Result<bool, Refusal>
-        ensures { StageAsks K.standing self.old self.new result (λ o r. TellsWhether (IsMapped o principal.now) r) }
+        ensures { StageAsks K.standing self.old self.new result
+            (λ o r. TellsWhether (IsMapped o principal.now) r) }
     {
         let path = path_of(alloc, principal)?;
         Ok(self.keeper.has(alloc, &path)?)
@@ -497,7 +522,8 @@ impl<K: Keeper> Machine<K> {
 
     /// Each member is there.
     fn check_members(&mut self, alloc: Global, members: &[Principal]) -> Result<(), Refusal>
-        ensures { StageAsks K.standing self.old self.new result (λ o r. MeetsAny (IsMembersAnswer o members.now) r) }
+        ensures { StageAsks K.standing self.old self.new result
+            (λ o r. MeetsAny (IsMembersAnswer o members.now) r) }
     {
         for member in members {
             if !self.is_mapped(alloc, member)? {
@@ -509,7 +535,8 @@ impl<K: Keeper> Machine<K> {
 
     /// Whether a form names no principal, or one that is there.
     fn is_known(&mut self, alloc: Global, who: &Option<Who>) -> Result<bool, Refusal>
-        ensures { StageAsks K.standing self.old self.new result (λ o r. TellsWhether (IsKnownWho o who.now) r) }
+        ensures { StageAsks K.standing self.old self.new result
+            (λ o r. TellsWhether (IsKnownWho o who.now) r) }
     {
         match who {
             Some(Who::Href(principal)) => self.is_mapped(alloc, principal),
@@ -524,7 +551,8 @@ impl<K: Keeper> Machine<K> {
 
     /// An entry as it is checked: without a form where its form names a principal that is not there.
     fn checked_entry(&mut self, alloc: Global, entry: &Submitted) -> Result<Submitted, Refusal>
-        ensures { StageAsks K.standing self.old self.new result (λ o r. TellsCheckedEntry o entry.now r) }
+        ensures { StageAsks K.standing self.old self.new result
+            (λ o r. TellsCheckedEntry o entry.now r) }
     {
         let copy = copy_of_entry(entry)?;
         if self.is_known(alloc, &entry.who)? {
@@ -551,7 +579,8 @@ impl<K: Keeper> Machine<K> {
 
     /// The protected entries in force at a resource.
     fn protected(&mut self, alloc: Global, path: &Path) -> Result<Vec<Entry>, Refusal>
-        ensures { StageAsks K.standing self.old self.new result (λ o r. MeetsItems r (protected_entries_at o path.now)) }
+        ensures { StageAsks K.standing self.old self.new result
+            (λ o r. MeetsItems r (protected_entries_at o path.now)) }
     {
         let lists = self.keeper.lists(alloc, path)?;
         Ok(protected_in(alloc, lists)?)
@@ -560,7 +589,8 @@ impl<K: Keeper> Machine<K> {
     /// The list of an ACL: it has no fault at the resource. A list that is too long is refused before its principals
     /// are looked up.
     fn check_list(&mut self, alloc: Global, path: &Path, list: &[Submitted]) -> Result<(), Refusal>
-        ensures { StageAsks K.standing self.old self.new result (λ o r. MeetsAny (IsAclAnswer o path.now list.now) r) }
+        ensures { StageAsks K.standing self.old self.new result
+            (λ o r. MeetsAny (IsAclAnswer o path.now list.now) r) }
     {
         if list.len() > MAX_ENTRIES {
             return Err(Refusal::LimitedNumberOfAces);
@@ -575,7 +605,8 @@ impl<K: Keeper> Machine<K> {
 
     /// What a PROPPATCH sets: each member is there.
     fn check_patch(&mut self, alloc: Global, patch: &Patch) -> Result<(), Refusal>
-        ensures { StageAsks K.standing self.old self.new result (λ o r. MeetsAny (IsPatchAnswer o patch.now) r) }
+        ensures { StageAsks K.standing self.old self.new result
+            (λ o r. MeetsAny (IsPatchAnswer o patch.now) r) }
     {
         match patch {
             Patch::DisplayName(_) => Ok(()),
@@ -585,7 +616,8 @@ impl<K: Keeper> Machine<K> {
 
     /// The body of a request.
     fn check_body(&mut self, alloc: Global, asked: &Asked, path: &Path) -> Result<(), Refusal>
-        ensures { StageAsks K.standing self.old self.new result (λ o r. MeetsAny (IsBodyAnswer o asked.now path.now) r) }
+        ensures { StageAsks K.standing self.old self.new result
+            (λ o r. MeetsAny (IsBodyAnswer o asked.now path.now) r) }
     {
         match asked {
             Asked::Put(text) => check_card(alloc, text),
@@ -625,7 +657,8 @@ impl<K: Keeper> Machine<K> {
     /// The reply, and the edit that is to be made.
     fn success(&mut self, alloc: Global, circle: &Circle, ready: Ready<'_>) -> Result<Plan, Refusal>
         ensures { StageAsks K.standing self.old self.new result
-            (λ o r. IsTarget o (target_seen ready.entry.target) → MeetsAny (IsSuccess o circle.now (ready_seen ready.entry)) r) }
+            (λ o r. IsTarget o (target_seen ready.entry.target)
+            → MeetsAny (IsSuccess o circle.now (ready_seen ready.entry)) r) }
     {
         let Ready {
             caller,
@@ -650,7 +683,8 @@ impl<K: Keeper> Machine<K> {
     /// The stages after a verdict that grants.
     fn granted(&mut self, alloc: Global, circle: &Circle, ready: Ready<'_>) -> Result<Plan, Refusal>
         ensures { StageAsks K.standing self.old self.new result
-            (λ o r. IsTarget o (target_seen ready.entry.target) → MeetsAny (IsGrantedPlan o circle.now (ready_seen ready.entry)) r) }
+            (λ o r. IsTarget o (target_seen ready.entry.target)
+            → MeetsAny (IsGrantedPlan o circle.now (ready_seen ready.entry)) r) }
     {
         if let Err(refusal) = self.check_body(alloc, &ready.asked, ready.target.path) {
             return refuse(ready, refusal);
@@ -688,8 +722,10 @@ impl<K: Keeper> Machine<K> {
     /// allocated between the edit and the return. Each refusal leaves the Office as it was. A reply tells nothing of
     /// the labels and texts of cards that the caller may not read.
     pub fn serve(&mut self, alloc: Global, name: Option<&str>, request: &Request) -> Reply
-        ensures served { ServePromise (K.standing self.old.keeper) (K.standing self.new.keeper) (option_copied name.entry) request.now result }
-        ensures unseen { ServeHidesUnread (K.standing self.old.keeper) (K.standing self.new.keeper) (option_copied name.entry) request.now result }
+        ensures served { ServePromise (K.standing self.old.keeper) (K.standing self.new.keeper)
+            (option_copied name.entry) request.now result }
+        ensures unseen { ServeHidesUnread (K.standing self.old.keeper) (K.standing self.new.keeper)
+            (option_copied name.entry) request.now result }
         ensures well_formed { IsWellFormed request.now }
     {
         request.known();
@@ -722,8 +758,10 @@ impl<K: Keeper> Machine<K> {
         alloc: Global,
         calls: &[(Option<String>, Request)],
     ) -> Result<Vec<Reply>, AllocError>
-        ensures served { IfOk result (λ replies. ServeAllPromise (K.standing self.old.keeper) (K.standing self.new.keeper) (calls_of calls.now) replies.items) }
-        ensures copies { IfOk result (λ replies. Synced (K.standing self.old.keeper) (calls_of calls.now) replies.items) }
+        ensures served { IfOk result (λ replies. ServeAllPromise (K.standing self.old.keeper)
+            (K.standing self.new.keeper) (calls_of calls.now) replies.items) }
+        ensures copies { IfOk result (λ replies. Synced (K.standing self.old.keeper)
+            (calls_of calls.now) replies.items) }
         ensures well_formed { OnOk result (AreWellFormed (calls_of calls.now)) }
         ensures err { OnErr result (self.new ≡ self.old) }
     {

@@ -38,7 +38,8 @@ pub struct Needed {
 
 /// Adds a need, with the resource that its place names.
 fn push_need(needs: &mut Vec<PlacedNeed>, ready: &Ready<'_>, need: Need) -> Result<(), AllocError>
-    ensures { OnOk result (needs.new.items ≡ needs.old.items ++ placed (destination_in ready.now.asked) ready.now.target.path.now need ∷ []) }
+    ensures { OnOk result (needs.new.items ≡ needs.old.items ++ placed
+        (destination_in ready.now.asked) ready.now.target.path.now need ∷ []) }
 {
     let resource = place_path(ready, need.place)?;
     needs.push(PlacedNeed {
@@ -54,7 +55,8 @@ fn push_any(
     ready: &Ready<'_>,
     need: Option<Need>,
 ) -> Result<(), AllocError>
-    ensures { OnOk result (needs.new.items ≡ needs.old.items ++ map (placed (destination_in ready.now.asked) ready.now.target.path.now) (listed_too need [])) }
+    ensures { OnOk result (needs.new.items ≡ needs.old.items ++ map
+        (placed (destination_in ready.now.asked) ready.now.target.path.now) (listed_too need [])) }
 {
     match need {
         Some(need) => push_need(needs, ready, need),
@@ -68,7 +70,9 @@ fn push_others(
     ready: &Ready<'_>,
     others: Option<(Need, Option<Need>)>,
 ) -> Result<(), AllocError>
-    ensures { OnOk result (needs.new.items ≡ needs.old.items ++ map (placed (destination_in ready.now.asked) ready.now.target.path.now) (listed_others others)) }
+    ensures { OnOk result (needs.new.items ≡ needs.old.items ++ map
+        (placed (destination_in ready.now.asked) ready.now.target.path.now)
+        (listed_others others)) }
 {
     let Some((second, third)) = others else {
         return Ok(());
@@ -132,7 +136,8 @@ impl<K: Keeper> Machine<K> {
     ///
     /// `NotFound` where nothing is mapped at the path. `Unavailable` where memory was refused or the store failed.
     pub fn mapped(&mut self, alloc: Global, path: &Option<Path>) -> Result<Path, Refusal>
-        ensures { StageAsks K.standing self.old self.new result (λ o r. Meets r (mapped_at o path.now)) }
+        ensures { StageAsks K.standing self.old self.new result
+            (λ o r. Meets r (mapped_at o path.now)) }
     {
         let Some(path) = path else {
             return Err(Refusal::NotFound);

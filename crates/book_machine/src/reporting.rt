@@ -19,7 +19,8 @@ use std::alloc::Global;
 impl<K: Keeper> Machine<K> {
     /// A person who is asked about is there.
     fn check_person(&mut self, alloc: Global, person: &Principal) -> Result<(), Refusal>
-        ensures { StageAsks K.standing self.old self.new result (λ o r. MeetsAny (IsCallerAnswer o (Known person.now)) r) }
+        ensures { StageAsks K.standing self.old self.new result
+            (λ o r. MeetsAny (IsCallerAnswer o (Known person.now)) r) }
     {
         let there = self.is_mapped(alloc, person)?;
         if there {
@@ -30,7 +31,8 @@ impl<K: Keeper> Machine<K> {
 
     /// Who is asked about: nobody, or a principal that is there.
     fn check_caller(&mut self, alloc: Global, caller: &Caller) -> Result<(), Refusal>
-        ensures { StageAsks K.standing self.old self.new result (λ o r. MeetsAny (IsCallerAnswer o caller.now) r) }
+        ensures { StageAsks K.standing self.old self.new result
+            (λ o r. MeetsAny (IsCallerAnswer o caller.now) r) }
     {
         match caller {
             Caller::Nobody => Ok(()),
@@ -40,7 +42,8 @@ impl<K: Keeper> Machine<K> {
 
     /// The body of a REPORT.
     pub(crate) fn check_report(&mut self, alloc: Global, kind: &ReportKind) -> Result<(), Refusal>
-        ensures { StageAsks K.standing self.old self.new result (λ o r. MeetsAny (IsReportAnswer o kind.now) r) }
+        ensures { StageAsks K.standing self.old self.new result
+            (λ o r. MeetsAny (IsReportAnswer o kind.now) r) }
     {
         match kind {
             ReportKind::Effective(caller) => self.check_caller(alloc, caller),

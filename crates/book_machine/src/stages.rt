@@ -146,7 +146,8 @@ fn copy_of(path: &Path) -> Result<Path, AllocError>
 
 /// The path at the destination of what is asked; of a request without one the path itself.
 fn destination_or(asked: &Asked, path: &Path) -> Result<Path, AllocError>
-    ensures { IfOk result (λ p. p ≡ or_itself path.now (option_map destination_path (destination_in asked.now))) }
+    ensures { IfOk result (λ p. p ≡ or_itself path.now
+        (option_map destination_path (destination_in asked.now))) }
 {
     match asked {
         Asked::Copy(to) => to.path(),
@@ -166,7 +167,8 @@ fn destination_or(asked: &Asked, path: &Path) -> Result<Path, AllocError>
 
 /// The path of the book of the destination; of a request without one the path itself.
 fn destination_book_or(asked: &Asked, path: &Path) -> Result<Path, AllocError>
-    ensures { IfOk result (λ p. p ≡ or_itself path.now (option_and_then (λ to. parent_of (destination_path to)) (destination_in asked.now))) }
+    ensures { IfOk result (λ p. p ≡ or_itself path.now
+        (option_and_then (λ to. parent_of (destination_path to)) (destination_in asked.now))) }
 {
     match asked {
         Asked::Copy(to) => Ok(Path::Book(to.book.clone()?)),
@@ -186,7 +188,8 @@ fn destination_book_or(asked: &Asked, path: &Path) -> Result<Path, AllocError>
 
 /// The resource that a place of what is asked names.
 pub(crate) fn place_path(ready: &Ready<'_>, place: Place) -> Result<Path, AllocError>
-    ensures { IfOk result (λ p. p ≡ place_path (destination_in ready.now.asked) ready.now.target.path.now place) }
+    ensures { IfOk result (λ p. p ≡ place_path
+        (destination_in ready.now.asked) ready.now.target.path.now place) }
 {
     let path = ready.target.path;
     match place {

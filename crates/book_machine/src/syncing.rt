@@ -38,7 +38,8 @@ impl<K: Keeper> Machine<K> {
         limit: &Option<Limit>,
     ) -> Result<Plan, Refusal>
         ensures { StageAsks K.standing self.old self.new result
-            (λ o r. Meets r (report_plan (sync o circle.now book.now (option_copied token.entry) limit.now))) }
+            (λ o r. Meets r (report_plan
+            (sync o circle.now book.now (option_copied token.entry) limit.now))) }
     {
         match sync_report(
             alloc,
@@ -62,7 +63,8 @@ impl<K: Keeper> Machine<K> {
         asked: &SyncRequest,
     ) -> Result<Plan, Refusal>
         ensures { StageAsks K.standing self.old self.new result
-            (λ o r. Meets r (report_plan (report_from o circle.now book.now asked.now.limit asked.now.from))) }
+            (λ o r. Meets r (report_plan
+            (report_from o circle.now book.now asked.now.limit asked.now.from))) }
     {
         match &asked.from {
             SyncFrom::Start => self.synced_after(alloc, circle, book, None, &asked.limit),

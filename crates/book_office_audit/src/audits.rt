@@ -69,7 +69,8 @@ fn add_child(
     above: &str,
     child: &Listed,
 ) -> Result<(), AllocError>
-    ensures { OnOk result (blocks.new ≡ map.insert blocks.old (block_of above.now child.now).0 (block_of above.now child.now).1) }
+    ensures { OnOk result (blocks.new ≡ map.insert blocks.old (block_of above.now child.now).0
+        (block_of above.now child.now).1) }
 {
     let path = path_below(alloc, above, child)?;
     let lines = resource_lines(
@@ -89,7 +90,8 @@ fn add_children(
     above: &str,
     children: &[Listed],
 ) -> Result<(), AllocError>
-    ensures { OnOk result (blocks.new ≡ gathered blocks.old (map (block_of above.now) children.now)) }
+    ensures { OnOk result (blocks.new ≡ gathered blocks.old
+        (map (block_of above.now) children.now)) }
 {
     for child in children {
         add_child(alloc, blocks, above, child)?;
@@ -114,7 +116,8 @@ fn add_levels(
     owner: &Option<Principal>,
     levels: &[Level],
 ) -> Result<(), AllocError>
-    ensures { OnOk result (blocks.new ≡ gathered blocks.old (map (level_block owner.now) levels.now)) }
+    ensures { OnOk result (blocks.new ≡ gathered blocks.old
+        (map (level_block owner.now) levels.now)) }
 {
     for level in levels {
         let path = Text::copy_of(alloc, "/")?;
@@ -148,7 +151,8 @@ fn resource_blocks(alloc: Global, contents: &Contents) -> Result<Blocks, AllocEr
 
 /// The lines of all direct memberships, by line.
 fn member_blocks(alloc: Global, memberships: &[Membership]) -> Result<Blocks, AllocError>
-    ensures { IfOk result (λ blocks. blocks ≡ gathered map.empty (map member_block memberships.now)) }
+    ensures { IfOk result (λ blocks. blocks ≡ gathered map.empty
+        (map member_block memberships.now)) }
 {
     let mut blocks = Blocks::new(alloc);
     add_members(alloc, &mut blocks, memberships)?;
@@ -181,7 +185,8 @@ fn text_of(
 /// The children of each home and of each book are read once. The number of comparisons grows with the resources and the
 /// logarithm of their number.
 pub fn audit_text<K: Keeper>(alloc: Global, keeper: &mut K) -> Result<String, StoreFault>
-    ensures { Reads (K.standing keeper.old) (K.standing keeper.new) result (λ o text. IsAuditText o (string_bytes text)) }
+    ensures { Reads (K.standing keeper.old) (K.standing keeper.new) result
+        (λ o text. IsAuditText o (string_bytes text)) }
 {
     let epoch = keeper.epoch()?;
     let pairs = keeper.pairs(alloc)?;

@@ -52,7 +52,8 @@ impl Blocks {
 
     /// Adds the texts to a string, in byte order of their keys. An error is want of memory.
     pub(crate) fn push_all(&self, text: &mut String) -> Result<(), AllocError>
-        ensures { OnOk result (string_bytes text.new ≡ string_bytes text.old ++ flat_map (λ e. e.1) (map.entries self.now)) }
+        ensures { OnOk result (string_bytes text.new ≡ string_bytes text.old ++ flat_map (λ e. e.1)
+            (map.entries self.now)) }
     {
         for (_, block) in self.tree.iter() {
             text.push_str(block.as_str())?;

@@ -49,7 +49,8 @@ fn invert_word(invert: bool) -> &'static str
 
 /// Adds each name, after a space.
 fn push_names(text: &mut String, names: &[Privilege]) -> Result<(), AllocError>
-    ensures { OnOk result (string_bytes text.new ≡ string_bytes text.old ++ flat_map spaced names.now) }
+    ensures { OnOk result (string_bytes text.new ≡
+        string_bytes text.old ++ flat_map spaced names.now) }
 {
     for name in names {
         text.push_str(" ")?;
@@ -66,7 +67,8 @@ pub fn push_entry(
     protected: bool,
     entry: &Entry,
 ) -> Result<(), AllocError>
-    ensures { OnOk result (string_bytes text.new ≡ string_bytes text.old ++ entry_line protected entry.now) }
+    ensures { OnOk result (string_bytes text.new ≡
+        string_bytes text.old ++ entry_line protected entry.now) }
 {
     let names = short_privileges(alloc, entry.set)?;
     text.push_str(list_word(protected))?;
@@ -84,7 +86,8 @@ fn push_entries(
     protected: bool,
     entries: &[Entry],
 ) -> Result<(), AllocError>
-    ensures { OnOk result (string_bytes text.new ≡ string_bytes text.old ++ flat_map (entry_line protected) entries.now) }
+    ensures { OnOk result (string_bytes text.new ≡ string_bytes text.old ++ flat_map
+        (entry_line protected) entries.now) }
 {
     for entry in entries {
         push_entry(alloc, text, protected, entry)?;
@@ -110,7 +113,8 @@ pub(crate) fn resource_lines(
     protected: &[Entry],
     own: &[Entry],
 ) -> Result<Text, AllocError>
-    ensures { IfOk result (λ lines. lines ≡ resource_lines path.now owner.now protected.now own.now) }
+    ensures { IfOk result (λ lines. lines ≡
+        resource_lines path.now owner.now protected.now own.now) }
 {
     let mut text = String::from_str(alloc, path)?;
     text.push_str(" owner ")?;

@@ -23,7 +23,8 @@ fn owner_in(node: Option<Node>) -> Option<Principal>
 
 /// Reads the root and the homes.
 fn read_top<K: Keeper>(alloc: Global, keeper: &mut K) -> Result<Top, StoreFault>
-    ensures { Reads (K.standing keeper.old) (K.standing keeper.new) result (λ o top. top ≡ top_of o) }
+    ensures { Reads (K.standing keeper.old) (K.standing keeper.new) result
+        (λ o top. top ≡ top_of o) }
 {
     let node = keeper.find(alloc, &Path::Root)?;
     let lists = keeper.lists(alloc, &Path::Root)?;
@@ -37,7 +38,8 @@ fn read_top<K: Keeper>(alloc: Global, keeper: &mut K) -> Result<Top, StoreFault>
 
 /// Reads what stands in the homes.
 fn read_residents<K: Keeper>(alloc: Global, keeper: &mut K) -> Result<Residents, StoreFault>
-    ensures { Reads (K.standing keeper.old) (K.standing keeper.new) result (λ o residents. residents ≡ residents_of o) }
+    ensures { Reads (K.standing keeper.old) (K.standing keeper.new) result
+        (λ o residents. residents ≡ residents_of o) }
 {
     let persons = keeper.children(alloc, &Path::People)?;
     let groups = keeper.children(alloc, &Path::Groups)?;
@@ -59,7 +61,8 @@ fn book_path(alloc: Global, name: &Name) -> Result<Text, AllocError>
 
 /// Reads the cards of a book.
 fn read_shelf<K: Keeper>(alloc: Global, keeper: &mut K, book: &Listed) -> Result<Shelf, StoreFault>
-    ensures { Reads (K.standing keeper.old) (K.standing keeper.new) result (λ o shelf. shelf ≡ shelf_of o book.now) }
+    ensures { Reads (K.standing keeper.old) (K.standing keeper.new) result
+        (λ o shelf. shelf ≡ shelf_of o book.now) }
 {
     let path = Path::Book(book.name.clone()?);
     let text = book_path(alloc, &book.name)?;
@@ -73,7 +76,8 @@ fn read_shelves<K: Keeper>(
     keeper: &mut K,
     books: &[Listed],
 ) -> Result<Vec<Shelf>, StoreFault>
-    ensures { Reads (K.standing keeper.old) (K.standing keeper.new) result (λ o shelves. shelves.items ≡ map (shelf_of o) books.now) }
+    ensures { Reads (K.standing keeper.old) (K.standing keeper.new) result
+        (λ o shelves. shelves.items ≡ map (shelf_of o) books.now) }
 {
     let mut shelves = Vec::new(alloc);
     for book in books {
@@ -93,7 +97,8 @@ pub(crate) fn read_contents<K: Keeper>(
     alloc: Global,
     keeper: &mut K,
 ) -> Result<Contents, StoreFault>
-    ensures { Reads (K.standing keeper.old) (K.standing keeper.new) result (λ o contents. contents ≡ contents_of o) }
+    ensures { Reads (K.standing keeper.old) (K.standing keeper.new) result
+        (λ o contents. contents ≡ contents_of o) }
 {
     let top = read_top(alloc, keeper)?;
     let residents = read_residents(alloc, keeper)?;

@@ -104,7 +104,8 @@ impl<K: Keeper> Cached<K> {
         name: &Name,
     ) -> Result<Circle, StoreFault>
         requires { caller.now ≡ Known (person_path name.now) }
-        ensures { ReadsBehind K.standing self.old self.new result (λ o circle. IsCircle o.pairs caller.now circle) }
+        ensures { ReadsBehind K.standing self.old self.new result
+            (λ o circle. IsCircle o.pairs caller.now circle) }
     {
         if let Some(circle) = self.remembered.circle(name)? {
             return Ok(circle);
@@ -122,7 +123,8 @@ impl<K: Keeper> Cached<K> {
         person: &Principal,
     ) -> Result<Circle, StoreFault>
         requires { caller.now ≡ Known person.now }
-        ensures { ReadsBehind K.standing self.old self.new result (λ o circle. IsCircle o.pairs caller.now circle) }
+        ensures { ReadsBehind K.standing self.old self.new result
+            (λ o circle. IsCircle o.pairs caller.now circle) }
     {
         match person_name(alloc, person)? {
             Some(name) => self.person_circle(alloc, caller, &name),
@@ -132,7 +134,8 @@ impl<K: Keeper> Cached<K> {
 
     /// The person of a name, if there is one.
     fn person(&mut self, alloc: Global, name: &Name) -> Result<Option<Node>, StoreFault>
-        ensures { ReadsBehind K.standing self.old self.new result (λ o node. node ≡ node_at o (paths.Person name.now)) }
+        ensures { ReadsBehind K.standing self.old self.new result
+            (λ o node. node ≡ node_at o (paths.Person name.now)) }
     {
         if let Some(node) = self.remembered.person(name)? {
             return Ok(Some(node));
@@ -145,7 +148,8 @@ impl<K: Keeper> Cached<K> {
 
     /// The book of a name, if there is one.
     fn book_node(&mut self, alloc: Global, name: &Name) -> Result<Option<Node>, StoreFault>
-        ensures { ReadsBehind K.standing self.old self.new result (λ o node. node ≡ node_at o (paths.Book name.now)) }
+        ensures { ReadsBehind K.standing self.old self.new result
+            (λ o node. node ≡ node_at o (paths.Book name.now)) }
     {
         if let Some(node) = self.remembered.book_node(name)? {
             return Ok(Some(node));
@@ -158,7 +162,8 @@ impl<K: Keeper> Cached<K> {
 
     /// Whether the book of a name has fewer cards than so many.
     fn book_has_room(&mut self, alloc: Global, name: &Name, most: usize) -> Result<bool, StoreFault>
-        ensures { ReadsBehind K.standing self.old self.new result (λ o room. room ≡ nat_lt (count_at o (paths.Book name.now)) most) }
+        ensures { ReadsBehind K.standing self.old self.new result
+            (λ o room. room ≡ nat_lt (count_at o (paths.Book name.now)) most) }
     {
         if self.remembered.has_room(name, most) {
             return Ok(true);
@@ -171,7 +176,8 @@ impl<K: Keeper> Cached<K> {
 
     /// The lists of the root.
     fn root(&mut self, alloc: Global) -> Result<Level, StoreFault>
-        ensures { ReadsBehind K.standing self.old self.new result (λ o level. level ≡ level_at o paths.Root) }
+        ensures { ReadsBehind K.standing self.old self.new result
+            (λ o level. level ≡ level_at o paths.Root) }
     {
         if let Some(level) = self.remembered.root()? {
             return Ok(level);
@@ -183,7 +189,8 @@ impl<K: Keeper> Cached<K> {
 
     /// The lists of the books' home.
     fn home(&mut self, alloc: Global) -> Result<Level, StoreFault>
-        ensures { ReadsBehind K.standing self.old self.new result (λ o level. level ≡ level_at o paths.Books) }
+        ensures { ReadsBehind K.standing self.old self.new result
+            (λ o level. level ≡ level_at o paths.Books) }
     {
         if let Some(level) = self.remembered.home()? {
             return Ok(level);
@@ -195,7 +202,8 @@ impl<K: Keeper> Cached<K> {
 
     /// The lists of the book of a name.
     fn book(&mut self, alloc: Global, name: &Name) -> Result<Level, StoreFault>
-        ensures { ReadsBehind K.standing self.old self.new result (λ o level. level ≡ level_at o (paths.Book name.now)) }
+        ensures { ReadsBehind K.standing self.old self.new result
+            (λ o level. level ≡ level_at o (paths.Book name.now)) }
     {
         if let Some(level) = self.remembered.book(name)? {
             return Ok(level);
@@ -208,7 +216,8 @@ impl<K: Keeper> Cached<K> {
 
     /// The lists of the books' home and of the root.
     fn top(&mut self, alloc: Global) -> Result<Top, StoreFault>
-        ensures { ReadsBehind K.standing self.old self.new result (λ o top. top ≡ (level_at o paths.Books, level_at o paths.Root)) }
+        ensures { ReadsBehind K.standing self.old self.new result
+            (λ o top. top ≡ (level_at o paths.Books, level_at o paths.Root)) }
     {
         let home = self.home(alloc)?;
         let root = self.root(alloc)?;
@@ -217,7 +226,8 @@ impl<K: Keeper> Cached<K> {
 
     /// The lists of the book of a name and of what stands above it.
     fn book_lists(&mut self, alloc: Global, name: &Name) -> Result<Lists, StoreFault>
-        ensures { ReadsBehind K.standing self.old self.new result (λ o lists. lists ≡ lists_at o (paths.Book name.now)) }
+        ensures { ReadsBehind K.standing self.old self.new result
+            (λ o lists. lists ≡ lists_at o (paths.Book name.now)) }
     {
         let book = self.book(alloc, name)?;
         let top = self.top(alloc)?;
@@ -234,7 +244,8 @@ impl<K: Keeper> Cached<K> {
         path: &Path,
     ) -> Result<Level, StoreFault>
         requires { path.now ≡ paths.Card book.now name.now }
-        ensures { ReadsBehind K.standing self.old self.new result (λ o level. level ≡ level_at o path.now) }
+        ensures { ReadsBehind K.standing self.old self.new result
+            (λ o level. level ≡ level_at o path.now) }
     {
         if self.remembered.is_bare(book, name) {
             return Ok(bare_level(alloc, path)?);
@@ -253,7 +264,8 @@ impl<K: Keeper> Cached<K> {
         path: &Path,
     ) -> Result<Lists, StoreFault>
         requires { path.now ≡ paths.Card book.now name.now }
-        ensures { ReadsBehind K.standing self.old self.new result (λ o lists. lists ≡ lists_at o path.now) }
+        ensures { ReadsBehind K.standing self.old self.new result
+            (λ o lists. lists ≡ lists_at o path.now) }
     {
         let card = self.card(alloc, book, name, path)?;
         let above = self.book_lists(alloc, book)?;
@@ -266,7 +278,8 @@ impl<K: Keeper> Keeper for Cached<K> {
     ghost standing = { λ k. remembering (K.standing k.keeper) k.remembered };
 
     fn find(&mut self, alloc: Global, path: &Path) -> Result<Option<Node>, StoreFault>
-        ensures { ReadsBehind K.standing self.old self.new result (λ o node. node ≡ node_at o path.now) }
+        ensures { ReadsBehind K.standing self.old self.new result
+            (λ o node. node ≡ node_at o path.now) }
     {
         match path {
             Path::Person(name) => self.person(alloc, name),
@@ -281,19 +294,22 @@ impl<K: Keeper> Keeper for Cached<K> {
     }
 
     fn children(&mut self, alloc: Global, path: &Path) -> Result<Items<Listed>, StoreFault>
-        ensures { ReadsBehind K.standing self.old self.new result (λ o children. children ≡ children_at o path.now) }
+        ensures { ReadsBehind K.standing self.old self.new result
+            (λ o children. children ≡ children_at o path.now) }
     {
         self.keeper.children(alloc, path)
     }
 
     fn count(&mut self, alloc: Global, path: &Path) -> Result<usize, StoreFault>
-        ensures { ReadsBehind K.standing self.old self.new result (λ o count. count ≡ count_at o path.now) }
+        ensures { ReadsBehind K.standing self.old self.new result
+            (λ o count. count ≡ count_at o path.now) }
     {
         self.keeper.count(alloc, path)
     }
 
     fn has_room(&mut self, alloc: Global, path: &Path, most: usize) -> Result<bool, StoreFault>
-        ensures { ReadsBehind K.standing self.old self.new result (λ o room. room ≡ nat_lt (count_at o path.now) most) }
+        ensures { ReadsBehind K.standing self.old self.new result
+            (λ o room. room ≡ nat_lt (count_at o path.now) most) }
     {
         match path {
             Path::Book(name) => self.book_has_room(alloc, name, most),
@@ -308,7 +324,8 @@ impl<K: Keeper> Keeper for Cached<K> {
     }
 
     fn lists(&mut self, alloc: Global, path: &Path) -> Result<Lists, StoreFault>
-        ensures { ReadsBehind K.standing self.old self.new result (λ o lists. lists ≡ lists_at o path.now) }
+        ensures { ReadsBehind K.standing self.old self.new result
+            (λ o lists. lists ≡ lists_at o path.now) }
     {
         match path {
             Path::Card(book, card) => self.card_lists(alloc, book, card, path),
@@ -323,7 +340,8 @@ impl<K: Keeper> Keeper for Cached<K> {
     }
 
     fn level(&mut self, alloc: Global, path: &Path) -> Result<Level, StoreFault>
-        ensures { ReadsBehind K.standing self.old self.new result (λ o level. level ≡ level_at o path.now) }
+        ensures { ReadsBehind K.standing self.old self.new result
+            (λ o level. level ≡ level_at o path.now) }
     {
         self.keeper.level(alloc, path)
     }
@@ -355,7 +373,8 @@ impl<K: Keeper> Keeper for Cached<K> {
     }
 
     fn members(&mut self, alloc: Global, group: &Principal) -> Result<Pairs, StoreFault>
-        ensures { ReadsBehind K.standing self.old self.new result (λ o pairs. pairs ≡ members_of o.pairs group.now) }
+        ensures { ReadsBehind K.standing self.old self.new result
+            (λ o pairs. pairs ≡ members_of o.pairs group.now) }
     {
         self.keeper.members(alloc, group)
     }
@@ -367,7 +386,8 @@ impl<K: Keeper> Keeper for Cached<K> {
     }
 
     fn circle(&mut self, alloc: Global, caller: &Caller) -> Result<Circle, StoreFault>
-        ensures { ReadsBehind K.standing self.old self.new result (λ o circle. IsCircle o.pairs caller.now circle) }
+        ensures { ReadsBehind K.standing self.old self.new result
+            (λ o circle. IsCircle o.pairs caller.now circle) }
     {
         match caller {
             Caller::Nobody => self.keeper.circle(alloc, caller),
@@ -382,7 +402,8 @@ impl<K: Keeper> Keeper for Cached<K> {
     }
 
     fn adoption(&mut self, alloc: Global, policy: &Policy) -> Result<Adoption, StoreFault>
-        ensures { ReadsBehind K.standing self.old self.new result (λ o told. told ≡ adoption_of policy.now o) }
+        ensures { ReadsBehind K.standing self.old self.new result
+            (λ o told. told ≡ adoption_of policy.now o) }
     {
         self.keeper.adoption(alloc, policy)
     }

@@ -90,7 +90,8 @@ fn is_at_last(nodes: &NameMap<Node>, name: &Name) -> bool
 
 /// Gives the resource of a name the next number, or forgets it where there is none.
 fn count_change(nodes: &mut NameMap<Node>, name: &Name)
-    ensures { (nodes.new ≡ changed_at with_next_number nodes.old name.now) ⊎ (nodes.new ≡ remove nodes.old name.now) }
+    ensures { (nodes.new ≡ changed_at with_next_number nodes.old name.now)
+        ⊎ (nodes.new ≡ remove nodes.old name.now) }
 {
     if is_at_last(nodes, name) {
         nodes.remove(name);
@@ -121,7 +122,8 @@ fn is_counted_out(counts: &NameMap<usize>, book: &Name) -> bool
 
 /// Counts a card more in a book, or forgets how many it has where they can't be counted.
 fn count_card(counts: &mut NameMap<usize>, book: &Name)
-    ensures { (counts.new ≡ changed_at one_card_more counts.old book.now) ⊎ (counts.new ≡ remove counts.old book.now) }
+    ensures { (counts.new ≡ changed_at one_card_more counts.old book.now)
+        ⊎ (counts.new ≡ remove counts.old book.now) }
 {
     if is_counted_out(counts, book) {
         counts.remove(book);
@@ -198,8 +200,8 @@ impl Remembered {
 
     /// Remembers the circle of a person. An error is want of memory.
     fn try_circle(&mut self, name: &Name, circle: &Circle) -> Result<(), AllocError>
-        ensures { (o : OfficeOf) → Remembers self.old o → IsCircle o.pairs (Known (person_path name.now)) circle.now
-            → Remembers self.new o }
+        ensures { (o : OfficeOf) → Remembers self.old o
+            → IsCircle o.pairs (Known (person_path name.now)) circle.now → Remembers self.new o }
     {
         let name = name.clone()?;
         let circle = circle.clone()?;
@@ -209,8 +211,8 @@ impl Remembered {
 
     /// Remembers the circle of a person, if memory is not refused.
     pub(crate) fn keep_circle(&mut self, alloc: Global, name: &Name, circle: &Circle)
-        ensures { (o : OfficeOf) → Remembers self.old o → IsCircle o.pairs (Known (person_path name.now)) circle.now
-            → Remembers self.new o }
+        ensures { (o : OfficeOf) → Remembers self.old o
+            → IsCircle o.pairs (Known (person_path name.now)) circle.now → Remembers self.new o }
     {
         self.make_circle_room(alloc);
         let _ = self.try_circle(name, circle);
@@ -225,7 +227,8 @@ impl Remembered {
 
     /// Remembers a person, if there is one of that name. An error is want of memory.
     fn try_person(&mut self, name: &Name, node: &Option<Node>) -> Result<(), AllocError>
-        ensures { (o : OfficeOf) → Remembers self.old o → node.now ≡ node_at o (paths.Person name.now) → Remembers self.new o }
+        ensures { (o : OfficeOf) → Remembers self.old o
+            → node.now ≡ node_at o (paths.Person name.now) → Remembers self.new o }
     {
         if let Some(node) = node {
             let name = name.clone()?;
@@ -237,7 +240,8 @@ impl Remembered {
 
     /// Remembers a person, if there is one of that name and memory is not refused.
     pub(crate) fn keep_person(&mut self, name: &Name, node: &Option<Node>)
-        ensures { (o : OfficeOf) → Remembers self.old o → node.now ≡ node_at o (paths.Person name.now) → Remembers self.new o }
+        ensures { (o : OfficeOf) → Remembers self.old o
+            → node.now ≡ node_at o (paths.Person name.now) → Remembers self.new o }
     {
         let _ = self.try_person(name, node);
     }
@@ -251,7 +255,8 @@ impl Remembered {
 
     /// Remembers a book, if there is one of that name. An error is want of memory.
     fn try_book_node(&mut self, name: &Name, node: &Option<Node>) -> Result<(), AllocError>
-        ensures { (o : OfficeOf) → Remembers self.old o → node.now ≡ node_at o (paths.Book name.now) → Remembers self.new o }
+        ensures { (o : OfficeOf) → Remembers self.old o → node.now ≡ node_at o (paths.Book name.now)
+            → Remembers self.new o }
     {
         if let Some(node) = node {
             let name = name.clone()?;
@@ -263,7 +268,8 @@ impl Remembered {
 
     /// Remembers a book, if there is one of that name and memory is not refused.
     pub(crate) fn keep_book_node(&mut self, name: &Name, node: &Option<Node>)
-        ensures { (o : OfficeOf) → Remembers self.old o → node.now ≡ node_at o (paths.Book name.now) → Remembers self.new o }
+        ensures { (o : OfficeOf) → Remembers self.old o → node.now ≡ node_at o (paths.Book name.now)
+            → Remembers self.new o }
     {
         let _ = self.try_book_node(name, node);
     }
@@ -280,7 +286,8 @@ impl Remembered {
 
     /// Remembers the lists of the root, if memory is not refused.
     pub(crate) fn keep_root(&mut self, level: &Level)
-        ensures { (o : OfficeOf) → Remembers self.old o → level.now ≡ level_at o paths.Root → Remembers self.new o }
+        ensures { (o : OfficeOf) → Remembers self.old o → level.now ≡ level_at o paths.Root
+            → Remembers self.new o }
     {
         if let Ok(level) = copy_of_level(level) {
             self.root = Some(level);
@@ -299,7 +306,8 @@ impl Remembered {
 
     /// Remembers the lists of the books' home, if memory is not refused.
     pub(crate) fn keep_home(&mut self, level: &Level)
-        ensures { (o : OfficeOf) → Remembers self.old o → level.now ≡ level_at o paths.Books → Remembers self.new o }
+        ensures { (o : OfficeOf) → Remembers self.old o → level.now ≡ level_at o paths.Books
+            → Remembers self.new o }
     {
         if let Ok(level) = copy_of_level(level) {
             self.home = Some(level);
@@ -327,7 +335,8 @@ impl Remembered {
 
     /// Remembers the lists of a book. An error is want of memory.
     fn try_book(&mut self, name: &Name, level: &Level) -> Result<(), AllocError>
-        ensures { (o : OfficeOf) → Remembers self.old o → level.now ≡ level_at o (paths.Book name.now) → Remembers self.new o }
+        ensures { (o : OfficeOf) → Remembers self.old o
+            → level.now ≡ level_at o (paths.Book name.now) → Remembers self.new o }
     {
         let name = name.clone()?;
         let level = copy_of_level(level)?;
@@ -337,7 +346,8 @@ impl Remembered {
 
     /// Remembers the lists of a book, if memory is not refused.
     pub(crate) fn keep_book(&mut self, alloc: Global, name: &Name, level: &Level)
-        ensures { (o : OfficeOf) → Remembers self.old o → level.now ≡ level_at o (paths.Book name.now) → Remembers self.new o }
+        ensures { (o : OfficeOf) → Remembers self.old o
+            → level.now ≡ level_at o (paths.Book name.now) → Remembers self.new o }
     {
         self.make_room(alloc);
         let _ = self.try_book(name, level);
@@ -384,7 +394,9 @@ impl Remembered {
 
     /// Remembers that no card of that name has entries. An error is want of memory.
     fn try_bare(&mut self, alloc: Global, book: &Name, card: &Name) -> Result<(), AllocError>
-        ensures { (o : OfficeOf) → Remembers self.old o → bare_level (paths.Card book.now card.now) ≡ level_at o (paths.Card book.now card.now) → Remembers self.new o }
+        ensures { (o : OfficeOf) → Remembers self.old o
+            → bare_level (paths.Card book.now card.now) ≡ level_at o (paths.Card book.now card.now)
+            → Remembers self.new o }
     {
         let name = book.clone()?;
         let mut cards = self.take_bare(alloc, book);
@@ -396,7 +408,8 @@ impl Remembered {
 
     /// Remembers that no card of that name has entries, where these are its lists and memory is not refused.
     pub(crate) fn keep_bare(&mut self, alloc: Global, book: &Name, card: &Name, level: &Level)
-        ensures { (o : OfficeOf) → Remembers self.old o → level.now ≡ level_at o (paths.Card book.now card.now) → Remembers self.new o }
+        ensures { (o : OfficeOf) → Remembers self.old o
+            → level.now ≡ level_at o (paths.Card book.now card.now) → Remembers self.new o }
     {
         if is_empty(level) {
             self.make_bare_room(alloc);
@@ -406,7 +419,8 @@ impl Remembered {
 
     /// Whether it is remembered that a book has fewer cards than so many. Takes no memory.
     pub(crate) fn has_room(&self, book: &Name, most: usize) -> bool
-        ensures { (o : OfficeOf) → Remembers self.now o → IsTrue result → nat_lt (count_at o (paths.Book book.now)) most ≡ true }
+        ensures { (o : OfficeOf) → Remembers self.now o → IsTrue result
+            → nat_lt (count_at o (paths.Book book.now)) most ≡ true }
     {
         match self.counts.get(book) {
             Some(count) => *count < most,
@@ -416,7 +430,8 @@ impl Remembered {
 
     /// Remembers how many cards a book has. An error is want of memory.
     fn try_count(&mut self, book: &Name, count: usize) -> Result<(), AllocError>
-        ensures { (o : OfficeOf) → Remembers self.old o → count ≡ count_at o (paths.Book book.now) → Remembers self.new o }
+        ensures { (o : OfficeOf) → Remembers self.old o → count ≡ count_at o (paths.Book book.now)
+            → Remembers self.new o }
     {
         let name = book.clone()?;
         self.counts.insert(name, count)?;
@@ -425,7 +440,8 @@ impl Remembered {
 
     /// Remembers how many cards a book has, if memory is not refused.
     pub(crate) fn keep_count(&mut self, book: &Name, count: usize)
-        ensures { (o : OfficeOf) → Remembers self.old o → count ≡ count_at o (paths.Book book.now) → Remembers self.new o }
+        ensures { (o : OfficeOf) → Remembers self.old o → count ≡ count_at o (paths.Book book.now)
+            → Remembers self.new o }
     {
         let _ = self.try_count(book, count);
     }
@@ -442,7 +458,8 @@ impl Remembered {
 
     /// Forgets all but the circles of persons. Takes no memory.
     fn forget_places(&mut self, alloc: Global)
-        ensures { (o after : OfficeOf) → Remembers self.old o → after.pairs ≡ o.pairs → Remembers self.new after }
+        ensures { (o after : OfficeOf) → Remembers self.old o → after.pairs ≡ o.pairs
+            → Remembers self.new after }
     {
         self.persons = NameMap::new(alloc);
         self.root = None;

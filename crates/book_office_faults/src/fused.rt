@@ -73,7 +73,8 @@ impl<K> Fused<K> {
         ensures calls { self.new.calls ≡ self.old.calls }
         ensures keeper { self.new.keeper ≡ self.old.keeper }
         ensures failures { self.new.failures ≡ one_more self.old.failures }
-        ensures counted { (kept : ℕ) → together kept self.new.failures ≡ one_more (together kept self.old.failures) }
+        ensures counted { (kept : ℕ) → together kept self.new.failures ≡ one_more
+            (together kept self.old.failures) }
     {
         if self.failures < u64::MAX {
             self.failures += 1;
@@ -86,7 +87,8 @@ impl<K: Keeper> Keeper for Fused<K> {
     ghost standing = { λ k. behind (K.standing k.keeper) k.failures };
 
     fn find(&mut self, alloc: Global, path: &Path) -> Result<Option<Node>, StoreFault>
-        ensures keeper { ReadsBehind K.standing self.old self.new result (λ o node. node ≡ node_at o path.now) }
+        ensures keeper { ReadsBehind K.standing self.old self.new result
+            (λ o node. node ≡ node_at o path.now) }
         ensures fuse { IsFused self.old self.new result }
     {
         if self.passes() {
@@ -97,7 +99,8 @@ impl<K: Keeper> Keeper for Fused<K> {
     }
 
     fn children(&mut self, alloc: Global, path: &Path) -> Result<Items<Listed>, StoreFault>
-        ensures keeper { ReadsBehind K.standing self.old self.new result (λ o children. children ≡ children_at o path.now) }
+        ensures keeper { ReadsBehind K.standing self.old self.new result
+            (λ o children. children ≡ children_at o path.now) }
         ensures fuse { IsFused self.old self.new result }
     {
         if self.passes() {
@@ -108,7 +111,8 @@ impl<K: Keeper> Keeper for Fused<K> {
     }
 
     fn count(&mut self, alloc: Global, path: &Path) -> Result<usize, StoreFault>
-        ensures keeper { ReadsBehind K.standing self.old self.new result (λ o count. count ≡ count_at o path.now) }
+        ensures keeper { ReadsBehind K.standing self.old self.new result
+            (λ o count. count ≡ count_at o path.now) }
         ensures fuse { IsFused self.old self.new result }
     {
         if self.passes() {
@@ -119,7 +123,8 @@ impl<K: Keeper> Keeper for Fused<K> {
     }
 
     fn lists(&mut self, alloc: Global, path: &Path) -> Result<Lists, StoreFault>
-        ensures keeper { ReadsBehind K.standing self.old self.new result (λ o lists. lists ≡ lists_at o path.now) }
+        ensures keeper { ReadsBehind K.standing self.old self.new result
+            (λ o lists. lists ≡ lists_at o path.now) }
         ensures fuse { IsFused self.old self.new result }
     {
         if self.passes() {
@@ -130,7 +135,8 @@ impl<K: Keeper> Keeper for Fused<K> {
     }
 
     fn level(&mut self, alloc: Global, path: &Path) -> Result<Level, StoreFault>
-        ensures keeper { ReadsBehind K.standing self.old self.new result (λ o level. level ≡ level_at o path.now) }
+        ensures keeper { ReadsBehind K.standing self.old self.new result
+            (λ o level. level ≡ level_at o path.now) }
         ensures fuse { IsFused self.old self.new result }
     {
         if self.passes() {
@@ -189,7 +195,8 @@ impl<K: Keeper> Keeper for Fused<K> {
     }
 
     fn pairs(&mut self, alloc: Global) -> Result<Pairs, StoreFault>
-        ensures keeper { ReadsBehind K.standing self.old self.new result (λ o pairs. pairs ≡ o.pairs) }
+        ensures keeper { ReadsBehind K.standing self.old self.new result
+            (λ o pairs. pairs ≡ o.pairs) }
         ensures fuse { IsFused self.old self.new result }
     {
         if self.passes() {
@@ -200,7 +207,8 @@ impl<K: Keeper> Keeper for Fused<K> {
     }
 
     fn circle(&mut self, alloc: Global, caller: &Caller) -> Result<Circle, StoreFault>
-        ensures keeper { ReadsBehind K.standing self.old self.new result (λ o circle. IsCircle o.pairs caller.now circle) }
+        ensures keeper { ReadsBehind K.standing self.old self.new result
+            (λ o circle. IsCircle o.pairs caller.now circle) }
         ensures fuse { IsFused self.old self.new result }
     {
         if self.passes() {
@@ -211,7 +219,8 @@ impl<K: Keeper> Keeper for Fused<K> {
     }
 
     fn epoch(&mut self) -> Result<u64, StoreFault>
-        ensures keeper { ReadsBehind K.standing self.old self.new result (λ o epoch. epoch ≡ o.epoch) }
+        ensures keeper { ReadsBehind K.standing self.old self.new result
+            (λ o epoch. epoch ≡ o.epoch) }
         ensures fuse { IsFused self.old self.new result }
     {
         if self.passes() {
@@ -222,7 +231,8 @@ impl<K: Keeper> Keeper for Fused<K> {
     }
 
     fn adoption(&mut self, alloc: Global, policy: &Policy) -> Result<Adoption, StoreFault>
-        ensures keeper { ReadsBehind K.standing self.old self.new result (λ o told. told ≡ adoption_of policy.now o) }
+        ensures keeper { ReadsBehind K.standing self.old self.new result
+            (λ o told. told ≡ adoption_of policy.now o) }
         ensures fuse { IsFused self.old self.new result }
     {
         if self.passes() {

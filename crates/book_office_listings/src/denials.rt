@@ -65,11 +65,12 @@ fn go_over(
 /// Where the entry at an index stands, counted from the first of these lists. Where it stands in none of them, the
 /// index is then counted from the entries after them.
 fn place_among<'a>(levels: &'a [Level], protected: bool, index: &mut usize) -> Option<&'a Path>
-    ensures { (after : List EffectiveEntry) → MatchOption result
-        (slice_get (paths_of (flat_map (standing_in protected) levels.now ++ after)) index.old
-        ≡ slice_get (paths_of after) index.new)
-        (λ path. slice_get (paths_of (flat_map (standing_in protected) levels.now ++ after)) index.old
-        ≡ Some path.now) }
+    ensures { (after : List EffectiveEntry)
+        → MatchOption result (slice_get (paths_of
+        (flat_map (standing_in protected) levels.now ++ after)) index.old ≡ slice_get
+        (paths_of after) index.new) (λ path. slice_get
+        (paths_of (flat_map (standing_in protected) levels.now ++ after)) index.old ≡
+        Some path.now) }
 {
     for level in levels {
         let count = list_in(level, protected).len();
@@ -83,7 +84,8 @@ fn place_among<'a>(levels: &'a [Level], protected: bool, index: &mut usize) -> O
 
 /// Where the entry at an index of the effective list stands.
 fn place<'a>(own: &'a [Level], above: &'a [Level], index: usize) -> Option<&'a Path>
-    ensures { MatchOption result (slice_get (paths_of (effective_of (own.now ++ above.now))) index ≡ None)
+    ensures { MatchOption result (slice_get
+        (paths_of (effective_of (own.now ++ above.now))) index ≡ None)
         (λ path. slice_get (paths_of (effective_of (own.now ++ above.now))) index ≡ Some path.now) }
 {
     let mut rest = index;
@@ -105,7 +107,8 @@ pub(crate) fn deciding_entry(
     above: &[Level],
     index: Option<usize>,
 ) -> Result<Option<DecidingEntry>, AllocError>
-    ensures { IfOk result (λ entry. entry ≡ deciding_entry (paths_of (effective_of (own.now ++ above.now))) index) }
+    ensures { IfOk result (λ entry. entry ≡ deciding_entry
+        (paths_of (effective_of (own.now ++ above.now))) index) }
 {
     let Some(index) = index else {
         return Ok(None);
@@ -148,7 +151,8 @@ pub fn verdict(
     here: &Here,
     set: LeafSet,
 ) -> Result<Option<Denial>, AllocError>
-    ensures { IfOk result (IsVerdict (effective_of (own.now ++ above.now)) circle.now here.now path.now set) }
+    ensures { IfOk result (IsVerdict (effective_of (own.now ++ above.now)) circle.now here.now
+        path.now set) }
 {
     let deciders = walk(own, above, circle, here, set);
     if !deciders.are_counted() {
@@ -173,7 +177,8 @@ pub(crate) fn judge(
     here: &Here,
     set: LeafSet,
 ) -> Result<Option<Denial>, AllocError>
-    ensures { IfOk result (IsVerdict (effective_of (own.now ∷ above.now)) circle.now here.now own.now.path set) }
+    ensures { IfOk result (IsVerdict (effective_of (own.now ∷ above.now)) circle.now here.now
+        own.now.path set) }
 {
     verdict(&own.path, slice::from_ref(own), above, circle, here, set)
 }

@@ -43,7 +43,8 @@ fn acl_entry(
     protected: bool,
     entry: &Entry,
 ) -> Result<AclEntry, AllocError>
-    ensures { IfOk result (λ told. told ≡ acl_entry path.now (standing_at from.now protected entry.now)) }
+    ensures { IfOk result (λ told. told ≡ acl_entry path.now
+        (standing_at from.now protected entry.now)) }
 {
     let who = entry.who.clone()?;
     let privileges = Items::from_vec(short_privileges(alloc, entry.set)?);
@@ -67,8 +68,8 @@ fn push_list(
     protected: bool,
     list: &[Entry],
 ) -> Result<(), AllocError>
-    ensures { OnOk result (told.new.items
-        ≡ told.old.items ++ map (acl_entry path.now) (map (standing_at from.now protected) list.now)) }
+    ensures { OnOk result (told.new.items ≡ told.old.items ++ map (acl_entry path.now)
+        (map (standing_at from.now protected) list.now)) }
 {
     for entry in list {
         told.push(acl_entry(alloc, path, from, protected, entry)?)?;
@@ -122,7 +123,8 @@ pub(crate) fn acl(
     own: &Level,
     above: &[Level],
 ) -> Result<Items<AclEntry>, AllocError>
-    ensures { IfOk result (λ told. told ≡ map (acl_entry own.now.path) (effective_of (own.now ∷ above.now))) }
+    ensures { IfOk result (λ told. told ≡ map (acl_entry own.now.path)
+        (effective_of (own.now ∷ above.now))) }
 {
     let mut told = Vec::new(alloc);
     push_list(

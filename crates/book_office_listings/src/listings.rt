@@ -132,7 +132,8 @@ fn decided(
     subject: &Subject,
     verdict: Option<Denial>,
 ) -> Result<Response, AllocError>
-    ensures { IsVerdict (effective_of (own.now ∷ above.now)) circle.now subject.now.here own.now.path find.now.needed verdict
+    ensures { IsVerdict (effective_of (own.now ∷ above.now)) circle.now subject.now.here
+        own.now.path find.now.needed verdict
         → IfOk result (IsResponseTo find.now circle.now whole.now own.now.path subject.now
         (effective_of (own.now ∷ above.now))) }
 {
@@ -200,8 +201,9 @@ fn child_responses(
     levels: &[Level],
     children: Items<Listed>,
 ) -> Result<Vec<Response>, AllocError>
-    ensures { IfOk result (λ responses.
-        AllZip (IsChildResponse find.now circle.now whole.now path.now levels.now) children responses.items) }
+    ensures { IfOk result (λ responses. AllZip
+        (IsChildResponse find.now circle.now whole.now path.now levels.now) children
+        responses.items) }
 {
     let sifted = sift(alloc, levels, circle)?;
     let children = children.into_vec();
@@ -322,8 +324,9 @@ fn memberships_for<K: Keeper>(
     asked: bool,
 ) -> Result<OrderedPairs, StoreFault>
     ensures { Reads (K.standing keeper.old) (K.standing keeper.new) result
-        (λ o memberships. (asked ≡ true → set_of memberships ≡ pairs_about o.pairs (groups_told path.now extent))
-        × (asked ≡ true → IsStrictlySortedBy membership_cmp memberships)) }
+        (λ o memberships. (asked ≡ true → set_of memberships ≡ pairs_about o.pairs
+        (groups_told path.now extent)) ×
+        (asked ≡ true → IsStrictlySortedBy membership_cmp memberships)) }
 {
     if !asked {
         return Ok(OrderedPairs::none(alloc));
@@ -359,7 +362,8 @@ pub fn listing<K: Keeper>(
     find: &Find,
 ) -> Result<Items<Response>, StoreFault>
     ensures { Reads (K.standing keeper.old) (K.standing keeper.new) result
-        (λ o responses. node_at o path.now ≡ Some node.now → AreResponses find.now circle.now o path.now responses) }
+        (λ o responses. node_at o path.now ≡ Some node.now
+        → AreResponses find.now circle.now o path.now responses) }
 {
     let lists = keeper.lists(alloc, path)?;
     let children = children_for(alloc, keeper, path, find.extent)?;

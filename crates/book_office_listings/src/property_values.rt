@@ -48,7 +48,8 @@ fn push_whole(
     set: LeafSet,
     privilege: Privilege,
 ) -> Result<(), AllocError>
-    ensures { OnOk result (names.new.items ≡ names.old.items ++ if_whole (is_whole set privilege) privilege) }
+    ensures { OnOk result (names.new.items ≡ names.old.items ++ if_whole
+        (is_whole set privilege) privilege) }
 {
     if is_whole(set, privilege) {
         names.push(privilege)?;
@@ -69,7 +70,8 @@ fn if_granted(set: LeafSet, leaf: Leaf) -> Option<Privilege>
 
 /// Adds each leaf of the set, in order.
 fn push_leaves(names: &mut Vec<Privilege>, set: LeafSet) -> Result<(), AllocError>
-    ensures { OnOk result (names.new.items ≡ names.old.items ++ filter_map (if_granted set) all_leaves) }
+    ensures { OnOk result (names.new.items ≡ names.old.items ++ filter_map
+        (if_granted set) all_leaves) }
 {
     for leaf in Leaf::ALL {
         if let Some(name) = if_granted(set, leaf) {
@@ -157,8 +159,8 @@ fn value(
     subject: &Subject,
     property: Property,
 ) -> Result<PropertyValue, AllocError>
-    ensures { IfOk result (λ value. value
-        ≡ value_of whole.now circle.now own.now.path subject.now (effective_of (own.now ∷ above.now)) property) }
+    ensures { IfOk result (λ value. value ≡ value_of whole.now circle.now own.now.path subject.now
+        (effective_of (own.now ∷ above.now)) property) }
 {
     Ok(match property {
         Property::DisplayName => PropertyValue::DisplayName(subject.label.clone()?),
@@ -189,8 +191,9 @@ pub(crate) fn values(
     subject: &Subject,
     asked: &[Property],
 ) -> Result<Items<PropertyValue>, AllocError>
-    ensures { IfOk result (λ values. values
-        ≡ map (value_of whole.now circle.now own.now.path subject.now (effective_of (own.now ∷ above.now))) asked.now) }
+    ensures { IfOk result (λ values. values ≡ map
+        (value_of whole.now circle.now own.now.path subject.now
+        (effective_of (own.now ∷ above.now))) asked.now) }
 {
     let mut told = Vec::with_capacity(alloc, asked.len())?;
     for property in asked {

@@ -58,7 +58,8 @@ pub fn effective_rulings<K: Keeper>(
     circle: &Circle,
     path: &Path,
 ) -> Result<Option<Items<Ruling>>, StoreFault>
-    ensures { Reads (K.standing keeper.old) (K.standing keeper.new) result (λ o rulings. AreRulingsAt o circle.now path.now rulings) }
+    ensures { Reads (K.standing keeper.old) (K.standing keeper.new) result
+        (λ o rulings. AreRulingsAt o circle.now path.now rulings) }
 {
     let principal = principal_of(alloc, path)?;
     let Some(node) = keeper.find(alloc, path)? else {

@@ -44,7 +44,8 @@ fn kept_of(
     protected: bool,
     circle: &Circle,
 ) -> Result<Items<Entry>, AllocError>
-    ensures { IfOk result (λ kept. AppliesAs circle.now (entries_of_levels protected levels.now) kept) }
+    ensures { IfOk result (λ kept. AppliesAs circle.now
+        (entries_of_levels protected levels.now) kept) }
 {
     let mut kept = Vec::new(alloc);
     for level in levels {

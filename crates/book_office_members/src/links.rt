@@ -53,8 +53,10 @@ impl Links {
 
     /// Adds a link from a text to each of others. The text is looked up and copied once. An error is want of memory.
     pub(crate) fn add_all(&mut self, start: &Text, ends: &[Text]) -> Result<(), AllocError>
-        ensures { OnOk result ((to from : List ℕ) → set.contains self.new (record { group = to; member = from })
-            ≡ ((bytes_eq start.now from && has_path ends.now to) || set.contains self.old (record { group = to; member = from }))) }
+        ensures { OnOk result ((to from : List ℕ)
+            → set.contains self.new (record { group = to; member = from }) ≡
+            ((bytes_eq start.now from && has_path ends.now to) || set.contains self.old
+            (record { group = to; member = from }))) }
     {
         add_targets(self.alloc, &mut self.targets, start, ends)
     }
@@ -76,8 +78,10 @@ fn add_targets(
 ) -> Result<(), AllocError>
     requires { IsOrdered path_cmp groups.old }
     ensures ordered { IsOrdered path_cmp groups.new }
-    ensures ok { OnOk result ((to from : List ℕ) → set.contains (pairs_in groups.new.entries) (record { group = to; member = from })
-        ≡ ((bytes_eq start.now from && has_path ends.now to) || set.contains (pairs_in groups.old.entries) (record { group = to; member = from }))) }
+    ensures ok { OnOk result ((to from : List ℕ)
+        → set.contains (pairs_in groups.new.entries) (record { group = to; member = from }) ≡
+        ((bytes_eq start.now from && has_path ends.now to) || set.contains
+        (pairs_in groups.old.entries) (record { group = to; member = from }))) }
 {
     let mut targets = match groups.remove(start) {
         Some(targets) => targets,
@@ -94,7 +98,8 @@ fn push_targets<'a>(
     member: &Text,
     work: &mut Vec<&'a Text>,
 ) -> Result<(), AllocError>
-    ensures { OnOk result ((added : List (List ℕ)) × ListsAll (groups_at groups.entry.now.entries member.now) added
+    ensures { OnOk result ((added : List (List ℕ))
+        × ListsAll (groups_at groups.entry.now.entries member.now) added
         × (map (λ w. w.now) work.new.items ≡ map (λ w. w.now) work.old.items ++ added)) }
 {
     match groups.get(member) {

@@ -50,7 +50,8 @@ fn push_name(
 
 /// The names of the cards by their UIDs, those of each UID in the order of the cards.
 fn names_by_uid(alloc: Global, cards: &[CardRef]) -> Result<TextMap<Items<Name>>, AllocError>
-    ensures { IfOk result (λ index. (uid : List ℕ) → names_at index uid ≡ names_with cards.now uid) }
+    ensures { IfOk result (λ index. (uid : List ℕ)
+        → names_at index uid ≡ names_with cards.now uid) }
 {
     let mut index = TextMap::new(alloc);
     for card in cards {
@@ -118,7 +119,8 @@ fn is_found(found: &TextSet, card: &CardRef) -> bool
 
 /// The names of the cards that have a UID that was found.
 fn found_names(alloc: Global, found: &TextSet, cards: &[CardRef]) -> Result<Vec<Name>, AllocError>
-    ensures { IfOk result (λ names. AreNamesOf (λ q. uid_in found.now q.uid ≡ true) cards.now names.items) }
+    ensures { IfOk result (λ names. AreNamesOf
+        (λ q. uid_in found.now q.uid ≡ true) cards.now names.items) }
 {
     let mut names = Vec::new(alloc);
     for card in cards {

@@ -84,7 +84,8 @@ pub fn names_told<K: Keeper>(
     circle: &Circle,
     book: &Name,
 ) -> Result<Items<NamedCard>, StoreFault>
-    ensures { Reads (K.standing keeper.old) (K.standing keeper.new) result (λ o names. AreNamesAt o circle.now book.now names) }
+    ensures { Reads (K.standing keeper.old) (K.standing keeper.new) result
+        (λ o names. AreNamesAt o circle.now book.now names) }
 {
     let names: NameMap<NameSaid> = texts_granted(alloc, keeper, circle, book, Leaf::ReadNames)?;
     Ok(named(alloc, names)?)

@@ -63,7 +63,8 @@ pub fn group_members<K: Keeper>(
     book: &Name,
     card: &Name,
 ) -> Result<Members, StoreFault>
-    ensures { Reads (K.standing keeper.old) (K.standing keeper.new) result (λ o members. AreMembersAt o circle.now book.now card.now members) }
+    ensures { Reads (K.standing keeper.old) (K.standing keeper.new) result
+        (λ o members. AreMembersAt o circle.now book.now card.now members) }
 {
     let cards = cards_viewed(alloc, keeper, circle, book)?;
     Ok(members_told(alloc, cards, card)?)

@@ -59,7 +59,8 @@ impl TextSet {
 
     /// Adds copies of the texts. An error is want of memory.
     pub(crate) fn insert_all(&mut self, texts: &[Text]) -> Result<(), AllocError>
-        ensures { OnOk result ((q : List ℕ) → set.contains self.new q ≡ (has_path texts.now q || set.contains self.old q)) }
+        ensures { OnOk result ((q : List ℕ)
+            → set.contains self.new q ≡ (has_path texts.now q || set.contains self.old q)) }
     {
         for text in texts {
             self.insert(text.clone()?)?;

@@ -61,7 +61,8 @@ fn card_of(alloc: Global, name: Name, text: &str) -> Result<CardRef, AllocError>
 
 /// Takes over what an item tells.
 fn apply_item(alloc: Global, cards: &mut NameMap<CardRef>, item: Item) -> Result<(), AllocError>
-    ensures { OnOk result ((copy : NamesTo Seen) → AreCardsOf copy cards.old → AreCardsOf (patched copy item item.found) cards.new) }
+    ensures { OnOk result ((copy : NamesTo Seen) → AreCardsOf copy cards.old
+        → AreCardsOf (patched copy item item.found) cards.new) }
 {
     let Item { name, found, .. } = item;
     match found {
@@ -82,7 +83,8 @@ pub(crate) fn apply_items(
     cards: &mut NameMap<CardRef>,
     items: Items<Item>,
 ) -> Result<(), AllocError>
-    ensures { OnOk result ((copy : NamesTo Seen) → AreCardsOf copy cards.old → AreCardsOf (patch copy items) cards.new) }
+    ensures { OnOk result ((copy : NamesTo Seen) → AreCardsOf copy cards.old
+        → AreCardsOf (patch copy items) cards.new) }
 {
     for item in items.into_vec() {
         apply_item(alloc, cards, item)?;

@@ -71,7 +71,8 @@ fn put_texts<T: FromText>(
     leaf: Leaf,
     changes: Items<Changed>,
 ) -> Result<(), AllocError>
-    ensures { OnOk result (told.new ≡ put_texts T.FromText.from_text_gives above.now circle.now leaf changes told.old) }
+    ensures { OnOk result (told.new ≡ put_texts T.FromText.from_text_gives above.now circle.now leaf
+        changes told.old) }
 {
     for change in changes.into_vec() {
         let Changed { name, card, .. } = change;
@@ -92,7 +93,8 @@ pub fn texts_granted<K: Keeper, T: FromText>(
     leaf: Leaf,
 ) -> Result<NameMap<T>, StoreFault>
     ensures { Reads (K.standing keeper.old) (K.standing keeper.new) result
-        (λ o told. (c : List ℕ) → get told c ≡ option_map T.FromText.from_text_gives (text_at o circle.now book.now leaf c)) }
+        (λ o told. (c : List ℕ) → get told c ≡ option_map T.FromText.from_text_gives
+        (text_at o circle.now book.now leaf c)) }
 {
     let path = Path::Book(book.clone()?);
     let lists = keeper.lists(alloc, &path)?;

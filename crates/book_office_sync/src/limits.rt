@@ -40,7 +40,8 @@ impl Clone for Limit {
 impl Limit {
     /// The limit of so many items; none where it is 0 or above 10,000. Takes no memory.
     pub fn new(count: u64) -> Option<Limit>
-        ensures { MatchOption result (IsLimit (Some count) → ⊥) (λ limit. (limit ≡ count) × IsLimit (Some count)) }
+        ensures { MatchOption result (IsLimit (Some count) → ⊥)
+            (λ limit. (limit ≡ count) × IsLimit (Some count)) }
     {
         if count == 0 || count > MAX_CARDS as u64 {
             return None;

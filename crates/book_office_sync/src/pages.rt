@@ -34,7 +34,8 @@ fn first_changes<K: Keeper>(
     size: u32,
 ) -> Result<Items<Changed>, StoreFault>
     ensures { Reads (K.standing keeper.old) (K.standing keeper.new) result
-        (λ o changes. changes ≡ first_of (Some size) (changes_told o book.now (option_copied token.entry) after)) }
+        (λ o changes. changes ≡ first_of (Some size)
+        (changes_told o book.now (option_copied token.entry) after)) }
 {
     match token {
         Some(_token) => keeper.changes_after(alloc, book, after, Some(size)),

@@ -64,7 +64,8 @@ fn deciders_at(
     own: &Items<Entry>,
     set: LeafSet,
 ) -> Deciders
-    ensures { IsDeciders set (read_by circle.now here.now (entries_under above.now own.now)) result }
+    ensures { IsDeciders set (read_by circle.now here.now
+        (entries_under above.now own.now)) result }
 {
     let mut deciders = Deciders::start(set);
     deciders.over(above.protected.as_slice(), circle, here);
@@ -143,7 +144,8 @@ pub(crate) fn push_told(
     token: Option<&Token>,
     changes: Items<Changed>,
 ) -> Result<(), AllocError>
-    ensures { OnOk result (items.new.items ≡ items.old.items ++ told_items above.now circle.now (option_copied token.entry) changes) }
+    ensures { OnOk result (items.new.items ≡ items.old.items ++ told_items above.now circle.now
+        (option_copied token.entry) changes) }
 {
     for change in changes.into_vec() {
         let item = item_in(above, circle, change);
@@ -232,7 +234,8 @@ fn report_items<K: Keeper>(
     requires { IsLimit limit }
     ensures { Reads (K.standing keeper.old) (K.standing keeper.new) result
         (λ o items. (x : Book) → get o.books book.now ≡ Some x
-        → AreEnough limit (map (item_of o circle.now book.now) (reported o circle.now book.now x (option_copied token.entry))) items) }
+        → AreEnough limit (map (item_of o circle.now book.now)
+        (reported o circle.now book.now x (option_copied token.entry))) items) }
 {
     let path = Path::Book(book.clone()?);
     let lists = keeper.lists(alloc, &path)?;
@@ -346,7 +349,8 @@ pub fn sync_report<K: Keeper>(
     ensures reads { Reads (K.standing keeper.old) (K.standing keeper.new) result
         (λ o report. report ≡ sync o circle.now book.now (option_copied token.entry) limit) }
     ensures copies { Reads (K.standing keeper.old) (K.standing keeper.new) result
-        (λ o report. IfSome report (BringsCopies o circle.now book.now (option_copied token.entry))) }
+        (λ o report. IfSome report (BringsCopies o circle.now book.now
+        (option_copied token.entry))) }
 {
     read_report(alloc, keeper, circle, book, token, limit)
 }

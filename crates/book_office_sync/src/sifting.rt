@@ -14,7 +14,8 @@ use std::alloc::AllocError;
 /// at any. Takes no memory.
 pub fn may_apply(entry: &Entry, circle: &Circle) -> bool
     ensures told { result ≡ sifting.may_apply entry.now circle.now }
-    ensures nowhere { result ≡ false → (here : HereModel) → applies entry.now circle.now here ≡ false }
+    ensures nowhere { result ≡ false → (here : HereModel)
+        → applies entry.now circle.now here ≡ false }
 {
     let anywhere = Here {
         owner: None,

@@ -13,7 +13,8 @@ use std::alloc::{AllocError, Global};
 
 /// Whether a text begins with a plus, or with a zero before anything else.
 fn has_surplus(text: &str) -> bool
-    ensures { result ≡ (slice_index text.now 0 == 43 || (nat_lt 1 (length text.now) && slice_index text.now 0 == 48)) }
+    ensures { result ≡ (slice_index text.now 0 == 43 ||
+        (nat_lt 1 (length text.now) && slice_index text.now 0 == 48)) }
 {
     text.starts_with('+') || (text.len() > 1 && text.starts_with('0'))
 }
@@ -44,18 +45,19 @@ fn after_scheme(text: &str) -> Option<&str>
 fn around_slash(text: &str) -> Option<(&str, &str)>
     ensures some { IfSome result (λ parts. text.now ≡ parts.0.now ++ 47 ∷ parts.1.now) }
     ensures first { (front back : List ℕ) → ((i : ℕ) → i < length front → slice_index front i ≢ 47)
-        → text.now ≡ front ++ 47 ∷ back → IsSomeAnd result (λ parts. (parts.0.now ≡ front) × (parts.1.now ≡ back)) }
+        → text.now ≡ front ++ 47 ∷ back → IsSomeAnd result
+        (λ parts. (parts.0.now ≡ front) × (parts.1.now ≡ back)) }
 {
     text.split_once('/')
 }
 
 /// The texts where the book, the epoch and the number of a token stand.
 fn parts(text: &str) -> Option<(&str, &str, &str)>
-    ensures some { IfSome result (λ parts.
-        text.now ≡ codes "data:," ++ parts.0.now ++ codes "/" ++ parts.1.now ++ codes "/" ++ parts.2.now) }
+    ensures some { IfSome result (λ parts. text.now ≡
+        codes "data:," ++ parts.0.now ++ codes "/" ++ parts.1.now ++ codes "/" ++ parts.2.now) }
     ensures only { (token : Token) → IsToken token → text.now ≡ token_text token
-        → IsSomeAnd result (λ parts. (parts.0.now ≡ token.book) × (parts.1.now ≡ decimal token.epoch)
-        × (parts.2.now ≡ decimal token.number)) }
+        → IsSomeAnd result (λ parts. (parts.0.now ≡ token.book)
+        × (parts.1.now ≡ decimal token.epoch) × (parts.2.now ≡ decimal token.number)) }
 {
     let rest = after_scheme(text)?;
     let (book, numbers) = around_slash(rest)?;
@@ -68,7 +70,8 @@ impl Token {
     /// most 9,007,199,254,740,991, in decimal digits without leading zeros (RFC 6578, section 4; the form is own
     /// profile). None where the text spells no token. An error is want of memory.
     pub fn parse(alloc: Global, text: &str) -> Result<Option<Token>, AllocError>
-        ensures found { IfOk result (λ found. IfSome found (λ token. IsToken token × (text.now ≡ token_text token))) }
+        ensures found { IfOk result (λ found. IfSome found
+            (λ token. IsToken token × (text.now ≡ token_text token))) }
         ensures none { IfOk result (λ found. IfNone found (IsNoToken text.now)) }
     {
         let Some((book, epoch_text, number_text)) = parts(text) else {
@@ -92,7 +95,8 @@ impl Token {
 
     /// Adds the text of the token. An error is want of memory, which is not asked for where the string has the room.
     pub fn push_text(&self, text: &mut String) -> Result<(), AllocError>
-        ensures { OnOk result (string_bytes text.new ≡ string_bytes text.old ++ token_text self.now) }
+        ensures { OnOk result (string_bytes text.new ≡
+            string_bytes text.old ++ token_text self.now) }
     {
         let book = self.book.text();
         let epoch = self.epoch;

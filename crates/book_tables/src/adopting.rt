@@ -32,7 +32,8 @@ fn rest<S: Alter>(connection: &mut Connection<S>) -> Result<(), Error>
         → OnOk result (Rests (state S.Store connection.old)) }
     ensures stays { HasCleanDisk (state S.Store connection.new)
         → Stays (state S.Store connection.old) (state S.Store connection.new) }
-    ensures survives { Survives (state S.Store connection.old) (state S.Store connection.new) (λ _. ⊥) }
+    ensures survives { Survives (state S.Store connection.old)
+        (state S.Store connection.new) (λ _. ⊥) }
 {
     if !connection.is_autocommit() {
         return Err(Error::SqliteFailure(ErrorCode::TransactionState));
@@ -48,12 +49,13 @@ fn differences_under(
     policy: &Policy,
     office: &Office,
 ) -> Result<Option<Differences>, AllocError>
-    ensures { IfOk result (λ d. MatchOption d ((adoption_told policy.now office.now).changed ≡ false)
+    ensures { IfOk result (λ d. MatchOption d
+        ((adoption_told policy.now office.now).changed ≡ false)
         (λ d. ((adoption_told policy.now office.now).changed ≡ true)
-        × AreDifferences office.now (bare (taken_over policy.now office.now)) (map placed_row d.places.items)
-        (map listed_row d.lists.items) (map joined d.groups.items)
-        × Renews office.now.pairs (bare (taken_over policy.now office.now)).pairs (map pair_said d.renewal.gone.items)
-        (map pair_said d.renewal.come.items))) }
+        × AreDifferences office.now (bare (taken_over policy.now office.now))
+        (map placed_row d.places.items) (map listed_row d.lists.items) (map joined d.groups.items)
+        × Renews office.now.pairs (bare (taken_over policy.now office.now)).pairs
+        (map pair_said d.renewal.gone.items) (map pair_said d.renewal.come.items))) }
 {
     if !adoption_of(alloc, office, policy)?.changed {
         return Ok(None);
@@ -69,7 +71,8 @@ impl<S: Alter> Tables<S> {
             → OnOk result (Rests (state S.Store self.old.connection)) }
         ensures stays { HasCleanDisk (state S.Store self.new.connection)
             → Stays (state S.Store self.old.connection) (state S.Store self.new.connection) }
-        ensures survives { Survives (state S.Store self.old.connection) (state S.Store self.new.connection) (λ _. ⊥) }
+        ensures survives { Survives (state S.Store self.old.connection)
+            (state S.Store self.new.connection) (λ _. ⊥) }
         ensures counted { self.new.failures ≡ failures_after result self.old.failures }
     {
         match rest(&mut self.connection) {
@@ -81,16 +84,21 @@ impl<S: Alter> Tables<S> {
     /// Writes what differs; the epoch rises.
     fn write(&mut self, written: &Differences) -> Result<(), StoreFault>
         ensures made { HasCleanDisk (state S.Store self.new.connection)
-            → OnOk result (Commits (state S.Store self.old.connection) (state S.Store self.new.connection)
-            (adopting (map placed_row written.now.places.items) (map listed_row written.now.lists.items)
-            (map joined written.now.groups.items) (map pair_said written.now.renewal.gone.items)
+            → OnOk result (Commits (state S.Store self.old.connection)
+            (state S.Store self.new.connection)
+            (adopting (map placed_row written.now.places.items)
+            (map listed_row written.now.lists.items) (map joined written.now.groups.items)
+            (map pair_said written.now.renewal.gone.items)
             (map pair_said written.now.renewal.come.items))) }
         ensures kept { HasCleanDisk (state S.Store self.new.connection)
-            → OnErr result (Stays (state S.Store self.old.connection) (state S.Store self.new.connection)) }
-        ensures left { Survives (state S.Store self.old.connection) (state S.Store self.new.connection)
+            → OnErr result (Stays (state S.Store self.old.connection)
+            (state S.Store self.new.connection)) }
+        ensures left { Survives (state S.Store self.old.connection)
+            (state S.Store self.new.connection)
             (MayLeave (state S.Store self.old.connection)
-            (adopting (map placed_row written.now.places.items) (map listed_row written.now.lists.items)
-            (map joined written.now.groups.items) (map pair_said written.now.renewal.gone.items)
+            (adopting (map placed_row written.now.places.items)
+            (map listed_row written.now.lists.items) (map joined written.now.groups.items)
+            (map pair_said written.now.renewal.gone.items)
             (map pair_said written.now.renewal.come.items))) }
         ensures counted { self.new.failures ≡ failures_after result self.old.failures }
     {

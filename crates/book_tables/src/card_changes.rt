@@ -31,13 +31,15 @@ fn cards_at<S: Alter>(
 ) -> Result<Vec<Changed>, Error>
     requires { number < 2 ^ 53 }
     ensures same_reference { transaction.new.conn.ghost_name ≡ transaction.old.conn.ghost_name }
-    ensures survives { Survives (state S.Store transaction.old.conn.now) (state S.Store transaction.new.conn.now)
-        (λ _. ⊥) }
-    ensures kept { Keeps (state S.Store transaction.old.conn.now) (state S.Store transaction.new.conn.now) }
-    ensures stays { Spares (state S.Store transaction.old.conn.now) (state S.Store transaction.new.conn.now) result }
+    ensures survives { Survives (state S.Store transaction.old.conn.now)
+        (state S.Store transaction.new.conn.now) (λ _. ⊥) }
+    ensures kept { Keeps (state S.Store transaction.old.conn.now)
+        (state S.Store transaction.new.conn.now) }
+    ensures stays { Spares (state S.Store transaction.old.conn.now)
+        (state S.Store transaction.new.conn.now) result }
     ensures shown { HasCleanDisk (state S.Store transaction.new.conn.now)
-        → IfOk result (λ changes. ShowsCardChanges (state S.Store transaction.old.conn.now) path.now number at_most
-        changes.items) }
+        → IfOk result (λ changes. ShowsCardChanges
+        (state S.Store transaction.old.conn.now) path.now number at_most changes.items) }
 {
     let Some(book) = look_up(transaction, path)? else {
         return Ok(Vec::new(alloc));
@@ -58,9 +60,11 @@ fn cards_changed<S: Alter>(
     requires { number < 2 ^ 53 }
     ensures stays { HasCleanDisk (state S.Store connection.new)
         → Stays (state S.Store connection.old) (state S.Store connection.new) }
-    ensures survives { Survives (state S.Store connection.old) (state S.Store connection.new) (λ _. ⊥) }
+    ensures survives { Survives (state S.Store connection.old)
+        (state S.Store connection.new) (λ _. ⊥) }
     ensures found { HasCleanDisk (state S.Store connection.new)
-        → IfOk result (λ changes. ShowsCardChanges (state S.Store connection.old) path.now number at_most changes.items) }
+        → IfOk result (λ changes. ShowsCardChanges
+        (state S.Store connection.old) path.now number at_most changes.items) }
 {
     if !connection.is_autocommit() {
         return Err(Error::SqliteFailure(ErrorCode::TransactionState));
@@ -80,9 +84,11 @@ fn shown_cards<S: Alter>(
     requires { number < 2 ^ 53 }
     ensures stays { HasCleanDisk (state S.Store connection.new)
         → Stays (state S.Store connection.old) (state S.Store connection.new) }
-    ensures survives { Survives (state S.Store connection.old) (state S.Store connection.new) (λ _. ⊥) }
+    ensures survives { Survives (state S.Store connection.old)
+        (state S.Store connection.new) (λ _. ⊥) }
     ensures found { HasCleanDisk (state S.Store connection.new)
-        → IfOk result (λ changes. ShowsCardChanges (state S.Store connection.old) path.now number at_most changes) }
+        → IfOk result (λ changes. ShowsCardChanges
+        (state S.Store connection.old) path.now number at_most changes) }
     ensures rise { IfOk result (λ changes. DoRise changes) }
 {
     let changes = cards_changed(alloc, connection, path, number, at_most)?;

@@ -82,7 +82,8 @@ fn removed_of(alloc: Global, row: &Row) -> Result<Changed, Error>
 
 /// The change of a card, with its own list among the entries of several cards in order of the card's number.
 fn card_joined(alloc: Global, front: &str, row: &Row, entries: &[Row]) -> Result<Changed, Error>
-    ensures { IfOk result (λ changed. DoNotFall entries.now → changed ≡ card_among entries.now front.now row.now) }
+    ensures { IfOk result (λ changed. DoNotFall entries.now
+        → changed ≡ card_among entries.now front.now row.now) }
 {
     let its = entries_of_node(entries, row.get(0)?);
     let own = list_told(alloc, its, false)?;
@@ -109,7 +110,8 @@ fn cards_joined(
 /// The change number of the last of some cards that are changed, in order of change number; none where there are none.
 /// An error where it is above the last one that there is.
 fn last_of(rows: &[Row]) -> Result<Option<u64>, Error>
-    ensures told { IfOk result (λ last. option_map (λ number. Int (pos number)) last ≡ last_number rows.now) }
+    ensures told { IfOk result (λ last. option_map
+        (λ number. Int (pos number)) last ≡ last_number rows.now) }
     ensures range { IfOk result (λ last. IfSome last (λ number. number ≤ LAST_NUMBER)) }
 {
     let Some(row) = rows.last() else {
@@ -135,13 +137,15 @@ pub(crate) fn cards_of<S: Alter>(
 ) -> Result<Vec<Changed>, Error>
     requires { number < 2 ^ 53 }
     ensures same_reference { transaction.new.conn.ghost_name ≡ transaction.old.conn.ghost_name }
-    ensures survives { Survives (state S.Store transaction.old.conn.now) (state S.Store transaction.new.conn.now)
-        (λ _. ⊥) }
-    ensures kept { Keeps (state S.Store transaction.old.conn.now) (state S.Store transaction.new.conn.now) }
-    ensures stays { Spares (state S.Store transaction.old.conn.now) (state S.Store transaction.new.conn.now) result }
+    ensures survives { Survives (state S.Store transaction.old.conn.now)
+        (state S.Store transaction.new.conn.now) (λ _. ⊥) }
+    ensures kept { Keeps (state S.Store transaction.old.conn.now)
+        (state S.Store transaction.new.conn.now) }
+    ensures stays { Spares (state S.Store transaction.old.conn.now)
+        (state S.Store transaction.new.conn.now) result }
     ensures shown { HasCleanDisk (state S.Store transaction.new.conn.now)
-        → IfOk result (λ changes. ShowsCards (state S.Store transaction.old.conn.now) book number front.now rows.now
-        changes.items) }
+        → IfOk result (λ changes. ShowsCards
+        (state S.Store transaction.old.conn.now) book number front.now rows.now changes.items) }
 {
     let Some(last) = last_of(rows)? else {
         return Ok(Vec::new(alloc));
@@ -171,12 +175,15 @@ fn changes_at<S: Alter>(
 ) -> Result<Vec<Changed>, Error>
     requires { number < 2 ^ 53 }
     ensures same_reference { transaction.new.conn.ghost_name ≡ transaction.old.conn.ghost_name }
-    ensures survives { Survives (state S.Store transaction.old.conn.now) (state S.Store transaction.new.conn.now)
-        (λ _. ⊥) }
-    ensures kept { Keeps (state S.Store transaction.old.conn.now) (state S.Store transaction.new.conn.now) }
-    ensures stays { Spares (state S.Store transaction.old.conn.now) (state S.Store transaction.new.conn.now) result }
+    ensures survives { Survives (state S.Store transaction.old.conn.now)
+        (state S.Store transaction.new.conn.now) (λ _. ⊥) }
+    ensures kept { Keeps (state S.Store transaction.old.conn.now)
+        (state S.Store transaction.new.conn.now) }
+    ensures stays { Spares (state S.Store transaction.old.conn.now)
+        (state S.Store transaction.new.conn.now) result }
     ensures shown { HasCleanDisk (state S.Store transaction.new.conn.now)
-        → IfOk result (λ changes. ShowsChanges (state S.Store transaction.old.conn.now) path.now number at_most changes.items) }
+        → IfOk result (λ changes. ShowsChanges
+        (state S.Store transaction.old.conn.now) path.now number at_most changes.items) }
 {
     let Some(book) = look_up(transaction, path)? else {
         return Ok(Vec::new(alloc));
@@ -200,9 +207,11 @@ fn rows_changed<S: Alter>(
     requires { number < 2 ^ 53 }
     ensures stays { HasCleanDisk (state S.Store connection.new)
         → Stays (state S.Store connection.old) (state S.Store connection.new) }
-    ensures survives { Survives (state S.Store connection.old) (state S.Store connection.new) (λ _. ⊥) }
+    ensures survives { Survives (state S.Store connection.old)
+        (state S.Store connection.new) (λ _. ⊥) }
     ensures found { HasCleanDisk (state S.Store connection.new)
-        → IfOk result (λ changes. ShowsChanges (state S.Store connection.old) path.now number at_most changes.items) }
+        → IfOk result (λ changes. ShowsChanges
+        (state S.Store connection.old) path.now number at_most changes.items) }
 {
     if !connection.is_autocommit() {
         return Err(Error::SqliteFailure(ErrorCode::TransactionState));
@@ -246,9 +255,11 @@ fn shown_changes<S: Alter>(
     requires { number < 2 ^ 53 }
     ensures stays { HasCleanDisk (state S.Store connection.new)
         → Stays (state S.Store connection.old) (state S.Store connection.new) }
-    ensures survives { Survives (state S.Store connection.old) (state S.Store connection.new) (λ _. ⊥) }
+    ensures survives { Survives (state S.Store connection.old)
+        (state S.Store connection.new) (λ _. ⊥) }
     ensures found { HasCleanDisk (state S.Store connection.new)
-        → IfOk result (λ changes. ShowsChanges (state S.Store connection.old) path.now number at_most changes) }
+        → IfOk result (λ changes. ShowsChanges
+        (state S.Store connection.old) path.now number at_most changes) }
     ensures rise { IfOk result (λ changes. DoRise changes) }
 {
     let changes = rows_changed(alloc, connection, path, number, at_most)?;

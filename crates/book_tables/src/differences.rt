@@ -118,8 +118,9 @@ fn add_place(
     old: Option<&Properties>,
     new: &Properties,
 ) -> Result<(), AllocError>
-    ensures { OnOk result (Adds (place_said path.now new.now) (HasPlace (option_copied old.entry) new.now)
-        (map placed_row places.old.items) (map placed_row places.new.items)) }
+    ensures { OnOk result (Adds (place_said path.now new.now)
+        (HasPlace (option_copied old.entry) new.now) (map placed_row places.old.items)
+        (map placed_row places.new.items)) }
 {
     if !has_place(old, new) {
         places.push(place_row(alloc, path, new)?)?;
@@ -135,8 +136,9 @@ fn add_lists(
     old: Option<&Properties>,
     new: &Properties,
 ) -> Result<(), AllocError>
-    ensures { OnOk result (Adds (lists_said path.now new.now) (HasLists (option_copied old.entry) new.now)
-        (map listed_row lists.old.items) (map listed_row lists.new.items)) }
+    ensures { OnOk result (Adds (lists_said path.now new.now)
+        (HasLists (option_copied old.entry) new.now) (map listed_row lists.old.items)
+        (map listed_row lists.new.items)) }
 {
     if !has_lists(old, new) {
         lists.push(lists_row(alloc, path, new)?)?;
@@ -153,10 +155,12 @@ fn compare(
     old: Option<&Properties>,
     new: &Properties,
 ) -> Result<(), AllocError>
-    ensures places { OnOk result (Adds (place_said path.now new.now) (HasPlace (option_copied old.entry) new.now)
-        (map placed_row places.old.items) (map placed_row places.new.items)) }
-    ensures lists { OnOk result (Adds (lists_said path.now new.now) (HasLists (option_copied old.entry) new.now)
-        (map listed_row lists.old.items) (map listed_row lists.new.items)) }
+    ensures places { OnOk result (Adds (place_said path.now new.now)
+        (HasPlace (option_copied old.entry) new.now) (map placed_row places.old.items)
+        (map placed_row places.new.items)) }
+    ensures lists { OnOk result (Adds (lists_said path.now new.now)
+        (HasLists (option_copied old.entry) new.now) (map listed_row lists.old.items)
+        (map listed_row lists.new.items)) }
 {
     add_place(alloc, places, path, old, new)?;
     add_lists(alloc, lists, path, old, new)
@@ -301,7 +305,8 @@ fn compare_books(
 
 /// The direct members of a group, among pairs.
 fn members_of(alloc: Global, group: &str, pairs: &[Membership]) -> Result<Vec<String>, AllocError>
-    ensures { IfOk result (λ members. map string_bytes members.items ≡ members_in group.now pairs.now) }
+    ensures { IfOk result (λ members. map string_bytes members.items ≡
+        members_in group.now pairs.now) }
 {
     let mut members = Vec::new(alloc);
     'pairs: for pair in pairs {
@@ -362,8 +367,8 @@ fn compare_members(
     before: &[Membership],
     after: &[Membership],
 ) -> Result<Vec<GroupRow>, AllocError>
-    ensures { IfOk result (λ groups. AddsGroups before.now after.now (map (λ e. e.0) (entries names.now)) []
-        (map joined groups.items)) }
+    ensures { IfOk result (λ groups. AddsGroups before.now after.now
+        (map (λ e. e.0) (entries names.now)) [] (map joined groups.items)) }
 {
     let mut groups = Vec::new(alloc);
     for (name, _) in names.iter() {
@@ -379,10 +384,11 @@ pub(crate) fn compare_offices(
     old: &Office,
     new: &Office,
 ) -> Result<Differences, AllocError>
-    ensures differ { IfOk result (λ d. AreDifferences old.now new.now (map placed_row d.places.items)
-        (map listed_row d.lists.items) (map joined d.groups.items)) }
-    ensures renews { IfOk result (λ d. Renews old.now.pairs new.now.pairs (map pair_said d.renewal.gone.items)
-        (map pair_said d.renewal.come.items)) }
+    ensures differ { IfOk result (λ d. AreDifferences old.now new.now
+        (map placed_row d.places.items) (map listed_row d.lists.items)
+        (map joined d.groups.items)) }
+    ensures renews { IfOk result (λ d. Renews old.now.pairs new.now.pairs
+        (map pair_said d.renewal.gone.items) (map pair_said d.renewal.come.items)) }
 {
     let mut places = Vec::new(alloc);
     let mut lists = Vec::new(alloc);

@@ -28,7 +28,8 @@ fn flag_of(code: u32) -> Result<bool, Error>
 /// 5.5.1); an error where they are those of none.
 fn who_of(alloc: Global, form: u32, path: Option<String>) -> Result<Who, Error>
     ensures form { IfOk result (λ who. form_code who ≡ form) }
-    ensures path { IfOk result (λ who. principal_value who ≡ or_null (option_map string_bytes path)) }
+    ensures path { IfOk result (λ who. principal_value who ≡ or_null
+        (option_map string_bytes path)) }
 {
     match (form, path) {
         (0, Some(path)) => Ok(Who::Href(principal_of(alloc, path.as_str())?)),

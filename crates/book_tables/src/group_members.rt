@@ -24,12 +24,15 @@ fn group_rows<S: Alter>(
     group: &str,
 ) -> Result<Vec<Row>, Error>
     ensures same_reference { transaction.new.conn.ghost_name ≡ transaction.old.conn.ghost_name }
-    ensures survives { Survives (state S.Store transaction.old.conn.now) (state S.Store transaction.new.conn.now)
-        (λ _. ⊥) }
-    ensures kept { Keeps (state S.Store transaction.old.conn.now) (state S.Store transaction.new.conn.now) }
-    ensures stays { Spares (state S.Store transaction.old.conn.now) (state S.Store transaction.new.conn.now) result }
+    ensures survives { Survives (state S.Store transaction.old.conn.now)
+        (state S.Store transaction.new.conn.now) (λ _. ⊥) }
+    ensures kept { Keeps (state S.Store transaction.old.conn.now)
+        (state S.Store transaction.new.conn.now) }
+    ensures stays { Spares (state S.Store transaction.old.conn.now)
+        (state S.Store transaction.new.conn.now) result }
     ensures shown { HasCleanDisk (state S.Store transaction.new.conn.now)
-        → IfOk result (λ rows. ShowsRows (state S.Store transaction.old.conn.now) (pairs_with group.now) rows.items) }
+        → IfOk result (λ rows. ShowsRows (state S.Store transaction.old.conn.now)
+        (pairs_with group.now) rows.items) }
 {
     transaction.query_all(
         "SELECT grp, member FROM member WHERE grp = ?1",
@@ -44,9 +47,11 @@ fn shown_group_rows<S: Alter>(
 ) -> Result<Vec<Row>, Error>
     ensures stays { HasCleanDisk (state S.Store connection.new)
         → Stays (state S.Store connection.old) (state S.Store connection.new) }
-    ensures survives { Survives (state S.Store connection.old) (state S.Store connection.new) (λ _. ⊥) }
+    ensures survives { Survives (state S.Store connection.old)
+        (state S.Store connection.new) (λ _. ⊥) }
     ensures found { HasCleanDisk (state S.Store connection.new)
-        → IfOk result (λ rows. ShowsRows (state S.Store connection.old) (pairs_with group.now) rows.items) }
+        → IfOk result (λ rows. ShowsRows (state S.Store connection.old)
+        (pairs_with group.now) rows.items) }
 {
     if !connection.is_autocommit() {
         return Err(Error::SqliteFailure(ErrorCode::TransactionState));
@@ -63,7 +68,8 @@ fn shown_group<S: Alter>(
 ) -> Result<Pairs, Error>
     ensures stays { HasCleanDisk (state S.Store connection.new)
         → Stays (state S.Store connection.old) (state S.Store connection.new) }
-    ensures survives { Survives (state S.Store connection.old) (state S.Store connection.new) (λ _. ⊥) }
+    ensures survives { Survives (state S.Store connection.old)
+        (state S.Store connection.new) (λ _. ⊥) }
     ensures found { HasCleanDisk (state S.Store connection.new)
         → IfOk result (λ pairs. ShowsMembersOf (state S.Store connection.old) group.now pairs) }
 {

@@ -31,7 +31,8 @@ const COUNT_END: u64 = 9_223_372_036_854_775_807;
 fn rows_counted<S: Alter>(connection: &mut Connection<S>, path: &str) -> Result<u64, Error>
     ensures stays { HasCleanDisk (state S.Store connection.new)
         → Stays (state S.Store connection.old) (state S.Store connection.new) }
-    ensures survives { Survives (state S.Store connection.old) (state S.Store connection.new) (λ _. ⊥) }
+    ensures survives { Survives (state S.Store connection.old)
+        (state S.Store connection.new) (λ _. ⊥) }
     ensures counted { HasCleanDisk (state S.Store connection.new)
         → IfOk result (λ count. ShowsCount (state S.Store connection.old) path.now count) }
 {
@@ -46,7 +47,8 @@ fn rows_counted<S: Alter>(connection: &mut Connection<S>, path: &str) -> Result<
 fn shown_count<S: Alter>(connection: &mut Connection<S>, path: &str) -> Result<usize, Error>
     ensures stays { HasCleanDisk (state S.Store connection.new)
         → Stays (state S.Store connection.old) (state S.Store connection.new) }
-    ensures survives { Survives (state S.Store connection.old) (state S.Store connection.new) (λ _. ⊥) }
+    ensures survives { Survives (state S.Store connection.old)
+        (state S.Store connection.new) (λ _. ⊥) }
     ensures counted { HasCleanDisk (state S.Store connection.new)
         → IfOk result (λ count. ShowsChildCount (state S.Store connection.old) path.now count) }
 {
@@ -101,7 +103,8 @@ fn listed_of(
 
 /// A child with its lists, among the entries of all children in order of the child's number.
 fn child_listed(alloc: Global, front: &str, row: &Row, entries: &[Row]) -> Result<Listed, Error>
-    ensures { IfOk result (λ listed. DoNotFall entries.now → listed ≡ child_among entries.now front.now row.now) }
+    ensures { IfOk result (λ listed. DoNotFall entries.now
+        → listed ≡ child_among entries.now front.now row.now) }
 {
     let its = entries_of_node(entries, row.get(0)?);
     let protected = list_told(alloc, its, true)?;
@@ -134,12 +137,15 @@ fn listing_at<S: Alter>(
     front: &str,
 ) -> Result<Vec<Listed>, Error>
     ensures same_reference { transaction.new.conn.ghost_name ≡ transaction.old.conn.ghost_name }
-    ensures survives { Survives (state S.Store transaction.old.conn.now) (state S.Store transaction.new.conn.now)
-        (λ _. ⊥) }
-    ensures kept { Keeps (state S.Store transaction.old.conn.now) (state S.Store transaction.new.conn.now) }
-    ensures stays { Spares (state S.Store transaction.old.conn.now) (state S.Store transaction.new.conn.now) result }
+    ensures survives { Survives (state S.Store transaction.old.conn.now)
+        (state S.Store transaction.new.conn.now) (λ _. ⊥) }
+    ensures kept { Keeps (state S.Store transaction.old.conn.now)
+        (state S.Store transaction.new.conn.now) }
+    ensures stays { Spares (state S.Store transaction.old.conn.now)
+        (state S.Store transaction.new.conn.now) result }
     ensures shown { HasCleanDisk (state S.Store transaction.new.conn.now)
-        → IfOk result (λ children. ShowsListing (state S.Store transaction.old.conn.now) path.now front.now children.items) }
+        → IfOk result (λ children. ShowsListing
+        (state S.Store transaction.old.conn.now) path.now front.now children.items) }
 {
     let Some(node) = look_up(transaction, path)? else {
         return Ok(Vec::new(alloc));
@@ -158,9 +164,11 @@ fn shown_listing<S: Alter>(
 ) -> Result<Vec<Listed>, Error>
     ensures stays { HasCleanDisk (state S.Store connection.new)
         → Stays (state S.Store connection.old) (state S.Store connection.new) }
-    ensures survives { Survives (state S.Store connection.old) (state S.Store connection.new) (λ _. ⊥) }
+    ensures survives { Survives (state S.Store connection.old)
+        (state S.Store connection.new) (λ _. ⊥) }
     ensures found { HasCleanDisk (state S.Store connection.new)
-        → IfOk result (λ children. ShowsListing (state S.Store connection.old) path.now front.now children.items) }
+        → IfOk result (λ children. ShowsListing
+        (state S.Store connection.old) path.now front.now children.items) }
 {
     if !connection.is_autocommit() {
         return Err(Error::SqliteFailure(ErrorCode::TransactionState));

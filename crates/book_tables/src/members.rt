@@ -40,7 +40,8 @@ fn membership_of(alloc: Global, row: &Row) -> Result<Membership, Error>
 
 /// The pairs that rows tell; an error where one tells none.
 pub(crate) fn pairs_of(alloc: Global, rows: &[Row]) -> Result<Pairs, Error>
-    ensures { IfOk result (λ pairs. (m : Membership) → set.contains pairs m ≡ list_any (tells_member m) rows.now) }
+    ensures { IfOk result (λ pairs. (m : Membership)
+        → set.contains pairs m ≡ list_any (tells_member m) rows.now) }
 {
     let mut pairs = Pairs::new(alloc);
     for row in rows {
@@ -54,7 +55,8 @@ pub(crate) fn pairs_of(alloc: Global, rows: &[Row]) -> Result<Pairs, Error>
 fn shown_members<S: Alter>(connection: &mut Connection<S>) -> Result<Vec<Row>, Error>
     ensures stays { HasCleanDisk (state S.Store connection.new)
         → Stays (state S.Store connection.old) (state S.Store connection.new) }
-    ensures survives { Survives (state S.Store connection.old) (state S.Store connection.new) (λ _. ⊥) }
+    ensures survives { Survives (state S.Store connection.old)
+        (state S.Store connection.new) (λ _. ⊥) }
     ensures found { HasCleanDisk (state S.Store connection.new)
         → IfOk result (λ rows. ShowsRows (state S.Store connection.old) lists.pairs_of rows.items) }
 {
@@ -69,7 +71,8 @@ fn shown_members<S: Alter>(connection: &mut Connection<S>) -> Result<Vec<Row>, E
 fn shown_pairs<S: Alter>(alloc: Global, connection: &mut Connection<S>) -> Result<Pairs, Error>
     ensures stays { HasCleanDisk (state S.Store connection.new)
         → Stays (state S.Store connection.old) (state S.Store connection.new) }
-    ensures survives { Survives (state S.Store connection.old) (state S.Store connection.new) (λ _. ⊥) }
+    ensures survives { Survives (state S.Store connection.old)
+        (state S.Store connection.new) (λ _. ⊥) }
     ensures found { HasCleanDisk (state S.Store connection.new)
         → IfOk result (λ pairs. ShowsPairs (state S.Store connection.old) pairs) }
 {

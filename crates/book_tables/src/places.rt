@@ -86,7 +86,8 @@ pub(crate) fn books_of(alloc: Global, listed: Items<Listed>) -> Result<NameMap<B
 
 /// The homes of the root's listing.
 pub(crate) fn homes_of(listed: Items<Listed>) -> Option<Homes>
-    ensures { IfSome result (λ homes. (o : OfficeValue) → listed ≡ listed_homes o → homes ≡ homes_in o) }
+    ensures { IfSome result (λ homes. (o : OfficeValue) → listed ≡ listed_homes o
+        → homes ≡ homes_in o) }
 {
     let mut homes = listed.into_vec();
     let people = homes.pop()?;
@@ -101,8 +102,8 @@ pub(crate) fn homes_of(listed: Items<Listed>) -> Option<Homes>
 
 /// The root, of its resource and its lists.
 pub(crate) fn root_of(node: Option<Node>, lists: Lists) -> Option<Properties>
-    ensures { IfSome result (λ root. (o : OfficeValue) → node ≡ node_at o path.Root → lists ≡ lists_at o path.Root
-        → root ≡ o.root) }
+    ensures { IfSome result (λ root. (o : OfficeValue) → node ≡ node_at o path.Root
+        → lists ≡ lists_at o path.Root → root ≡ o.root) }
 {
     let node = node?;
     let level = lists.levels.into_vec().pop()?;

@@ -41,8 +41,10 @@ fn group_at(alloc: Global, path: &str) -> Result<Option<Principal>, Error>
 
 /// The group that a row tells; none where it tells the path of no group.
 fn group_of(alloc: Global, row: &Row) -> Result<Option<Principal>, Error>
-    ensures found { IfOk result (λ group. IfSome group (λ q. IsGroup q × (reached_group row.now ≡ Text q))) }
-    ensures none { IfOk result (λ group. IfNone group ((q : List ℕ) → IsGroup q → tells_group q row.now ≡ false)) }
+    ensures found { IfOk result (λ group. IfSome group
+        (λ q. IsGroup q × (reached_group row.now ≡ Text q))) }
+    ensures none { IfOk result (λ group. IfNone group
+        ((q : List ℕ) → IsGroup q → tells_group q row.now ≡ false)) }
 {
     let path: String = row.get(0)?;
     group_at(alloc, path.as_str())
@@ -76,9 +78,11 @@ fn groups_of(alloc: Global, rows: &[Row]) -> Result<Vec<Principal>, Error>
 fn shown_reached<S: Alter>(connection: &mut Connection<S>, member: &str) -> Result<Vec<Row>, Error>
     ensures stays { HasCleanDisk (state S.Store connection.new)
         → Stays (state S.Store connection.old) (state S.Store connection.new) }
-    ensures survives { Survives (state S.Store connection.old) (state S.Store connection.new) (λ _. ⊥) }
+    ensures survives { Survives (state S.Store connection.old)
+        (state S.Store connection.new) (λ _. ⊥) }
     ensures found { HasCleanDisk (state S.Store connection.new)
-        → IfOk result (λ rows. ShowsRows (state S.Store connection.old) (reached_of member.now) rows.items) }
+        → IfOk result (λ rows. ShowsRows (state S.Store connection.old)
+        (reached_of member.now) rows.items) }
 {
     if !connection.is_autocommit() {
         return Err(Error::SqliteFailure(ErrorCode::TransactionState));
@@ -97,7 +101,8 @@ fn circle_of<S: Alter>(
     requires { caller.now ≡ Known person.now }
     ensures stays { HasCleanDisk (state S.Store connection.new)
         → Stays (state S.Store connection.old) (state S.Store connection.new) }
-    ensures survives { Survives (state S.Store connection.old) (state S.Store connection.new) (λ _. ⊥) }
+    ensures survives { Survives (state S.Store connection.old)
+        (state S.Store connection.new) (λ _. ⊥) }
     ensures shown { HasCleanDisk (state S.Store connection.new)
         → IfOk result (λ circle. ShowsCircle (state S.Store connection.old) caller.now circle) }
 {
@@ -114,7 +119,8 @@ fn shown_circle<S: Alter>(
 ) -> Result<Circle, Error>
     ensures stays { HasCleanDisk (state S.Store connection.new)
         → Stays (state S.Store connection.old) (state S.Store connection.new) }
-    ensures survives { Survives (state S.Store connection.old) (state S.Store connection.new) (λ _. ⊥) }
+    ensures survives { Survives (state S.Store connection.old)
+        (state S.Store connection.new) (λ _. ⊥) }
     ensures shown { HasCleanDisk (state S.Store connection.new)
         → IfOk result (λ circle. ShowsCircle (state S.Store connection.old) caller.now circle) }
 {
@@ -145,7 +151,8 @@ pub fn reached<S: Alter>(
 ) -> Result<Circle, StoreFault>
     ensures stays { HasCleanDisk (state S.Store connection.new)
         → Stays (state S.Store connection.old) (state S.Store connection.new) }
-    ensures survives { Survives (state S.Store connection.old) (state S.Store connection.new) (λ _. ⊥) }
+    ensures survives { Survives (state S.Store connection.old)
+        (state S.Store connection.new) (λ _. ⊥) }
     ensures shown { HasCleanDisk (state S.Store connection.new)
         → IfOk result (λ circle. ShowsCircle (state S.Store connection.old) caller.now circle) }
 {

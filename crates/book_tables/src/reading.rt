@@ -75,9 +75,11 @@ fn shown_row<S: Alter>(
 ) -> Result<Option<FoundNode>, Error>
     ensures stays { HasCleanDisk (state S.Store connection.new)
         → Stays (state S.Store connection.old) (state S.Store connection.new) }
-    ensures survives { Survives (state S.Store connection.old) (state S.Store connection.new) (λ _. ⊥) }
+    ensures survives { Survives (state S.Store connection.old)
+        (state S.Store connection.new) (λ _. ⊥) }
     ensures found { HasCleanDisk (state S.Store connection.new)
-        → IfOk result (λ found. Finds (state S.Store connection.old) path.now (option_map told found)) }
+        → IfOk result (λ found. Finds (state S.Store connection.old) path.now
+        (option_map told found)) }
 {
     if !connection.is_autocommit() {
         return Err(Error::SqliteFailure(ErrorCode::TransactionState));
@@ -94,7 +96,8 @@ pub(crate) fn shown_node<S: Alter>(
 ) -> Result<Option<Node>, Error>
     ensures stays { HasCleanDisk (state S.Store connection.new)
         → Stays (state S.Store connection.old) (state S.Store connection.new) }
-    ensures survives { Survives (state S.Store connection.old) (state S.Store connection.new) (λ _. ⊥) }
+    ensures survives { Survives (state S.Store connection.old)
+        (state S.Store connection.new) (λ _. ⊥) }
     ensures found { HasCleanDisk (state S.Store connection.new)
         → IfOk result (λ node. ShowsNode (state S.Store connection.old) path.now node) }
 {
@@ -108,7 +111,8 @@ pub(crate) fn shown_node<S: Alter>(
 pub(crate) fn shown_epoch<S: Alter>(connection: &mut Connection<S>) -> Result<u64, Error>
     ensures stays { HasCleanDisk (state S.Store connection.new)
         → Stays (state S.Store connection.old) (state S.Store connection.new) }
-    ensures survives { Survives (state S.Store connection.old) (state S.Store connection.new) (λ _. ⊥) }
+    ensures survives { Survives (state S.Store connection.old)
+        (state S.Store connection.new) (λ _. ⊥) }
     ensures found { HasCleanDisk (state S.Store connection.new)
         → IfOk result (λ epoch. ShowsEpoch (state S.Store connection.old) epoch) }
 {

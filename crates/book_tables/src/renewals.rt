@@ -80,7 +80,8 @@ pub(crate) fn without(
 
 /// The rows of all pairs.
 pub(crate) fn all_pairs(alloc: Global, pairs: &Pairs) -> Result<Vec<ReachRow>, AllocError>
-    ensures { IfOk result (λ rows. (m : MembershipOf) → is_among (map pair_said rows.items) m ≡ set.contains pairs.now m) }
+    ensures { IfOk result (λ rows. (m : MembershipOf)
+        → is_among (map pair_said rows.items) m ≡ set.contains pairs.now m) }
 {
     let none = Pairs::new(alloc);
     without(alloc, pairs, &none)
@@ -89,7 +90,8 @@ pub(crate) fn all_pairs(alloc: Global, pairs: &Pairs) -> Result<Vec<ReachRow>, A
 /// What goes and what comes where direct memberships become others: `closure` of both, and their difference. An error
 /// is want of memory.
 pub(crate) fn renewal_of(alloc: Global, old: &Pairs, new: &Pairs) -> Result<Renewal, AllocError>
-    ensures { IfOk result (λ r. Renews old.now new.now (map pair_said r.gone.items) (map pair_said r.come.items)) }
+    ensures { IfOk result (λ r. Renews old.now new.now (map pair_said r.gone.items)
+        (map pair_said r.come.items)) }
 {
     let before = closure(old)?;
     let after = closure(new)?;

@@ -129,15 +129,18 @@ impl<S: Alter> Tables<S> {
         renewal: &Renewal,
     ) -> Result<(), StoreFault>
         ensures made { HasCleanDisk (state S.Store self.new.connection)
-            → OnOk result (Commits (state S.Store self.old.connection) (state S.Store self.new.connection)
-            (setting_members group.now (map string_bytes paths.now) (map pair_said renewal.now.gone.items)
-            (map pair_said renewal.now.come.items))) }
+            → OnOk result (Commits (state S.Store self.old.connection)
+            (state S.Store self.new.connection)
+            (setting_members group.now (map string_bytes paths.now)
+            (map pair_said renewal.now.gone.items) (map pair_said renewal.now.come.items))) }
         ensures kept { HasCleanDisk (state S.Store self.new.connection)
-            → OnErr result (Stays (state S.Store self.old.connection) (state S.Store self.new.connection)) }
-        ensures left { Survives (state S.Store self.old.connection) (state S.Store self.new.connection)
+            → OnErr result (Stays (state S.Store self.old.connection)
+            (state S.Store self.new.connection)) }
+        ensures left { Survives (state S.Store self.old.connection)
+            (state S.Store self.new.connection)
             (MayLeave (state S.Store self.old.connection)
-            (setting_members group.now (map string_bytes paths.now) (map pair_said renewal.now.gone.items)
-            (map pair_said renewal.now.come.items))) }
+            (setting_members group.now (map string_bytes paths.now)
+            (map pair_said renewal.now.gone.items) (map pair_said renewal.now.come.items))) }
         ensures counted { self.new.failures ≡ failures_after result self.old.failures }
     {
         match set_members(

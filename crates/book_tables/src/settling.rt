@@ -65,7 +65,8 @@ fn pairs_told(alloc: Global, rows: &[Row]) -> Result<Option<Pairs>, Error>
 
 /// Whether there are the same pairs, where it is true.
 fn are_same(alloc: Global, pairs: &Pairs, others: &Pairs) -> Result<bool, AllocError>
-    ensures { IfOk result (λ same. IsTrue same → (m : MembershipOf) → set.contains pairs.now m ≡ set.contains others.now m) }
+    ensures { IfOk result (λ same. IsTrue same → (m : MembershipOf)
+        → set.contains pairs.now m ≡ set.contains others.now m) }
 {
     let gone = without(alloc, pairs, others)?;
     if !gone.is_empty() {
@@ -93,12 +94,14 @@ pub fn settle_reach<S: Alter>(
     transaction: &mut Transaction<'_, S>,
 ) -> Result<bool, Error>
     ensures same_reference { transaction.new.conn.ghost_name ≡ transaction.old.conn.ghost_name }
-    ensures survives { Survives (state S.Store transaction.old.conn.now) (state S.Store transaction.new.conn.now)
-        (λ _. ⊥) }
-    ensures kept { Keeps (state S.Store transaction.old.conn.now) (state S.Store transaction.new.conn.now) }
+    ensures survives { Survives (state S.Store transaction.old.conn.now)
+        (state S.Store transaction.new.conn.now) (λ _. ⊥) }
+    ensures kept { Keeps (state S.Store transaction.old.conn.now)
+        (state S.Store transaction.new.conn.now) }
     ensures told { HasCleanDisk (state S.Store transaction.new.conn.now)
         → IsTrue (state S.Store transaction.old.conn.now).in_transaction
-        → IfOk result (TellsSettled (state S.Store transaction.old.conn.now) (state S.Store transaction.new.conn.now)) }
+        → IfOk result (TellsSettled (state S.Store transaction.old.conn.now)
+        (state S.Store transaction.new.conn.now)) }
 {
     let members = member_rows(transaction)?;
     let pairs = pairs_of(alloc, &members)?;

@@ -298,7 +298,8 @@ impl<S: Alter> Tables<S> {
 
     /// How often the store has failed; the count stays at its last value. Takes no memory.
     pub fn failures(&self) -> u64
-        ensures { result ≡ (standing_of (state S.Store self.now.connection) self.now.failures).failures }
+        ensures { result ≡ (standing_of (state S.Store self.now.connection)
+            self.now.failures).failures }
     {
         self.failures
     }

@@ -23,13 +23,14 @@ fn rewrite<S: Alter>(
     transaction: &mut Transaction<'_, S>,
 ) -> Result<Option<usize>, Error>
     ensures same_reference { transaction.new.conn.ghost_name ≡ transaction.old.conn.ghost_name }
-    ensures survives { Survives (state S.Store transaction.old.conn.now) (state S.Store transaction.new.conn.now)
-        (λ _. ⊥) }
-    ensures kept { Keeps (state S.Store transaction.old.conn.now) (state S.Store transaction.new.conn.now) }
+    ensures survives { Survives (state S.Store transaction.old.conn.now)
+        (state S.Store transaction.new.conn.now) (λ _. ⊥) }
+    ensures kept { Keeps (state S.Store transaction.old.conn.now)
+        (state S.Store transaction.new.conn.now) }
     ensures told { HasCleanDisk (state S.Store transaction.new.conn.now)
         → IsTrue (state S.Store transaction.old.conn.now).in_transaction
-        → IfOk result (λ count. TellsRewritten Generation.First (state S.Store transaction.old.conn.now)
-        (state S.Store transaction.new.conn.now) count) }
+        → IfOk result (λ count. TellsRewritten Generation.First
+        (state S.Store transaction.old.conn.now) (state S.Store transaction.new.conn.now) count) }
 {
     drop_derived(transaction)?;
     let Some(count) = renew(transaction)? else {
@@ -47,13 +48,14 @@ fn rearrange<S: Alter>(
     transaction: &mut Transaction<'_, S>,
 ) -> Result<Option<usize>, Error>
     ensures same_reference { transaction.new.conn.ghost_name ≡ transaction.old.conn.ghost_name }
-    ensures survives { Survives (state S.Store transaction.old.conn.now) (state S.Store transaction.new.conn.now)
-        (λ _. ⊥) }
-    ensures kept { Keeps (state S.Store transaction.old.conn.now) (state S.Store transaction.new.conn.now) }
+    ensures survives { Survives (state S.Store transaction.old.conn.now)
+        (state S.Store transaction.new.conn.now) (λ _. ⊥) }
+    ensures kept { Keeps (state S.Store transaction.old.conn.now)
+        (state S.Store transaction.new.conn.now) }
     ensures told { HasCleanDisk (state S.Store transaction.new.conn.now)
         → IsTrue (state S.Store transaction.old.conn.now).in_transaction
-        → IfOk result (λ count. TellsRewritten Generation.Former (state S.Store transaction.old.conn.now)
-        (state S.Store transaction.new.conn.now) count) }
+        → IfOk result (λ count. TellsRewritten Generation.Former
+        (state S.Store transaction.old.conn.now) (state S.Store transaction.new.conn.now) count) }
 {
     drop_derived(transaction)?;
     let Some(count) = reorder(transaction)? else {
@@ -72,9 +74,10 @@ fn rewrite_from<S: Alter>(
     generation: Generation,
 ) -> Result<Option<usize>, Error>
     ensures same_reference { transaction.new.conn.ghost_name ≡ transaction.old.conn.ghost_name }
-    ensures survives { Survives (state S.Store transaction.old.conn.now) (state S.Store transaction.new.conn.now)
-        (λ _. ⊥) }
-    ensures kept { Keeps (state S.Store transaction.old.conn.now) (state S.Store transaction.new.conn.now) }
+    ensures survives { Survives (state S.Store transaction.old.conn.now)
+        (state S.Store transaction.new.conn.now) (λ _. ⊥) }
+    ensures kept { Keeps (state S.Store transaction.old.conn.now)
+        (state S.Store transaction.new.conn.now) }
     ensures told { HasCleanDisk (state S.Store transaction.new.conn.now)
         → IsTrue (state S.Store transaction.old.conn.now).in_transaction
         → IfOk result (λ count. TellsRewritten generation (state S.Store transaction.old.conn.now)
@@ -108,7 +111,8 @@ fn migrate_tables<S: Alter>(
     connection: &mut Connection<S>,
 ) -> Result<Option<usize>, Error>
     ensures told { HasCleanDisk (state S.Store connection.new)
-        → IfOk result (λ count. TellsMigrated (state S.Store connection.old) (state S.Store connection.new) count) }
+        → IfOk result (λ count. TellsMigrated (state S.Store connection.old)
+        (state S.Store connection.new) count) }
     ensures kept { HasCleanDisk (state S.Store connection.new)
         → OnErr result (Stays (state S.Store connection.old) (state S.Store connection.new)) }
     ensures left { Survives (state S.Store connection.old) (state S.Store connection.new)
@@ -132,8 +136,10 @@ fn migrate_tables<S: Alter>(
 fn refusal_of<S: Alter>(connection: &mut Connection<S>) -> OpenFault
     ensures stays { HasCleanDisk (state S.Store connection.new)
         → Stays (state S.Store connection.old) (state S.Store connection.new) }
-    ensures survives { Survives (state S.Store connection.old) (state S.Store connection.new) (λ _. ⊥) }
-    ensures says { HasCleanDisk (state S.Store connection.new) → IsTrue (state S.Store connection.new).is_open
+    ensures survives { Survives (state S.Store connection.old)
+        (state S.Store connection.new) (λ _. ⊥) }
+    ensures says { HasCleanDisk (state S.Store connection.new)
+        → IsTrue (state S.Store connection.new).is_open
         → FaultSays 1 (state S.Store connection.new).now result }
 {
     match tells_other(connection, 1) {
@@ -149,15 +155,18 @@ fn migrate_again<S: Alter>(
     mut connection: Connection<S>,
 ) -> Result<(Tables<S>, u64), (OpenFault, Unopened<S>)>
     ensures stands { IsReopened (state S.Store connection)
-        → IfOk result (λ t. HasCleanDisk (state S.Store t.0.connection) → HasCleanDisk (state S.Store connection)
+        → IfOk result (λ t. HasCleanDisk (state S.Store t.0.connection)
+        → HasCleanDisk (state S.Store connection)
         × StandsMigrated (state S.Store connection).now.trees (state S.Store t.0.connection) t.1) }
     ensures counted { IfOk result (λ t. t.0.failures ≡ 0) }
     ensures refused { IfErr result (λ e. IsRefused e.0 → IsConnectionAnd e.1 (λ c.
         HasCleanDisk (state S.Store c) → StandsForNoneBefore (state S.Store c))) }
-    ensures other { IfErr result (λ e. IsRefused e.0 → IsConnectionAnd e.1 (λ c. HasCleanDisk (state S.Store c)
+    ensures other { IfErr result (λ e. IsRefused e.0
+        → IsConnectionAnd e.1 (λ c. HasCleanDisk (state S.Store c)
         → IsTrue (state S.Store c).is_open → FaultSays 1 (state S.Store c).now e.0)) }
     ensures kept { IsReopened (state S.Store connection)
-        → IfErr result (λ e. IfConnection e.1 (λ c. HasCleanDisk (state S.Store c) → HasCleanDisk (state S.Store connection)
+        → IfErr result (λ e. IfConnection e.1
+        (λ c. HasCleanDisk (state S.Store c) → HasCleanDisk (state S.Store connection)
         × IsUnmigrated (state S.Store connection).now.trees (state S.Store c))) }
     ensures connected { IfErr result (λ e. IfStore e.1 (λ _. ⊥)) }
 {
@@ -189,15 +198,18 @@ pub fn migrate<S: Alter + Drop>(
     connection: Connection<S>,
 ) -> Result<(Tables<S>, u64), (OpenFault, Unopened<S>)>
     ensures stands { IfOk result (λ t. HasCleanDisk (state S.Store t.0.connection)
-        → StandsMigrated (state S.Store connection).committed.trees (state S.Store t.0.connection) t.1) }
+        → StandsMigrated (state S.Store connection).committed.trees
+        (state S.Store t.0.connection) t.1) }
     ensures counted { IfOk result (λ t. t.0.failures ≡ 0) }
     ensures refused { IfErr result (λ e. IsRefused e.0 → IsConnectionAnd e.1 (λ c.
         HasCleanDisk (state S.Store c) → StandsForNoneBefore (state S.Store c))) }
-    ensures other { IfErr result (λ e. IsRefused e.0 → IsConnectionAnd e.1 (λ c. HasCleanDisk (state S.Store c)
+    ensures other { IfErr result (λ e. IsRefused e.0
+        → IsConnectionAnd e.1 (λ c. HasCleanDisk (state S.Store c)
         → IsTrue (state S.Store c).is_open → FaultSays 1 (state S.Store c).now e.0)) }
     ensures kept { IfErr result (λ e. IfConnection e.1 (λ c. HasCleanDisk (state S.Store c)
         → IsUnmigrated (state S.Store connection).committed.trees (state S.Store c))) }
-    ensures unharmed { IfErr result (λ e. IfStore e.1 (IsUnharmed S.Store (state S.Store connection))) }
+    ensures unharmed { IfErr result (λ e. IfStore e.1
+        (IsUnharmed S.Store (state S.Store connection))) }
 {
     match reopen(alloc, connection) {
         Ok(opened) => migrate_again(alloc, opened),

@@ -26,7 +26,8 @@ fn are_small_groups(
     directory: &Directory,
     members: &[Row],
 ) -> Result<bool, AllocError>
-    ensures { IfOk result (λ are. IsTrue are ↔ AreAtMost MAX_MEMBERS (keys.group_keys directory.now members.now)) }
+    ensures { IfOk result (λ are. IsTrue are
+        ↔ AreAtMost MAX_MEMBERS (keys.group_keys directory.now members.now)) }
 {
     let found = group_keys(alloc, directory, members)?;
     are_at_most(alloc, MAX_MEMBERS, &found)
@@ -72,7 +73,8 @@ pub(crate) fn keep_limits(
     members: &[Row],
     gone: &[Row],
 ) -> Result<bool, AllocError>
-    ensures { IfOk result (λ keep. IsTrue keep ↔ KeepLimits directory.now entries.now members.now gone.now) }
+    ensures { IfOk result (λ keep. IsTrue keep
+        ↔ KeepLimits directory.now entries.now members.now gone.now) }
 {
     if !are_short_lists(alloc, entries)? {
         return Ok(false);

@@ -43,7 +43,8 @@ fn is_text(alloc: Global, path: &Path, bytes: &[u8]) -> Result<bool, AllocError>
 #[tactic(auto, using(crate::proofs::PathRows::not_utf8, crate::proofs::PathRows::slashed))]
 /// The path whose text stands in a row, if it is one's. An error is want of memory.
 fn path_at(alloc: Global, row: &Row) -> Result<Option<Path>, AllocError>
-    ensures found { IfOk result (λ found. IfSome found (λ p. IsPath p × (shown_path row.now ≡ Text (path_text p)))) }
+    ensures found { IfOk result (λ found. IfSome found
+        (λ p. IsPath p × (shown_path row.now ≡ Text (path_text p)))) }
     ensures none { IfOk result (λ found. IfNone found (HasNoPath (shown_path row.now))) }
 {
     let Some(bytes) = text_at(row, 1) else {
@@ -88,7 +89,8 @@ fn is_below(
     path: &Path,
     row: &Row,
 ) -> Result<bool, AllocError>
-    ensures { IfOk result (λ is. IsTrue is ↔ IsBelow directory.now (parent_of path.now) (shown_parent row.now)) }
+    ensures { IfOk result (λ is. IsTrue is
+        ↔ IsBelow directory.now (parent_of path.now) (shown_parent row.now)) }
 {
     match path.parent()? {
         None => Ok(is_null(row, 2)),
@@ -176,7 +178,8 @@ fn has_change_number(kind: Kind, row: &Row) -> bool
 
 /// Whether the change number is a natural number.
 fn has_natural(row: &Row) -> bool
-    ensures { IsTrue result ↔ (shown_number row.now ≡ Int (pos (number_in (shown_number row.now)))) }
+    ensures { IsTrue result ↔ (shown_number row.now ≡ Int
+        (pos (number_in (shown_number row.now)))) }
 {
     is_natural(row, 7)
 }
@@ -209,7 +212,8 @@ fn is_node(alloc: Global, directory: &Directory, row: &Row) -> Result<bool, Allo
 /// path's kind, an owner that is there, a label, which is UTF-8 and within the limit, and a change number where its kind
 /// has one. An error is want of memory.
 pub(crate) fn are_nodes(alloc: Global, directory: &Directory) -> Result<bool, AllocError>
-    ensures { IfOk result (λ are. IsTrue are ↔ AllByRecursion (IsTextlessRow directory.now) directory.now) }
+    ensures { IfOk result (λ are. IsTrue are
+        ↔ AllByRecursion (IsTextlessRow directory.now) directory.now) }
 {
     let rows = directory.rows();
     for row in rows {

@@ -21,7 +21,8 @@ fn have_form(
     members: &[Row],
     gone: &[Row],
 ) -> Result<bool, AllocError>
-    ensures { IfOk result (λ have. IsTrue have ↔ HaveForm directory.now entries.now members.now gone.now) }
+    ensures { IfOk result (λ have. IsTrue have
+        ↔ HaveForm directory.now entries.now members.now gone.now) }
 {
     if !are_nodes(alloc, directory)? {
         return Ok(false);

@@ -41,10 +41,12 @@ pub fn is_office<S: Alter>(
     transaction: &mut Transaction<'_, S>,
 ) -> Result<bool, Error>
     ensures same_reference { transaction.new.conn.ghost_name ≡ transaction.old.conn.ghost_name }
-    ensures survives { Survives (state S.Store transaction.old.conn.now) (state S.Store transaction.new.conn.now)
-        (λ _. ⊥) }
-    ensures kept { Keeps (state S.Store transaction.old.conn.now) (state S.Store transaction.new.conn.now) }
-    ensures stays { Spares (state S.Store transaction.old.conn.now) (state S.Store transaction.new.conn.now) result }
+    ensures survives { Survives (state S.Store transaction.old.conn.now)
+        (state S.Store transaction.new.conn.now) (λ _. ⊥) }
+    ensures kept { Keeps (state S.Store transaction.old.conn.now)
+        (state S.Store transaction.new.conn.now) }
+    ensures stays { Spares (state S.Store transaction.old.conn.now)
+        (state S.Store transaction.new.conn.now) result }
     ensures told { HasCleanDisk (state S.Store transaction.new.conn.now)
         → IfOk result (λ is. TellsStanding (state S.Store transaction.old.conn.now) is) }
 {
@@ -69,7 +71,8 @@ pub fn is_office<S: Alter>(
 pub fn tells_other<S: Alter>(connection: &mut Connection<S>, version: u32) -> Result<bool, Error>
     ensures stays { HasCleanDisk (state S.Store connection.new)
         → Stays (state S.Store connection.old) (state S.Store connection.new) }
-    ensures survives { Survives (state S.Store connection.old) (state S.Store connection.new) (λ _. ⊥) }
+    ensures survives { Survives (state S.Store connection.old)
+        (state S.Store connection.new) (λ _. ⊥) }
     ensures told { HasCleanDisk (state S.Store connection.new)
         → IfOk result (λ other. IsTrue (state S.Store connection.old).is_open
         × TellsOther version (state S.Store connection.old).now other) }
@@ -89,12 +92,14 @@ pub fn settle_office<S: Alter>(
     transaction: &mut Transaction<'_, S>,
 ) -> Result<Option<bool>, Error>
     ensures same_reference { transaction.new.conn.ghost_name ≡ transaction.old.conn.ghost_name }
-    ensures survives { Survives (state S.Store transaction.old.conn.now) (state S.Store transaction.new.conn.now)
-        (λ _. ⊥) }
-    ensures kept { Keeps (state S.Store transaction.old.conn.now) (state S.Store transaction.new.conn.now) }
+    ensures survives { Survives (state S.Store transaction.old.conn.now)
+        (state S.Store transaction.new.conn.now) (λ _. ⊥) }
+    ensures kept { Keeps (state S.Store transaction.old.conn.now)
+        (state S.Store transaction.new.conn.now) }
     ensures told { HasCleanDisk (state S.Store transaction.new.conn.now)
         → IsTrue (state S.Store transaction.old.conn.now).in_transaction
-        → IfOk result (TellsOffice (state S.Store transaction.old.conn.now) (state S.Store transaction.new.conn.now)) }
+        → IfOk result (TellsOffice (state S.Store transaction.old.conn.now)
+        (state S.Store transaction.new.conn.now)) }
 {
     if !has_no_former(transaction)? {
         return Ok(None);
@@ -109,12 +114,14 @@ pub fn settle_office<S: Alter>(
 /// Makes `reach`, without rows, where there is none, or one of other columns, which is taken away.
 fn make_anew<S: Alter>(transaction: &mut Transaction<'_, S>) -> Result<(), Error>
     ensures same_reference { transaction.new.conn.ghost_name ≡ transaction.old.conn.ghost_name }
-    ensures survives { Survives (state S.Store transaction.old.conn.now) (state S.Store transaction.new.conn.now)
-        (λ _. ⊥) }
-    ensures kept { Keeps (state S.Store transaction.old.conn.now) (state S.Store transaction.new.conn.now) }
+    ensures survives { Survives (state S.Store transaction.old.conn.now)
+        (state S.Store transaction.new.conn.now) (λ _. ⊥) }
+    ensures kept { Keeps (state S.Store transaction.old.conn.now)
+        (state S.Store transaction.new.conn.now) }
     ensures made { HasCleanDisk (state S.Store transaction.new.conn.now)
         → IsTrue (state S.Store transaction.old.conn.now).in_transaction
-        → OnOk result (MakesAnew (state S.Store transaction.old.conn.now) (state S.Store transaction.new.conn.now)) }
+        → OnOk result (MakesAnew (state S.Store transaction.old.conn.now)
+        (state S.Store transaction.new.conn.now)) }
 {
     drop_derived(transaction)?;
     make_derived(transaction)
@@ -219,18 +226,24 @@ fn open_again<S: Alter>(
     alloc: Global,
     mut connection: Connection<S>,
 ) -> Result<Tables<S>, (OpenFault, Unopened<S>)>
-    ensures stands { IsReopened (state S.Store connection) → IfOk result (λ t. HasCleanDisk (state S.Store t.connection)
+    ensures stands { IsReopened (state S.Store connection)
+        → IfOk result (λ t. HasCleanDisk (state S.Store t.connection)
         → HasCleanDisk (state S.Store connection)
         × IsOpened (state S.Store connection).now.trees (state S.Store t.connection)) }
     ensures counted { IfOk result (λ t. t.failures ≡ 0) }
     ensures refused { IsReopened (state S.Store connection)
-        → IfErr result (λ e. IsRefused e.0 → IsConnectionAnd e.1 (λ c. HasCleanDisk (state S.Store c)
-        → HasCleanDisk (state S.Store connection) × StandForNone (state S.Store connection).now.trees)) }
+        → IfErr result (λ e. IsRefused e.0
+        → IsConnectionAnd e.1 (λ c. HasCleanDisk (state S.Store c)
+        → HasCleanDisk (state S.Store connection)
+        × StandForNone (state S.Store connection).now.trees)) }
     ensures other { IsReopened (state S.Store connection)
-        → IfErr result (λ e. IsRefused e.0 → IsConnectionAnd e.1 (λ c. HasCleanDisk (state S.Store c)
-        → HasCleanDisk (state S.Store connection) × FaultSaysOf 2 (state S.Store connection).now.trees e.0)) }
+        → IfErr result (λ e. IsRefused e.0
+        → IsConnectionAnd e.1 (λ c. HasCleanDisk (state S.Store c)
+        → HasCleanDisk (state S.Store connection)
+        × FaultSaysOf 2 (state S.Store connection).now.trees e.0)) }
     ensures kept { IsReopened (state S.Store connection)
-        → IfErr result (λ e. IfConnection e.1 (λ c. HasCleanDisk (state S.Store c) → HasCleanDisk (state S.Store connection)
+        → IfErr result (λ e. IfConnection e.1
+        (λ c. HasCleanDisk (state S.Store c) → HasCleanDisk (state S.Store connection)
         × IsUnopened (state S.Store connection).now.trees (state S.Store c))) }
     ensures connected { IfErr result (λ e. IfStore e.1 (λ _. ⊥)) }
 {
@@ -262,15 +275,19 @@ pub fn open<S: Alter + Drop>(
     ensures stands { IfOk result (λ t. HasCleanDisk (state S.Store t.connection)
         → StandsAsBefore (state S.Store connection).committed.trees (state S.Store t.connection)) }
     ensures same { IfOk result (λ t. HasCleanDisk (state S.Store t.connection)
-        → SameRows (state S.Store connection).committed.trees (state S.Store t.connection).now.trees) }
+        → SameRows (state S.Store connection).committed.trees
+        (state S.Store t.connection).now.trees) }
     ensures counted { IfOk result (λ t. t.failures ≡ 0) }
-    ensures refused { IfErr result (λ e. IsRefused e.0 → IsConnectionAnd e.1 (λ c. HasCleanDisk (state S.Store c)
+    ensures refused { IfErr result (λ e. IsRefused e.0
+        → IsConnectionAnd e.1 (λ c. HasCleanDisk (state S.Store c)
         → StandForNone (state S.Store connection).committed.trees)) }
-    ensures other { IfErr result (λ e. IsRefused e.0 → IsConnectionAnd e.1 (λ c. HasCleanDisk (state S.Store c)
+    ensures other { IfErr result (λ e. IsRefused e.0
+        → IsConnectionAnd e.1 (λ c. HasCleanDisk (state S.Store c)
         → FaultSaysOf 2 (state S.Store connection).committed.trees e.0)) }
     ensures kept { IfErr result (λ e. IfConnection e.1 (λ c. HasCleanDisk (state S.Store c)
         → IsUnopened (state S.Store connection).committed.trees (state S.Store c))) }
-    ensures unharmed { IfErr result (λ e. IfStore e.1 (IsUnharmed S.Store (state S.Store connection))) }
+    ensures unharmed { IfErr result (λ e. IfStore e.1
+        (IsUnharmed S.Store (state S.Store connection))) }
 {
     match reopen(alloc, connection) {
         Ok(opened) => open_again(alloc, opened),

@@ -22,12 +22,15 @@ pub(crate) struct StoreRows {
 /// The rows of entries and of members.
 fn read_lists<S: Alter>(transaction: &mut Transaction<'_, S>) -> Result<(Vec<Row>, Vec<Row>), Error>
     ensures same_reference { transaction.new.conn.ghost_name ≡ transaction.old.conn.ghost_name }
-    ensures survives { Survives (state S.Store transaction.old.conn.now) (state S.Store transaction.new.conn.now)
-        (λ _. ⊥) }
-    ensures kept { Keeps (state S.Store transaction.old.conn.now) (state S.Store transaction.new.conn.now) }
-    ensures stays { Spares (state S.Store transaction.old.conn.now) (state S.Store transaction.new.conn.now) result }
+    ensures survives { Survives (state S.Store transaction.old.conn.now)
+        (state S.Store transaction.new.conn.now) (λ _. ⊥) }
+    ensures kept { Keeps (state S.Store transaction.old.conn.now)
+        (state S.Store transaction.new.conn.now) }
+    ensures stays { Spares (state S.Store transaction.old.conn.now)
+        (state S.Store transaction.new.conn.now) result }
     ensures shown { HasCleanDisk (state S.Store transaction.new.conn.now)
-        → IfOk result (λ rows. ShowsLists (state S.Store transaction.old.conn.now) rows.0.items rows.1.items) }
+        → IfOk result (λ rows. ShowsLists
+        (state S.Store transaction.old.conn.now) rows.0.items rows.1.items) }
 {
     let entries = all_entry_rows(transaction)?;
     let members = member_rows(transaction)?;
@@ -37,12 +40,15 @@ fn read_lists<S: Alter>(transaction: &mut Transaction<'_, S>) -> Result<(Vec<Row
 /// The rows of removed names, and of version and epoch.
 fn read_rest<S: Alter>(transaction: &mut Transaction<'_, S>) -> Result<(Vec<Row>, Vec<Row>), Error>
     ensures same_reference { transaction.new.conn.ghost_name ≡ transaction.old.conn.ghost_name }
-    ensures survives { Survives (state S.Store transaction.old.conn.now) (state S.Store transaction.new.conn.now)
-        (λ _. ⊥) }
-    ensures kept { Keeps (state S.Store transaction.old.conn.now) (state S.Store transaction.new.conn.now) }
-    ensures stays { Spares (state S.Store transaction.old.conn.now) (state S.Store transaction.new.conn.now) result }
+    ensures survives { Survives (state S.Store transaction.old.conn.now)
+        (state S.Store transaction.new.conn.now) (λ _. ⊥) }
+    ensures kept { Keeps (state S.Store transaction.old.conn.now)
+        (state S.Store transaction.new.conn.now) }
+    ensures stays { Spares (state S.Store transaction.old.conn.now)
+        (state S.Store transaction.new.conn.now) result }
     ensures shown { HasCleanDisk (state S.Store transaction.new.conn.now)
-        → IfOk result (λ rows. ShowsRest (state S.Store transaction.old.conn.now) rows.0.items rows.1.items) }
+        → IfOk result (λ rows. ShowsRest
+        (state S.Store transaction.old.conn.now) rows.0.items rows.1.items) }
 {
     let gone = all_gone_rows(transaction)?;
     let meta = all_meta_rows(transaction)?;
@@ -54,10 +60,12 @@ pub(crate) fn read_tables<S: Alter>(
     transaction: &mut Transaction<'_, S>,
 ) -> Result<StoreRows, Error>
     ensures same_reference { transaction.new.conn.ghost_name ≡ transaction.old.conn.ghost_name }
-    ensures survives { Survives (state S.Store transaction.old.conn.now) (state S.Store transaction.new.conn.now)
-        (λ _. ⊥) }
-    ensures kept { Keeps (state S.Store transaction.old.conn.now) (state S.Store transaction.new.conn.now) }
-    ensures stays { Spares (state S.Store transaction.old.conn.now) (state S.Store transaction.new.conn.now) result }
+    ensures survives { Survives (state S.Store transaction.old.conn.now)
+        (state S.Store transaction.new.conn.now) (λ _. ⊥) }
+    ensures kept { Keeps (state S.Store transaction.old.conn.now)
+        (state S.Store transaction.new.conn.now) }
+    ensures stays { Spares (state S.Store transaction.old.conn.now)
+        (state S.Store transaction.new.conn.now) result }
     ensures shown { HasCleanDisk (state S.Store transaction.new.conn.now)
         → IfOk result (λ rows. ShowsTables (state S.Store transaction.old.conn.now) rows.nodes.items
         rows.lists.0.items rows.lists.1.items rows.rest.0.items rows.rest.1.items) }

@@ -30,7 +30,8 @@ fn is_mask(row: &Row, at: usize) -> bool
 
 /// Whether the columns are the form of a path and its text.
 fn names_path(row: &Row) -> bool
-    ensures { result ≡ (tests.is_zero (shown_form row.now) && tests.is_text (shown_principal row.now)) }
+    ensures { result ≡ (tests.is_zero (shown_form row.now) && tests.is_text
+        (shown_principal row.now)) }
 {
     matches!(row.get_ref(3), Ok(ValueRef::Int(0)))
         && matches!(row.get_ref(4), Ok(ValueRef::Text(_)))
@@ -55,7 +56,8 @@ fn is_nothing(row: &Row) -> bool
 
 /// Whether the columns are another form of a principal, and NULL.
 fn names_word(row: &Row) -> bool
-    ensures { result ≡ (tests.is_word (shown_form row.now) && tests.is_nothing (shown_principal row.now)) }
+    ensures { result ≡ (tests.is_word (shown_form row.now) && tests.is_nothing
+        (shown_principal row.now)) }
 {
     is_word(row) && is_nothing(row)
 }

@@ -58,13 +58,15 @@ fn shows_own_text(node: &Row, found: &[Row]) -> bool
 /// have, another node none.
 fn has_own_text<S: Alter>(transaction: &mut Transaction<'_, S>, node: &Row) -> Result<bool, Error>
     ensures same_reference { transaction.new.conn.ghost_name ≡ transaction.old.conn.ghost_name }
-    ensures survives { Survives (state S.Store transaction.old.conn.now) (state S.Store transaction.new.conn.now)
-        (λ _. ⊥) }
-    ensures kept { Keeps (state S.Store transaction.old.conn.now) (state S.Store transaction.new.conn.now) }
-    ensures stays { Spares (state S.Store transaction.old.conn.now) (state S.Store transaction.new.conn.now) result }
+    ensures survives { Survives (state S.Store transaction.old.conn.now)
+        (state S.Store transaction.new.conn.now) (λ _. ⊥) }
+    ensures kept { Keeps (state S.Store transaction.old.conn.now)
+        (state S.Store transaction.new.conn.now) }
+    ensures stays { Spares (state S.Store transaction.old.conn.now)
+        (state S.Store transaction.new.conn.now) result }
     ensures told { HasCleanDisk (state S.Store transaction.new.conn.now)
-        → IfOk result (λ has. IsBook (state S.Store transaction.old.conn.now).now
-        → IsTrue has ↔ HasTextIn (rows_of (state S.Store transaction.old.conn.now).now.trees) node.now) }
+        → IfOk result (λ has. IsBook (state S.Store transaction.old.conn.now).now → IsTrue has
+        ↔ HasTextIn (rows_of (state S.Store transaction.old.conn.now).now.trees) node.now) }
 {
     let found = text_rows(transaction, int_at(node, 0))?;
     Ok(shows_own_text(node, &found))
@@ -77,13 +79,15 @@ pub(crate) fn have_own_texts<S: Alter>(
     nodes: &[Row],
 ) -> Result<bool, Error>
     ensures same_reference { transaction.new.conn.ghost_name ≡ transaction.old.conn.ghost_name }
-    ensures survives { Survives (state S.Store transaction.old.conn.now) (state S.Store transaction.new.conn.now)
-        (λ _. ⊥) }
-    ensures kept { Keeps (state S.Store transaction.old.conn.now) (state S.Store transaction.new.conn.now) }
-    ensures stays { Spares (state S.Store transaction.old.conn.now) (state S.Store transaction.new.conn.now) result }
+    ensures survives { Survives (state S.Store transaction.old.conn.now)
+        (state S.Store transaction.new.conn.now) (λ _. ⊥) }
+    ensures kept { Keeps (state S.Store transaction.old.conn.now)
+        (state S.Store transaction.new.conn.now) }
+    ensures stays { Spares (state S.Store transaction.old.conn.now)
+        (state S.Store transaction.new.conn.now) result }
     ensures told { HasCleanDisk (state S.Store transaction.new.conn.now)
-        → IfOk result (λ have. IsBook (state S.Store transaction.old.conn.now).now
-        → IsTrue have ↔ AllByRecursion (HasTextIn (rows_of (state S.Store transaction.old.conn.now).now.trees))
+        → IfOk result (λ have. IsBook (state S.Store transaction.old.conn.now).now → IsTrue have
+        ↔ AllByRecursion (HasTextIn (rows_of (state S.Store transaction.old.conn.now).now.trees))
         nodes.now) }
 {
     for node in nodes {

@@ -15,12 +15,15 @@ pub(crate) fn textless_node_rows<S: Alter>(
     transaction: &mut Transaction<'_, S>,
 ) -> Result<Vec<Row>, Error>
     ensures same_reference { transaction.new.conn.ghost_name ≡ transaction.old.conn.ghost_name }
-    ensures survives { Survives (state S.Store transaction.old.conn.now) (state S.Store transaction.new.conn.now)
-        (λ _. ⊥) }
-    ensures kept { Keeps (state S.Store transaction.old.conn.now) (state S.Store transaction.new.conn.now) }
-    ensures stays { Spares (state S.Store transaction.old.conn.now) (state S.Store transaction.new.conn.now) result }
+    ensures survives { Survives (state S.Store transaction.old.conn.now)
+        (state S.Store transaction.new.conn.now) (λ _. ⊥) }
+    ensures kept { Keeps (state S.Store transaction.old.conn.now)
+        (state S.Store transaction.new.conn.now) }
+    ensures stays { Spares (state S.Store transaction.old.conn.now)
+        (state S.Store transaction.new.conn.now) result }
     ensures shown { HasCleanDisk (state S.Store transaction.new.conn.now)
-        → IfOk result (λ rows. ShowsTextlessNodes (state S.Store transaction.old.conn.now) rows.items) }
+        → IfOk result (λ rows. ShowsTextlessNodes
+        (state S.Store transaction.old.conn.now) rows.items) }
 {
     transaction.query_all(
         "SELECT id, path, parent, kind, owner, label, NULL, number FROM node ORDER BY id",
@@ -34,12 +37,15 @@ pub(crate) fn text_rows<S: Alter>(
     id: i64,
 ) -> Result<Vec<Row>, Error>
     ensures same_reference { transaction.new.conn.ghost_name ≡ transaction.old.conn.ghost_name }
-    ensures survives { Survives (state S.Store transaction.old.conn.now) (state S.Store transaction.new.conn.now)
-        (λ _. ⊥) }
-    ensures kept { Keeps (state S.Store transaction.old.conn.now) (state S.Store transaction.new.conn.now) }
-    ensures stays { Spares (state S.Store transaction.old.conn.now) (state S.Store transaction.new.conn.now) result }
+    ensures survives { Survives (state S.Store transaction.old.conn.now)
+        (state S.Store transaction.new.conn.now) (λ _. ⊥) }
+    ensures kept { Keeps (state S.Store transaction.old.conn.now)
+        (state S.Store transaction.new.conn.now) }
+    ensures stays { Spares (state S.Store transaction.old.conn.now)
+        (state S.Store transaction.new.conn.now) result }
     ensures shown { HasCleanDisk (state S.Store transaction.new.conn.now)
-        → IfOk result (λ rows. ShowsRows (state S.Store transaction.old.conn.now) (texts_shown id) rows.items) }
+        → IfOk result (λ rows. ShowsRows (state S.Store transaction.old.conn.now)
+        (texts_shown id) rows.items) }
 {
     transaction.query_all("SELECT text FROM node WHERE id = ?1", params![id])
 }

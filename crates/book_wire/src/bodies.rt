@@ -107,9 +107,11 @@ fn push_chunk(
     from: usize,
 ) -> Result<usize, AllocError>
     requires { from ≤ length (pieces content.now) }
-    ensures bytes { IfOk result (λ next. out.new.items ++ rest_of_body content.now next ≡ out.old.items ++ rest_of_body content.now from) }
+    ensures bytes { IfOk result (λ next. out.new.items ++ rest_of_body content.now next ≡
+        out.old.items ++ rest_of_body content.now from) }
     ensures within { IfOk result (λ next. next ≤ length (pieces content.now)) }
-    ensures enough { IfOk result (λ next. (length (pieces content.now) ≤ next) ⊎ (65536 ≤ length out.new.items)) }
+    ensures enough { IfOk result (λ next. (length (pieces content.now) ≤ next)
+        ⊎ (65536 ≤ length out.new.items)) }
 {
     let count = piece_count(content);
     for next in from..count {

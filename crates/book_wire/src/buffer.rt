@@ -84,10 +84,11 @@ impl Buffer {
     ///
     /// `Read` where the read failed, or where memory was refused before it.
     pub(crate) fn fill<R: Read>(&mut self, reader: &mut R) -> Result<usize, StreamFault>
-        ensures ok { IfOk result (λ n. (came : List ℕ) × (self.new ≡ self.old ++ came) × (length came ≡ n)
-            × Consumes (R.remaining reader.old) (R.remaining reader.new) came
+        ensures ok { IfOk result (λ n. (came : List ℕ) × (self.new ≡ self.old ++ came)
+            × (length came ≡ n) × Consumes (R.remaining reader.old) (R.remaining reader.new) came
             × (n ≡ 0 → IsAtEnd (R.remaining reader.new))) }
-        ensures err { OnErr result ((self.new ≡ self.old) × Keeps (R.remaining reader.old) (R.remaining reader.new)) }
+        ensures err { OnErr result ((self.new ≡ self.old)
+            × Keeps (R.remaining reader.old) (R.remaining reader.new)) }
         ensures fault { IfErr result (λ e. e ≡ StreamFault.Read) }
     {
         let start = settle(&mut self.bytes, self.start, self.end, 1);
@@ -151,8 +152,8 @@ fn grow(bytes: &mut Vec<u8>, end: usize, more: usize) -> Result<(), AllocError>
 /// Reads once, behind the first `end` bytes.
 fn read_after<R: Read>(reader: &mut R, bytes: &mut [u8], end: usize) -> Result<usize, StreamFault>
     requires { end < length bytes.old }
-    ensures ok { IfOk result (λ n. (came : List ℕ) × (length came ≡ n) × (end + n ≤ length bytes.new)
-        × (take (end + n) bytes.new ≡ take end bytes.old ++ came)
+    ensures ok { IfOk result (λ n. (came : List ℕ) × (length came ≡ n)
+        × (end + n ≤ length bytes.new) × (take (end + n) bytes.new ≡ take end bytes.old ++ came)
         × Consumes (R.remaining reader.old) (R.remaining reader.new) came
         × (n ≡ 0 → IsAtEnd (R.remaining reader.new))) }
     ensures err { OnErr result ((take end bytes.new ≡ take end bytes.old) × (end ≤ length bytes.new)
@@ -180,7 +181,8 @@ fn settle(bytes: &mut [u8], start: usize, end: usize, more: usize) -> usize
     requires ordered { start ≤ end }
     requires within { end ≤ length bytes.old }
     ensures front { result ≤ start }
-    ensures kept { drop result (take (end - (start - result)) bytes.new) ≡ drop start (take end bytes.old) }
+    ensures kept { drop result (take (end - (start - result)) bytes.new) ≡ drop start
+        (take end bytes.old) }
     ensures size { length bytes.new ≡ length bytes.old }
 {
     if more <= bytes.len() - end {

@@ -112,7 +112,8 @@ impl Connection {
 
     /// The beginning of what is to be sent: all of it, or at least 8,192 bytes.
     pub fn unsent(&self) -> &[u8]
-        ensures { (more : List ℕ) × (self.now.unsent ≡ result.now ++ more) × ((more ≡ []) ⊎ (8192 ≤ length result.now)) }
+        ensures { (more : List ℕ) × (self.now.unsent ≡ result.now ++ more)
+            × ((more ≡ []) ⊎ (8192 ≤ length result.now)) }
     {
         self.outgoing.front()
     }
@@ -170,11 +171,13 @@ impl Connection {
     /// `Read` where the read failed, or where memory was refused before it.
     #[tactic(auto, using(crate::proofs::Streams::may_wait_same, crate::proofs::Streams::may_wait_more))]
     pub(crate) fn fill<R: Read>(&mut self, reader: &mut R) -> Result<usize, StreamFault>
-        ensures ok { IfOk result (λ n. (came : List ℕ) × (self.new.unread ≡ self.old.unread ++ came) × (length came ≡ n)
-            × Consumes (R.remaining reader.old) (R.remaining reader.new) came
+        ensures ok { IfOk result (λ n. (came : List ℕ) × (self.new.unread ≡ self.old.unread ++ came)
+            × (length came ≡ n) × Consumes (R.remaining reader.old) (R.remaining reader.new) came
             × (n ≡ 0 → IsAtEnd (R.remaining reader.new))) }
-        ensures rest { (self.new.unsent ≡ self.old.unsent) × (self.new.closing ≡ self.old.closing) × (self.new.stalled ≡ self.old.stalled) }
-        ensures err { OnErr result ((self.new ≡ self.old) × Keeps (R.remaining reader.old) (R.remaining reader.new)) }
+        ensures rest { (self.new.unsent ≡ self.old.unsent) × (self.new.closing ≡ self.old.closing)
+            × (self.new.stalled ≡ self.old.stalled) }
+        ensures err { OnErr result ((self.new ≡ self.old)
+            × Keeps (R.remaining reader.old) (R.remaining reader.new)) }
         ensures fault { IfErr result (λ e. e ≡ StreamFault.Read) }
     {
         match self.buffer.fill(reader) {
@@ -192,12 +195,16 @@ impl Connection {
     ) -> Result<Turn, StreamFault>
         requires open { self.old.closing ≡ false }
         requires few { length self.old.unsent < 8192 }
-        ensures ok { IfOk result (λ turn. (written : List ℕ) × (self.new.unsent ≡ self.old.unsent ++ written)
-            × IsTurn (K.standing machine.old.keeper) self.old.unread written turn (K.standing machine.new.keeper) self.new.unread
+        ensures ok { IfOk result (λ turn. (written : List ℕ)
+            × (self.new.unsent ≡ self.old.unsent ++ written)
+            × IsTurn (K.standing machine.old.keeper) self.old.unread written turn
+            (K.standing machine.new.keeper) self.new.unread
             × (self.new.closing ≡ closes_after turn)) }
-        ensures err { IfErr result (λ e. (e ≡ StreamFault.Write) × ((pending front left : List ℕ)
-            × IsPending (K.standing machine.old.keeper) self.old.unread pending (K.standing machine.new.keeper)
-            × (pending ≡ front ++ left) × (self.new.unsent ≡ self.old.unsent ++ front))) }
+        ensures err { IfErr result (λ e. (e ≡ StreamFault.Write)
+            × ((pending front left : List ℕ)
+            × IsPending (K.standing machine.old.keeper) self.old.unread pending
+            (K.standing machine.new.keeper) × (pending ≡ front ++ left)
+            × (self.new.unsent ≡ self.old.unsent ++ front))) }
         ensures stalled { self.new.stalled ≡ self.old.stalled }
     {
         if self.buffer.unread().len() < self.wanted {
@@ -230,13 +237,17 @@ impl Connection {
     ) -> Result<u64, StreamFault>
         requires open { self.old.closing ≡ false }
         requires few { most ≤ 8192 }
-        ensures ok { IfOk result (λ answered. (more : List ℕ) × (count : ℕ) × (answered ≡ min count (2 ^ 64 - 1))
-            × (self.new.unsent ≡ self.old.unsent ++ more)
-            × IsFed (K.standing machine.old.keeper) self.old.unread more count (K.standing machine.new.keeper) self.new) }
-        ensures stalled { IfOk result (λ answered. self.new.stalled ≡ true → most ≤ length self.new.unsent) }
+        ensures ok { IfOk result (λ answered. (more : List ℕ) × (count : ℕ)
+            × (answered ≡ min count (2 ^ 64 - 1)) × (self.new.unsent ≡ self.old.unsent ++ more)
+            × IsFed (K.standing machine.old.keeper) self.old.unread more count
+            (K.standing machine.new.keeper) self.new) }
+        ensures stalled { IfOk result (λ answered. self.new.stalled ≡ true
+            → most ≤ length self.new.unsent) }
         ensures memory { result ≢ Err StreamFault.Memory }
-        ensures write { result ≡ Err StreamFault.Write → (more : List ℕ) × (self.new.unsent ≡ self.old.unsent ++ more)
-            × StopsWriting (K.standing machine.old.keeper) self.old.unread more (K.standing machine.new.keeper) }
+        ensures write { result ≡ Err StreamFault.Write → (more : List ℕ)
+            × (self.new.unsent ≡ self.old.unsent ++ more)
+            × StopsWriting (K.standing machine.old.keeper) self.old.unread more
+            (K.standing machine.new.keeper) }
         ensures read { result ≢ Err StreamFault.Read }
     {
         let mut answered: u64 = 0;
@@ -277,14 +288,18 @@ impl Connection {
     ) -> Result<u64, StreamFault>
         requires open { self.old.closing ≡ false }
         requires few { most ≤ 8192 }
-        ensures ok { IfOk result (λ answered. (more : List ℕ) × (count : ℕ) × (answered ≡ min count (2 ^ 64 - 1))
-            × (self.new.unsent ≡ self.old.unsent ++ more)
-            × IsFed (K.standing machine.old.keeper) (self.old.unread ++ bytes.now) more count (K.standing machine.new.keeper) self.new) }
-        ensures stalled { IfOk result (λ answered. self.new.stalled ≡ true → most ≤ length self.new.unsent) }
+        ensures ok { IfOk result (λ answered. (more : List ℕ) × (count : ℕ)
+            × (answered ≡ min count (2 ^ 64 - 1)) × (self.new.unsent ≡ self.old.unsent ++ more)
+            × IsFed (K.standing machine.old.keeper) (self.old.unread ++ bytes.now) more count
+            (K.standing machine.new.keeper) self.new) }
+        ensures stalled { IfOk result (λ answered. self.new.stalled ≡ true
+            → most ≤ length self.new.unsent) }
         ensures memory { result ≡ Err StreamFault.Memory → (self.new ≡ self.old)
             × Stays (K.standing machine.old.keeper) (K.standing machine.new.keeper) }
-        ensures write { result ≡ Err StreamFault.Write → (more : List ℕ) × (self.new.unsent ≡ self.old.unsent ++ more)
-            × StopsWriting (K.standing machine.old.keeper) (self.old.unread ++ bytes.now) more (K.standing machine.new.keeper) }
+        ensures write { result ≡ Err StreamFault.Write → (more : List ℕ)
+            × (self.new.unsent ≡ self.old.unsent ++ more)
+            × StopsWriting (K.standing machine.old.keeper) (self.old.unread ++ bytes.now) more
+            (K.standing machine.new.keeper) }
         ensures read { result ≢ Err StreamFault.Read }
     {
         if self.buffer.push(bytes).is_err() {

@@ -67,9 +67,10 @@ fn lone<'b>(
     name: &[u8],
 ) -> Result<Option<&'b [u8]>, WireRefusal>
     requires { All (IsHeaderWithin (length bytes.now)) headers.now }
-    ensures { MatchResult result
-        (λ v. spec.lone (spec.values_of name.now (map (header_bytes bytes.now) headers.now)) ≡ Ok (option_copied v))
-        (λ e. spec.lone (spec.values_of name.now (map (header_bytes bytes.now) headers.now)) ≡ Err e) }
+    ensures { MatchResult result (λ v. spec.lone
+        (spec.values_of name.now (map (header_bytes bytes.now) headers.now)) ≡ Ok (option_copied v))
+        (λ e. spec.lone (spec.values_of name.now (map (header_bytes bytes.now) headers.now)) ≡
+        Err e) }
 {
     let mut found = None;
     for header in headers {
@@ -208,10 +209,11 @@ fn read_fields<'b>(
     requires method { IsWithin (length bytes.now) spans.now.method }
     requires path { IsWithin (length bytes.now) spans.now.path }
     requires headers { All (IsHeaderWithin (length bytes.now)) headers.now }
-    ensures { MatchResult result
-        (λ a. spec.asked_by_head (span_bytes bytes.now spans.now.method) (span_bytes bytes.now spans.now.path) spans.now.version
+    ensures { MatchResult result (λ a. spec.asked_by_head (span_bytes bytes.now spans.now.method)
+        (span_bytes bytes.now spans.now.path) spans.now.version
         (map (header_bytes bytes.now) headers.now) ≡ Ok (asked_view a))
-        (λ e. spec.asked_by_head (span_bytes bytes.now spans.now.method) (span_bytes bytes.now spans.now.path) spans.now.version
+        (λ e. spec.asked_by_head (span_bytes bytes.now spans.now.method)
+        (span_bytes bytes.now spans.now.path) spans.now.version
         (map (header_bytes bytes.now) headers.now) ≡ Err e) }
 {
     let caller = lone(bytes, headers, b"x-office-caller")?;

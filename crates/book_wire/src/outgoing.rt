@@ -60,7 +60,8 @@ impl Outgoing {
 
     /// The beginning of it: all, or at least 8,192 bytes.
     pub(crate) fn front(&self) -> &[u8]
-        ensures { (more : List ℕ) × (self.now ≡ result.now ++ more) × ((more ≡ []) ⊎ (8192 ≤ length result.now)) }
+        ensures { (more : List ℕ) × (self.now ≡ result.now ++ more)
+            × ((more ≡ []) ⊎ (8192 ≤ length result.now)) }
     {
         &self.made[self.sent..]
     }
@@ -91,7 +92,8 @@ impl Outgoing {
     ) -> Result<(), AllocError>
         requires few { length self.old < 8192 }
         requires enough { IfSome left (λ _. 65536 ≤ length chunk.now) }
-        ensures ok { OnOk result (self.new ≡ self.old ++ (head.now ++ (chunk.now ++ left_of left))) }
+        ensures ok { OnOk result (self.new ≡ self.old ++
+            (head.now ++ (chunk.now ++ left_of left))) }
         ensures err { OnErr result (self.new ≡ self.old) }
     {
         put_both(&mut self.made, head, chunk)?;
@@ -173,8 +175,8 @@ fn next_chunk(
     body: LongBody,
 ) -> Result<Option<LongBody>, StreamFault>
     requires { sent ≤ length made.old.items }
-    ensures ok { IfOk result (λ left. (made.new.items ++ left_of left ≡ drop sent made.old.items ++ body)
-        × IfSome left (λ _. 65536 ≤ length made.new.items)) }
+    ensures ok { IfOk result (λ left. (made.new.items ++ left_of left ≡
+        drop sent made.old.items ++ body) × IfSome left (λ _. 65536 ≤ length made.new.items)) }
     ensures fault { IfErr result (λ e. e ≡ StreamFault.Write) }
 {
     drop_front(made, sent);

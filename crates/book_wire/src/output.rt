@@ -9,7 +9,8 @@ use std::io::Write;
 /// Writes a whole text. A write that fails, or takes nothing, is not repeated.
 pub(crate) fn put<W: Write>(writer: &mut W, text: &[u8]) -> Result<(), StreamFault>
     ensures ok { OnOk result (Appends (W.contents writer.old) (W.contents writer.new) text.now) }
-    ensures err { IfErr result (λ e. (e ≡ StreamFault.Write) × ((front left : List ℕ) × (text.now ≡ front ++ left)
+    ensures err { IfErr result (λ e. (e ≡ StreamFault.Write)
+        × ((front left : List ℕ) × (text.now ≡ front ++ left)
         × Appends (W.contents writer.old) (W.contents writer.new) front)) }
 {
     let mut written = 0;

@@ -290,7 +290,8 @@ fn unavailable_text() -> &'static [u8]
 #[tactic(auto, unfolding(crate::specs::Spelling::spelling, serde_json::proofs::OnLiterals::serde_json_on_literals))]
 fn put_unavailable(out: &mut Outgoing, bare: bool, closes: bool) -> Result<(), AllocError>
     requires { length out.old < 8192 }
-    ensures ok { OnOk result (out.new ≡ out.old ++ spelling (machine.refused Unavailable) bare closes) }
+    ensures ok { OnOk result (out.new ≡ out.old ++ spelling
+        (machine.refused Unavailable) bare closes) }
     ensures err { OnErr result (out.new ≡ out.old) }
 {
     let body = unavailable_text();
@@ -306,7 +307,8 @@ pub(crate) fn send_unavailable(
     closes: bool,
 ) -> Result<(), StreamFault>
     requires { length out.old < 8192 }
-    ensures ok { OnOk result (out.new ≡ out.old ++ spelling (machine.refused Unavailable) bare closes) }
+    ensures ok { OnOk result (out.new ≡ out.old ++ spelling
+        (machine.refused Unavailable) bare closes) }
     ensures err { IfErr result (λ e. (e ≡ StreamFault.Write) × (out.new ≡ out.old)) }
 {
     match put_unavailable(out, bare, closes) {
@@ -404,7 +406,8 @@ pub(crate) fn send(
     requires { length out.old < 8192 }
     ensures ok { OnOk result ((sent : ReplyOf) × IsSent reply sent
         × (out.new ≡ out.old ++ spelling sent bare closes)) }
-    ensures err { IfErr result (λ e. (e ≡ StreamFault.Write) × ((sent : ReplyOf) × IsSent reply sent × (out.new ≡ out.old))) }
+    ensures err { IfErr result (λ e. (e ≡ StreamFault.Write)
+        × ((sent : ReplyOf) × IsSent reply sent × (out.new ≡ out.old))) }
 {
     let telling = has_content(&reply.content);
     match put_reply(alloc, out, reply, bare, closes) {

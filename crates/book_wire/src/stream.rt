@@ -54,8 +54,10 @@ fn send_all<W: Write>(
     connection: &mut Connection,
     writer: &mut W,
 ) -> Result<(), StreamFault>
-    ensures ok { OnOk result (Appends (W.contents writer.old) (W.contents writer.new) connection.old.unsent × (connection.new.unsent ≡ [])) }
-    ensures err { IfErr result (λ e. (e ≡ StreamFault.Write) × ((front left : List ℕ) × (connection.old.unsent ≡ front ++ left)
+    ensures ok { OnOk result (Appends (W.contents writer.old)
+        (W.contents writer.new) connection.old.unsent × (connection.new.unsent ≡ [])) }
+    ensures err { IfErr result (λ e. (e ≡ StreamFault.Write)
+        × ((front left : List ℕ) × (connection.old.unsent ≡ front ++ left)
         × Appends (W.contents writer.old) (W.contents writer.new) front)) }
     ensures unread { connection.new.unread ≡ connection.old.unread }
     ensures closing { connection.new.closing ≡ connection.old.closing }
@@ -90,12 +92,16 @@ fn answer_all<K: Keeper, W: Write>(
     requires open { connection.old.closing ≡ false }
     requires going { connection.old.stalled ≡ false }
     requires sent { connection.old.unsent ≡ [] }
-    ensures ok { IfOk result (λ requests. (more : List ℕ) × (count : ℕ) × Appends (W.contents writer.old) (W.contents writer.new) more
+    ensures ok { IfOk result (λ requests. (more : List ℕ) × (count : ℕ)
+        × Appends (W.contents writer.old) (W.contents writer.new) more
         × (requests ≡ min (before + count) (2 ^ 64 - 1))
-        × IsFed (K.standing machine.old.keeper) connection.old.unread more count (K.standing machine.new.keeper) connection.new
-        × (connection.new.stalled ≡ false) × (connection.new.unsent ≡ [])) }
-    ensures err { OnErr result ((more : List ℕ) × Appends (W.contents writer.old) (W.contents writer.new) more
-        × StopsWriting (K.standing machine.old.keeper) connection.old.unread more (K.standing machine.new.keeper)) }
+        × IsFed (K.standing machine.old.keeper) connection.old.unread more count
+        (K.standing machine.new.keeper) connection.new × (connection.new.stalled ≡ false)
+        × (connection.new.unsent ≡ [])) }
+    ensures err { OnErr result ((more : List ℕ)
+        × Appends (W.contents writer.old) (W.contents writer.new) more
+        × StopsWriting (K.standing machine.old.keeper) connection.old.unread more
+        (K.standing machine.new.keeper)) }
     ensures fault { IfErr result (λ e. e ≡ StreamFault.Write) }
 {
     let mut requests = before;
@@ -127,7 +133,8 @@ fn answer_all<K: Keeper, W: Write>(
 
 /// How a stream ends whose input ends with so much unread.
 fn end_at(unread: &[u8]) -> Ended
-    ensures { ((unread.now ≡ []) × (result ≡ Ended.Clean)) ⊎ ((unread.now ≢ []) × (result ≡ Ended.Cut)) }
+    ensures { ((unread.now ≡ []) × (result ≡ Ended.Clean))
+        ⊎ ((unread.now ≢ []) × (result ≡ Ended.Cut)) }
 {
     match unread {
         [] => Ended::Clean,
@@ -158,18 +165,22 @@ pub fn serve_stream<K: Keeper, R: Read, W: Write>(
     ensures served { IfOk result (λ served. (input written : List ℕ)
         × IsInput (R.remaining reader.old) input
         × Appends (W.contents writer.old) (W.contents writer.new) written
-        × IsStream (K.standing machine.old.keeper) input written served (K.standing machine.new.keeper)) }
-    ensures memory { result ≡ Err StreamFault.Memory → Stays (K.standing machine.old.keeper) (K.standing machine.new.keeper)
+        × IsStream (K.standing machine.old.keeper) input written served
+        (K.standing machine.new.keeper)) }
+    ensures memory { result ≡ Err StreamFault.Memory
+        → Stays (K.standing machine.old.keeper) (K.standing machine.new.keeper)
         × Keeps (R.remaining reader.old) (R.remaining reader.new)
         × Keeps (W.contents writer.old) (W.contents writer.new) }
     ensures read { result ≡ Err StreamFault.Read → (input written : List ℕ)
         × Consumes (R.remaining reader.old) (R.remaining reader.new) input
         × Appends (W.contents writer.old) (W.contents writer.new) written
-        × StopsReading (K.standing machine.old.keeper) input written (K.standing machine.new.keeper) }
+        × StopsReading (K.standing machine.old.keeper) input written
+        (K.standing machine.new.keeper) }
     ensures write { result ≡ Err StreamFault.Write → (input written : List ℕ)
         × Consumes (R.remaining reader.old) (R.remaining reader.new) input
         × Appends (W.contents writer.old) (W.contents writer.new) written
-        × StopsWriting (K.standing machine.old.keeper) input written (K.standing machine.new.keeper) }
+        × StopsWriting (K.standing machine.old.keeper) input written
+        (K.standing machine.new.keeper) }
 {
     let mut wire = match Wire::new(alloc) {
         Ok(wire) => wire,
@@ -195,16 +206,19 @@ fn serve_from<K: Keeper, R: Read, W: Write>(
     ensures served { IfOk result (λ served. (input written : List ℕ)
         × IsInput (R.remaining reader.old) input
         × Appends (W.contents writer.old) (W.contents writer.new) written
-        × IsStream (K.standing machine.old.keeper) input written served (K.standing machine.new.keeper)) }
+        × IsStream (K.standing machine.old.keeper) input written served
+        (K.standing machine.new.keeper)) }
     ensures memory { result ≢ Err StreamFault.Memory }
     ensures read { result ≡ Err StreamFault.Read → (input written : List ℕ)
         × Consumes (R.remaining reader.old) (R.remaining reader.new) input
         × Appends (W.contents writer.old) (W.contents writer.new) written
-        × StopsReading (K.standing machine.old.keeper) input written (K.standing machine.new.keeper) }
+        × StopsReading (K.standing machine.old.keeper) input written
+        (K.standing machine.new.keeper) }
     ensures write { result ≡ Err StreamFault.Write → (input written : List ℕ)
         × Consumes (R.remaining reader.old) (R.remaining reader.new) input
         × Appends (W.contents writer.old) (W.contents writer.new) written
-        × StopsWriting (K.standing machine.old.keeper) input written (K.standing machine.new.keeper) }
+        × StopsWriting (K.standing machine.old.keeper) input written
+        (K.standing machine.new.keeper) }
 {
     let mut requests = 0;
     for _ in 0..u64::MAX {

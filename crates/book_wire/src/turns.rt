@@ -98,11 +98,14 @@ fn reply_to<K: Keeper>(
 ) -> Result<(), StreamFault>
     requires { length out.old < 8192 }
     ensures ok { OnOk result ((reply : ReplyOf)
-        × ServesAny (K.standing machine.old.keeper) (K.standing machine.new.keeper) (caller_name (asked_view asked.entry).caller) (Some request.now) reply
-        × (out.new ≡ out.old ++ spelling reply (is_head_method asked.entry.method) asked.entry.closes)) }
-    ensures err { IfErr result (λ e. (e ≡ StreamFault.Write) × ((reply : ReplyOf)
-        × ServesAny (K.standing machine.old.keeper) (K.standing machine.new.keeper) (caller_name (asked_view asked.entry).caller) (Some request.now) reply
-        × (out.new ≡ out.old))) }
+        × ServesAny (K.standing machine.old.keeper) (K.standing machine.new.keeper)
+        (caller_name (asked_view asked.entry).caller) (Some request.now) reply
+        × (out.new ≡ out.old ++ spelling reply
+        (is_head_method asked.entry.method) asked.entry.closes)) }
+    ensures err { IfErr result (λ e. (e ≡ StreamFault.Write)
+        × ((reply : ReplyOf) × ServesAny (K.standing machine.old.keeper)
+        (K.standing machine.new.keeper) (caller_name (asked_view asked.entry).caller)
+        (Some request.now) reply × (out.new ≡ out.old))) }
 {
     telling_changes_nothing();
     let reply = machine.serve(alloc, caller_name(asked.caller), request);
@@ -123,12 +126,15 @@ fn answer<K: Keeper>(
     requires few { length out.old < 8192 }
     ensures ok { OnOk result ((request : Option RequestOf) × (reply : ReplyOf)
         × IsAskedBy (asked_view asked.entry) body.now request reply
-        × ServesAny (K.standing machine.old.keeper) (K.standing machine.new.keeper) (caller_name (asked_view asked.entry).caller) request reply
-        × (out.new ≡ out.old ++ spelling reply (is_head_method asked.entry.method) asked.entry.closes)) }
-    ensures err { IfErr result (λ e. (e ≡ StreamFault.Write) × ((request : Option RequestOf) × (reply : ReplyOf)
+        × ServesAny (K.standing machine.old.keeper) (K.standing machine.new.keeper)
+        (caller_name (asked_view asked.entry).caller) request reply
+        × (out.new ≡ out.old ++ spelling reply
+        (is_head_method asked.entry.method) asked.entry.closes)) }
+    ensures err { IfErr result (λ e. (e ≡ StreamFault.Write)
+        × ((request : Option RequestOf) × (reply : ReplyOf)
         × IsAskedBy (asked_view asked.entry) body.now request reply
-        × ServesAny (K.standing machine.old.keeper) (K.standing machine.new.keeper) (caller_name (asked_view asked.entry).caller) request reply
-        × (out.new ≡ out.old))) }
+        × ServesAny (K.standing machine.old.keeper) (K.standing machine.new.keeper)
+        (caller_name (asked_view asked.entry).caller) request reply × (out.new ≡ out.old))) }
 {
     match request_of(alloc, router, &asked, body) {
         Ok(request) => reply_to(alloc, machine, out, asked, &request),
@@ -148,9 +154,11 @@ pub(crate) fn answer_one<K: Keeper>(
     requires homes { HasHomes router.now }
     requires few { length out.old < 8192 }
     ensures ok { IfOk result (λ turn. (written : List ℕ) × (out.new ≡ out.old ++ written)
-        × IsTurn (K.standing machine.old.keeper) buffer.old written turn (K.standing machine.new.keeper) buffer.new) }
-    ensures err { IfErr result (λ e. (e ≡ StreamFault.Write) × ((pending : List ℕ)
-        × IsPending (K.standing machine.old.keeper) buffer.old pending (K.standing machine.new.keeper) × (out.new ≡ out.old))) }
+        × IsTurn (K.standing machine.old.keeper) buffer.old written turn
+        (K.standing machine.new.keeper) buffer.new) }
+    ensures err { IfErr result (λ e. (e ≡ StreamFault.Write)
+        × ((pending : List ℕ) × IsPending (K.standing machine.old.keeper) buffer.old pending
+        (K.standing machine.new.keeper) × (out.new ≡ out.old))) }
     ensures kept { OnErr result (buffer.new ≡ buffer.old) }
 {
     let unread = buffer.unread();

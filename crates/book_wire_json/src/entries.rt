@@ -44,8 +44,8 @@ fn has_entry_keys(value: &Value) -> bool
 
 /// The one of two that is there, where the other is not; and whether it is the second.
 fn either<'a>(first: Option<&'a Value>, second: Option<&'a Value>) -> Option<(bool, &'a Value)>
-    ensures { option_map (λ found. (found.0, view found.1.now)) result
-        ≡ either (option_map (λ v. view v.now) first.entry) (option_map (λ v. view v.now) second.entry) }
+    ensures { option_map (λ found. (found.0, view found.1.now)) result ≡ either
+        (option_map (λ v. view v.now) first.entry) (option_map (λ v. view v.now) second.entry) }
 {
     match (first, second) {
         (Some(value), None) => Some((false, value)),
@@ -69,8 +69,9 @@ fn action_in<'a>(
     alloc: Global,
     value: &'a Value,
 ) -> Result<Option<(bool, Vec<&'a str>)>, AllocError>
-    ensures { IfOk result (λ found. option_map (λ action. (action.0, map (λ n. n.now) action.1.items)) found
-        ≡ action_in (view value.now)) }
+    ensures { IfOk result (λ found. option_map
+        (λ action. (action.0, map (λ n. n.now) action.1.items)) found ≡ action_in
+        (view value.now)) }
 {
     let Some((deny, list)) = either(value.get("grant"), value.get("deny")) else {
         return Ok(None);

@@ -123,7 +123,8 @@ fn push_listing(
     index: usize,
 ) -> Result<(), AllocError>
     requires { index < length (pieces (contents.Listing responses.now)) }
-    ensures { OnOk result (out.new.items ≡ out.old.items ++ get_or (pieces (contents.Listing responses.now)) index []) }
+    ensures { OnOk result (out.new.items ≡ out.old.items ++ get_or
+        (pieces (contents.Listing responses.now)) index []) }
 {
     if index == 0 {
         return push_str(out, "{\"responses\":[");
@@ -161,8 +162,8 @@ fn push_remaining(
     later: bool,
     book: &Name,
 ) -> Result<(), AllocError>
-    ensures { OnOk result (out.new.items
-        ≡ out.old.items ++ (comma_if later ++ compact_text (status_data (book_path book.now) 507))) }
+    ensures { OnOk result (out.new.items ≡ out.old.items ++
+        (comma_if later ++ compact_text (status_data (book_path book.now) 507))) }
 {
     push_comma(out, later)?;
     let mut text = memory.begin(alloc);
@@ -191,8 +192,8 @@ fn push_report_end(
     memory: &mut PieceMemory,
     token: &Token,
 ) -> Result<(), AllocError>
-    ensures { OnOk result (out.new.items
-        ≡ out.old.items ++ (codes "],\"sync-token\":" ++ quoted (token_text token.now) ++ codes "}")) }
+    ensures { OnOk result (out.new.items ≡ out.old.items ++ (codes "],\"sync-token\":" ++ quoted
+        (token_text token.now) ++ codes "}")) }
 {
     push_str(out, "],\"sync-token\":")?;
     push_token(alloc, out, memory, token)?;
@@ -201,8 +202,10 @@ fn push_report_end(
 
 /// Whether the item at this place says that changes remain.
 fn is_cut(report: &Report, place: usize) -> bool
-    ensures cut { result ≡ true → (report.now.truncated ≡ true) × (place ≡ length report.now.items) }
-    ensures whole { result ≡ false → (report.now.truncated ≡ false) ⊎ (place ≢ length report.now.items) }
+    ensures cut { result ≡ true → (report.now.truncated ≡ true)
+        × (place ≡ length report.now.items) }
+    ensures whole { result ≡ false → (report.now.truncated ≡ false)
+        ⊎ (place ≢ length report.now.items) }
 {
     report.truncated && place == report.items.len()
 }
@@ -216,7 +219,8 @@ fn push_report(
     index: usize,
 ) -> Result<(), AllocError>
     requires { index < length (pieces (contents.Synced report.now)) }
-    ensures { OnOk result (out.new.items ≡ out.old.items ++ get_or (pieces (contents.Synced report.now)) index []) }
+    ensures { OnOk result (out.new.items ≡ out.old.items ++ get_or
+        (pieces (contents.Synced report.now)) index []) }
 {
     if index == 0 {
         return push_str(out, "{\"responses\":[");
@@ -259,7 +263,8 @@ fn push_hrefs(
     book: &Name,
     names: &[Name],
 ) -> Result<(), AllocError>
-    ensures { OnOk result (out.new.items ≡ out.old.items ++ compact_text (hrefs_data book.now names.now)) }
+    ensures { OnOk result (out.new.items ≡ out.old.items ++ compact_text
+        (hrefs_data book.now names.now)) }
 {
     let mut text = memory.begin(alloc);
     write_hrefs(&mut text, book, names)?;
@@ -274,8 +279,8 @@ fn push_members_end(
     book: &Name,
     reached: &[Name],
 ) -> Result<(), AllocError>
-    ensures { OnOk result (out.new.items
-        ≡ out.old.items ++ (codes "],\"reached\":" ++ compact_text (hrefs_data book.now reached.now) ++ codes "}")) }
+    ensures { OnOk result (out.new.items ≡ out.old.items ++ (codes "],\"reached\":" ++ compact_text
+        (hrefs_data book.now reached.now) ++ codes "}")) }
 {
     push_str(out, "],\"reached\":")?;
     push_hrefs(alloc, out, memory, book, reached)?;
@@ -354,7 +359,8 @@ fn push_rulings(
     memory: &mut PieceMemory,
     rulings: &[Ruling],
 ) -> Result<(), AllocError>
-    ensures { OnOk result (out.new.items ≡ out.old.items ++ compact_text (rulings_data rulings.now)) }
+    ensures { OnOk result (out.new.items ≡ out.old.items ++ compact_text
+        (rulings_data rulings.now)) }
 {
     let mut text = memory.begin(alloc);
     write_rulings(&mut text, rulings)?;
@@ -368,7 +374,8 @@ fn push_refusal(
     memory: &mut PieceMemory,
     refusal: &Refusal,
 ) -> Result<(), AllocError>
-    ensures { OnOk result (out.new.items ≡ out.old.items ++ compact_text (refusal_data refusal.now)) }
+    ensures { OnOk result (out.new.items ≡ out.old.items ++ compact_text
+        (refusal_data refusal.now)) }
 {
     let mut text = memory.begin(alloc);
     write_refusal(alloc, &mut text, refusal)?;

@@ -46,8 +46,10 @@ pub(crate) fn all_named(
 
 /// The person that the text names, if it names one. An error is want of memory.
 pub(crate) fn person_in(alloc: Global, text: &str) -> Result<Option<Principal>, AllocError>
-    ensures named { IfOk result (λ found. IfSome found (λ path. IsPerson path × Names text.now path)) }
-    ensures none { IfOk result (λ found. IfNone found ((path : List ℕ) → IsPerson path → Names text.now path → ⊥)) }
+    ensures named { IfOk result (λ found. IfSome found
+        (λ path. IsPerson path × Names text.now path)) }
+    ensures none { IfOk result (λ found. IfNone found
+        ((path : List ℕ) → IsPerson path → Names text.now path → ⊥)) }
 {
     match Principal::parse(alloc, text)? {
         Some(principal) => {

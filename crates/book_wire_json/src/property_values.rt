@@ -223,8 +223,8 @@ fn no_values<'v>() -> LastValues<'v>
 
 /// The values, and this one in the place of its property.
 fn with_value<'v>(last: LastValues<'v>, value: &'v PropertyValue) -> LastValues<'v>
-    ensures { members_of (present (slots result))
-        ≡ put (property_name value.now) (property_data value.now) (members_of (present (slots last.entry))) }
+    ensures { members_of (present (slots result)) ≡ put (property_name value.now)
+        (property_data value.now) (members_of (present (slots last.entry))) }
 {
     match value {
         PropertyValue::Acl(_) => LastValues {
@@ -260,8 +260,8 @@ fn with_value<'v>(last: LastValues<'v>, value: &'v PropertyValue) -> LastValues<
 
 /// Puts a value in the place of its property.
 fn put_value<'v>(last: &mut LastValues<'v>, value: &'v PropertyValue)
-    ensures { members_of (present (slots last.new))
-        ≡ put (property_name value.now) (property_data value.now) (members_of (present (slots last.old))) }
+    ensures { members_of (present (slots last.new)) ≡ put (property_name value.now)
+        (property_data value.now) (members_of (present (slots last.old))) }
 {
     *last = with_value(*last, value);
 }

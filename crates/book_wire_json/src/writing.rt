@@ -144,7 +144,8 @@ impl JsonText {
 
     /// A member of an object that is a path.
     pub(crate) fn path_member(&mut self, name: &str, path: &Path) -> Result<(), AllocError>
-        ensures { OnOk result (self.new ≡ added self.old (key name.now ∷ string (path_text path.now) ∷ [])) }
+        ensures { OnOk result (self.new ≡ added self.old
+            (key name.now ∷ string (path_text path.now) ∷ [])) }
     {
         self.key(name)?;
         self.path(path)
@@ -152,7 +153,8 @@ impl JsonText {
 
     /// A member of an object that is the path of a book.
     pub(crate) fn book_member(&mut self, name: &str, book: &Name) -> Result<(), AllocError>
-        ensures { OnOk result (self.new ≡ added self.old (key name.now ∷ string (book_path book.now) ∷ [])) }
+        ensures { OnOk result (self.new ≡ added self.old
+            (key name.now ∷ string (book_path book.now) ∷ [])) }
     {
         self.key(name)?;
         self.book(book)
@@ -165,7 +167,8 @@ impl JsonText {
         book: &Name,
         card: &Name,
     ) -> Result<(), AllocError>
-        ensures { OnOk result (self.new ≡ added self.old (key name.now ∷ string (card_path book.now card.now) ∷ [])) }
+        ensures { OnOk result (self.new ≡ added self.old
+            (key name.now ∷ string (card_path book.now card.now) ∷ [])) }
     {
         self.key(name)?;
         self.card(book, card)
@@ -181,7 +184,8 @@ impl JsonText {
 
     /// A member of an object that is a number.
     pub(crate) fn number_member(&mut self, name: &str, count: u64) -> Result<(), AllocError>
-        ensures { OnOk result (self.new ≡ added self.old (key name.now ∷ number (decimal count) ∷ [])) }
+        ensures { OnOk result (self.new ≡ added self.old
+            (key name.now ∷ number (decimal count) ∷ [])) }
     {
         self.key(name)?;
         self.number(count)
