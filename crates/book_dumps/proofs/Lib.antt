@@ -1,0 +1,17 @@
+pub mod Common
+pub mod Written
+pub mod ToldLines
+pub mod Turns
+pub mod LinesInTurn
+pub mod Parts
+pub mod Paging
+pub mod Feeds
+pub mod Exact
+pub mod Sets
+pub mod LineLaws
+pub mod Among
+pub mod GroupMembers
+pub mod Everything
+pub mod SameText
+pub mod InByteOrder
+pub mod Telling

@@ -1,0 +1,10 @@
+//! Worked examples of Offices as text, and nothing else: a crate with tests is proved twice, so they stand here. The
+//! wanted texts are those of the rules (own profile), worked out by hand. `offices` has the Office of which they are.
+#![tactic(auto)]
+
+#[cfg(test)]
+mod cuts;
+#[cfg(test)]
+mod offices;
+#[cfg(test)]
+mod texts;
