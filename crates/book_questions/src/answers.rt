@@ -1,6 +1,5 @@
 //! Answers over any keeper.
 
-ghost use Rattle.std.specs.Prelude.{◌≡◌};
 ghost use Rattle.std.specs.Option.{option_copied};
 ghost use Rattle.book_machine.specs.Asking.{Meets, StageAsks};
 ghost use Rattle.book_questions.specs.Who.{TellsWho};
@@ -23,7 +22,8 @@ fn needed_for<K: Keeper>(
     name: Option<&str>,
     question: &Question,
 ) -> Result<Needed, Refusal>
-    ensures { StageAsks K.standing machine.old machine.new result (λ o r. Meets r (needed_for o (option_copied name.entry) question.now)) }
+    ensures { StageAsks K.standing machine.old machine.new result
+        (λ o r. Meets r (needed_for o (option_copied name.entry) question.now)) }
 {
     match question {
         Question::OfRequest(request) => machine.needed(alloc, name, request),
@@ -56,7 +56,8 @@ pub fn why<K: Keeper>(
     name: Option<&str>,
     question: &Question,
 ) -> Result<Text, Refusal>
-    ensures { StageAsks K.standing machine.old machine.new result (λ o r. TellsWhy o (option_copied name.entry) question.now r) }
+    ensures { StageAsks K.standing machine.old machine.new result
+        (λ o r. TellsWhy o (option_copied name.entry) question.now r) }
 {
     let needed = needed_for(alloc, machine, name, question)?;
     let why = why_of(alloc, &mut machine.keeper, &needed)?;
@@ -81,7 +82,8 @@ pub fn who<K: Keeper>(
     path: &Option<Path>,
     denied: bool,
 ) -> Result<Text, Refusal>
-    ensures { StageAsks K.standing machine.old machine.new result (λ o r. TellsWho o denied privilege path.now r) }
+    ensures { StageAsks K.standing machine.old machine.new result
+        (λ o r. TellsWho o denied privilege path.now r) }
 {
     let at = machine.mapped(alloc, path)?;
     let text = told_at(alloc, &mut machine.keeper, &at, denied, privilege.leaves())?;

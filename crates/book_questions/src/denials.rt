@@ -37,7 +37,8 @@ fn earlier<'a>(best: Option<&'a Ruling>, ruling: &'a Ruling) -> &'a Ruling
 
 /// The same, but for a ruling that grants, or whose leaf is none of the set.
 fn better<'a>(best: Option<&'a Ruling>, ruling: &'a Ruling, set: LeafSet) -> Option<&'a Ruling>
-    ensures { option_copied result ≡ earliest (option_copied best.entry) (ungranted set (ruling.now ∷ [])) }
+    ensures { option_copied result ≡ earliest (option_copied best.entry)
+        (ungranted set (ruling.now ∷ [])) }
 {
     if set.has(ruling.leaf) && !ruling.grant {
         Some(earlier(best, ruling))

@@ -5,7 +5,6 @@ ghost use Rattle.book_lists.specs.declared.circles.Caller.TheVariants.{Nobody};
 ghost use Rattle.book_lists.specs.Memberships.{set_of};
 ghost use Rattle.book_office.specs.Keeping.{Reads};
 ghost use Rattle.book_office.specs.Levels.{effective_of};
-ghost use Rattle.book_office_listings.specs.Verdicts.{here_of};
 ghost use Rattle.book_questions.specs.Who.{AreAsked, AreHolders, IsHolder, IsWhoText, callers_of, known_caller};
 
 use crate::rulings::{here_at, in_force, listed_pairs};
@@ -41,9 +40,11 @@ fn callers_in(alloc: Global, persons: &[Listed]) -> Result<Vec<Caller>, AllocErr
     Ok(callers)
 }
 
-/// The callers that there are: nobody, and each person in byte order of the names.
-fn callers_of<K: Keeper>(alloc: Global, keeper: &mut K) -> Result<Items<Caller>, StoreFault>
-    ensures { Reads (K.standing keeper.old) (K.standing keeper.new) result (λ o callers. callers ≡ callers_of o) }
+/// The callers that there are: nobody, and each person in byte order of the names. An error is want of memory or a failure of
+/// the store.
+pub fn callers_of<K: Keeper>(alloc: Global, keeper: &mut K) -> Result<Items<Caller>, StoreFault>
+    ensures { Reads (K.standing keeper.old) (K.standing keeper.new) result
+        (λ o callers. callers ≡ callers_of o) }
 {
     let persons = keeper.children(alloc, &Path::People)?;
     Ok(Items::from_vec(callers_in(alloc, persons.as_slice())?))
@@ -58,7 +59,9 @@ fn holder_of<K: Keeper>(
     here: &Here,
     caller: &Caller,
 ) -> Result<Holder, StoreFault>
-    ensures { Reads (K.standing keeper.old) (K.standing keeper.new) result (λ o holder. IsHolder o.pairs (set_of pairs.now) (effective_of levels.now) here.now caller.now holder) }
+    ensures { Reads (K.standing keeper.old) (K.standing keeper.new) result
+        (λ o holder. IsHolder o.pairs (set_of pairs.now)
+        (effective_of levels.now) here.now caller.now holder) }
 {
     let circle = keeper.circle(alloc, caller)?;
     let rulings = rulings(alloc, levels, &circle, here)?;
@@ -81,7 +84,8 @@ fn holder_each<K: Keeper>(
     callers: &[Caller],
 ) -> Result<Vec<Holder>, StoreFault>
     ensures { Reads (K.standing keeper.old) (K.standing keeper.new) result
-        (λ o holders. AreHolders o.pairs (set_of pairs.now) (effective_of levels.now) here.now callers.now holders.items) }
+        (λ o holders. AreHolders o.pairs (set_of pairs.now)
+        (effective_of levels.now) here.now callers.now holders.items) }
 {
     let mut holders = Vec::new(alloc);
     for caller in callers {
@@ -102,7 +106,8 @@ fn holders_at<K: Keeper>(
     keeper: &mut K,
     path: &Path,
 ) -> Result<Items<Holder>, StoreFault>
-    ensures { Reads (K.standing keeper.old) (K.standing keeper.new) result (λ o holders. AreAsked o path.now holders) }
+    ensures { Reads (K.standing keeper.old) (K.standing keeper.new) result
+        (λ o holders. AreAsked o path.now holders) }
 {
     let callers = callers_of(alloc, keeper)?;
     let here = here_at(alloc, keeper, path)?;

@@ -24,7 +24,10 @@ mod who_lines;
 mod whys;
 
 pub use answers::{who, why};
-pub use holders::Holder;
+pub use holders::{Holder, callers_of};
 pub use laws::{rulings_tell_the_verdict, who_is_exact, why_tells_the_reply};
+pub use lines::push_names;
 pub use questions::{Question, question_of};
+pub use rulings::{here_at, in_force, listed_pairs};
+pub use who_lines::caller_text;
 pub use whys::{InForce, Why, WhyNeed};

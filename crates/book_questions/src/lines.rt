@@ -34,7 +34,8 @@ fn push_standing(
     entry: &EffectiveEntry,
 ) -> Result<(), AllocError>
     requires { index < length force.now.list }
-    ensures { OnOk result (string_bytes text.new ≡ string_bytes text.old ++ standing_lines force.now chains.now index entry.now) }
+    ensures { OnOk result (string_bytes text.new ≡
+        string_bytes text.old ++ standing_lines force.now chains.now index entry.now) }
 {
     let place = entry.path.text(alloc)?;
     let number = count_in(
@@ -60,7 +61,8 @@ fn push_numbered(
     chains: &[Chain],
     number: usize,
 ) -> Result<(), AllocError>
-    ensures { OnOk result (string_bytes text.new ≡ string_bytes text.old ++ numbered_lines force.now chains.now number) }
+    ensures { OnOk result (string_bytes text.new ≡
+        string_bytes text.old ++ numbered_lines force.now chains.now number) }
 {
     if number == 0 {
         return text.push_str("\n");
@@ -87,7 +89,9 @@ fn push_decided(
     chains: &[Chain],
     ruling: &Ruling,
 ) -> Result<(), AllocError>
-    ensures { OnOk result (string_bytes text.new ≡ string_bytes text.old ++ decided_lines force.now chains.now ruling.now.grant ruling.now.entry) }
+    ensures { OnOk result (string_bytes text.new ≡
+        string_bytes text.old ++ decided_lines force.now chains.now ruling.now.grant
+        ruling.now.entry) }
 {
     match &ruling.entry {
         None => text.push_str(" denied, none granted\n"),
@@ -107,7 +111,8 @@ fn push_ruling(
     chains: &[Chain],
     ruling: &Ruling,
 ) -> Result<(), AllocError>
-    ensures { OnOk result (string_bytes text.new ≡ string_bytes text.old ++ ruling_lines force.now chains.now ruling.now) }
+    ensures { OnOk result (string_bytes text.new ≡
+        string_bytes text.old ++ ruling_lines force.now chains.now ruling.now) }
 {
     text.push_str(" ")?;
     text.push_str(ruling.leaf.name())?;
@@ -123,7 +128,8 @@ fn push_ruled(
     set: LeafSet,
     ruling: &Ruling,
 ) -> Result<(), AllocError>
-    ensures { OnOk result (string_bytes text.new ≡ string_bytes text.old ++ ruled_lines force.now chains.now set ruling.now) }
+    ensures { OnOk result (string_bytes text.new ≡
+        string_bytes text.old ++ ruled_lines force.now chains.now set ruling.now) }
 {
     if set.has(ruling.leaf) {
         push_ruling(alloc, text, force, chains, ruling)
@@ -141,7 +147,8 @@ pub(crate) fn push_set(
     set: LeafSet,
     rulings: &[Ruling],
 ) -> Result<(), AllocError>
-    ensures { OnOk result (string_bytes text.new ≡ string_bytes text.old ++ set_lines force.now chains.now set rulings.now) }
+    ensures { OnOk result (string_bytes text.new ≡
+        string_bytes text.old ++ set_lines force.now chains.now set rulings.now) }
 {
     for ruling in rulings {
         push_ruled(alloc, text, force, chains, set, ruling)?;
@@ -149,9 +156,10 @@ pub(crate) fn push_set(
     Ok(())
 }
 
-/// Adds each name, after a space.
-fn push_names(text: &mut String, names: &[Privilege]) -> Result<(), AllocError>
-    ensures { OnOk result (string_bytes text.new ≡ string_bytes text.old ++ flat_map spaced names.now) }
+/// Adds each name, after a space. An error is want of memory.
+pub fn push_names(text: &mut String, names: &[Privilege]) -> Result<(), AllocError>
+    ensures { OnOk result (string_bytes text.new ≡
+        string_bytes text.old ++ flat_map spaced names.now) }
 {
     for name in names {
         text.push_str(" ")?;
@@ -167,7 +175,8 @@ fn push_need(
     chains: &[Chain],
     why: &WhyNeed,
 ) -> Result<(), AllocError>
-    ensures { OnOk result (string_bytes text.new ≡ string_bytes text.old ++ need_lines chains.now why.now) }
+    ensures { OnOk result (string_bytes text.new ≡
+        string_bytes text.old ++ need_lines chains.now why.now) }
 {
     let names = short_privileges(alloc, why.set)?;
     text.push_str("need")?;
@@ -192,7 +201,8 @@ fn push_needs(
     chains: &[Chain],
     whys: &[WhyNeed],
 ) -> Result<(), AllocError>
-    ensures { OnOk result (string_bytes text.new ≡ string_bytes text.old ++ flat_map (need_lines chains.now) whys.now) }
+    ensures { OnOk result (string_bytes text.new ≡ string_bytes text.old ++ flat_map
+        (need_lines chains.now) whys.now) }
 {
     for why in whys {
         push_need(alloc, text, chains, why)?;
@@ -220,7 +230,8 @@ fn push_by(
 
 /// Adds the verdict.
 fn push_verdict(alloc: Global, text: &mut String, denial: &Option<Denial>) -> Result<(), AllocError>
-    ensures { OnOk result (string_bytes text.new ≡ string_bytes text.old ++ verdict_line denial.now) }
+    ensures { OnOk result (string_bytes text.new ≡
+        string_bytes text.old ++ verdict_line denial.now) }
 {
     match denial {
         None => text.push_str("granted\n"),

@@ -44,7 +44,8 @@ pub(crate) fn count_in(
     protected: bool,
     entries: &[EffectiveEntry],
 ) -> Result<usize, AllocError>
-    ensures count { IfOk result (λ count. count ≡ count_by (stands_in place.now protected) entries.now) }
+    ensures count { IfOk result (λ count. count ≡ count_by
+        (stands_in place.now protected) entries.now) }
     ensures bound { IfOk result (λ count. count ≤ length entries.now) }
 {
     let mut count = 0;

@@ -24,7 +24,8 @@ fn owner_at<K: Keeper>(
     keeper: &mut K,
     path: &Path,
 ) -> Result<Option<Principal>, StoreFault>
-    ensures { Reads (K.standing keeper.old) (K.standing keeper.new) result (λ o owner. owner ≡ owner_at o path.now) }
+    ensures { Reads (K.standing keeper.old) (K.standing keeper.new) result
+        (λ o owner. owner ≡ owner_at o path.now) }
 {
     match keeper.find(alloc, path)? {
         Some(node) => Ok(node.owner),
@@ -32,26 +33,26 @@ fn owner_at<K: Keeper>(
     }
 }
 
-/// What entries ask of the resource at a path.
-pub(crate) fn here_at<K: Keeper>(
-    alloc: Global,
-    keeper: &mut K,
-    path: &Path,
-) -> Result<Here, StoreFault>
-    ensures { Reads (K.standing keeper.old) (K.standing keeper.new) result (λ o here. here ≡ here_of o path.now) }
+/// What entries ask of the resource at a path: its owner, and itself where it is a principal; no owner where nothing is
+/// mapped there. An error is want of memory or a failure of the store.
+pub fn here_at<K: Keeper>(alloc: Global, keeper: &mut K, path: &Path) -> Result<Here, StoreFault>
+    ensures { Reads (K.standing keeper.old) (K.standing keeper.new) result
+        (λ o here. here ≡ here_of o path.now) }
 {
     let principal = principal_of(alloc, path)?;
     let owner = owner_at(alloc, keeper, path)?;
     Ok(Here { owner, principal })
 }
 
-/// The entries in force at a path, and what they ask of the resource there.
-pub(crate) fn in_force<K: Keeper>(
+/// The entries in force at a path, and what they ask of the resource there. An error is want of memory or a failure of the
+/// store.
+pub fn in_force<K: Keeper>(
     alloc: Global,
     keeper: &mut K,
     path: &Path,
 ) -> Result<InForce, StoreFault>
-    ensures { Reads (K.standing keeper.old) (K.standing keeper.new) result (λ o force. IsInForce o path.now force) }
+    ensures { Reads (K.standing keeper.old) (K.standing keeper.new) result
+        (λ o force. IsInForce o path.now force) }
 {
     let list = effective(alloc, keeper, path)?;
     let here = here_at(alloc, keeper, path)?;
@@ -66,7 +67,8 @@ fn rulings_in_force<K: Keeper>(
     path: &Path,
 ) -> Result<Items<Ruling>, StoreFault>
     ensures { Reads (K.standing keeper.old) (K.standing keeper.new) result
-        (λ o rulings. AreRulings (effective_at o path.now) circle.now (here_of o path.now) rulings) }
+        (λ o rulings. AreRulings (effective_at o path.now) circle.now
+        (here_of o path.now) rulings) }
 {
     let here = here_at(alloc, keeper, path)?;
     let lists = keeper.lists(alloc, path)?;
@@ -80,7 +82,8 @@ fn why_need<K: Keeper>(
     circle: &Circle,
     need: &PlacedNeed,
 ) -> Result<WhyNeed, StoreFault>
-    ensures { Reads (K.standing keeper.old) (K.standing keeper.new) result (λ o why. IsWhyNeed o circle.now need.now why) }
+    ensures { Reads (K.standing keeper.old) (K.standing keeper.new) result
+        (λ o why. IsWhyNeed o circle.now need.now why) }
 {
     let resource = need.resource.clone()?;
     let rulings = rulings_in_force(alloc, keeper, circle, &need.resource)?;
@@ -100,7 +103,8 @@ fn why_each<K: Keeper>(
     circle: &Circle,
     needs: &[PlacedNeed],
 ) -> Result<Vec<WhyNeed>, StoreFault>
-    ensures { Reads (K.standing keeper.old) (K.standing keeper.new) result (λ o whys. AreWhys o circle.now needs.now whys.items) }
+    ensures { Reads (K.standing keeper.old) (K.standing keeper.new) result
+        (λ o whys. AreWhys o circle.now needs.now whys.items) }
 {
     let mut whys = Vec::new(alloc);
     for need in needs {
@@ -115,12 +119,10 @@ fn why_each<K: Keeper>(
     Ok(whys)
 }
 
-/// The direct members of all groups, each as a pair.
-pub(crate) fn listed_pairs<K: Keeper>(
-    alloc: Global,
-    keeper: &mut K,
-) -> Result<Vec<Membership>, StoreFault>
-    ensures { Reads (K.standing keeper.old) (K.standing keeper.new) result (λ o pairs. set_of pairs.items ≡ o.pairs) }
+/// The direct members of all groups, each as a pair. An error is want of memory or a failure of the store.
+pub fn listed_pairs<K: Keeper>(alloc: Global, keeper: &mut K) -> Result<Vec<Membership>, StoreFault>
+    ensures { Reads (K.standing keeper.old) (K.standing keeper.new) result
+        (λ o pairs. set_of pairs.items ≡ o.pairs) }
 {
     let pairs = keeper.pairs(alloc)?;
     Ok(pairs.list()?)
@@ -132,7 +134,8 @@ fn chains_at<K: Keeper>(
     keeper: &mut K,
     caller: &Caller,
 ) -> Result<Items<Chain>, StoreFault>
-    ensures { Reads (K.standing keeper.old) (K.standing keeper.new) result (λ o chains. AreChainsOf o.pairs caller.now chains) }
+    ensures { Reads (K.standing keeper.old) (K.standing keeper.new) result
+        (λ o chains. AreChainsOf o.pairs caller.now chains) }
 {
     let pairs = listed_pairs(alloc, keeper)?;
     Ok(chains_of(alloc, pairs.as_slice(), caller)?)
@@ -144,7 +147,8 @@ pub(crate) fn why_of<K: Keeper>(
     keeper: &mut K,
     needed: &Needed,
 ) -> Result<Why, StoreFault>
-    ensures { Reads (K.standing keeper.old) (K.standing keeper.new) result (λ o why. IsWhy o needed.now why) }
+    ensures { Reads (K.standing keeper.old) (K.standing keeper.new) result
+        (λ o why. IsWhy o needed.now why) }
 {
     let circle = keeper.circle(alloc, &needed.caller)?;
     let whys = why_each(alloc, keeper, &circle, needed.needs.as_slice())?;

@@ -1,7 +1,6 @@
 //! Who is told, as lines of text.
 
 ghost use Rattle.std.specs.Prelude.{◌≡◌, ◌++◌, IfOk, OnOk, string_bytes};
-ghost use Rattle.std.specs.List.{flat_map};
 ghost use Rattle.book_questions.specs.Who.{caller_text, holder_lines, is_denied, told_lines, who_text};
 
 use crate::denials::earliest;
@@ -12,8 +11,8 @@ use book_lists::Caller;
 use book_rights::LeafSet;
 use std::alloc::{AllocError, Global};
 
-/// The text of a caller.
-fn caller_text(caller: &Caller) -> &str
+/// The text of a caller: the path of a person, or `nobody`.
+pub fn caller_text(caller: &Caller) -> &str
     ensures { result.now ≡ caller_text caller.now }
 {
     match caller {
@@ -30,7 +29,8 @@ fn push_holder(
     set: LeafSet,
     holder: &Holder,
 ) -> Result<(), AllocError>
-    ensures { OnOk result (string_bytes text.new ≡ string_bytes text.old ++ holder_lines force.now set holder.now) }
+    ensures { OnOk result (string_bytes text.new ≡
+        string_bytes text.old ++ holder_lines force.now set holder.now) }
 {
     text.push_str(caller_text(&holder.caller))?;
     text.push_str("\n")?;
@@ -60,7 +60,8 @@ fn push_told(
     set: LeafSet,
     holder: &Holder,
 ) -> Result<(), AllocError>
-    ensures { OnOk result (string_bytes text.new ≡ string_bytes text.old ++ told_lines denied force.now set holder.now) }
+    ensures { OnOk result (string_bytes text.new ≡
+        string_bytes text.old ++ told_lines denied force.now set holder.now) }
 {
     let told = if denied {
         is_denied(set, holder)
