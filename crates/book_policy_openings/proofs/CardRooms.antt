@@ -1,0 +1,25 @@
+-- A card fits into a book that is there and has room for one more.
+use Rattle.std.proofs.Common.{◌≡◌, ℕ, List, Option, Some, None, refl, inr, lit≤}
+use Rattle.std.specs.Prelude.{codes, option_map, unwrap_or}
+use Rattle.std.specs.FinMap.{get, len}
+use Rattle.std.specs.Str.{IsUtf8}
+use Rattle.book_lists.specs.Names.{IsName}
+use Rattle.book_office.specs.Fitting.{PutCardFits}
+use Rattle.book_office.specs.Resources.{book_resource, count_at, node_at, node_of}
+use Rattle.book_office.specs.Sound.{Fits, IsSound}
+use Rattle.book_office_values.specs.declared.offices.Book.{Book}
+use Rattle.book_office_values.specs.declared.offices.Office.{Office}
+use Rattle.book_office_values.specs.declared.paths.Path.TheVariants as path
+use Rattle.book_policy_openings.specs.Openings.{HasRoomIn, MayHaveMore, trial_card}
+
+by_book : (o : Office) (name : List ℕ) (book : Option Book) → get o.books name ≡ book
+    → MayHaveMore (option_map node_of (option_map book_resource book)) (unwrap_or (option_map (λ (b : Book). len b.cards) book) 0) → HasRoomIn o name
+by_book o name None is more = absurd more
+by_book o name (Some book) is more = record { book = book; is_there = is; number = more.0; room = more.1 }
+
+pub room_in : (o : Office) (name : List ℕ) → MayHaveMore (node_at o (path.Book name)) (count_at o (path.Book name)) → HasRoomIn o name
+room_in o name more = by_book o name (get o.books name) refl more
+
+pub card_fits : PutCardFits → (o : Office) (name : List ℕ) → IsSound o → HasRoomIn o name → IsName (codes "card") → IsUtf8 (codes "card") → Fits o (trial_card name)
+card_fits fits o name sound room is_name utf8 =
+    fits o name (codes "card") None (codes "card") room.book sound room.is_there is_name tt room.number (inr room.room) (record { utf8 = utf8; short = lit≤ tt })

@@ -1,0 +1,4 @@
+pub mod InMemory
+pub mod CardRooms
+pub mod Reading
+pub mod Finding

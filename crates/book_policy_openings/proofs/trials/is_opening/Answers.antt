@@ -1,0 +1,11 @@
+use Rattle.std.proofs.Common.{subst}
+use Rattle.std.proofs.lemmas.Result.{IfOk-weaker}
+use Rattle.book_office_values.specs.declared.offices.Office.{Office}
+use Rattle.book_policy_openings.specs.Openings.{IsOpeningFrom}
+use Rattle.book_policy_openings.proofs.trials.is_opening.Goals as goal
+
+pub returns : goal.returns
+returns c =
+    IfOk-weaker c.opens_from.result _ _
+    (λ opens is agreed. subst (λ (o : Office). IsOpeningFrom o c.args.opening.now) c.in_ok-machine.ensures.office (is agreed))
+    c.opens_from.ensures

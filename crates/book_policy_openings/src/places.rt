@@ -1,0 +1,93 @@
+//! Decisions by the entries of a policy alone. No contract tells them: what they lead to is served before it is told.
+
+use book_lists::{Circle, Deciders, Entry, Here, Outcome, Principal};
+use book_office_values::{Items, Path, Text};
+use book_policy_values::Policy;
+use book_rights::LeafSet;
+use std::alloc::{AllocError, Global};
+
+/// A list that a request put in place of an own list.
+#[derive(Drop)]
+pub(crate) struct Replaced {
+    /// The text of the path where it stands.
+    pub(crate) at: Text,
+    /// The list.
+    pub(crate) list: Items<Entry>,
+}
+
+/// A place at which a decision is asked.
+#[derive(Drop)]
+pub(crate) struct Place {
+    /// The texts of its path and of those above it, up to the root's.
+    levels: Vec<Text>,
+    /// What entries ask of it.
+    here: Here,
+}
+
+/// The list that stands in place of the own list at a path, or else the one of the policy; none where there is neither.
+fn own_at<'a>(policy: &'a Policy, at: &Text, replaced: &'a [Replaced]) -> Option<&'a Items<Entry>> {
+    for one in replaced {
+        if one.at == *at {
+            return Some(&one.list);
+        }
+    }
+    policy.own_at(at)
+}
+
+impl Place {
+    /// The place with a path, an owner and a principal. An error is want of memory.
+    pub(crate) fn new(
+        alloc: Global,
+        path: &Path,
+        owner: Option<Principal>,
+        principal: Option<Principal>,
+    ) -> Result<Place, AllocError> {
+        let mut levels = Vec::new(alloc);
+        for level in path.levels(alloc)?.as_slice() {
+            levels.push(Text::from_string(level.text(alloc)?))?;
+        }
+        Ok(Place {
+            levels,
+            here: Here { owner, principal },
+        })
+    }
+
+    /// Goes over the protected entries.
+    fn judge_protected(&self, policy: &Policy, circle: &Circle, scan: &mut Deciders) {
+        for level in &self.levels {
+            if let Some(list) = policy.protected_at(level) {
+                scan.judge_over(list.as_slice(), circle, &self.here);
+            }
+        }
+    }
+
+    /// Goes over the other entries, where these lists stand in place of own lists.
+    fn judge_own(
+        &self,
+        policy: &Policy,
+        circle: &Circle,
+        replaced: &[Replaced],
+        scan: &mut Deciders,
+    ) {
+        for level in &self.levels {
+            if let Some(list) = own_at(policy, level, replaced) {
+                scan.judge_over(list.as_slice(), circle, &self.here);
+            }
+        }
+    }
+
+    /// Whether the entries in force grant each leaf of the set to who belongs to the circle, where these lists stand in
+    /// place of own lists. It looks at each entry once.
+    pub(crate) fn grants(
+        &self,
+        policy: &Policy,
+        circle: &Circle,
+        set: LeafSet,
+        replaced: &[Replaced],
+    ) -> bool {
+        let mut scan = Deciders::start(set);
+        self.judge_protected(policy, circle, &mut scan);
+        self.judge_own(policy, circle, replaced, &mut scan);
+        matches!(scan.outcome(), Outcome::Allowed)
+    }
+}

@@ -1,0 +1,318 @@
+//! What a policy has: its groups and books, with their places, and who is in which group.
+
+use crate::places::{Place, Replaced};
+use crate::steps::Step;
+use book_lists::{Caller, Circle, Entry, Name, Pairs, Principal, Who, closure, reached_in};
+use book_office_values::{Items, Path, Text};
+use book_policy_values::{Policy, PolicyBook};
+use book_rights::{Leaf, LeafSet, Privilege};
+use std::alloc::{AllocError, Global};
+
+/// A group of the policy.
+#[derive(Drop)]
+pub(crate) struct GroupPlace {
+    /// Its name.
+    pub(crate) name: Name,
+    /// Its path.
+    pub(crate) principal: Principal,
+    /// Its place.
+    pub(crate) place: Place,
+}
+
+/// A book of the policy.
+#[derive(Drop)]
+pub(crate) struct BookPlace {
+    /// Its name.
+    pub(crate) name: Name,
+    /// Its place.
+    pub(crate) place: Place,
+    /// The place of a card in it that nobody owns.
+    pub(crate) card: Place,
+}
+
+/// What the search looks at.
+#[derive(Drop)]
+pub(crate) struct PolicyPlaces {
+    /// The groups and whoever chains of memberships lead to.
+    reach: Pairs,
+    /// The bare names of the persons.
+    pub(crate) persons: Vec<Name>,
+    /// The groups.
+    pub(crate) groups: Vec<GroupPlace>,
+    /// The books.
+    pub(crate) books: Vec<BookPlace>,
+    /// The root.
+    root: Place,
+    /// The home of the groups.
+    groups_home: Place,
+    /// The home of the books.
+    books_home: Place,
+}
+
+/// A person after some requests.
+#[derive(Drop)]
+pub(crate) struct State {
+    /// To what the person belongs.
+    pub(crate) circle: Circle,
+    /// The lists that stand in place of own lists.
+    pub(crate) replaced: Vec<Replaced>,
+}
+
+/// A place that is no principal and has no owner.
+fn bare_place(alloc: Global, path: &Path) -> Result<Place, AllocError> {
+    Place::new(alloc, path, None, None)
+}
+
+/// A copy of an owner, if there is one.
+fn owner_of(book: &PolicyBook) -> Result<Option<Principal>, AllocError> {
+    match &book.owner {
+        Some(owner) => Ok(Some(owner.clone()?)),
+        None => Ok(None),
+    }
+}
+
+/// A group.
+fn group_place(alloc: Global, name: &Name) -> Result<GroupPlace, AllocError> {
+    let principal = Principal::group(alloc, name)?;
+    let path = Path::Group(name.clone()?);
+    Ok(GroupPlace {
+        name: name.clone()?,
+        place: Place::new(alloc, &path, None, Some(principal.clone()?))?,
+        principal,
+    })
+}
+
+/// A book.
+fn book_place(alloc: Global, name: &Name, book: &PolicyBook) -> Result<BookPlace, AllocError> {
+    let path = Path::Book(name.clone()?);
+    Ok(BookPlace {
+        name: name.clone()?,
+        place: Place::new(alloc, &path, owner_of(book)?, None)?,
+        card: bare_place(alloc, &path)?,
+    })
+}
+
+/// The bare names of the persons of the policy.
+fn persons_of(alloc: Global, policy: &Policy) -> Result<Vec<Name>, AllocError> {
+    let mut persons = Vec::new(alloc);
+    for (name, _label) in policy.tables().persons.iter() {
+        persons.push(name.clone()?)?;
+    }
+    Ok(persons)
+}
+
+/// The groups of the policy.
+fn group_places(alloc: Global, policy: &Policy) -> Result<Vec<GroupPlace>, AllocError> {
+    let mut places = Vec::new(alloc);
+    for (name, _label) in policy.tables().groups.iter() {
+        places.push(group_place(alloc, name)?)?;
+    }
+    Ok(places)
+}
+
+/// The books of the policy.
+fn book_places(alloc: Global, policy: &Policy) -> Result<Vec<BookPlace>, AllocError> {
+    let mut shelves = Vec::new(alloc);
+    for (name, book) in policy.tables().books.iter() {
+        shelves.push(book_place(alloc, name, book)?)?;
+    }
+    Ok(shelves)
+}
+
+/// The leaf alone.
+fn only(leaf: Leaf) -> LeafSet {
+    LeafSet::empty().with(leaf)
+}
+
+/// A list of one entry, which grants the person everything.
+fn granting_list(alloc: Global, person: &Principal) -> Result<Items<Entry>, AllocError> {
+    let mut list = Items::new(alloc);
+    list.push(Entry {
+        who: Who::Href(person.clone()?),
+        invert: false,
+        deny: false,
+        set: Privilege::All.leaves(),
+    })?;
+    Ok(list)
+}
+
+/// Copies of the lists.
+fn copies_of(alloc: Global, replaced: &[Replaced]) -> Result<Vec<Replaced>, AllocError> {
+    let mut copies = Vec::new(alloc);
+    for one in replaced {
+        copies.push(Replaced {
+            at: one.at.clone()?,
+            list: one.list.clone()?,
+        })?;
+    }
+    Ok(copies)
+}
+
+impl PolicyPlaces {
+    /// What the policy has. An error is want of memory.
+    pub(crate) fn of(alloc: Global, policy: &Policy) -> Result<PolicyPlaces, AllocError> {
+        Ok(PolicyPlaces {
+            reach: closure(&policy.tables().members)?,
+            persons: persons_of(alloc, policy)?,
+            groups: group_places(alloc, policy)?,
+            books: book_places(alloc, policy)?,
+            root: bare_place(alloc, &Path::Root)?,
+            groups_home: bare_place(alloc, &Path::Groups)?,
+            books_home: bare_place(alloc, &Path::Books)?,
+        })
+    }
+
+    /// How many groups and books there are.
+    pub(crate) fn size(&self) -> usize {
+        self.groups.len().saturating_add(self.books.len())
+    }
+
+    /// A person before any request. An error is want of memory.
+    pub(crate) fn start(&self, alloc: Global, person: &Principal) -> Result<State, AllocError> {
+        let caller = Caller::Known(person.clone()?);
+        Ok(State {
+            circle: reached_in(&self.reach, &caller)?,
+            replaced: Vec::new(alloc),
+        })
+    }
+
+    /// To what a person belongs who was added to a group. Each group of the policy is looked up once.
+    fn joined(
+        &self,
+        alloc: Global,
+        person: &Principal,
+        circle: &Circle,
+        to: &Principal,
+    ) -> Result<Circle, AllocError> {
+        let mut groups = Vec::new(alloc);
+        for group in &self.groups {
+            let one = &group.principal;
+            if circle.has(one) || one == to || self.reach.has(one, to) {
+                groups.push(one.clone()?)?;
+            }
+        }
+        Circle::of(alloc, &Caller::Known(person.clone()?), groups)
+    }
+
+    /// The person after one step more. An error is want of memory.
+    pub(crate) fn after(
+        &self,
+        alloc: Global,
+        person: &Principal,
+        state: &State,
+        step: &Step,
+    ) -> Result<State, AllocError> {
+        let mut replaced = copies_of(alloc, state.replaced.as_slice())?;
+        match step {
+            Step::Join(name) => {
+                let group = Principal::group(alloc, name)?;
+                Ok(State {
+                    circle: self.joined(alloc, person, &state.circle, &group)?,
+                    replaced,
+                })
+            }
+            Step::Grant(path) => {
+                replaced.insert(
+                    0,
+                    Replaced {
+                        at: Text::from_string(path.text(alloc)?),
+                        list: granting_list(alloc, person)?,
+                    },
+                )?;
+                Ok(State {
+                    circle: state.circle.clone()?,
+                    replaced,
+                })
+            }
+        }
+    }
+
+    /// Adds the step that replaces a list, where the person may.
+    fn add_grant(
+        &self,
+        policy: &Policy,
+        state: &State,
+        place: &Place,
+        path: Path,
+        steps: &mut Vec<Step>,
+    ) -> Result<(), AllocError> {
+        let set = only(Leaf::WriteAcl);
+        if place.grants(policy, &state.circle, set, state.replaced.as_slice()) {
+            steps.push(Step::Grant(path))?;
+        }
+        Ok(())
+    }
+
+    /// Adds the steps that replace lists at books and above them.
+    fn add_book_grants(
+        &self,
+        policy: &Policy,
+        state: &State,
+        steps: &mut Vec<Step>,
+    ) -> Result<(), AllocError> {
+        for book in &self.books {
+            let path = Path::Book(book.name.clone()?);
+            self.add_grant(policy, state, &book.place, path, steps)?;
+        }
+        self.add_grant(policy, state, &self.books_home, Path::Books, steps)?;
+        self.add_grant(policy, state, &self.root, Path::Root, steps)
+    }
+
+    /// Adds the steps that replace lists at groups and at their home.
+    fn add_group_grants(
+        &self,
+        policy: &Policy,
+        state: &State,
+        steps: &mut Vec<Step>,
+    ) -> Result<(), AllocError> {
+        for group in &self.groups {
+            let path = Path::Group(group.name.clone()?);
+            self.add_grant(policy, state, &group.place, path, steps)?;
+        }
+        self.add_grant(policy, state, &self.groups_home, Path::Groups, steps)
+    }
+
+    /// Adds the steps that add the person to a group.
+    fn add_joins(
+        &self,
+        policy: &Policy,
+        state: &State,
+        steps: &mut Vec<Step>,
+    ) -> Result<(), AllocError> {
+        let set = only(Leaf::WriteProperties);
+        for group in &self.groups {
+            let replaced = state.replaced.as_slice();
+            if !state.circle.has(&group.principal)
+                && group.place.grants(policy, &state.circle, set, replaced)
+            {
+                steps.push(Step::Join(group.name.clone()?))?;
+            }
+        }
+        Ok(())
+    }
+
+    /// The steps by which the person may get a right at once. An error is want of memory.
+    pub(crate) fn last_steps(
+        &self,
+        alloc: Global,
+        policy: &Policy,
+        state: &State,
+    ) -> Result<Vec<Step>, AllocError> {
+        let mut steps = Vec::new(alloc);
+        self.add_joins(policy, state, &mut steps)?;
+        self.add_book_grants(policy, state, &mut steps)?;
+        Ok(steps)
+    }
+
+    /// The steps by which the person may get a right, at once or by another step. An error is want of memory.
+    pub(crate) fn first_steps(
+        &self,
+        alloc: Global,
+        policy: &Policy,
+        state: &State,
+    ) -> Result<Vec<Step>, AllocError> {
+        let mut steps = self.last_steps(alloc, policy, state)?;
+        self.add_group_grants(policy, state, &mut steps)?;
+        Ok(steps)
+    }
+}

@@ -1,0 +1,289 @@
+//! Trials: a policy is adopted in memory, and requests are served over it.
+
+ghost use Rattle.std.specs.Prelude.{◌≡◌, IfOk, IfSome, IsTrue, OnOk, codes, false, true};
+ghost use Rattle.std.specs.Str.{IsUtf8};
+ghost use Rattle.book_lists.specs.Names.{IsName};
+ghost use Rattle.book_office.specs.Edits.{apply};
+ghost use Rattle.book_office.specs.Resources.{count_at, node_at};
+ghost use Rattle.book_office.specs.Sound.{IsSound};
+ghost use Rattle.book_policy_openings.specs.Openings.{Acts, AnswersRead, HasRoomIn, IsDenial, IsOpening, IsOpeningFrom, Leads, MayHaveMore, Reads, read_card, trial_card, trial_office};
+
+use crate::in_memory::{act_in, adopted, count_in, node_in, serve_in};
+use crate::openings::Opening;
+use crate::steps::{Step, plain, request_of};
+use book_limits::{LAST_NUMBER, MAX_CARDS};
+use book_lists::Name;
+use book_machine::{Body, Content, Machine, Refusal, Reply, Request, refusals_change_nothing};
+use book_office::{Edit, MemoryKeeper, Node, StoreFault, edits_within_the_limits_fit};
+use book_office_values::{Path, Text};
+use book_policy_values::Policy;
+use book_rights::Method;
+use std::alloc::{AllocError, Global};
+
+/// The name of the card that is read in a trial, and its text.
+const CARD: &str = "card";
+
+/// The name of the card.
+fn card_name(alloc: Global) -> Result<Name, AllocError>
+    ensures name { IfOk result (λ name. name ≡ codes "card") }
+    ensures is_name { OnOk result (IsName (codes "card")) }
+{
+    match Name::parse(alloc, CARD)? {
+        Some(name) => Ok(name),
+        None => Err(AllocError),
+    }
+}
+
+/// The text of the card.
+fn card_text(alloc: Global) -> Result<Text, AllocError>
+    ensures text { IfOk result (λ text. text ≡ codes "card") }
+    ensures is_text { OnOk result (IsUtf8 (codes "card")) }
+{
+    let text = Text::copy_of(alloc, CARD)?;
+    text.known();
+    Ok(text)
+}
+
+/// The edit that puts the card into a book. Nobody owns it.
+fn trial_card(alloc: Global, book: &Name) -> Result<Edit, AllocError>
+    ensures edit { IfOk result (λ edit. edit ≡ trial_card book.now) }
+    ensures is_name { OnOk result (IsName (codes "card")) }
+    ensures is_text { OnOk result (IsUtf8 (codes "card")) }
+{
+    let card = card_name(alloc)?;
+    let text = card_text(alloc)?;
+    Ok(Edit::PutCard {
+        book: book.clone()?,
+        card,
+        owner: None,
+        text,
+    })
+}
+
+/// The request that reads the card.
+fn read_card(alloc: Global, book: &Name) -> Result<Request, AllocError>
+    ensures { IfOk result (λ request. request ≡ read_card book.now) }
+{
+    let path = Path::Card(book.clone()?, card_name(alloc)?);
+    Ok(plain(Method::Get, path, Body::Empty))
+}
+
+/// Whether a book that is there, as a keeper tells it, has room for one card more.
+fn may_have_more(node: &Option<Node>, count: usize) -> bool
+    ensures { IsTrue result → MayHaveMore node.now count }
+{
+    let Some(node) = node else {
+        return false;
+    };
+    if node.number >= LAST_NUMBER {
+        return false;
+    }
+    if count >= MAX_CARDS {
+        return false;
+    }
+    true
+}
+
+/// Whether a book is at a path, and has room for one card more.
+fn room_at(alloc: Global, keeper: &mut MemoryKeeper, path: &Path) -> Result<bool, StoreFault>
+    requires { IsSound keeper.old }
+    ensures room { IfOk result (λ room. IsTrue room
+        → MayHaveMore (node_at keeper.old path.now) (count_at keeper.old path.now)) }
+    ensures kept { keeper.new ≡ keeper.old }
+{
+    let node = node_in(alloc, keeper, path)?;
+    let count = count_in(alloc, keeper, path)?;
+    Ok(may_have_more(&node, count))
+}
+
+/// Whether a book is there, and has room for a card.
+fn has_room(alloc: Global, keeper: &mut MemoryKeeper, book: &Name) -> Result<bool, StoreFault>
+    requires { IsSound keeper.old }
+    ensures room { IfOk result (λ room. IsTrue room → HasRoomIn keeper.old book.now) }
+    ensures kept { keeper.new ≡ keeper.old }
+{
+    let path = Path::Book(book.clone()?);
+    room_at(alloc, keeper, &path)
+}
+
+/// Puts the card into a book.
+fn put_card(
+    alloc: Global,
+    machine: &mut Machine<MemoryKeeper>,
+    book: &Name,
+) -> Result<(), StoreFault>
+    requires { IsSound machine.old.keeper }
+    ensures office { OnOk result (machine.new.keeper ≡ apply machine.old.keeper
+        (trial_card book.now)) }
+    ensures sound { OnOk result (IsSound machine.new.keeper) }
+{
+    let room = has_room(alloc, &mut machine.keeper, book)?;
+    if !room {
+        return Err(StoreFault::Memory);
+    }
+    edits_within_the_limits_fit();
+    let edit = trial_card(alloc, book)?;
+    act_in(alloc, &mut machine.keeper, &edit)
+}
+
+/// A machine over an Office in memory that adopted the policy, with a card in the book.
+fn trial(alloc: Global, policy: &Policy, book: &Name) -> Result<Machine<MemoryKeeper>, StoreFault>
+    ensures office { IfOk result (λ machine. machine.keeper ≡ trial_office policy.now book.now) }
+    ensures sound { IfOk result (λ machine. IsSound machine.keeper) }
+{
+    let mut machine = adopted(alloc, policy)?;
+    put_card(alloc, &mut machine, book)?;
+    Ok(machine)
+}
+
+/// Whether a reply has the text of a card.
+fn is_card(reply: &Reply) -> bool
+    ensures { IsTrue result → AnswersRead reply.now true }
+{
+    if reply.status != 200 {
+        return false;
+    }
+    match &reply.content {
+        Content::Card(_) => true,
+        _ => false,
+    }
+}
+
+/// Whether a refusal tells that a privilege is not granted.
+fn is_denial(refusal: &Refusal) -> bool
+    ensures { IsTrue result → IsDenial refusal.now }
+{
+    match refusal {
+        Refusal::NeedPrivileges(_) => true,
+        _ => false,
+    }
+}
+
+/// Whether a reply tells that a privilege is not granted.
+fn is_denied(reply: &Reply) -> bool
+    ensures { IsTrue result → AnswersRead reply.now false }
+{
+    if reply.status != 403 {
+        return false;
+    }
+    match &reply.content {
+        Content::Refusal(refusal) => is_denial(refusal),
+        _ => false,
+    }
+}
+
+/// Whether a reply has the text of a card, or else tells that the privilege to read it is not granted; none where it tells
+/// something else.
+fn reading(reply: &Reply) -> Option<bool>
+    ensures { IfSome result (AnswersRead reply.now) }
+{
+    if is_card(reply) {
+        return Some(true);
+    }
+    if is_denied(reply) {
+        return Some(false);
+    }
+    None
+}
+
+/// Whether a person may read the card of a book. Nothing changes.
+fn may_read(
+    alloc: Global,
+    machine: &mut Machine<MemoryKeeper>,
+    person: &Name,
+    book: &Name,
+) -> Result<bool, StoreFault>
+    requires { IsSound machine.old.keeper }
+    ensures told { IfOk result (Reads machine.old.keeper person.now book.now) }
+    ensures kept { OnOk result (machine.new.keeper ≡ machine.old.keeper) }
+{
+    refusals_change_nothing();
+    let request = read_card(alloc, book)?;
+    let reply = serve_in(alloc, machine, person, &request);
+    match reading(&reply) {
+        Some(may) => Ok(may),
+        None => Err(StoreFault::Memory),
+    }
+}
+
+/// Serves the request of a step, and tells whether it was a success.
+fn acts(
+    alloc: Global,
+    machine: &mut Machine<MemoryKeeper>,
+    person: &Name,
+    step: &Step,
+) -> Result<bool, StoreFault>
+    requires { IsSound machine.old.keeper }
+    ensures acted { IfOk result (λ acted. IsTrue acted
+        → Acts machine.old.keeper person.now step.now machine.new.keeper) }
+    ensures sound { OnOk result (IsSound machine.new.keeper) }
+{
+    let request = request_of(alloc, &mut machine.keeper, person, step)?;
+    let reply = serve_in(alloc, machine, person, &request);
+    if reply.status >= 300 {
+        return Ok(false);
+    }
+    Ok(true)
+}
+
+/// Serves the requests of one step, or of two, and tells whether each was a success.
+fn leads(
+    alloc: Global,
+    machine: &mut Machine<MemoryKeeper>,
+    person: &Name,
+    first: &Step,
+    second: &Option<Step>,
+) -> Result<bool, StoreFault>
+    requires { IsSound machine.old.keeper }
+    ensures led { IfOk result (λ led. IsTrue led
+        → Leads machine.old.keeper person.now first.now second.now machine.new.keeper) }
+    ensures sound { OnOk result (IsSound machine.new.keeper) }
+{
+    let acted = acts(alloc, machine, person, first)?;
+    if !acted {
+        return Ok(false);
+    }
+    match second {
+        Some(second) => acts(alloc, machine, person, second),
+        None => Ok(true),
+    }
+}
+
+/// Whether an opening is one from the Office that the machine has.
+fn opens_from(
+    alloc: Global,
+    machine: &mut Machine<MemoryKeeper>,
+    opening: &Opening,
+) -> Result<bool, StoreFault>
+    requires { IsSound machine.old.keeper }
+    ensures { IfOk result (λ opens. IsTrue opens → IsOpeningFrom machine.old.keeper opening.now) }
+{
+    let open = may_read(alloc, machine, &opening.person, &opening.book)?;
+    if open {
+        return Ok(false);
+    }
+    let led = leads(
+        alloc,
+        machine,
+        &opening.person,
+        &opening.first,
+        &opening.second,
+    )?;
+    if !led {
+        return Ok(false);
+    }
+    may_read(alloc, machine, &opening.person, &opening.book)
+}
+
+/// Whether an opening is one: the person may not read the card of the book, their requests are served with success, and
+/// then they may.
+pub(crate) fn is_opening(
+    alloc: Global,
+    policy: &Policy,
+    opening: &Opening,
+) -> Result<bool, StoreFault>
+    ensures { IfOk result (λ opens. IsTrue opens → IsOpening policy.now opening.now) }
+{
+    let mut machine = trial(alloc, policy, &opening.book)?;
+    opens_from(alloc, &mut machine, opening)
+}

@@ -1,0 +1,2 @@
+pub mod ToldPolicies
+pub mod FirstLines

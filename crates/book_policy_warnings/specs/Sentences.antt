@@ -1,0 +1,66 @@
+-- The lines that tell warnings (own profile).
+use Rattle.std.specs.Prelude.{ℕ, zero, suc, ◌++◌, ◌-◌, List, [], length, take, codes, decimal, Option, Some, None}
+use Rattle.std.specs.List.{flat_map}
+use Rattle.book_lists.specs.Principals.{group_path, person_path}
+use Rattle.book_lists.specs.declared.entries.Who.{Who}
+use Rattle.book_lists.specs.declared.entries.Who.TheVariants.{Href, Everyone, Authenticated, Unauthenticated, Owner, Own}
+use Rattle.book_office_values.specs.Paths.{path_text}
+use Rattle.book_policy_gaps.specs.Lines.{gap_line}
+use Rattle.book_policy_idle.specs.declared.idle.IdleEntry.{IdleEntry}
+use Rattle.book_policy_openings.specs.declared.openings.Opening.{Opening}
+use Rattle.book_policy_openings.specs.declared.steps.Step.{Step}
+use Rattle.book_policy_openings.specs.declared.steps.Step.TheVariants.{Join, Grant}
+use Rattle.book_policy_warnings.specs.declared.warnings.Warning.{Warning}
+use Rattle.book_policy_warnings.specs.declared.warnings.Warning.TheVariants.{NeverDecides, LeavesOpen, Opens}
+
+-- the request of a step: whom it adds to a group, or what it grants
+abbrev pub step_text : List ℕ → Step → List ℕ
+step_text person (Join group) = codes "PROPPATCH " ++ (group_path group ++ (codes " (+ " ++ (person_path person ++ codes ")")))
+step_text person (Grant p) = codes "ACL " ++ (path_text p ++ (codes " (grant " ++ (person_path person ++ codes " all)")))
+
+abbrev pub second_text : List ℕ → Option Step → List ℕ
+second_text person None = []
+second_text person (Some step) = codes "; " ++ step_text person step
+
+abbrev pub granted_text : List ℕ → List ℕ
+granted_text book = codes "; then GET /books/" ++ (book ++ codes "/* is granted\n")
+
+-- who, by which requests, and what is granted then
+abbrev pub opening_line : Opening → List ℕ
+opening_line opening =
+    opening.person ++ (codes ": " ++ (step_text opening.person opening.first ++ (second_text opening.person opening.second
+    ++ granted_text opening.book)))
+
+-- the text of a principal form
+abbrev pub who_text : Who → List ℕ
+who_text (Href principal) = principal
+who_text Everyone = codes "all"
+who_text Authenticated = codes "authenticated"
+who_text Unauthenticated = codes "unauthenticated"
+who_text Owner = codes "owner"
+who_text Own = codes "self"
+
+-- where an entry stands, for whom it is, and that it never decides
+abbrev pub place_text : List ℕ → Who → List ℕ
+place_text at who = codes " (at " ++ (at ++ (codes ", who " ++ (who_text who ++ codes "): never decides\n")))
+
+-- an entry that decides nothing, by its number among those of the policy, from 1
+abbrev pub idle_line : IdleEntry → List ℕ
+idle_line idle = codes "entry " ++ (decimal idle.number ++ place_text idle.at idle.who)
+
+abbrev pub warning_line : Warning → List ℕ
+warning_line (NeverDecides idle) = idle_line idle
+warning_line (LeavesOpen gap) = gap_line gap
+warning_line (Opens opening) = opening_line opening
+
+abbrev pub warning_lines : List Warning → List ℕ
+warning_lines warnings = flat_map warning_line warnings
+
+-- how many more there are, if there are any
+abbrev pub more_line : ℕ → List ℕ
+more_line zero = []
+more_line (suc n) = decimal (suc n) ++ codes " more\n"
+
+-- at most 1,000 lines, and then how many more
+abbrev pub warnings_text : List Warning → List ℕ
+warnings_text warnings = warning_lines (take 1000 warnings) ++ more_line (length warnings - 1000)

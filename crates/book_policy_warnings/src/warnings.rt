@@ -1,0 +1,265 @@
+//! Warnings, and the line that tells each.
+
+ghost use Rattle.std.specs.Prelude.{◌≡◌, ◌++◌, IfOk, OnOk, string_bytes, ◌-◌};
+ghost use Rattle.book_lists.specs.Principals.{group_path, person_path};
+ghost use Rattle.book_office.specs.Edits.{empty_office};
+ghost use Rattle.book_office.specs.Sound.{IsSound};
+ghost use Rattle.book_office_adopting.specs.Adopting.{adopt};
+ghost use Rattle.book_policy_gaps.specs.Finding.{AreGaps};
+ghost use Rattle.book_policy_warnings.specs.Warnings.{AreWarningsOf, gap_warnings, idle_warnings, opening_warnings};
+ghost use Rattle.book_policy_warnings.specs.Sentences.{granted_text, idle_line, more_line, opening_line, place_text, second_text, step_text, warning_line, warning_lines, warnings_text, who_text};
+
+use book_lists::{Name, Who};
+use book_office::{MemoryKeeper, StoreFault};
+use book_office_values::Items;
+use book_policy_gaps::{Gap, gaps_of, push_gap_line};
+use book_policy_idle::{IdleEntry, idle_entries};
+use book_policy_openings::{Opening, Step, adopted, openings_of};
+use book_policy_values::Policy;
+use std::alloc::{AllocError, Global};
+
+/// The most warnings that are told, each by a line.
+const MOST_LINES: usize = 1_000;
+
+/// What a sound policy leaves open (own profile).
+#[derive(Debug, Drop)]
+pub enum Warning {
+    /// An entry decides nothing for anybody.
+    NeverDecides(IdleEntry),
+    /// A plain fact of the Office that the policy makes.
+    LeavesOpen(Gap),
+    /// A person may open a book that is closed to them.
+    Opens(Opening),
+}
+
+/// Adds two texts.
+fn push_both(text: &mut String, first: &str, second: &str) -> Result<(), AllocError>
+    ensures { OnOk result (string_bytes text.new ≡ string_bytes text.old ++
+        (first.now ++ second.now)) }
+{
+    text.push_str(first)?;
+    text.push_str(second)
+}
+
+/// Adds the path of a person.
+fn push_person(text: &mut String, person: &Name) -> Result<(), AllocError>
+    ensures { OnOk result (string_bytes text.new ≡
+        string_bytes text.old ++ person_path person.now) }
+{
+    push_both(text, "/people/", person.text())
+}
+
+/// Adds the path of a group.
+fn push_group(text: &mut String, group: &Name) -> Result<(), AllocError>
+    ensures { OnOk result (string_bytes text.new ≡ string_bytes text.old ++ group_path group.now) }
+{
+    push_both(text, "/groups/", group.text())
+}
+
+/// Adds what a step asks.
+fn push_step(text: &mut String, person: &Name, step: &Step) -> Result<(), AllocError>
+    ensures { OnOk result (string_bytes text.new ≡
+        string_bytes text.old ++ step_text person.now step.now) }
+{
+    match step {
+        Step::Join(group) => {
+            text.push_str("PROPPATCH ")?;
+            push_group(text, group)?;
+            text.push_str(" (+ ")?;
+            push_person(text, person)?;
+            text.push_str(")")
+        }
+        Step::Grant(path) => {
+            text.push_str("ACL ")?;
+            path.push_text(text)?;
+            text.push_str(" (grant ")?;
+            push_person(text, person)?;
+            text.push_str(" all)")
+        }
+    }
+}
+
+/// Adds what a second step asks, if there is one.
+fn push_second(text: &mut String, person: &Name, step: &Option<Step>) -> Result<(), AllocError>
+    ensures { OnOk result (string_bytes text.new ≡
+        string_bytes text.old ++ second_text person.now step.now) }
+{
+    match step {
+        Some(step) => {
+            text.push_str("; ")?;
+            push_step(text, person, step)
+        }
+        None => Ok(()),
+    }
+}
+
+/// Adds what is granted then.
+fn push_granted(text: &mut String, book: &Name) -> Result<(), AllocError>
+    ensures { OnOk result (string_bytes text.new ≡ string_bytes text.old ++ granted_text book.now) }
+{
+    text.push_str("; then GET /books/")?;
+    text.push_str(book.text())?;
+    text.push_str("/* is granted\n")
+}
+
+/// Adds the line of an opening.
+fn push_opening(text: &mut String, opening: &Opening) -> Result<(), AllocError>
+    ensures { OnOk result (string_bytes text.new ≡
+        string_bytes text.old ++ opening_line opening.now) }
+{
+    text.push_str(opening.person.text())?;
+    text.push_str(": ")?;
+    push_step(text, &opening.person, &opening.first)?;
+    push_second(text, &opening.person, &opening.second)?;
+    push_granted(text, &opening.book)
+}
+
+/// The text of a principal form.
+fn who_text(who: &Who) -> &str
+    ensures { result.now ≡ who_text who.now }
+{
+    match who {
+        Who::Href(principal) => principal.text(),
+        Who::Everyone => "all",
+        Who::Authenticated => "authenticated",
+        Who::Unauthenticated => "unauthenticated",
+        Who::Owner => "owner",
+        Who::Own => "self",
+    }
+}
+
+/// Adds where an entry stands, for whom it is, and that it never decides.
+fn push_place(text: &mut String, at: &str, who: &Who) -> Result<(), AllocError>
+    ensures { OnOk result (string_bytes text.new ≡
+        string_bytes text.old ++ place_text at.now who.now) }
+{
+    text.push_str(" (at ")?;
+    text.push_str(at)?;
+    text.push_str(", who ")?;
+    text.push_str(who_text(who))?;
+    text.push_str("): never decides\n")
+}
+
+/// Adds the line of an entry that decides nothing.
+fn push_idle(alloc: Global, text: &mut String, idle: &IdleEntry) -> Result<(), AllocError>
+    ensures { OnOk result (string_bytes text.new ≡ string_bytes text.old ++ idle_line idle.now) }
+{
+    let number = idle.number;
+    let digits = format!(in alloc; "{number}")?;
+    text.push_str("entry ")?;
+    text.push_str(digits.as_str())?;
+    push_place(text, idle.at.as_str(), &idle.who)
+}
+
+impl Warning {
+    /// Adds the line that tells it. An error is want of memory.
+    pub fn push_line(&self, alloc: Global, text: &mut String) -> Result<(), AllocError>
+        ensures { OnOk result (string_bytes text.new ≡
+            string_bytes text.old ++ warning_line self.now) }
+    {
+        match self {
+            Warning::NeverDecides(idle) => push_idle(alloc, text, idle),
+            Warning::LeavesOpen(gap) => push_gap_line(text, gap),
+            Warning::Opens(opening) => push_opening(text, opening),
+        }
+    }
+}
+
+/// Adds the lines of warnings.
+fn push_lines(alloc: Global, text: &mut String, warnings: &[Warning]) -> Result<(), AllocError>
+    ensures { OnOk result (string_bytes text.new ≡
+        string_bytes text.old ++ warning_lines warnings.now) }
+{
+    for warning in warnings {
+        warning.push_line(alloc, text)?;
+    }
+    Ok(())
+}
+
+/// Adds the line that tells how many more there are, if there are any.
+fn push_more(alloc: Global, text: &mut String, more: usize) -> Result<(), AllocError>
+    ensures { OnOk result (string_bytes text.new ≡ string_bytes text.old ++ more_line more) }
+{
+    if more == 0 {
+        return Ok(());
+    }
+    let digits = format!(in alloc; "{more}")?;
+    push_both(text, digits.as_str(), " more\n")
+}
+
+/// The lines of the first 1,000 warnings, and how many more there are, if there are any. An error is want of memory.
+pub fn warnings_text(alloc: Global, warnings: &[Warning]) -> Result<String, AllocError>
+    ensures { IfOk result (λ text. string_bytes text ≡ warnings_text warnings.now) }
+{
+    let mut text = String::new(alloc);
+    let told = warnings.len().min(MOST_LINES);
+    push_lines(alloc, &mut text, &warnings[..told])?;
+    push_more(alloc, &mut text, warnings.len() - told)?;
+    Ok(text)
+}
+
+/// Adds entries that decide nothing.
+fn add_idle(idle: Items<IdleEntry>, warnings: &mut Items<Warning>) -> Result<(), AllocError>
+    ensures { OnOk result (warnings.new ≡ warnings.old ++ idle_warnings idle) }
+{
+    for entry in idle.into_vec() {
+        warnings.push(Warning::NeverDecides(entry))?;
+    }
+    Ok(())
+}
+
+/// Adds plain facts.
+fn add_gaps(gaps: Items<Gap>, warnings: &mut Items<Warning>) -> Result<(), AllocError>
+    ensures { OnOk result (warnings.new ≡ warnings.old ++ gap_warnings gaps) }
+{
+    for gap in gaps.into_vec() {
+        warnings.push(Warning::LeavesOpen(gap))?;
+    }
+    Ok(())
+}
+
+/// Adds openings.
+fn add_openings(openings: Items<Opening>, warnings: &mut Items<Warning>) -> Result<(), AllocError>
+    ensures { OnOk result (warnings.new ≡ warnings.old ++ opening_warnings openings) }
+{
+    for opening in openings.into_vec() {
+        warnings.push(Warning::Opens(opening))?;
+    }
+    Ok(())
+}
+
+/// The plain facts of an Office in memory. An error is want of memory.
+fn gaps_in(alloc: Global, keeper: &mut MemoryKeeper) -> Result<Items<Gap>, StoreFault>
+    requires { IsSound keeper.old }
+    ensures { IfOk result (AreGaps keeper.old) }
+{
+    gaps_of(alloc, keeper)
+}
+
+/// The plain facts of the Office that a policy makes of an empty one. An error is want of memory.
+fn gaps_after(alloc: Global, policy: &Policy) -> Result<Items<Gap>, StoreFault>
+    ensures { IfOk result (AreGaps (adopt policy.now empty_office)) }
+{
+    let mut machine = adopted(alloc, policy)?;
+    gaps_in(alloc, &mut machine.keeper)
+}
+
+/// What a policy leaves open (own profile): exactly the entries that decide nothing for anybody, in order; then exactly the
+/// plain facts of the Office that it makes of an empty one (`gaps_of`); and then who may open what is closed, each with its
+/// witness. That no opening is told is no promise.
+///
+/// # Errors
+///
+/// Want of memory.
+pub fn warnings_of(alloc: Global, policy: &Policy) -> Result<Items<Warning>, StoreFault>
+    ensures { IfOk result (AreWarningsOf policy.now) }
+{
+    let idle = idle_entries(alloc, policy)?;
+    let gaps = gaps_after(alloc, policy)?;
+    let openings = openings_of(alloc, policy)?;
+    let mut warnings = Items::new(alloc);
+    add_idle(idle, &mut warnings)?;
+    add_gaps(gaps, &mut warnings)?;
+    add_openings(openings, &mut warnings)?;
+    Ok(warnings)
+}
