@@ -18,16 +18,15 @@ mod progress;
 
 use beginnings::BEGINNING;
 use book_desk_app::{
-    DONE, Failure, InputFault, Lines, Noting, Prepared, REFUSED, StoreFailure, TextCommand,
-    Work, begin, prepare, run, run_migration, run_text, serve, serve_many, tell, tell_line,
+    Failure, InputFault, Lines, Noting, Prepared, StoreFailure, TextCommand, Work, begin, prepare,
+    run, run_migration, run_text, serve, serve_many, tell, tell_line,
 };
+use book_desk_checks::check;
 use book_desk_loop::{Limits, Polled};
-use book_desk_questions::{WhoWords, WhyWords, Words, run_question};
+use book_desk_questions::{RightsWords, WhoWords, WhyWords, Words, run_dump, run_question};
 use book_desk_words::{Command, WordsFault, command_of, words_not_text};
 use book_machine::Machine;
 use book_office::Keeper;
-use book_policy::PolicyFault;
-use book_policy_checks::{Checked, tell_faults};
 use book_tables_schema::Unopened;
 use builds::BUILD;
 use files::{Opened, close, open_former, open_inputs, open_policy};
@@ -142,17 +141,17 @@ fn work<W: Write, E: Lines>(
     status
 }
 
-/// The command `check`: the policy's file is read, and each fault of it is told.
-fn check<E: Lines>(rt: &HostRuntime, policy: &str, errors: &mut E) -> u8 {
-    let bytes = match open_policy(rt, policy) {
-        Ok(bytes) => bytes,
-        Err(failure) => return tell_line(errors, &failure),
-    };
-    match tell_faults(rt.alloc(), bytes, errors) {
-        Checked::Sound => DONE,
-        Checked::Faulty(_) => REFUSED,
-        Checked::NotUtf8 => tell_line(errors, &Failure::Input(InputFault::NotUtf8)),
-        Checked::Memory => tell_line(errors, &Failure::Policy(PolicyFault::Memory)),
+/// The command `check`: the policy's file is read, and each fault of it is told, or what it leaves open.
+fn check_file<W: Write, E: Lines>(
+    rt: &HostRuntime,
+    policy: &str,
+    strict: bool,
+    writer: &mut W,
+    errors: &mut E,
+) -> u8 {
+    match open_policy(rt, policy) {
+        Ok(bytes) => check(rt.alloc(), bytes, strict, writer, errors),
+        Err(failure) => tell_line(errors, &failure),
     }
 }
 
@@ -208,6 +207,16 @@ fn words_of_who<'a>(privilege: &'a str, path: &'a str, denied: bool) -> Words<'a
     })
 }
 
+/// The words of `rights`.
+fn words_of_rights<'a>(at: Option<&'a str>, caller: Option<&'a str>, shared: bool) -> Words<'a> {
+    Words::Rights(RightsWords { at, caller, shared })
+}
+
+/// The words of `show`.
+fn words_of_show<'a>(path: &'a str) -> Words<'a> {
+    Words::Show(path)
+}
+
 /// The commands that ask: the store's file, which has to be there, is opened, and the question answered.
 fn ask<W: Write, E: Lines>(
     rt: &HostRuntime,
@@ -225,6 +234,21 @@ fn ask<W: Write, E: Lines>(
         return tell(errors, &Failure::Store(StoreFailure::NoStore));
     };
     let (status, left) = run_question(rt.alloc(), words, store, writer, errors);
+    close(left);
+    status
+}
+
+/// The command `dump`: the store's file, which has to be there, is opened, and its Office written.
+fn dump<W: Write, E: Lines>(rt: &HostRuntime, store: String, writer: &mut W, errors: &mut E) -> u8 {
+    let Opened { store, policy } = match open_inputs(rt, &Some(store), &None, true) {
+        Ok(opened) => opened,
+        Err(failure) => return tell(errors, &failure),
+    };
+    drop(policy);
+    let Some(store) = store else {
+        return tell(errors, &Failure::Store(StoreFailure::NoStore));
+    };
+    let (status, left) = run_dump(rt.alloc(), store, writer, errors);
     close(left);
     status
 }
@@ -410,7 +434,13 @@ fn perform<W: Write, E: Lines>(
             };
             work(rt, Work::Import, &named, writer, errors)
         }
-        Command::Check { policy } => check(rt, policy.as_str(), errors),
+        Command::Check { policy, strict } => check_file(
+            rt,
+            policy.as_str(),
+            strict,
+            writer,
+            errors,
+        ),
         Command::Audit { store, existing } => {
             let named = Named {
                 store: Some(store),
@@ -452,6 +482,20 @@ fn perform<W: Write, E: Lines>(
             let words = words_of_who(privilege.as_str(), path.as_str(), denied);
             ask(rt, store, &words, writer, errors)
         }
+        Command::Rights {
+            store,
+            at,
+            caller,
+            shared,
+        } => {
+            let words = words_of_rights(at.as_deref(), caller.as_deref(), shared);
+            ask(rt, store, &words, writer, errors)
+        }
+        Command::Show { store, path } => {
+            let words = words_of_show(path.as_str());
+            ask(rt, store, &words, writer, errors)
+        }
+        Command::Dump { store } => dump(rt, store, writer, errors),
         Command::Serve {
             port,
             connections,

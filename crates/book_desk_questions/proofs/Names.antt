@@ -29,3 +29,5 @@ refusal_names_are_short Unavailable = lit≤ tt
 pub asking_names_are_short : (command : Asking) → length (asking_name command) ≤ 8
 asking_names_are_short asking.Why = lit≤ tt
 asking_names_are_short asking.Who = lit≤ tt
+asking_names_are_short asking.Rights = lit≤ tt
+asking_names_are_short asking.Show = lit≤ tt

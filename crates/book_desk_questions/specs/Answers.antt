@@ -1,11 +1,16 @@
 -- What the program does where it answers a question about a store (own profile).
-use Rattle.std.specs.Prelude.{◌≡◌, ◌⊎◌, ℕ, List, Option, Some, None, Result, Ok, Err}
+use Rattle.std.specs.Prelude.{◌≡◌, ◌⊎◌, ℕ, List, Option, Some, None, Result, Ok, Err, option_map}
 use Rattle.std.specs.Io.KnownBytes.{Appends, Keeps}
 use Rattle.sqlite.specs.State.{State}
 use Rattle.book_office.specs.Keeping.{Standing}
 use Rattle.book_office_values.specs.declared.offices.Office.{Office}
-use Rattle.book_machine.specs.Asking.{Asks}
+use Rattle.book_dumps.specs.Lines.{line_text}
+use Rattle.book_dumps.specs.Told.{line_at}
+use Rattle.book_machine.specs.Asking.{Asks, Meets}
 use Rattle.book_machine.specs.declared.refusals.Refusal.{Refusal}
+use Rattle.book_machine.specs.declared.refusals.Refusal.TheVariants.{NotFound}
+use Rattle.book_office_values.specs.declared.paths.Path.{Path}
+use Rattle.book_questions_rights.specs.Rights.{TellsRights}
 use Rattle.book_questions.specs.Questions.{TellsWhy}
 use Rattle.book_questions.specs.Who.{TellsWho}
 use Rattle.book_desk_app.specs.Failures.{store_text}
@@ -21,9 +26,20 @@ use Rattle.book_desk_questions.specs.declared.failures.Unanswered.{Unanswered}
 use Rattle.book_desk_questions.specs.declared.failures.Unanswered.TheVariants.{Refused, UnknownPrivilege, Output}
 
 -- ---- the answer, over what a keeper stands for
+-- the line of the dump for a path; or nothing is mapped there
+abbrev pub or_not_found : Option (List ℕ) → Result (List ℕ) Refusal
+or_not_found None = Err NotFound
+or_not_found (Some text) = Ok text
+
+abbrev pub shown_at : Office → Option Path → Result (List ℕ) Refusal
+shown_at o None = Err NotFound
+shown_at o (Some p) = or_not_found (option_map line_text (line_at o p))
+
 abbrev pub TellsAsked : Office → Asked → Result (List ℕ) Refusal → Type 0
 TellsAsked o (asked.Why caller question) r = TellsWhy o (caller_in caller) question r
 TellsAsked o (asked.Who privilege p denied) r = TellsWho o denied privilege p r
+TellsAsked o (asked.Rights name p shared) r = TellsRights o name p shared r
+TellsAsked o (asked.Show p) r = Meets r (shown_at o p)
 
 module _ (old : Standing) (a : Asked) (held holds : Option (List ℕ)) (new : Standing) where
   -- the text that was told of the Office, which stays

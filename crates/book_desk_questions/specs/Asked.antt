@@ -12,6 +12,7 @@ use Rattle.book_desk_questions.specs.declared.asked.Asked.{Asked}
 use Rattle.book_desk_questions.specs.declared.asked.Asked.TheVariants as asked
 use Rattle.book_desk_questions.specs.declared.asked.Asking.{Asking}
 use Rattle.book_desk_questions.specs.declared.asked.Asking.TheVariants as asking
+use Rattle.book_desk_questions.specs.declared.asked.RightsWords.{RightsWords}
 use Rattle.book_desk_questions.specs.declared.asked.WhoWords.{WhoWords}
 use Rattle.book_desk_questions.specs.declared.asked.WhyWords.{WhyWords}
 use Rattle.book_desk_questions.specs.declared.asked.Words.{Words}
@@ -26,10 +27,14 @@ caller_in word = if bytes_eq word (codes "-") then None else Some word
 abbrev pub asking_name : Asking → List ℕ
 asking_name asking.Why = codes "why"
 asking_name asking.Who = codes "who"
+asking_name asking.Rights = codes "rights"
+asking_name asking.Show = codes "show"
 
 abbrev pub asking_of : Words → Asking
 asking_of (words.Why w) = asking.Why
 asking_of (words.Who w) = asking.Who
+asking_of (words.Rights w) = asking.Rights
+asking_of (words.Show path) = asking.Show
 
 -- ---- why something is granted to a caller, or denied
 -- the words ask this of a caller
@@ -51,11 +56,29 @@ abbrev pub AsksWhoNothing : WhoWords → Unanswered → Type 0
 AsksWhoNothing w failure =
     ((failure ≡ UnknownPrivilege) × ((privilege : Privilege) → w.privilege.now ≢ name_of privilege)) ⊎ (failure ≡ Refused Unavailable)
 
+-- ---- who holds which rights
+-- the path, or that of the root
+abbrev pub at_or_root : Option (List ℕ) → List ℕ
+at_or_root None = codes "/"
+at_or_root (Some path) = path
+
+-- the words ask this of all rights
+abbrev pub AsksRights : RightsWords → Asked → Type 0
+AsksRights w a = (p : Option Path) × (a ≡ asked.Rights (option_copied w.caller) p w.shared) × ReadsPath (at_or_root (option_copied w.at)) p
+
+-- ---- one resource
+abbrev pub AsksShow : List ℕ → Asked → Type 0
+AsksShow path a = (p : Option Path) × (a ≡ asked.Show p) × ReadsPath path p
+
 -- ---- any question
 abbrev pub AsksFor : Words → Asked → Type 0
 AsksFor (words.Why w) a = AsksWhy w a
 AsksFor (words.Who w) a = AsksWho w a
+AsksFor (words.Rights w) a = AsksRights w a
+AsksFor (words.Show path) a = AsksShow path.now a
 
 abbrev pub AsksForNothing : Words → Unanswered → Type 0
 AsksForNothing (words.Why w) failure = AsksWhyNothing w failure
 AsksForNothing (words.Who w) failure = AsksWhoNothing w failure
+AsksForNothing (words.Rights w) failure = failure ≡ Refused Unavailable
+AsksForNothing (words.Show path) failure = failure ≡ Refused Unavailable

@@ -1,26 +1,57 @@
 //! The answer to a question, over any keeper, over the tables of a store, and over a store.
 
 ghost use Rattle.std.specs.Prelude.{◌≡◌, IfErr, OnOk};
+ghost use Rattle.std.specs.Option.{option_copied};
 ghost use Rattle.std.specs.Io.KnownBytes.{Keeps};
 ghost use Rattle.sqlite.specs.Held.{state};
-ghost use Rattle.book_machine.specs.Asking.{StageAsks};
+ghost use Rattle.book_machine.specs.Asking.{Meets, StageAsks};
 ghost use Rattle.book_desk_app.specs.Runs.{IsNotHad};
 ghost use Rattle.book_desk_app.specs.Telling.{TellsLine};
 ghost use Rattle.book_desk_questions.specs.Answers.{Answers, AnswersIn, AnswersOver, EndsAsked};
-ghost use Rattle.book_desk_questions.specs.Answers.{FailsToAnswer, RunsAsked, TellsAsked};
+ghost use Rattle.book_desk_questions.specs.Answers.{FailsToAnswer, RunsAsked, TellsAsked, shown_at};
 ghost use Rattle.book_tables.specs.declared.tables.Tables.{Tables};
 
 use crate::asked::{Asked, Asking, Words, asked_of, asking_of, caller_in};
 use crate::failures::{Unanswered, tell_unanswered};
 use book_desk_app::{DONE, Failure, Lines, open_store, tell_line};
+use book_dumps::show;
 use book_machine::{Machine, Refusal};
 use book_office::Keeper;
-use book_office_values::Text;
+use book_office_values::{Path, Text};
 use book_questions::{who, why};
+use book_questions_rights::rights;
 use book_tables::Tables;
 use sqlite::{Alter, Connection};
 use std::alloc::Global;
 use std::io::Write;
+
+/// The line of a dump for the resource at a path.
+fn shown<K: Keeper>(
+    alloc: Global,
+    machine: &mut Machine<K>,
+    path: &Option<Path>,
+) -> Result<Text, Refusal>
+    ensures { StageAsks K.standing machine.old machine.new result
+        (λ o r. Meets r (shown_at o path.now)) }
+{
+    let Some(path) = path else {
+        return Err(Refusal::NotFound);
+    };
+    match show(alloc, &mut machine.keeper, path)? {
+        Some(text) => Ok(text),
+        None => Err(Refusal::NotFound),
+    }
+}
+
+/// The bare name of a person, if there is one.
+fn named(name: &Option<Text>) -> Option<&str>
+    ensures { option_copied result ≡ name.now }
+{
+    match name {
+        Some(name) => Some(name.as_str()),
+        None => None,
+    }
+}
 
 /// The answer to a question.
 fn answer_of<K: Keeper>(
@@ -34,6 +65,8 @@ fn answer_of<K: Keeper>(
     match asked {
         Asked::Why(caller, question) => why(alloc, machine, caller_in(caller.as_str()), question),
         Asked::Who(privilege, path, denied) => who(alloc, machine, *privilege, path, *denied),
+        Asked::Rights(name, path, shared) => rights(alloc, machine, named(name), path, *shared),
+        Asked::Show(path) => shown(alloc, machine, path),
     }
 }
 

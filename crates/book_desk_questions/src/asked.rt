@@ -2,7 +2,11 @@
 
 ghost use Rattle.std.specs.Prelude.{◌≡◌, IfErr, IfOk};
 ghost use Rattle.std.specs.Option.{option_copied};
-ghost use Rattle.book_desk_questions.specs.Asked.{AsksFor, AsksForNothing, AsksWho, AsksWhoNothing, AsksWhy, AsksWhyNothing};
+ghost use Rattle.book_desk_questions.specs.Asked.{AsksFor, AsksForNothing, AsksRights, AsksShow, AsksWho};
+ghost use Rattle.book_desk_questions.specs.Asked.{AsksWhoNothing, AsksWhy, AsksWhyNothing};
+ghost use Rattle.book_desk_questions.specs.declared.failures.Unanswered.TheVariants.{Refused};
+ghost use Rattle.book_machine.specs.declared.refusals.Refusal.TheVariants.{Unavailable};
+ghost use Rattle.book_questions.specs.Questions.{ReadsPath};
 ghost use Rattle.book_desk_questions.specs.Asked.{asking_name, asking_of, caller_in};
 
 use crate::failures::Unanswered;
@@ -36,6 +40,17 @@ pub struct WhoWords<'a> {
     pub denied: bool,
 }
 
+/// The words of a question about all rights.
+#[derive(Clone, Copy, Drop)]
+pub struct RightsWords<'a> {
+    /// The path at which and below which they are told; without one, the root's.
+    pub at: Option<&'a str>,
+    /// The bare name of the person whose rights are told; without one, everybody's.
+    pub caller: Option<&'a str>,
+    /// Whether only cards are told whose own list gives more than their book.
+    pub shared: bool,
+}
+
 /// A question in words.
 #[derive(Clone, Copy, Drop)]
 pub enum Words<'a> {
@@ -43,6 +58,10 @@ pub enum Words<'a> {
     Why(WhyWords<'a>),
     /// To whom a privilege is granted, or denied.
     Who(WhoWords<'a>),
+    /// Who holds which rights.
+    Rights(RightsWords<'a>),
+    /// The resource at a path.
+    Show(&'a str),
 }
 
 /// The command that asks.
@@ -52,6 +71,10 @@ pub enum Asking {
     Why,
     /// `who`.
     Who,
+    /// `rights`.
+    Rights,
+    /// `show`.
+    Show,
 }
 
 /// A question about a store.
@@ -61,6 +84,11 @@ pub enum Asked {
     Why(Text, Question),
     /// To whom a privilege is granted at a path, or with the flag to whom it is denied; no path where its text was none.
     Who(Privilege, Option<Path>, bool),
+    /// Who holds which rights at a path and below it, by the word that names a person where one does, or with the flag only
+    /// those that cards' own lists give; no path where its text was none.
+    Rights(Option<Text>, Option<Path>, bool),
+    /// The resource at a path; none where its text was none.
+    Show(Option<Path>),
 }
 
 /// The bare name of a caller; a dash is nobody.
@@ -77,6 +105,8 @@ pub(crate) fn asking_name(asking: Asking) -> &'static str
     match asking {
         Asking::Why => "why",
         Asking::Who => "who",
+        Asking::Rights => "rights",
+        Asking::Show => "show",
     }
 }
 
@@ -87,6 +117,8 @@ pub(crate) fn asking_of(words: &Words<'_>) -> Asking
     match words {
         Words::Why(_) => Asking::Why,
         Words::Who(_) => Asking::Who,
+        Words::Rights(_) => Asking::Rights,
+        Words::Show(_) => Asking::Show,
     }
 }
 
@@ -105,6 +137,18 @@ fn asked_of_caller(alloc: Global, words: &WhyWords<'_>) -> Result<Asked, Unanswe
     }
 }
 
+/// The path of a text; none where it has no path. An error is want of memory.
+fn path_of(alloc: Global, text: &str) -> Result<Option<Path>, Unanswered>
+    ensures read { IfOk result (ReadsPath text.now) }
+    ensures memory { IfErr result (λ failure. failure ≡ Refused Unavailable) }
+{
+    match Path::parse(alloc, text) {
+        Ok(path) => Ok(Some(path)),
+        Err(PathFault::BadPath) => Ok(None),
+        Err(PathFault::Memory) => Err(Unanswered::Refused(Refusal::Unavailable)),
+    }
+}
+
 /// What the words ask about everybody.
 fn asked_of_all(alloc: Global, words: &WhoWords<'_>) -> Result<Asked, Unanswered>
     ensures asks { IfOk result (AsksWho words.now) }
@@ -113,10 +157,49 @@ fn asked_of_all(alloc: Global, words: &WhoWords<'_>) -> Result<Asked, Unanswered
     let Some(privilege) = Privilege::from_name(words.privilege) else {
         return Err(Unanswered::UnknownPrivilege);
     };
-    match Path::parse(alloc, words.path) {
-        Ok(path) => Ok(Asked::Who(privilege, Some(path), words.denied)),
-        Err(PathFault::BadPath) => Ok(Asked::Who(privilege, None, words.denied)),
-        Err(PathFault::Memory) => Err(Unanswered::Refused(Refusal::Unavailable)),
+    match path_of(alloc, words.path) {
+        Ok(path) => Ok(Asked::Who(privilege, path, words.denied)),
+        Err(failure) => Err(failure),
+    }
+}
+
+/// The text of the word that names a person, if there is one. An error is want of memory.
+fn name_of(alloc: Global, word: Option<&str>) -> Result<Option<Text>, Unanswered>
+    ensures named { IfOk result (λ name. name ≡ option_copied word.entry) }
+    ensures memory { IfErr result (λ failure. failure ≡ Refused Unavailable) }
+{
+    let Some(word) = word else {
+        return Ok(None);
+    };
+    match Text::copy_of(alloc, word) {
+        Ok(name) => Ok(Some(name)),
+        Err(_) => Err(Unanswered::Refused(Refusal::Unavailable)),
+    }
+}
+
+/// What the words ask about all rights.
+fn asked_of_rights(alloc: Global, words: &RightsWords<'_>) -> Result<Asked, Unanswered>
+    ensures asks { IfOk result (AsksRights words.now) }
+    ensures memory { IfErr result (λ failure. failure ≡ Refused Unavailable) }
+{
+    let name = match name_of(alloc, words.caller) {
+        Ok(name) => name,
+        Err(failure) => return Err(failure),
+    };
+    match path_of(alloc, words.at.unwrap_or("/")) {
+        Ok(path) => Ok(Asked::Rights(name, path, words.shared)),
+        Err(failure) => Err(failure),
+    }
+}
+
+/// What the words ask about one resource.
+fn asked_of_resource(alloc: Global, path: &str) -> Result<Asked, Unanswered>
+    ensures asks { IfOk result (AsksShow path.now) }
+    ensures memory { IfErr result (λ failure. failure ≡ Refused Unavailable) }
+{
+    match path_of(alloc, path) {
+        Ok(path) => Ok(Asked::Show(path)),
+        Err(failure) => Err(failure),
     }
 }
 
@@ -132,5 +215,7 @@ pub(crate) fn asked_of(alloc: Global, words: &Words<'_>) -> Result<Asked, Unansw
     match words {
         Words::Why(words) => asked_of_caller(alloc, words),
         Words::Who(words) => asked_of_all(alloc, words),
+        Words::Rights(words) => asked_of_rights(alloc, words),
+        Words::Show(path) => asked_of_resource(alloc, path),
     }
 }

@@ -1,16 +1,19 @@
-//! Questions about a store, as commands: `run_question` reads the words of one, opens the tables of the store, and writes
-//! the answer that `book_questions` makes of its Office, or tells why there is none (`RunsAsked`).
+//! What is asked of a store, as commands: `run_question` reads the words of a question, opens the tables of the store, and
+//! writes the answer for its Office, or tells why there is none (`RunsAsked`); `run_dump` writes the Office itself
+//! (`DumpsIn`).
 //!
-//! It stands on `book_questions`, which answers over any keeper, and on `book_desk_app`, which opens a store and tells
-//! failures. The program calls it for `why` and `who`.
+//! It stands on `book_questions`, `book_questions_rights` and `book_dumps`, which answer over any keeper, and on `book_desk_app`, which opens a store and tells
+//! failures. The program calls it for `why`, `who`, `rights`, `show` and `dump`.
 //!
-//! Read `asked` first, then `failures` and `answers`.
+//! Read `asked` first, then `failures` and `answers`; and `dumping`.
 #![tactic(auto)]
 
 mod answers;
 mod asked;
+mod dumping;
 mod failures;
 
 pub use answers::run_question;
-pub use asked::{Asked, Asking, WhoWords, WhyWords, Words};
+pub use asked::{Asked, Asking, RightsWords, WhoWords, WhyWords, Words};
+pub use dumping::run_dump;
 pub use failures::Unanswered;

@@ -10,7 +10,7 @@ use Rattle.clap.specs.declared.builder.value_parser.ValueParser.TheVariants as p
 use Rattle.clap.specs.declared.error.kind.ErrorKind.{ErrorKind}
 use Rattle.clap.specs.declared.error.kind.ErrorKind.TheVariants as kind
 use Rattle.book_desk_words.specs.declared.commands.Command.{Command}
-use Rattle.book_desk_words.specs.declared.commands.Command.TheVariants.{Explain, Card, Init, Import, Check, Audit, Migrate, Why, Who, Pipe, Serve, Help, Version}
+use Rattle.book_desk_words.specs.declared.commands.Command.TheVariants.{Explain, Card, Init, Import, Check, Audit, Migrate, Why, Who, Rights, Dump, Show, Pipe, Serve, Help, Version}
 use Rattle.book_desk_words.specs.declared.commands.WordsFault.{WordsFault}
 use Rattle.book_desk_words.specs.declared.commands.WordsFault.TheVariants.{Usage, Memory}
 use Rattle.book_desk_words.specs.WordsFaults.{IsUsage, serve_wants}
@@ -48,7 +48,7 @@ abbrev pub import_app : App
 import_app = with_rule (with_rule (new_app (codes "import")) (required_rule (codes "store"))) (word_rule (codes "policy"))
 
 abbrev pub check_app : App
-check_app = with_rule (new_app (codes "check")) (word_rule (codes "policy"))
+check_app = with_rule (with_rule (new_app (codes "check")) (word_rule (codes "policy"))) (flag_rule (codes "strict"))
 
 abbrev pub audit_app : App
 audit_app = with_rule (with_rule (new_app (codes "audit")) (required_rule (codes "store"))) (flag_rule (codes "existing"))
@@ -78,6 +78,19 @@ with_privilege app = with_rule (with_rule app (word_rule (codes "privilege"))) (
 abbrev pub who_app : App
 who_app = with_rule (with_privilege (with_rule (new_app (codes "who")) (required_rule (codes "store")))) (flag_rule (codes "denied"))
 
+-- the options that say where rights are told, and whose
+abbrev pub with_scope : App → App
+with_scope app = with_rule (with_rule app (option_rule (codes "at"))) (option_rule (codes "caller"))
+
+abbrev pub rights_app : App
+rights_app = with_rule (with_scope (with_rule (new_app (codes "rights")) (required_rule (codes "store")))) (flag_rule (codes "shared"))
+
+abbrev pub dump_app : App
+dump_app = with_rule (new_app (codes "dump")) (required_rule (codes "store"))
+
+abbrev pub show_app : App
+show_app = with_rule (with_rule (new_app (codes "show")) (required_rule (codes "store"))) (word_rule (codes "path"))
+
 -- the options that name the files of the store and of the policy
 abbrev pub with_files : App → App
 with_files app = with_rule (with_rule app (option_rule (codes "store"))) (option_rule (codes "policy"))
@@ -104,8 +117,10 @@ top_app = on_top (λ s. record s { no_binary_name = true; subcommand_required = 
 -- the whole command line
 abbrev pub program_app : App
 program_app =
-    with_subcommand (with_subcommand (with_subcommand (with_subcommand (with_subcommand (with_subcommand (with_subcommand (with_subcommand (with_subcommand (with_subcommand (with_subcommand top_app
-    (new_app (codes "explain")).top) (new_app (codes "card")).top) init_app.top) import_app.top) audit_app.top) migrate_app.top) why_app.top) pipe_app.top) serve_app.top) check_app.top) who_app.top
+    with_subcommand (with_subcommand (with_subcommand (with_subcommand (with_subcommand (with_subcommand (with_subcommand
+    (with_subcommand (with_subcommand (with_subcommand (with_subcommand (with_subcommand (with_subcommand (with_subcommand top_app
+    (new_app (codes "explain")).top) (new_app (codes "card")).top) init_app.top) import_app.top) audit_app.top) migrate_app.top) why_app.top) pipe_app.top) serve_app.top) check_app.top)
+    who_app.top) rights_app.top) dump_app.top) show_app.top
 
 -- ---- the command that the matches give
 
@@ -155,7 +170,8 @@ ReadsAs name rows Card = name ≡ codes "card"
 ReadsAs name rows (Init folder) = (name ≡ codes "init") × NamesFile rows (codes "folder") (Some folder)
 ReadsAs name rows (Import store policy) =
     (name ≡ codes "import") × NamesFile rows (codes "store") (Some store) × NamesFile rows (codes "policy") (Some policy)
-ReadsAs name rows (Check policy) = (name ≡ codes "check") × NamesFile rows (codes "policy") (Some policy)
+ReadsAs name rows (Check policy strict) =
+    (name ≡ codes "check") × NamesFile rows (codes "policy") (Some policy) × (strict ≡ has_flag rows (codes "strict"))
 ReadsAs name rows (Audit store existing) =
     (name ≡ codes "audit") × NamesFile rows (codes "store") (Some store) × (existing ≡ has_flag rows (codes "existing"))
 ReadsAs name rows (Migrate store) = (name ≡ codes "migrate") × NamesFile rows (codes "store") (Some store)
@@ -166,6 +182,12 @@ ReadsAs name rows (Why store caller what path destination) =
 ReadsAs name rows (Who store privilege path denied) =
     (name ≡ codes "who") × NamesFile rows (codes "store") (Some store) × NamesFile rows (codes "privilege") (Some privilege)
     × NamesFile rows (codes "path") (Some path) × (denied ≡ has_flag rows (codes "denied"))
+ReadsAs name rows (Rights store at caller shared) =
+    (name ≡ codes "rights") × NamesFile rows (codes "store") (Some store) × NamesFile rows (codes "at") at × NamesFile rows (codes "caller") caller
+    × (shared ≡ has_flag rows (codes "shared"))
+ReadsAs name rows (Dump store) = (name ≡ codes "dump") × NamesFile rows (codes "store") (Some store)
+ReadsAs name rows (Show store path) =
+    (name ≡ codes "show") × NamesFile rows (codes "store") (Some store) × NamesFile rows (codes "path") (Some path)
 ReadsAs name rows (Pipe store policy) =
     (name ≡ codes "pipe") × NamesFile rows (codes "store") store × NamesFile rows (codes "policy") policy
 ReadsAs name rows (Serve port connections at_once idle store policy existing) =

@@ -9,7 +9,7 @@ ghost use Rattle.book_desk_words.specs.WordsFaults.{IsUsage, not_text, usage_tex
 
 use crate::helps::{NOT_TEXT, SERVE_WANTS, USAGE_LINES};
 use crate::programs::program;
-use crate::questions::{who_of, why_of};
+use crate::questions::{dump_of, rights_of, show_of, who_of, why_of};
 use clap::ArgMatches;
 use clap::error::ErrorKind;
 use std::alloc::{AllocError, Global};
@@ -48,10 +48,12 @@ pub enum Command {
         /// The file of the policy.
         policy: String,
     },
-    /// Tell each fault of a policy, with its place.
+    /// Tell each fault of a policy, with its place, and what a sound one leaves open.
     Check {
         /// The file of the policy.
         policy: String,
+        /// Whether what it leaves open ends with status 1.
+        strict: bool,
     },
     /// Print the direct members of groups, and each resource of a store with its owner and its lists.
     Audit {
@@ -88,6 +90,29 @@ pub enum Command {
         path: String,
         /// Whether those to whom it is denied are told.
         denied: bool,
+    },
+    /// Tell who holds which rights in a store.
+    Rights {
+        /// The file of the store.
+        store: String,
+        /// The path at which and below which they are told; without one, those everywhere.
+        at: Option<String>,
+        /// The bare name of the person whose rights are told; without one, everybody's.
+        caller: Option<String>,
+        /// Whether only cards are told whose own list gives somebody more than their book.
+        shared: bool,
+    },
+    /// Print a store as text.
+    Dump {
+        /// The file of the store.
+        store: String,
+    },
+    /// Print one resource of a store as its line of the dump.
+    Show {
+        /// The file of the store.
+        store: String,
+        /// The path of the resource.
+        path: String,
     },
     /// Serve the requests on standard input.
     Pipe {
@@ -182,7 +207,8 @@ pub(crate) fn file_in(
 /// The number that the words give to an option.
 fn number_in(found: &ArgMatches<'_>, id: &str) -> Option<u16>
     ensures read { IfSome result (λ n. HasNumber (rows_of (found_of found.now)) id.now n) }
-    ensures none { IfNone result ((n : ℕ) → n ≤ 65535 → HasNumber (rows_of (found_of found.now)) id.now n → ⊥) }
+    ensures none { IfNone result ((n : ℕ) → n ≤ 65535
+        → HasNumber (rows_of (found_of found.now)) id.now n → ⊥) }
 {
     found.get_one::<u16>(id)
 }
@@ -201,7 +227,8 @@ fn is_given(found: &ArgMatches<'_>, id: &str) -> bool
 /// is no such number.
 fn count_in(found: &ArgMatches<'_>, id: &str, most: u16) -> Option<Option<u16>>
     ensures read { IfSome result (MayHaveNumber (rows_of (found_of found.now)) id.now most) }
-    ensures none { IfNone result ((count : Option ℕ) → MayHaveNumber (rows_of (found_of found.now)) id.now most count → ⊥) }
+    ensures none { IfNone result ((count : Option ℕ)
+        → MayHaveNumber (rows_of (found_of found.now)) id.now most count → ⊥) }
 {
     if !is_given(found, id) {
         return Some(None);
@@ -237,8 +264,10 @@ struct Counts {
 /// How many connections the words say, and how they are served; none where a number is out of range, where they have not
 /// one of `--connections` and `--forever`, or have `--idle` without `--at-once`.
 fn counts_of(found: &ArgMatches<'_>) -> Option<Counts>
-    ensures read { IfSome result (λ counts. HasCounts (rows_of (found_of found.now)) counts.connections counts.at_once counts.idle) }
-    ensures none { IfNone result ((connections at_once idle : Option ℕ) → HasCounts (rows_of (found_of found.now)) connections at_once idle → ⊥) }
+    ensures read { IfSome result (λ counts. HasCounts
+        (rows_of (found_of found.now)) counts.connections counts.at_once counts.idle) }
+    ensures none { IfNone result ((connections at_once idle : Option ℕ)
+        → HasCounts (rows_of (found_of found.now)) connections at_once idle → ⊥) }
 {
     let connections = count_in(found, "connections", MAX_CONNECTIONS)?;
     let forever = flag_in(found, "forever");
@@ -261,8 +290,10 @@ fn counts_of(found: &ArgMatches<'_>) -> Option<Counts>
 /// not one of `--connections` and `--forever`, or have `--idle` without `--at-once`, or where a store that has to be there
 /// is not named.
 fn serve_of(alloc: Global, found: &ArgMatches<'_>) -> Result<Option<Command>, AllocError>
-    ensures read { IfOk result (λ command. IfSome command (ReadsAs (codes "serve") (rows_of (found_of found.now)))) }
-    ensures none { IfOk result (λ command. IfNone command (ReadsNone (codes "serve") (rows_of (found_of found.now)))) }
+    ensures read { IfOk result (λ command. IfSome command
+        (ReadsAs (codes "serve") (rows_of (found_of found.now)))) }
+    ensures none { IfOk result (λ command. IfNone command
+        (ReadsNone (codes "serve") (rows_of (found_of found.now)))) }
 {
     let Some(port) = number_in(found, "port") else {
         return Ok(None);
@@ -289,7 +320,8 @@ fn serve_of(alloc: Global, found: &ArgMatches<'_>) -> Result<Option<Command>, Al
 
 /// The command `pipe` with what the words give it.
 fn pipe_of(alloc: Global, found: &ArgMatches<'_>) -> Result<Option<Command>, AllocError>
-    ensures read { IfOk result (λ command. IfSome command (ReadsAs (codes "pipe") (rows_of (found_of found.now)))) }
+    ensures read { IfOk result (λ command. IfSome command
+        (ReadsAs (codes "pipe") (rows_of (found_of found.now)))) }
     ensures none { IfOk result (λ command. IfNone command ⊥) }
 {
     let store = file_in(alloc, found, "store")?;
@@ -299,8 +331,10 @@ fn pipe_of(alloc: Global, found: &ArgMatches<'_>) -> Result<Option<Command>, All
 
 /// The command `init` with what the words give it; none where the folder is missing.
 fn init_of(alloc: Global, found: &ArgMatches<'_>) -> Result<Option<Command>, AllocError>
-    ensures read { IfOk result (λ command. IfSome command (ReadsAs (codes "init") (rows_of (found_of found.now)))) }
-    ensures none { IfOk result (λ command. IfNone command (ReadsNone (codes "init") (rows_of (found_of found.now)))) }
+    ensures read { IfOk result (λ command. IfSome command
+        (ReadsAs (codes "init") (rows_of (found_of found.now)))) }
+    ensures none { IfOk result (λ command. IfNone command
+        (ReadsNone (codes "init") (rows_of (found_of found.now)))) }
 {
     let Some(folder) = file_in(alloc, found, "folder")? else {
         return Ok(None);
@@ -310,8 +344,10 @@ fn init_of(alloc: Global, found: &ArgMatches<'_>) -> Result<Option<Command>, All
 
 /// The command `import` with what the words give it; none where a file is missing.
 fn import_of(alloc: Global, found: &ArgMatches<'_>) -> Result<Option<Command>, AllocError>
-    ensures read { IfOk result (λ command. IfSome command (ReadsAs (codes "import") (rows_of (found_of found.now)))) }
-    ensures none { IfOk result (λ command. IfNone command (ReadsNone (codes "import") (rows_of (found_of found.now)))) }
+    ensures read { IfOk result (λ command. IfSome command
+        (ReadsAs (codes "import") (rows_of (found_of found.now)))) }
+    ensures none { IfOk result (λ command. IfNone command
+        (ReadsNone (codes "import") (rows_of (found_of found.now)))) }
 {
     let Some(store) = file_in(alloc, found, "store")? else {
         return Ok(None);
@@ -324,19 +360,24 @@ fn import_of(alloc: Global, found: &ArgMatches<'_>) -> Result<Option<Command>, A
 
 /// The command `check` with what the words give it; none where the file is missing.
 fn check_of(alloc: Global, found: &ArgMatches<'_>) -> Result<Option<Command>, AllocError>
-    ensures read { IfOk result (λ command. IfSome command (ReadsAs (codes "check") (rows_of (found_of found.now)))) }
-    ensures none { IfOk result (λ command. IfNone command (ReadsNone (codes "check") (rows_of (found_of found.now)))) }
+    ensures read { IfOk result (λ command. IfSome command
+        (ReadsAs (codes "check") (rows_of (found_of found.now)))) }
+    ensures none { IfOk result (λ command. IfNone command
+        (ReadsNone (codes "check") (rows_of (found_of found.now)))) }
 {
     let Some(policy) = file_in(alloc, found, "policy")? else {
         return Ok(None);
     };
-    Ok(Some(Command::Check { policy }))
+    let strict = flag_in(found, "strict");
+    Ok(Some(Command::Check { policy, strict }))
 }
 
 /// The command `audit` with what the words give it; none where the file is missing.
 fn audit_of(alloc: Global, found: &ArgMatches<'_>) -> Result<Option<Command>, AllocError>
-    ensures read { IfOk result (λ command. IfSome command (ReadsAs (codes "audit") (rows_of (found_of found.now)))) }
-    ensures none { IfOk result (λ command. IfNone command (ReadsNone (codes "audit") (rows_of (found_of found.now)))) }
+    ensures read { IfOk result (λ command. IfSome command
+        (ReadsAs (codes "audit") (rows_of (found_of found.now)))) }
+    ensures none { IfOk result (λ command. IfNone command
+        (ReadsNone (codes "audit") (rows_of (found_of found.now)))) }
 {
     let Some(store) = file_in(alloc, found, "store")? else {
         return Ok(None);
@@ -347,8 +388,10 @@ fn audit_of(alloc: Global, found: &ArgMatches<'_>) -> Result<Option<Command>, Al
 
 /// The command `migrate` with what the words give it; none where the file is missing.
 fn migrate_of(alloc: Global, found: &ArgMatches<'_>) -> Result<Option<Command>, AllocError>
-    ensures read { IfOk result (λ command. IfSome command (ReadsAs (codes "migrate") (rows_of (found_of found.now)))) }
-    ensures none { IfOk result (λ command. IfNone command (ReadsNone (codes "migrate") (rows_of (found_of found.now)))) }
+    ensures read { IfOk result (λ command. IfSome command
+        (ReadsAs (codes "migrate") (rows_of (found_of found.now)))) }
+    ensures none { IfOk result (λ command. IfNone command
+        (ReadsNone (codes "migrate") (rows_of (found_of found.now)))) }
 {
     let Some(store) = file_in(alloc, found, "store")? else {
         return Ok(None);
@@ -358,7 +401,8 @@ fn migrate_of(alloc: Global, found: &ArgMatches<'_>) -> Result<Option<Command>, 
 
 /// The subcommand that was met, with its matches.
 fn met<'m, 'a>(matches: &'m ArgMatches<'a>) -> Option<(&'a str, &'m ArgMatches<'a>)>
-    ensures { option_map (λ p. (p.0.now, rows_of (found_of p.1.now))) result ≡ subcommand_rows_of matches.now }
+    ensures { option_map (λ p. (p.0.now, rows_of (found_of p.1.now))) result ≡
+        subcommand_rows_of matches.now }
 {
     matches.subcommand()
 }
@@ -369,8 +413,10 @@ fn command_named(
     name: &str,
     found: &ArgMatches<'_>,
 ) -> Result<Option<Command>, AllocError>
-    ensures read { IfOk result (λ command. IfSome command (ReadsAs name.now (rows_of (found_of found.now)))) }
-    ensures none { IfOk result (λ command. IfNone command (ReadsNone name.now (rows_of (found_of found.now)))) }
+    ensures read { IfOk result (λ command. IfSome command
+        (ReadsAs name.now (rows_of (found_of found.now)))) }
+    ensures none { IfOk result (λ command. IfNone command
+        (ReadsNone name.now (rows_of (found_of found.now)))) }
 {
     match name {
         "explain" => Ok(Some(Command::Explain)),
@@ -382,6 +428,9 @@ fn command_named(
         "migrate" => migrate_of(alloc, found),
         "why" => why_of(alloc, found),
         "who" => who_of(alloc, found),
+        "rights" => rights_of(alloc, found),
+        "dump" => dump_of(alloc, found),
+        "show" => show_of(alloc, found),
         "pipe" => pipe_of(alloc, found),
         "serve" => serve_of(alloc, found),
         _ => Ok(None),
@@ -391,8 +440,10 @@ fn command_named(
 /// The command that the matches give; none where they give none, which clap lets come where the options of `serve` lack
 /// what they want of each other, or `why` its destination, and nowhere else.
 fn read_command(alloc: Global, matches: &ArgMatches<'_>) -> Result<Option<Command>, AllocError>
-    ensures read { IfOk result (λ command. IfSome command (IsMatched (subcommand_rows_of matches.now))) }
-    ensures none { IfOk result (λ command. IfNone command (MatchesNone (subcommand_rows_of matches.now))) }
+    ensures read { IfOk result (λ command. IfSome command
+        (IsMatched (subcommand_rows_of matches.now))) }
+    ensures none { IfOk result (λ command. IfNone command
+        (MatchesNone (subcommand_rows_of matches.now))) }
 {
     match met(matches) {
         Some((name, found)) => command_named(alloc, name, found),
@@ -403,8 +454,9 @@ fn read_command(alloc: Global, matches: &ArgMatches<'_>) -> Result<Option<Comman
 /// What clap says in place of a command: help or the version, which were asked for, or what is wrong.
 fn answer_of(alloc: Global, error: &clap::Error) -> Result<Command, WordsFault>
     ensures asked { IfOk result (IsAskedBy (kind_of error.now)) }
-    ensures wrong { IfErr result (λ fault. (fault ≡ WordsFault.Memory) ⊎ (kind_of error.now ≢ ErrorKind.OutOfMemory)
-        × (kind_of error.now ≢ ErrorKind.DisplayHelp) × (kind_of error.now ≢ ErrorKind.DisplayVersion)) }
+    ensures wrong { IfErr result (λ fault. (fault ≡ WordsFault.Memory)
+        ⊎ (kind_of error.now ≢ ErrorKind.OutOfMemory) × (kind_of error.now ≢ ErrorKind.DisplayHelp)
+        × (kind_of error.now ≢ ErrorKind.DisplayVersion)) }
 {
     match error.kind() {
         ErrorKind::OutOfMemory => Err(WordsFault::Memory),
@@ -453,8 +505,10 @@ pub fn words_not_text(alloc: Global) -> WordsFault
 /// `Usage` where the words name no command: clap refuses them for another reason than a wish for help or the version, or
 /// lets them pass and no command can be read of its matches, which the text tells then. `Memory` where memory was refused.
 pub fn command_of(alloc: Global, words: &[String]) -> Result<Command, WordsFault>
-    ensures read { let texts = map string_bytes words.now in IfOk result (Reads (subcommand_of program_app texts) (fault_of program_app texts)) }
-    ensures wrong { let texts = map string_bytes words.now in IfErr result (IsRefused (subcommand_of program_app texts) (fault_of program_app texts)) }
+    ensures read { let texts = map string_bytes words.now in IfOk result
+        (Reads (subcommand_of program_app texts) (fault_of program_app texts)) }
+    ensures wrong { let texts = map string_bytes words.now in IfErr result
+        (IsRefused (subcommand_of program_app texts) (fault_of program_app texts)) }
 {
     let matches = match program(alloc)?.try_get_matches_from(words) {
         Ok(matches) => matches,

@@ -136,11 +136,22 @@ Status: 0 adopted; 1 the policy is refused; 2 usage; 3 the store, memory, or a f
 pub(crate) const EXISTING: &str =
     "The store has to be there: a file that is missing or empty is no store, and none is made";
 
-pub(crate) const CHECK: &str = "Tells each fault of a policy, with its place";
+pub(crate) const CHECK: &str =
+    "Tells each fault of a policy, with its place, and what a sound one leaves open";
+
+pub(crate) const STRICT: &str = "What a sound policy leaves open ends with status 1";
 
 pub(crate) const CHECK_TEXT: &str = "\
 As in: book_desk check examples/policies/office.toml
-No store is opened, and no file is changed. Nothing is printed where the policy is sound.
+No store is opened, and no file is changed.
+
+Output, where the policy is sound: a line for each thing that it leaves open, with its place; at most 1,000, and then how
+many more. As in
+  entry 9 (at /books/law, who all): never decides
+  /books/law: nobody may change its list
+  ada: PROPPATCH /groups/law (+ /people/ada); then GET /books/law/* is granted
+The last is of a person to whom a book is closed and whose own requests open it: they were served over the policy in
+memory. That no such line is told is no promise.
 
 Told on standard error, a line for each fault, in the order of their places; at most 1,000, and then how many more
   PLACE: KEY: FAULT     as in: entry 12 (at /books/sales, who /groups/helpers): who: unknown-principal
@@ -150,7 +161,7 @@ not TOML has one line, with the line and the column; one of more than 1,048,576 
   input: read           the policy could not be read
   input: not-utf-8      it is not UTF-8
 
-Status: 0 sound; 1 a fault; 2 usage; 3 memory, or a failed read.
+Status: 0 sound; 1 a fault, or with --strict a line on standard output; 2 usage; 3 memory, or a failed read or write.
 ";
 
 pub(crate) const AUDIT: &str = "Prints the memberships and the access lists of a store";
@@ -257,6 +268,68 @@ Told on standard error, on a line
   output: write           it could not be written
 
 Status: 0 answered, 1 the question was refused, 2 usage, 3 memory, the store, or a failed write.
+";
+
+pub(crate) const RIGHTS: &str = "Tells who holds which rights in a store";
+
+pub(crate) const BELOW: &str = "Only at this path and below it";
+
+pub(crate) const PERSON: &str = "Only those of this person";
+
+pub(crate) const SHARED: &str =
+    "Only cards whose own list gives somebody more than their book does";
+
+pub(crate) const RIGHTS_TEXT: &str = "\
+It decides as serve does, and changes nothing. As in:
+  book_desk rights --store office.db --at /books/sales
+
+Output, in byte order of the paths, a line for each resource and whoever holds a right there
+  PATH PERSON|nobody NAME ..
+  PATH of N PERSON|nobody NAME ..   of N cards of a book whose owner and own list are equal; PATH is the first
+The names are privileges of explain, as few as tell the rights.
+
+Told on standard error, on a line
+  rights: unknown-caller  PERSON is no person
+  rights: not-found       nothing is there
+  rights: unavailable     memory was refused, or the store failed
+  store: FAULT            as audit
+  output: write           it could not be written
+
+Status: 0 answered, 1 the question was refused, 2 usage, 3 memory, the store, or a failed write.
+";
+
+pub(crate) const DUMP: &str = "Prints a store as text";
+
+pub(crate) const DUMP_TEXT: &str = "\
+As in: book_desk dump --store office.db > office.jsonl
+
+Output, a JSON object a line
+  {\"epoch\":N}
+  {\"path\":PATH,..}   each resource, in byte order of the paths, with what it has of owner, label, protected, own,
+                     members, number, removed and text; entries have the keys of a policy
+  {\"lines\":N}       how many lines come before it: a text that lacks this line was cut
+
+Told on standard error, on a line
+  store: FAULT          as audit
+  output: write         it could not be written; a beginning of it may be
+
+Status: 0 printed; 2 usage; 3 the store, memory, or a failed write.
+";
+
+pub(crate) const SHOW: &str = "Prints one resource of a store as its line of the dump";
+
+pub(crate) const SHOW_TEXT: &str = "\
+As in: book_desk show --store office.db /books/sales/b.vcf
+
+Output: the line of dump for PATH.
+
+Told on standard error, on a line
+  show: not-found       nothing is there
+  show: unavailable     memory was refused, or the store failed
+  store: FAULT          as audit
+  output: write         it could not be written
+
+Status: 0 printed, 1 nothing is there, 2 usage, 3 memory, the store, or a failed write.
 ";
 
 pub(crate) const PIPE: &str = "Serves the requests on standard input";

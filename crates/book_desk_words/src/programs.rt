@@ -3,26 +3,27 @@
 ghost use Rattle.std.specs.Prelude.{◌≡◌, IfOk, false, codes};
 ghost use Rattle.clap.specs.Words.{app_of, new_app, rule_of};
 ghost use Rattle.clap.specs.declared.builder.command.Command.TheViews.{out-Command};
-ghost use Rattle.book_desk_words.specs.CommandLine.{program_app, top_app, audit_app, check_app, import_app, init_app, migrate_app, pipe_app, serve_app, who_app, why_app, flag_rule, last_word_rule, option_rule, counted_rule, number_rule, required_rule, with_ends, with_files, with_pace, with_places, with_privilege, with_question, word_rule};
+ghost use Rattle.book_desk_words.specs.CommandLine.{program_app, top_app, audit_app, check_app, dump_app, import_app, init_app, migrate_app, pipe_app, rights_app, serve_app, show_app, who_app, why_app, flag_rule, last_word_rule, option_rule, counted_rule, number_rule, required_rule, with_ends, with_files, with_pace, with_places, with_privilege, with_question, with_scope, word_rule};
 
 use crate::helps::{
-    ABOUT, ASKED_STORE, AT_ONCE, AUDIT, AUDIT_TEXT, CALLER, CARD, CARD_TEXT, CHECK, CHECK_TEXT,
-    CONNECTIONS, DENIED, DESTINATION, EXISTING, EXPLAIN, FIRST_STORE, FOLDER, FOREVER,
-    FOUNDED_STORE, IDLE, IMPORT, IMPORT_TEXT, INIT, INIT_TEXT, KEPT_STORE, MIGRATE, MIGRATE_TEXT,
-    PIPE, PIPE_TEXT, POLICY, POLICY_WORD, PORT, PRIVILEGE, QUESTION, RESOURCE, SERVE, SERVE_TEXT,
-    VERSION, WHAT, WHO, WHO_TEXT, WHY, WHY_TEXT,
+    ABOUT, ASKED_STORE, AT_ONCE, AUDIT, AUDIT_TEXT, BELOW, CALLER, CARD, CARD_TEXT, CHECK,
+    CHECK_TEXT, CONNECTIONS, DENIED, DESTINATION, DUMP, DUMP_TEXT, EXISTING, EXPLAIN, FIRST_STORE,
+    FOLDER, FOREVER, FOUNDED_STORE, IDLE, IMPORT, IMPORT_TEXT, INIT, INIT_TEXT, KEPT_STORE,
+    MIGRATE, MIGRATE_TEXT, PERSON, PIPE, PIPE_TEXT, POLICY, POLICY_WORD, PORT, PRIVILEGE, QUESTION,
+    RESOURCE, RIGHTS, RIGHTS_TEXT, SERVE, SERVE_TEXT, SHARED, SHOW, SHOW_TEXT, STRICT, VERSION,
+    WHAT, WHO, WHO_TEXT, WHY, WHY_TEXT,
 };
 use clap::{Arg, ArgAction, value_parser};
 use std::alloc::{AllocError, Global};
 
-/// An option that names a file.
-fn file_option<'a>(alloc: Global, name: &'a str, help: &'a str) -> Arg<'a>
+/// An option with a value.
+fn value_option<'a>(alloc: Global, name: &'a str, value_name: &'a str, help: &'a str) -> Arg<'a>
     ensures rule { rule_of result ≡ option_rule name.entry.now }
     ensures local { result.global ≡ false }
 {
     Arg::new(alloc, name)
         .long(name)
-        .value_name("FILE")
+        .value_name(value_name)
         .help(help)
 }
 
@@ -136,7 +137,8 @@ fn check<'a>(alloc: Global) -> Result<clap::Command<'a>, AllocError>
     clap::Command::new(alloc, "check")
         .about(CHECK)
         .after_help(CHECK_TEXT)
-        .arg(word_needed(alloc, "policy", "POLICY", POLICY_WORD))
+        .arg(word_needed(alloc, "policy", "POLICY", POLICY_WORD))?
+        .arg(flag_option(alloc, "strict", STRICT))
 }
 
 fn audit<'a>(alloc: Global) -> Result<clap::Command<'a>, AllocError>
@@ -164,7 +166,8 @@ fn with_question<'a>(
     command: clap::Command<'a>,
 ) -> Result<clap::Command<'a>, AllocError>
     ensures app { IfOk result (λ c. app_of c ≡ with_question (app_of command.entry)) }
-    ensures local { (out-Command command.entry).has_globals ≡ false → IfOk result (λ c. (out-Command c).has_globals ≡ false) }
+    ensures local { (out-Command command.entry).has_globals ≡ false
+        → IfOk result (λ c. (out-Command c).has_globals ≡ false) }
 {
     command
         .arg(word_needed(alloc, "caller", "CALLER", CALLER))?
@@ -177,7 +180,8 @@ fn with_places<'a>(
     command: clap::Command<'a>,
 ) -> Result<clap::Command<'a>, AllocError>
     ensures app { IfOk result (λ c. app_of c ≡ with_places (app_of command.entry)) }
-    ensures local { (out-Command command.entry).has_globals ≡ false → IfOk result (λ c. (out-Command c).has_globals ≡ false) }
+    ensures local { (out-Command command.entry).has_globals ≡ false
+        → IfOk result (λ c. (out-Command c).has_globals ≡ false) }
 {
     command
         .arg(word_needed(alloc, "path", "PATH", RESOURCE))?
@@ -201,7 +205,8 @@ fn with_privilege<'a>(
     command: clap::Command<'a>,
 ) -> Result<clap::Command<'a>, AllocError>
     ensures app { IfOk result (λ c. app_of c ≡ with_privilege (app_of command.entry)) }
-    ensures local { (out-Command command.entry).has_globals ≡ false → IfOk result (λ c. (out-Command c).has_globals ≡ false) }
+    ensures local { (out-Command command.entry).has_globals ≡ false
+        → IfOk result (λ c. (out-Command c).has_globals ≡ false) }
 {
     command
         .arg(word_needed(alloc, "privilege", "PRIVILEGE", PRIVILEGE))?
@@ -218,17 +223,61 @@ fn who<'a>(alloc: Global) -> Result<clap::Command<'a>, AllocError>
     with_privilege(alloc, command)?.arg(flag_option(alloc, "denied", DENIED))
 }
 
+/// The command with the options that say where rights are told, and whose.
+fn with_scope<'a>(
+    alloc: Global,
+    command: clap::Command<'a>,
+) -> Result<clap::Command<'a>, AllocError>
+    ensures app { IfOk result (λ c. app_of c ≡ with_scope (app_of command.entry)) }
+    ensures local { (out-Command command.entry).has_globals ≡ false
+        → IfOk result (λ c. (out-Command c).has_globals ≡ false) }
+{
+    command
+        .arg(value_option(alloc, "at", "PATH", BELOW))?
+        .arg(value_option(alloc, "caller", "PERSON", PERSON))
+}
+
+fn rights<'a>(alloc: Global) -> Result<clap::Command<'a>, AllocError>
+    ensures { IfOk result (λ c. (app_of c ≡ rights_app) × ((out-Command c).has_globals ≡ false)) }
+{
+    let command = clap::Command::new(alloc, "rights")
+        .about(RIGHTS)
+        .after_help(RIGHTS_TEXT)
+        .arg(file_needed(alloc, "store", ASKED_STORE))?;
+    with_scope(alloc, command)?.arg(flag_option(alloc, "shared", SHARED))
+}
+
+fn dump<'a>(alloc: Global) -> Result<clap::Command<'a>, AllocError>
+    ensures { IfOk result (λ c. (app_of c ≡ dump_app) × ((out-Command c).has_globals ≡ false)) }
+{
+    clap::Command::new(alloc, "dump")
+        .about(DUMP)
+        .after_help(DUMP_TEXT)
+        .arg(file_needed(alloc, "store", ASKED_STORE))
+}
+
+fn show<'a>(alloc: Global) -> Result<clap::Command<'a>, AllocError>
+    ensures { IfOk result (λ c. (app_of c ≡ show_app) × ((out-Command c).has_globals ≡ false)) }
+{
+    clap::Command::new(alloc, "show")
+        .about(SHOW)
+        .after_help(SHOW_TEXT)
+        .arg(file_needed(alloc, "store", ASKED_STORE))?
+        .arg(word_needed(alloc, "path", "PATH", RESOURCE))
+}
+
 /// The command with the options that name the files of the store and of the policy.
 fn with_files<'a>(
     alloc: Global,
     command: clap::Command<'a>,
 ) -> Result<clap::Command<'a>, AllocError>
     ensures app { IfOk result (λ c. app_of c ≡ with_files (app_of command.entry)) }
-    ensures local { (out-Command command.entry).has_globals ≡ false → IfOk result (λ c. (out-Command c).has_globals ≡ false) }
+    ensures local { (out-Command command.entry).has_globals ≡ false
+        → IfOk result (λ c. (out-Command c).has_globals ≡ false) }
 {
     command
-        .arg(file_option(alloc, "store", KEPT_STORE))?
-        .arg(file_option(alloc, "policy", POLICY))
+        .arg(value_option(alloc, "store", "FILE", KEPT_STORE))?
+        .arg(value_option(alloc, "policy", "FILE", POLICY))
 }
 
 fn pipe<'a>(alloc: Global) -> Result<clap::Command<'a>, AllocError>
@@ -243,7 +292,8 @@ fn pipe<'a>(alloc: Global) -> Result<clap::Command<'a>, AllocError>
 /// The command with the options that say how many connections are served.
 fn with_ends<'a>(alloc: Global, command: clap::Command<'a>) -> Result<clap::Command<'a>, AllocError>
     ensures app { IfOk result (λ c. app_of c ≡ with_ends (app_of command.entry)) }
-    ensures local { (out-Command command.entry).has_globals ≡ false → IfOk result (λ c. (out-Command c).has_globals ≡ false) }
+    ensures local { (out-Command command.entry).has_globals ≡ false
+        → IfOk result (λ c. (out-Command c).has_globals ≡ false) }
 {
     command
         .arg(number_option(alloc, "connections", CONNECTIONS, 1, 10_000))?
@@ -253,7 +303,8 @@ fn with_ends<'a>(alloc: Global, command: clap::Command<'a>) -> Result<clap::Comm
 /// The command with the options that say how many connections are served at once, and for how long.
 fn with_pace<'a>(alloc: Global, command: clap::Command<'a>) -> Result<clap::Command<'a>, AllocError>
     ensures app { IfOk result (λ c. app_of c ≡ with_pace (app_of command.entry)) }
-    ensures local { (out-Command command.entry).has_globals ≡ false → IfOk result (λ c. (out-Command c).has_globals ≡ false) }
+    ensures local { (out-Command command.entry).has_globals ≡ false
+        → IfOk result (λ c. (out-Command c).has_globals ≡ false) }
 {
     command
         .arg(number_option(alloc, "at-once", AT_ONCE, 1, 1_000))?
@@ -299,5 +350,8 @@ pub(crate) fn program<'a>(alloc: Global) -> Result<clap::Command<'a>, AllocError
         .subcommand(pipe(alloc)?)?
         .subcommand(serve(alloc)?)?
         .subcommand(check(alloc)?)?
-        .subcommand(who(alloc)?)
+        .subcommand(who(alloc)?)?
+        .subcommand(rights(alloc)?)?
+        .subcommand(dump(alloc)?)?
+        .subcommand(show(alloc)?)
 }

@@ -1,4 +1,4 @@
-//! Commands that ask a question about a store.
+//! Commands that ask about a store.
 
 ghost use Rattle.std.specs.Prelude.{◌≡◌, IfNone, IfOk, IfSome, codes};
 ghost use Rattle.clap.specs.Words.{found_of, rows_of};
@@ -18,8 +18,10 @@ fn leads_on(what: &str) -> bool
 /// The command `why` with what the words give it; none where something is missing, as the destination of a method that
 /// leads to one.
 pub(crate) fn why_of(alloc: Global, found: &ArgMatches<'_>) -> Result<Option<Command>, AllocError>
-    ensures read { IfOk result (λ command. IfSome command (ReadsAs (codes "why") (rows_of (found_of found.now)))) }
-    ensures none { IfOk result (λ command. IfNone command (ReadsNone (codes "why") (rows_of (found_of found.now)))) }
+    ensures read { IfOk result (λ command. IfSome command
+        (ReadsAs (codes "why") (rows_of (found_of found.now)))) }
+    ensures none { IfOk result (λ command. IfNone command
+        (ReadsNone (codes "why") (rows_of (found_of found.now)))) }
 {
     let Some(store) = file_in(alloc, found, "store")? else {
         return Ok(None);
@@ -48,8 +50,10 @@ pub(crate) fn why_of(alloc: Global, found: &ArgMatches<'_>) -> Result<Option<Com
 
 /// The command `who` with what the words give it; none where something is missing.
 pub(crate) fn who_of(alloc: Global, found: &ArgMatches<'_>) -> Result<Option<Command>, AllocError>
-    ensures read { IfOk result (λ command. IfSome command (ReadsAs (codes "who") (rows_of (found_of found.now)))) }
-    ensures none { IfOk result (λ command. IfNone command (ReadsNone (codes "who") (rows_of (found_of found.now)))) }
+    ensures read { IfOk result (λ command. IfSome command
+        (ReadsAs (codes "who") (rows_of (found_of found.now)))) }
+    ensures none { IfOk result (λ command. IfNone command
+        (ReadsNone (codes "who") (rows_of (found_of found.now)))) }
 {
     let Some(store) = file_in(alloc, found, "store")? else {
         return Ok(None);
@@ -67,4 +71,57 @@ pub(crate) fn who_of(alloc: Global, found: &ArgMatches<'_>) -> Result<Option<Com
         path,
         denied,
     }))
+}
+
+/// The command `rights` with what the words give it; none where the file is missing.
+pub(crate) fn rights_of(
+    alloc: Global,
+    found: &ArgMatches<'_>,
+) -> Result<Option<Command>, AllocError>
+    ensures read { IfOk result (λ command. IfSome command
+        (ReadsAs (codes "rights") (rows_of (found_of found.now)))) }
+    ensures none { IfOk result (λ command. IfNone command
+        (ReadsNone (codes "rights") (rows_of (found_of found.now)))) }
+{
+    let Some(store) = file_in(alloc, found, "store")? else {
+        return Ok(None);
+    };
+    let at = file_in(alloc, found, "at")?;
+    let caller = file_in(alloc, found, "caller")?;
+    let shared = flag_in(found, "shared");
+    Ok(Some(Command::Rights {
+        store,
+        at,
+        caller,
+        shared,
+    }))
+}
+
+/// The command `dump` with what the words give it; none where the file is missing.
+pub(crate) fn dump_of(alloc: Global, found: &ArgMatches<'_>) -> Result<Option<Command>, AllocError>
+    ensures read { IfOk result (λ command. IfSome command
+        (ReadsAs (codes "dump") (rows_of (found_of found.now)))) }
+    ensures none { IfOk result (λ command. IfNone command
+        (ReadsNone (codes "dump") (rows_of (found_of found.now)))) }
+{
+    let Some(store) = file_in(alloc, found, "store")? else {
+        return Ok(None);
+    };
+    Ok(Some(Command::Dump { store }))
+}
+
+/// The command `show` with what the words give it; none where something is missing.
+pub(crate) fn show_of(alloc: Global, found: &ArgMatches<'_>) -> Result<Option<Command>, AllocError>
+    ensures read { IfOk result (λ command. IfSome command
+        (ReadsAs (codes "show") (rows_of (found_of found.now)))) }
+    ensures none { IfOk result (λ command. IfNone command
+        (ReadsNone (codes "show") (rows_of (found_of found.now)))) }
+{
+    let Some(store) = file_in(alloc, found, "store")? else {
+        return Ok(None);
+    };
+    let Some(path) = file_in(alloc, found, "path")? else {
+        return Ok(None);
+    };
+    Ok(Some(Command::Show { store, path }))
 }

@@ -17,7 +17,14 @@ const COMMANDS: &[(&str, &str)] = &[
         "import office.toml --store=office.db",
         "Import { store: \"office.db\", policy: \"office.toml\" }",
     ),
-    ("check office.toml", "Check { policy: \"office.toml\" }"),
+    (
+        "check office.toml",
+        "Check { policy: \"office.toml\", strict: false }",
+    ),
+    (
+        "check --strict office.toml",
+        "Check { policy: \"office.toml\", strict: true }",
+    ),
     (
         "audit --store office.db",
         "Audit { store: \"office.db\", existing: false }",
@@ -46,6 +53,19 @@ const COMMANDS: &[(&str, &str)] = &[
     (
         "who read --denied /books --store office.db",
         "Who { store: \"office.db\", privilege: \"read\", path: \"/books\", denied: true }",
+    ),
+    (
+        "rights --store office.db",
+        "Rights { store: \"office.db\", at: None, caller: None, shared: false }",
+    ),
+    (
+        "rights --shared --caller bob --at /books --store office.db",
+        "Rights { store: \"office.db\", at: Some(\"/books\"), caller: Some(\"bob\"), shared: true }",
+    ),
+    ("dump --store office.db", "Dump { store: \"office.db\" }"),
+    (
+        "show --store office.db /books/a",
+        "Show { store: \"office.db\", path: \"/books/a\" }",
     ),
     ("pipe", "Pipe { store: None, policy: None }"),
     (
@@ -110,6 +130,18 @@ const REFUSED: &[(&str, &str)] = &[
     ),
     (
         "who --store office.db read",
+        "2 error: the following required arguments were not provided:",
+    ),
+    (
+        "rights --at /books",
+        "2 error: the following required arguments were not provided:",
+    ),
+    (
+        "dump",
+        "2 error: the following required arguments were not provided:",
+    ),
+    (
+        "show --store office.db",
         "2 error: the following required arguments were not provided:",
     ),
     (

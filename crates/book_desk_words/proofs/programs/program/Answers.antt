@@ -19,5 +19,8 @@ returns c =
     let eight = c.in_ok-subcommand-8.ensures.shape c.in_ok-pipe.ensures.1 ∙ ap₂ with_subcommand seven (ap top_of c.in_ok-pipe.ensures.0) in
     let nine = c.in_ok-subcommand-9.ensures.shape c.in_ok-serve.ensures.1 ∙ ap₂ with_subcommand eight (ap top_of c.in_ok-serve.ensures.0) in
     let ten = c.in_ok-subcommand-10.ensures.shape c.in_ok-check.ensures.1 ∙ ap₂ with_subcommand nine (ap top_of c.in_ok-check.ensures.0) in
-    IfOk-weaker c.subcommand-11.result _ _
-    (λ r h. h.shape c.in_ok-who.ensures.1 ∙ ap₂ with_subcommand ten (ap top_of c.in_ok-who.ensures.0)) c.subcommand-11.ensures
+    let eleven = c.in_ok-subcommand-11.ensures.shape c.in_ok-who.ensures.1 ∙ ap₂ with_subcommand ten (ap top_of c.in_ok-who.ensures.0) in
+    let twelve = c.in_ok-subcommand-12.ensures.shape c.in_ok-rights.ensures.1 ∙ ap₂ with_subcommand eleven (ap top_of c.in_ok-rights.ensures.0) in
+    let thirteen = c.in_ok-subcommand-13.ensures.shape c.in_ok-dump.ensures.1 ∙ ap₂ with_subcommand twelve (ap top_of c.in_ok-dump.ensures.0) in
+    IfOk-weaker c.subcommand-14.result _ _
+    (λ r h. h.shape c.in_ok-show.ensures.1 ∙ ap₂ with_subcommand thirteen (ap top_of c.in_ok-show.ensures.0)) c.subcommand-14.ensures
