@@ -56,7 +56,8 @@ impl Model for Card {
 /// `MemberWithoutGroup`. `Memory` at line 0 may come in place of any answer.
 pub fn read_card(alloc: Global, text: &str) -> Result<Card, CardFault>
     ensures card { IfOk result (λ card. IsCard text.now × (card ≡ unfolded text.now)) }
-    ensures fault { IfErr result (λ fault. (fault ≡ out_of_memory) ⊎ (card_fault text.now ≡ Some fault)) }
+    ensures fault { IfErr result (λ fault. (fault ≡ out_of_memory)
+        ⊎ (card_fault text.now ≡ Some fault)) }
 {
     if text.len() > MAX_CARD_BYTES {
         return Err(CardFault {
@@ -87,7 +88,8 @@ fn find_value(text: &str, wanted: Property) -> Option<&str>
 
 /// The line at this index, from 0, where it is a content line.
 fn find_line(text: &str, index: usize) -> Option<Line<'_>>
-    ensures { option_map view result ≡ option_and_then fields_of (slice_get (lines text.now) index) }
+    ensures { option_map view result ≡ option_and_then fields_of
+        (slice_get (lines text.now) index) }
 {
     let mut rest = text;
     let mut left = index;
@@ -137,7 +139,8 @@ impl Card {
     pub fn line(&self, number: usize) -> Line<'_>
         requires low { 0 < number }
         requires high { number ≤ length (card_lines self.now) }
-        ensures { option_and_then fields_of (slice_get (card_lines self.now) (number - 1)) ≡ Some (view result) }
+        ensures { option_and_then fields_of (slice_get (card_lines self.now) (number - 1)) ≡ Some
+            (view result) }
     {
         find_line(self.text.as_str(), number - 1).unwrap()
     }

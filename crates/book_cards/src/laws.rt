@@ -11,7 +11,8 @@ ghost use Rattle.book_cards.specs.Folding.{unfolded, Unfolds};
 
 /// The fields that are read of a line are those of the grammar, and it has no others.
 pub fn fields_are_of_the_grammar()
-    ensures { (line : List ℕ) (fields : Fields) → (fields_of line ≡ Some fields) ↔ IsContentLine line fields }
+    ensures { (line : List ℕ) (fields : Fields) → (fields_of line ≡ Some fields)
+        ↔ IsContentLine line fields }
 {}
 
 /// The texts without a fault are the cards.

@@ -142,7 +142,8 @@ impl<'a> Line<'a> {
 
     /// The line of this group and this name that goes on with this rest.
     fn with(group: Option<&'a str>, name: &'a str, rest: &'a str) -> Option<Line<'a>>
-        ensures { option_map view result ≡ fields_with (option_copied group.entry) name.now rest.now }
+        ensures { option_map view result ≡ fields_with
+            (option_copied group.entry) name.now rest.now }
     {
         if name.is_empty() {
             return None;

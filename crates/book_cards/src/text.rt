@@ -10,8 +10,8 @@ use std::alloc::{AllocError, Global};
 
 /// The text after a space or tab at its front.
 fn strip_blank(text: &str) -> Option<&str>
-    ensures { MatchOption result ((b : ℕ) (rest : List ℕ) → text.now ≡ b ∷ rest → is_blank b ≡ false)
-        (λ rest. (b : ℕ) × (is_blank b ≡ true) × (text.now ≡ b ∷ rest.now)) }
+    ensures { MatchOption result ((b : ℕ) (rest : List ℕ) → text.now ≡ b ∷ rest
+        → is_blank b ≡ false) (λ rest. (b : ℕ) × (is_blank b ≡ true) × (text.now ≡ b ∷ rest.now)) }
 {
     match text.strip_prefix(' ') {
         Some(rest) => Some(rest),
@@ -50,7 +50,8 @@ pub fn unfold(alloc: Global, text: &str) -> Result<String, AllocError>
 /// The first line, without its line end, and the text after it; none in an empty text.
 pub(crate) fn split_line(text: &str) -> Option<(&str, &str)>
     ensures { MatchOption result (text.now ≡ [])
-        (λ parts. (lines text.now ≡ parts.0.now ∷ lines parts.1.now) × (length parts.1.now < length text.now)) }
+        (λ parts. (lines text.now ≡ parts.0.now ∷ lines parts.1.now)
+        × (length parts.1.now < length text.now)) }
 {
     if text.is_empty() {
         return None;
@@ -76,8 +77,10 @@ fn escaped_by(byte: u8) -> Option<char>
 
 /// What a backslash before this text stands for, and the text after the escape.
 fn escape(after: &str) -> Option<(char, &str)>
-    ensures none { IfNone result ((b : ℕ) (rest : List ℕ) → after.now ≡ b ∷ rest → escaped b ≡ None) }
-    ensures some { IfSome result (λ found. (b : ℕ) × (after.now ≡ b ∷ found.1.now) × (escaped b ≡ Some found.0)) }
+    ensures none { IfNone result ((b : ℕ) (rest : List ℕ) → after.now ≡ b ∷ rest
+        → escaped b ≡ None) }
+    ensures some { IfSome result (λ found. (b : ℕ) × (after.now ≡ b ∷ found.1.now)
+        × (escaped b ≡ Some found.0)) }
 {
     let byte = *after.as_bytes().first()?;
     let meaning = escaped_by(byte)?;

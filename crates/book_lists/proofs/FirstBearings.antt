@@ -1,5 +1,5 @@
 -- What decides a leaf among things in order, and what it does among more of them.
-use Rattle.book_lists.proofs.Common.{◌≡◌, ℕ, ◌<◌, ◌≤◌, ◌⊎◌, inl, inr, zero, suc, Bool, true, false, List, [], ◌∷◌, ◌++◌, length, slice_get, Option, Some, None, refl, subst, arith, both_ways, cases_lt, slice_get_within, Leaf}
+use Rattle.book_lists.proofs.Common.{◌≡◌, ℕ, ◌<◌, ◌≤◌, ◌⊎◌, inl, inr, zero, suc, Bool, false, List, [], ◌∷◌, ◌++◌, length, slice_get, Option, Some, None, refl, subst, arith, both_ways, cases_lt, slice_get_within, Leaf}
 use Rattle.book_lists.specs.Deciding.{DecidesBy, DeniesBy, GrantsBy, IsAllowedBy, IsDenialBy}
 
 -- ---- places in two lists

@@ -1,5 +1,5 @@
 -- What a scan knows that goes no further than what settles a need.
-use Rattle.book_lists.proofs.Common.{◌≡◌, ℕ, ◌+◌, ◌-◌, ◌<◌, ◌≤◌, ◌^◌, ◌⊎◌, inl, inr, ◌↔◌, Bool, true, false, List, [], ◌∷◌, ◌++◌, length, Option, Some, None, refl, sym, ap, ◌∙◌, subst, arith, both_ways, false≢true, append-nil, length-append, Leaf, Reading}
+use Rattle.book_lists.proofs.Common.{◌≡◌, ℕ, ◌+◌, ◌-◌, ◌<◌, ◌^◌, inl, inr, ◌↔◌, Bool, true, false, List, [], ◌++◌, length, Option, Some, None, refl, sym, ap, ◌∙◌, subst, arith, both_ways, false≢true, append-nil, length-append, Leaf, Reading}
 use Rattle.std.proofs.Common.{min, is_some, append_assoc}
 use Rattle.std.specs.Option.{option_map_or}
 use Rattle.std.proofs.lemmas.Bool.{cases_Bool, and_from}
@@ -7,7 +7,7 @@ use Rattle.book_rights.specs.Leaves.{IsLeast}
 use Rattle.book_lists.specs.Readings.{bears_read, denying_read, IsAllowedRead, IsDenialRead, Settles}
 use Rattle.book_lists.specs.Deciders.{index_in, IsFirstDenied, IsDeciders, IsJudged}
 use Rattle.book_lists.specs.declared.deciders.Deciders.{Deciders}
-use Rattle.book_lists.proofs.FirstBearings.{allowed_more, denial_more, denied_or_allowed}
+use Rattle.book_lists.proofs.FirstBearings.{denial_more, denied_or_allowed}
 use Rattle.book_lists.proofs.IdleReadings.{settles_more}
 use Rattle.book_lists.proofs.KeptDeciders.{outcome_denied, outcome_allowed, left_unallowed, none_denied, decided_more}
 use Rattle.book_lists.proofs.FirstFound.{decides_found}

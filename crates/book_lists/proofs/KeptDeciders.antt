@@ -1,13 +1,12 @@
 -- What a scan that keeps deciders knows.
-use Rattle.book_lists.proofs.Common.{◌≡◌, ℕ, suc, ◌+◌, ◌-◌, ◌<◌, ◌≤◌, ◌^◌, ◌⊎◌, inl, inr, ◌↔◌, Bool, true, false, not, ◌&&◌, ◌||◌, List, [], ◌∷◌, ◌++◌, length, Option, Some, None, refl, sym, ap, ◌∙◌, subst, arith, both_ways, false≢true, and_parts, length-append, slice_get_within, Leaf, difference, Reading}
+use Rattle.book_lists.proofs.Common.{◌≡◌, ℕ, ◌+◌, ◌-◌, ◌<◌, ◌^◌, ◌⊎◌, inl, inr, ◌↔◌, Bool, true, false, not, ◌&&◌, ◌||◌, List, [], ◌∷◌, ◌++◌, length, Option, Some, None, refl, sym, ap, ◌∙◌, subst, arith, both_ways, false≢true, and_parts, length-append, slice_get_within, Leaf, difference, Reading}
 use Rattle.std.proofs.Common.{min, is_none, is_some, option_map, if◌then◌else◌}
-use Rattle.std.proofs.lemmas.Bool.{cases_Bool, and_from, and_left, and_right}
+use Rattle.std.proofs.lemmas.Bool.{cases_Bool, and_from}
 use Rattle.std.specs.Option.{option_map_or}
-use Rattle.book_rights.specs.Leaves.{place_of, union, IsLeast}
+use Rattle.book_rights.specs.Leaves.{union, IsLeast}
 use Rattle.book_lists.specs.Deciding.{DecidesBy, decider}
-use Rattle.book_lists.specs.Readings.{bears_read, denying_read, DeniesRead, GrantsRead, IsAllowedRead, IsDenialRead}
-use Rattle.book_lists.specs.Deciders.{told_decider, granted_read, denied_read, undecided_read, AreDecided, index_in, IsFirstDenied, IsDeciders}
-use Rattle.book_lists.specs.declared.deciders.Decider.{Decider}
+use Rattle.book_lists.specs.Readings.{bears_read, denying_read, IsAllowedRead, IsDenialRead}
+use Rattle.book_lists.specs.Deciders.{told_decider, denied_read, undecided_read, AreDecided, index_in, IsFirstDenied, IsDeciders}
 use Rattle.book_lists.specs.declared.deciders.Deciders.{Deciders}
 use Rattle.book_lists.proofs.FirstBearings.{denial_more}
 use Rattle.book_lists.proofs.FirstFound.{or_else, when, found_or_none, found_decides, decides_found, found_more, found_last}

@@ -140,7 +140,8 @@ fn itself_and(
     person: &Principal,
     groups: Vec<Principal>,
 ) -> Result<Reached, AllocError>
-    ensures { IfOk result (λ reached. circle_of reached ≡ circle_with (Known person.now) groups.items) }
+    ensures { IfOk result (λ reached. circle_of reached ≡ circle_with
+        (Known person.now) groups.items) }
 {
     if groups.is_empty() {
         return Ok(Reached::Itself(person.clone()?));
@@ -152,7 +153,8 @@ fn itself_and(
 
 /// A person itself, and the groups that are kept of it.
 fn itself_and_kept(reach: &Pairs, person: &Principal) -> Result<Reached, AllocError>
-    ensures { IfOk result (λ reached. IsCircleByReach reach.now (Known person.now) (circle_of reached)) }
+    ensures { IfOk result (λ reached. IsCircleByReach reach.now (Known person.now)
+        (circle_of reached)) }
 {
     if reach.is_in_none(person) {
         return Ok(Reached::Itself(person.clone()?));

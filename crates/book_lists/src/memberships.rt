@@ -93,7 +93,8 @@ impl Pairs {
 
     /// Whether the member is a direct member of the group. Takes no memory.
     pub fn has(&self, group: &Principal, member: &Principal) -> bool
-        ensures { result ≡ set.contains self.now (record { group = group.now; member = member.now }) }
+        ensures { result ≡ set.contains self.now
+            (record { group = group.now; member = member.now }) }
     {
         match self.groups.get(member) {
             Some(groups) => groups.has(group),
@@ -117,7 +118,8 @@ impl Pairs {
 
     /// Adds a pair, if it is not there. An error is want of memory; the pairs then stay as they were.
     pub fn add(&mut self, group: Principal, member: Principal) -> Result<(), AllocError>
-        ensures ok { OnOk result (self.new ≡ set.insert self.old (record { group = group; member = member })) }
+        ensures ok { OnOk result (self.new ≡ set.insert self.old
+            (record { group = group; member = member })) }
         ensures err { OnErr result (self.new ≡ self.old) }
     {
         if self.has(&group, &member) {
@@ -131,7 +133,8 @@ impl Pairs {
     /// Whether the member is in a group.
     fn knows(&self, member: &Principal) -> bool
         ensures some { IsTrue result → (group : List ℕ) × IsDirect self.now group member.now }
-        ensures none { IsTrue (not result) → (group : List ℕ) → IsDirect self.now group member.now → ⊥ }
+        ensures none { IsTrue (not result) → (group : List ℕ)
+            → IsDirect self.now group member.now → ⊥ }
     {
         match self.groups.get(member) {
             Some(groups) => !groups.is_empty(),
@@ -269,7 +272,8 @@ fn push_groups<'a>(
     member: &Principal,
     work: &mut Vec<&'a Principal>,
 ) -> Result<(), AllocError>
-    ensures { OnOk result ((added : List (List ℕ)) × ListsAll (groups_at groups.entry.now.entries member.now) added
+    ensures { OnOk result ((added : List (List ℕ))
+        × ListsAll (groups_at groups.entry.now.entries member.now) added
         × (map (λ w. w.now) work.new.items ≡ map (λ w. w.now) work.old.items ++ added)) }
 {
     match groups.get(member) {
@@ -397,7 +401,8 @@ fn search<'a>(
 ) -> Result<PrincipalSet, AllocError>
     requires ordered { IsOrdered path_cmp groups.now }
     requires known { AreKnown (pairs_in groups.now.entries) known.now }
-    ensures { IfOk result (IsFound (pairs_in groups.now.entries) (map (λ w. w.now) starts.entry.items)) }
+    ensures { IfOk result (IsFound (pairs_in groups.now.entries)
+        (map (λ w. w.now) starts.entry.items)) }
 {
     let mut found = PrincipalSet::new(alloc);
     let mut work = starts;

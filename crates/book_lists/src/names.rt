@@ -145,7 +145,8 @@ fn front_of(name: &str) -> u64
 impl Name {
     /// The name that the text is; none where the text is no name. An error is want of memory.
     pub fn parse(alloc: Global, text: &str) -> Result<Option<Name>, AllocError>
-        ensures found { IfOk result (λ found. IfSome found (λ name. (name ≡ text.now) × IsName name)) }
+        ensures found { IfOk result (λ found. IfSome found
+            (λ name. (name ≡ text.now) × IsName name)) }
         ensures none { IfOk result (λ found. IfNone found (IsName text.now → ⊥)) }
     {
         if !is_name(text) {

@@ -139,7 +139,8 @@ impl Principal {
     /// The principal whose path the text spells; none where the text spells no path of a person or a group. One slash
     /// at the end is dropped. An error is want of memory.
     pub fn parse(alloc: Global, text: &str) -> Result<Option<Principal>, AllocError>
-        ensures found { IfOk result (λ found. IfSome found (λ path. IsPrincipal path × Spells text.now path)) }
+        ensures found { IfOk result (λ found. IfSome found
+            (λ path. IsPrincipal path × Spells text.now path)) }
         ensures none { IfOk result (λ found. IfNone found ((path : List ℕ)
             → IsPrincipal path → Spells text.now path → ⊥)) }
     {

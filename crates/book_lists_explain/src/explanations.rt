@@ -19,7 +19,8 @@ use std::alloc::{AllocError, Global};
 
 /// Adds each name, after a space.
 fn push_rest(text: &mut String, rest: &[Privilege]) -> Result<(), AllocError>
-    ensures { OnOk result (string_bytes text.new ≡ string_bytes text.old ++ flat_map spaced rest.now) }
+    ensures { OnOk result (string_bytes text.new ≡
+        string_bytes text.old ++ flat_map spaced rest.now) }
 {
     for name in rest {
         text.push_str(" ")?;
@@ -85,7 +86,8 @@ fn answer_text(
 fn answer(alloc: Global, question: &Question) -> Result<String, ExplainFaultKind>
     ensures answered { IfOk result (λ text. (caller : Caller) × (need : Leaf → Bool)
         × (question.now.caller ≡ Some caller) × (question.now.need ≡ Some need)
-        × IsAnswer question.now.pairs caller need question.now.here question.now.entries.items (string_bytes text)) }
+        × IsAnswer question.now.pairs caller need question.now.here question.now.entries.items
+        (string_bytes text)) }
     ensures missing { IfErr result (OrMemory (λ kind. (kind ≡ Missing)
         × ((question.now.caller ≡ None) ⊎ (question.now.need ≡ None)))) }
 {

@@ -19,4 +19,5 @@ pub use faults::{ExplainFault, ExplainFaultKind};
 pub use laws::{
     answers_are_one, answers_exclude_faults, explain_faults_are_one, texts_have_answers_or_faults,
 };
+pub use lines::Line;
 pub use short_names::{has_read, has_write, short_privileges};

@@ -13,15 +13,22 @@ use book_lists::{Caller, Entry, Principal, Who};
 use book_rights::{LeafSet, Privilege};
 use std::alloc::{AllocError, Global};
 
-/// What one line says.
+/// What one line of an `explain` text says (own profile).
 #[derive(Debug, Drop)]
-pub(crate) enum Line {
+pub enum Line {
+    /// Nothing: blanks, or a comment.
     Blank,
+    /// The second is a member of the first.
     Member(Principal, Principal),
+    /// Who asks.
     Asks(Caller),
+    /// The leaves that are needed.
     Need(LeafSet),
+    /// Who owns the resource.
     Owner(Principal),
+    /// The principal that the resource is.
     Here(Principal),
+    /// The next entry of the list.
     Listed(Entry),
 }
 
@@ -32,7 +39,8 @@ pub(crate) fn pieces<'a>(
     separator: char,
 ) -> Result<Vec<&'a str>, AllocError>
     requires { separator < 128 }
-    ensures { IfOk result (λ pieces. map (λ w. w.now) pieces.items ≡ slice_split (λ b. b == separator) text.now) }
+    ensures { IfOk result (λ pieces. map (λ w. w.now) pieces.items ≡ slice_split
+        (λ b. b == separator) text.now) }
 {
     text.split(separator).collect(alloc)
 }
@@ -49,7 +57,8 @@ fn principal(alloc: Global, word: &str) -> Result<Principal, ExplainFaultKind>
 /// The principal form that the word names.
 fn who(alloc: Global, word: &str) -> Result<Who, ExplainFaultKind>
     ensures named { IfOk result (λ who. IsWho word.now who) }
-    ensures bad { IfErr result (OrMemory (λ kind. (kind ≡ BadName) × ((who : Who) → IsWho word.now who → ⊥))) }
+    ensures bad { IfErr result (OrMemory
+        (λ kind. (kind ≡ BadName) × ((who : Who) → IsWho word.now who → ⊥))) }
 {
     Ok(match word {
         "all" => Who::Everyone,
@@ -76,9 +85,12 @@ fn leaves(names: &[&str]) -> Option<LeafSet>
 
 /// The entry of a line that begins with `grant` or `deny`, and `not` where it is inverted.
 fn entry(alloc: Global, deny: bool, invert: bool, words: &[&str]) -> Result<Line, ExplainFaultKind>
-    requires { invert ≡ false → (rest : List (List ℕ)) → map (λ w. w.now) words.now ≢ codes "not" ∷ rest }
-    ensures told { IfOk result (WordsSay (action deny ∷ inverted invert (map (λ w. w.now) words.now))) }
-    ensures faulty { IfErr result (OrMemory (FaultOfWords (action deny ∷ inverted invert (map (λ w. w.now) words.now)))) }
+    requires { invert ≡ false → (rest : List (List ℕ))
+        → map (λ w. w.now) words.now ≢ codes "not" ∷ rest }
+    ensures told { IfOk result (WordsSay
+        (action deny ∷ inverted invert (map (λ w. w.now) words.now))) }
+    ensures faulty { IfErr result (OrMemory
+        (FaultOfWords (action deny ∷ inverted invert (map (λ w. w.now) words.now)))) }
 {
     let [word, names @ ..] = words else {
         return Err(ExplainFaultKind::BadLine);
@@ -99,7 +111,8 @@ fn entry(alloc: Global, deny: bool, invert: bool, words: &[&str]) -> Result<Line
 /// What a line says that begins with `grant` or `deny`.
 fn listed(alloc: Global, deny: bool, words: &[&str]) -> Result<Line, ExplainFaultKind>
     ensures told { IfOk result (WordsSay (action deny ∷ map (λ w. w.now) words.now)) }
-    ensures faulty { IfErr result (OrMemory (FaultOfWords (action deny ∷ map (λ w. w.now) words.now))) }
+    ensures faulty { IfErr result (OrMemory
+        (FaultOfWords (action deny ∷ map (λ w. w.now) words.now))) }
 {
     match words {
         ["not", rest @ ..] => entry(alloc, deny, true, rest),

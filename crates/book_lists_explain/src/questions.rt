@@ -45,8 +45,8 @@ impl Question {
     fn take(&mut self, line: Line) -> Result<(), ExplainFaultKind>
         ensures taken { OnOk result ((said : List SaidLine) → IsQuestion said self.old
             → Fits said line × IsQuestion (said ++ line ∷ []) self.new) }
-        ensures faulty { IfErr result (OrMemory (λ kind. (said : List SaidLine) → IsQuestion said self.old
-            → Excess said line kind)) }
+        ensures faulty { IfErr result (OrMemory
+            (λ kind. (said : List SaidLine) → IsQuestion said self.old → Excess said line kind)) }
     {
         match line {
             Line::Blank => {}
@@ -96,8 +96,10 @@ impl Question {
     /// Reads one more line, and adds what it says.
     fn take_text(&mut self, alloc: Global, text: &str) -> Result<(), ExplainFaultKind>
         ensures taken { OnOk result ((said : List SaidLine) → IsQuestion said self.old
-            → (line : SaidLine) × Says text.now line × Fits said line × IsQuestion (said ++ line ∷ []) self.new) }
-        ensures faulty { IfErr result (OrMemory (λ kind. (said : List SaidLine) → IsQuestion said self.old
+            → (line : SaidLine) × Says text.now line × Fits said line
+            × IsQuestion (said ++ line ∷ []) self.new) }
+        ensures faulty { IfErr result (OrMemory
+            (λ kind. (said : List SaidLine) → IsQuestion said self.old
             → LineFault said text.now kind)) }
     {
         let line = line_of(alloc, text)?;

@@ -110,7 +110,8 @@ fn remove_book(office: &mut Office, name: &Name)
 /// Makes an edit of a sound Office. An error is want of memory; the Office is then as it was. Where a number is beyond
 /// its limit, which no sound Office has, nothing is done.
 pub(crate) fn act(alloc: Global, office: &mut Office, edit: &Edit) -> Result<(), AllocError>
-    ensures ok { OnOk result (IsSound office.old → IsPossible office.old edit.now → office.new ≡ apply office.old edit.now) }
+    ensures ok { OnOk result (IsSound office.old → IsPossible office.old edit.now
+        → office.new ≡ apply office.old edit.now) }
     ensures pairs { changes_members edit.now ≡ false → office.new.pairs ≡ office.old.pairs }
     ensures err { OnErr result (office.new ≡ office.old) }
 {

@@ -1,6 +1,6 @@
 //! Whether the entries in force grant a set, by one scan over lists where they lie.
 
-ghost use Rattle.std.specs.Prelude.{◌≡◌, ◌↔◌, ◌∷◌, ◌++◌, [], true, map, option_map, unwrap_or};
+ghost use Rattle.std.specs.Prelude.{◌≡◌, ◌↔◌, ◌∷◌, ◌++◌, [], true, option_map, unwrap_or};
 ghost use Rattle.std.specs.List.{flat_map};
 ghost use Rattle.book_lists.specs.Decisions.{IsAllowed};
 ghost use Rattle.book_lists.specs.Deciders.{IfJudged, IsJudged};
@@ -120,8 +120,10 @@ fn grant_in(
 
 /// The own list of the card that has a name in a book.
 fn own_in<'a>(book: &'a Book, name: &Name) -> &'a [Entry]
-    ensures own { result.now ≡ unwrap_or (option_map (λ (r : Resource). r.own) (card_in book.now name.now)) [] }
-    ensures protected { unwrap_or (option_map (λ (r : Resource). r.protected) (card_in book.now name.now)) [] ≡ [] }
+    ensures own { result.now ≡ unwrap_or
+        (option_map (λ (r : Resource). r.own) (card_in book.now name.now)) [] }
+    ensures protected { unwrap_or (option_map (λ (r : Resource). r.protected)
+        (card_in book.now name.now)) [] ≡ [] }
 {
     match book.cards.get(name) {
         Some(card) => card.own.as_slice(),
@@ -138,7 +140,8 @@ fn grant_at_card(
     here: &Here,
     set: LeafSet,
 ) -> bool
-    ensures { (result ≡ true) ↔ IsAllowed (in_force_at office.now (paths.Card book.now name.now)) circle.now here.now set }
+    ensures { (result ≡ true) ↔ IsAllowed
+        (in_force_at office.now (paths.Card book.now name.now)) circle.now here.now set }
 {
     let Office {
         root,
@@ -182,7 +185,8 @@ fn grant_below(
     set: LeafSet,
 ) -> bool
     requires { levels path.now ≡ path.now ∷ home.now ∷ paths.Root ∷ [] }
-    ensures { (result ≡ true) ↔ IsAllowed (in_force_at office.now path.now) circle.now here.now set }
+    ensures { (result ≡ true) ↔ IsAllowed
+        (in_force_at office.now path.now) circle.now here.now set }
 {
     let root = &office.root;
     grant_in(
@@ -205,7 +209,8 @@ fn grant_below(
 /// Whether the lists at the path of a home and at the root grant the set.
 fn grant_home(office: &Office, path: &Path, circle: &Circle, here: &Here, set: LeafSet) -> bool
     requires { levels path.now ≡ path.now ∷ paths.Root ∷ [] }
-    ensures { (result ≡ true) ↔ IsAllowed (in_force_at office.now path.now) circle.now here.now set }
+    ensures { (result ≡ true) ↔ IsAllowed
+        (in_force_at office.now path.now) circle.now here.now set }
 {
     let root = &office.root;
     grant_in(
@@ -225,7 +230,8 @@ pub(crate) fn grant_at(
     here: &Here,
     set: LeafSet,
 ) -> bool
-    ensures { (result ≡ true) ↔ IsAllowed (in_force_at office.now path.now) circle.now here.now set }
+    ensures { (result ≡ true) ↔ IsAllowed
+        (in_force_at office.now path.now) circle.now here.now set }
 {
     match path {
         Path::Root => grant_in(

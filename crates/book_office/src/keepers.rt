@@ -67,7 +67,8 @@ pub trait Keeper {
 
     /// The resource at a path; none where none is mapped.
     fn find(&mut self, alloc: Global, path: &Path) -> Result<Option<Node>, StoreFault>
-        ensures { Reads (standing self.old) (standing self.new) result (λ o node. node ≡ node_at o path.now) };
+        ensures { Reads (standing self.old) (standing self.new) result
+            (λ o node. node ≡ node_at o path.now) };
 
     /// The resource at a path as `find` tells it, but with the number 0: a keeper may tell so without looking its number up.
     fn find_unnumbered(&mut self, alloc: Global, path: &Path) -> Result<Option<Node>, StoreFault>
@@ -82,7 +83,8 @@ pub trait Keeper {
 
     /// Whether a resource is mapped at a path. A keeper may tell so without a copy of it.
     fn has(&mut self, alloc: Global, path: &Path) -> Result<bool, StoreFault>
-        ensures { Reads (standing self.old) (standing self.new) result (λ o mapped. mapped ≡ is_some (node_at o path.now)) }
+        ensures { Reads (standing self.old) (standing self.new) result
+            (λ o mapped. mapped ≡ is_some (node_at o path.now)) }
     {
         let node = self.find(alloc, path)?;
         Ok(node.is_some())
@@ -90,16 +92,19 @@ pub trait Keeper {
 
     /// The children of a resource, in byte order of their names; none where none is mapped.
     fn children(&mut self, alloc: Global, path: &Path) -> Result<Items<Listed>, StoreFault>
-        ensures { Reads (standing self.old) (standing self.new) result (λ o children. children ≡ children_at o path.now) };
+        ensures { Reads (standing self.old) (standing self.new) result
+            (λ o children. children ≡ children_at o path.now) };
 
     /// How many children a path has; 0 where none is mapped there.
     fn count(&mut self, alloc: Global, path: &Path) -> Result<usize, StoreFault>
-        ensures { Reads (standing self.old) (standing self.new) result (λ o count. count ≡ count_at o path.now) };
+        ensures { Reads (standing self.old) (standing self.new) result
+            (λ o count. count ≡ count_at o path.now) };
 
     /// Whether a path has fewer children than so many. It is asked only where a name is added, so that no other request makes
     /// a store count the cards of a book. A keeper may tell so without counting them.
     fn has_room(&mut self, alloc: Global, path: &Path, most: usize) -> Result<bool, StoreFault>
-        ensures { Reads (standing self.old) (standing self.new) result (λ o room. room ≡ nat_lt (count_at o path.now) most) }
+        ensures { Reads (standing self.old) (standing self.new) result
+            (λ o room. room ≡ nat_lt (count_at o path.now) most) }
     {
         let count = self.count(alloc, path)?;
         Ok(count < most)
@@ -107,11 +112,13 @@ pub trait Keeper {
 
     /// The lists of the resource at a path and of each ancestor; the lists of a path that is not mapped are empty.
     fn lists(&mut self, alloc: Global, path: &Path) -> Result<Lists, StoreFault>
-        ensures { Reads (standing self.old) (standing self.new) result (λ o lists. lists ≡ lists_at o path.now) };
+        ensures { Reads (standing self.old) (standing self.new) result
+            (λ o lists. lists ≡ lists_at o path.now) };
 
     /// The lists that stand at a path itself; those of a path that is not mapped are empty.
     fn level(&mut self, alloc: Global, path: &Path) -> Result<Level, StoreFault>
-        ensures { Reads (standing self.old) (standing self.new) result (λ o level. level ≡ level_at o path.now) };
+        ensures { Reads (standing self.old) (standing self.new) result
+            (λ o level. level ≡ level_at o path.now) };
 
     /// The lists of the resource at a path and of each ancestor, unless the entries in force grant each leaf of the set (RFC
     /// 3744, section 6): then none. A keeper may tell so without a copy of them.
@@ -172,19 +179,23 @@ pub trait Keeper {
 
     /// The direct members of all groups.
     fn pairs(&mut self, alloc: Global) -> Result<Pairs, StoreFault>
-        ensures { Reads (standing self.old) (standing self.new) result (λ o pairs. pairs ≡ o.pairs) };
+        ensures { Reads (standing self.old) (standing self.new) result
+            (λ o pairs. pairs ≡ o.pairs) };
 
     /// The principals to which the caller belongs.
     fn circle(&mut self, alloc: Global, caller: &Caller) -> Result<Circle, StoreFault>
-        ensures { Reads (standing self.old) (standing self.new) result (λ o circle. IsCircle o.pairs caller.now circle) };
+        ensures { Reads (standing self.old) (standing self.new) result
+            (λ o circle. IsCircle o.pairs caller.now circle) };
 
     /// The access epoch.
     fn epoch(&mut self) -> Result<u64, StoreFault>
-        ensures { Reads (standing self.old) (standing self.new) result (λ o epoch. epoch ≡ o.epoch) };
+        ensures { Reads (standing self.old) (standing self.new) result
+            (λ o epoch. epoch ≡ o.epoch) };
 
     /// What adopting a policy would do.
     fn adoption(&mut self, alloc: Global, policy: &Policy) -> Result<Adoption, StoreFault>
-        ensures { Reads (standing self.old) (standing self.new) result (λ o told. told ≡ adoption_of policy.now o) };
+        ensures { Reads (standing self.old) (standing self.new) result
+            (λ o told. told ≡ adoption_of policy.now o) };
 
     /// How often the store has failed. Takes no memory.
     fn failures(&self) -> u64

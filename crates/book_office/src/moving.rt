@@ -59,8 +59,11 @@ fn contents_of(
     book: &Name,
     name: &Name,
 ) -> Result<Option<(Text, Text)>, AllocError>
-    ensures some { IfOk result (λ found. IfSome found (λ c. (source : StoredCard) × (card_at office.now book.now name.now ≡ Some source) × (c.0 ≡ source.label) × (c.1 ≡ source.text))) }
-    ensures none { IfOk result (λ found. IfNone found (card_at office.now book.now name.now ≡ None)) }
+    ensures some { IfOk result (λ found. IfSome found
+        (λ c. (source : StoredCard) × (card_at office.now book.now name.now ≡ Some source)
+        × (c.0 ≡ source.label) × (c.1 ≡ source.text))) }
+    ensures none { IfOk result (λ found. IfNone found
+        (card_at office.now book.now name.now ≡ None)) }
 {
     let Some(book) = office.books.get(book) else {
         return Ok(None);
@@ -81,7 +84,9 @@ pub(crate) fn copy_card(
     to_card: &Name,
     owner: &Option<Principal>,
 ) -> Result<(), AllocError>
-    ensures ok { OnOk result (AreNumbered office.old.books → office.new ≡ copy_card from_book.now from_card.now to_book.now to_card.now owner.now office.old) }
+    ensures ok { OnOk result (AreNumbered office.old.books
+        → office.new ≡ copy_card from_book.now from_card.now to_book.now to_card.now owner.now
+        office.old) }
     ensures pairs { office.new.pairs ≡ office.old.pairs }
     ensures err { OnErr result (office.new ≡ office.old) }
 {
@@ -220,7 +225,9 @@ pub(crate) fn move_card(
     to_book: &Name,
     to_card: &Name,
 ) -> Result<(), AllocError>
-    ensures ok { OnOk result (AreNumbered office.old.books → card_at office.old from_book.now from_card.now ≢ None → get office.old.books to_book.now ≢ None
+    ensures ok { OnOk result (AreNumbered office.old.books
+        → card_at office.old from_book.now from_card.now ≢ None
+        → get office.old.books to_book.now ≢ None
         → (from_book.now ≡ to_book.now → from_card.now ≢ to_card.now)
         → office.new ≡ move_card from_book.now from_card.now to_book.now to_card.now office.old) }
     ensures pairs { office.new.pairs ≡ office.old.pairs }
@@ -248,8 +255,10 @@ fn move_in_book(
     from: &Name,
     to: &Name,
 ) -> Result<(), AllocError>
-    ensures ok { OnOk result (AreNumbered books.old → from.now ≢ to.now → (old : Book) → get books.old book.now ≡ Some old → get old.cards from.now ≢ None
-        → books.new ≡ insert books.old book.now (move_to (get old.cards from.now) to.now (remove_card from.now old))) }
+    ensures ok { OnOk result (AreNumbered books.old → from.now ≢ to.now → (old : Book)
+        → get books.old book.now ≡ Some old → get old.cards from.now ≢ None
+        → books.new ≡ insert books.old book.now
+        (move_to (get old.cards from.now) to.now (remove_card from.now old))) }
     ensures err { OnErr result (books.new ≡ books.old) }
 {
     match books.get_mut(book) {
@@ -267,9 +276,11 @@ fn move_into(
     to_book: &Name,
     to: &Name,
 ) -> Result<(), AllocError>
-    ensures ok { OnOk result (source.old.changes.number ≤ LAST_NUMBER → (target : Book) → get books.old to_book.now ≡ Some target
-        → target.changes.number ≤ LAST_NUMBER → get source.old.cards from.now ≢ None
-        → (source.new ≡ remove_card from.now source.old) × (books.new ≡ insert books.old to_book.now (move_to (get source.old.cards from.now) to.now target))) }
+    ensures ok { OnOk result (source.old.changes.number ≤ LAST_NUMBER → (target : Book)
+        → get books.old to_book.now ≡ Some target → target.changes.number ≤ LAST_NUMBER
+        → get source.old.cards from.now ≢ None → (source.new ≡ remove_card from.now source.old)
+        × (books.new ≡ insert books.old to_book.now
+        (move_to (get source.old.cards from.now) to.now target))) }
     ensures err { OnErr result ((source.new ≡ source.old) × (books.new ≡ books.old)) }
 {
     match books.get_mut(to_book) {
@@ -291,9 +302,11 @@ fn move_across(
     to: &Name,
 ) -> Result<(), AllocError>
     requires { from_book.now ≢ to_book.now }
-    ensures ok { OnOk result (AreNumbered books.old → (source target : Book) → get books.old from_book.now ≡ Some source → get books.old to_book.now ≡ Some target
+    ensures ok { OnOk result (AreNumbered books.old → (source target : Book)
+        → get books.old from_book.now ≡ Some source → get books.old to_book.now ≡ Some target
         → get source.cards from.now ≢ None
-        → books.new ≡ insert (insert books.old from_book.now (remove_card from.now source)) to_book.now (move_to (get source.cards from.now) to.now target)) }
+        → books.new ≡ insert (insert books.old from_book.now (remove_card from.now source))
+        to_book.now (move_to (get source.cards from.now) to.now target)) }
     ensures err { OnErr result (books.new ≡ books.old) }
 {
     let Some(mut source) = take_book(alloc, books, from_book) else {

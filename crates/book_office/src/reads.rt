@@ -16,7 +16,8 @@ use std::alloc::{AllocError, Global};
 
 /// The node of a resource other than a card.
 fn properties_node(properties: &Properties, kind: Kind, number: u64) -> Result<Node, AllocError>
-    ensures { IfOk result (λ node. node ≡ node_of (properties_resource kind number properties.now)) }
+    ensures { IfOk result (λ node. node ≡ node_of
+        (properties_resource kind number properties.now)) }
 {
     let owner = properties.owner.clone()?;
     let label = properties.label.clone()?;
@@ -75,7 +76,9 @@ fn find_principal(
     name: &Name,
     kind: Kind,
 ) -> Result<Option<Node>, AllocError>
-    ensures { IfOk result (λ node. node ≡ option_map (λ properties. node_of (properties_resource kind 0 properties)) (get principals.now name.now)) }
+    ensures { IfOk result (λ node. node ≡ option_map
+        (λ properties. node_of (properties_resource kind 0 properties))
+        (get principals.now name.now)) }
 {
     match principals.get(name) {
         Some(properties) => Ok(Some(properties_node(properties, kind, 0)?)),
@@ -90,7 +93,8 @@ fn listed_properties(
     kind: Kind,
     number: u64,
 ) -> Result<Listed, AllocError>
-    ensures { IfOk result (λ child. child ≡ as_listed name.now (properties_resource kind number properties.now)) }
+    ensures { IfOk result (λ child. child ≡ as_listed name.now
+        (properties_resource kind number properties.now)) }
 {
     Ok(Listed {
         name: name.clone()?,
@@ -315,7 +319,8 @@ fn card_copy(book: &Book, name: &Name) -> Result<Option<StoredCard>, AllocError>
 
 /// A change, with the card that has the name.
 fn changed_name(book: &Book, number: u64, name: Name) -> Result<Changed, AllocError>
-    ensures { IfOk result (λ change. change ≡ record { number = number; name = name; card = get book.now.cards name }) }
+    ensures { IfOk result (λ change. change ≡
+        record { number = number; name = name; card = get book.now.cards name }) }
 {
     let card = card_copy(book, &name)?;
     Ok(Changed { number, name, card })
@@ -345,7 +350,8 @@ fn changes_of(
     number: u64,
     at_most: Option<u32>,
 ) -> Result<Items<Changed>, AllocError>
-    ensures { IfOk result (λ changes. changes ≡ changed_in book.now (first_of at_most (changes_after book.now.changes.last number))) }
+    ensures { IfOk result (λ changes. changes ≡ changed_in book.now
+        (first_of at_most (changes_after book.now.changes.last number))) }
 {
     let after = book.changes.after(alloc, number, at_most)?;
     with_cards(alloc, book, after)
@@ -359,8 +365,9 @@ fn cards_of(
     number: u64,
     at_most: Option<u32>,
 ) -> Result<Items<Changed>, AllocError>
-    ensures { IfOk result (λ changes. changes ≡ changed_in book.now (first_of at_most
-        (filter (λ (c : Change). is_some (get book.now.cards c.1)) (changes_after book.now.changes.last number)))) }
+    ensures { IfOk result (λ changes. changes ≡ changed_in book.now
+        (first_of at_most (filter (λ (c : Change). is_some (get book.now.cards c.1))
+        (changes_after book.now.changes.last number)))) }
 {
     let after = book.card_changes_after(alloc, number, at_most)?;
     with_cards(alloc, book, after)
@@ -374,7 +381,8 @@ pub(crate) fn changed(
     number: u64,
     at_most: Option<u32>,
 ) -> Result<Items<Changed>, AllocError>
-    ensures { IfOk result (λ changes. changes ≡ first_of at_most (changed_after office.now book.now number)) }
+    ensures { IfOk result (λ changes. changes ≡ first_of at_most
+        (changed_after office.now book.now number)) }
 {
     match office.books.get(book) {
         Some(book) => changes_of(alloc, book, number, at_most),
@@ -390,7 +398,8 @@ pub(crate) fn changed_cards(
     number: u64,
     at_most: Option<u32>,
 ) -> Result<Items<Changed>, AllocError>
-    ensures { IfOk result (λ changes. changes ≡ first_of at_most (cards_after office.now book.now number)) }
+    ensures { IfOk result (λ changes. changes ≡ first_of at_most
+        (cards_after office.now book.now number)) }
 {
     match office.books.get(book) {
         Some(book) => cards_of(alloc, book, number, at_most),

@@ -62,7 +62,8 @@ fn replace_label(cards: &mut NameMap<StoredCard>, name: &Name, label: Text)
 /// Labels the card of a name, which is touched; nothing where there is none.
 fn label_card(book: &mut Book, name: &Name, label: Text) -> Result<(), AllocError>
     requires { book.old.changes.number + 1 < 2 ^ 64 }
-    ensures ok { OnOk result (book.new ≡ label_card name.now label (get book.old.cards name.now) book.old) }
+    ensures ok { OnOk result (book.new ≡ label_card name.now label
+        (get book.old.cards name.now) book.old) }
     ensures err { OnErr result (book.new ≡ book.old) }
 {
     if book.cards.get(name).is_none() {
@@ -80,7 +81,9 @@ fn label_card_in(
     card: &Name,
     label: Text,
 ) -> Result<(), AllocError>
-    ensures ok { OnOk result (AreNumbered books.old → books.new ≡ changed_at (λ (b : Book). label_card card.now label (get b.cards card.now) b) books.old book.now) }
+    ensures ok { OnOk result (AreNumbered books.old
+        → books.new ≡ changed_at (λ (b : Book). label_card card.now label (get b.cards card.now) b)
+        books.old book.now) }
     ensures err { OnErr result (books.new ≡ books.old) }
 {
     match books.get_mut(book) {
@@ -91,7 +94,8 @@ fn label_card_in(
 
 /// Sets the label of a resource.
 pub(crate) fn set_label(office: &mut Office, path: &Path, label: &Text) -> Result<(), AllocError>
-    ensures ok { OnOk result (AreNumbered office.old.books → office.new ≡ set_label path.now label.now office.old) }
+    ensures ok { OnOk result (AreNumbered office.old.books
+        → office.new ≡ set_label path.now label.now office.old) }
     ensures pairs { office.new.pairs ≡ office.old.pairs }
     ensures err { OnErr result (office.new ≡ office.old) }
 {
@@ -140,7 +144,8 @@ fn replace_list(cards: &mut NameMap<StoredCard>, name: &Name, own: Items<Entry>)
 
 /// Replaces the own list of a card of one of the books.
 fn list_card_in(books: &mut NameMap<Book>, book: &Name, card: &Name, own: Items<Entry>)
-    ensures { books.new ≡ changed_at (with_cards (λ cards. changed_at (listed_card own) cards card.now)) books.old book.now }
+    ensures { books.new ≡ changed_at (with_cards
+        (λ cards. changed_at (listed_card own) cards card.now)) books.old book.now }
 {
     if let Some(book) = books.get_mut(book) {
         replace_list(&mut book.cards, card, own);
@@ -186,7 +191,8 @@ fn pairs_of_others(
     pairs: Vec<Membership>,
     group: &Principal,
 ) -> Result<Pairs, AllocError>
-    ensures { IfOk result (λ others. others ≡ set.retain (set_of pairs.items) (λ (m : Membership). not (bytes_eq m.group group.now))) }
+    ensures { IfOk result (λ others. others ≡ set.retain (set_of pairs.items)
+        (λ (m : Membership). not (bytes_eq m.group group.now))) }
 {
     let mut others = Pairs::new(alloc);
     for pair in pairs {
@@ -205,7 +211,9 @@ fn add_members(
     group: &Principal,
     members: &[Principal],
 ) -> Result<(), AllocError>
-    ensures { OnOk result (pairs.new ≡ set.union pairs.old (set.from_list (map (λ member. record { group = group.now; member = member }) members.now))) }
+    ensures { OnOk result (pairs.new ≡ set.union pairs.old
+        (set.from_list (map (λ member. record { group = group.now; member = member })
+        members.now))) }
 {
     for member in members {
         pairs.add(group.clone()?, member.clone()?)?;

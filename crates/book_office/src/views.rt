@@ -17,7 +17,8 @@ fn push_entries(
     protected: bool,
     list: Items<Entry>,
 ) -> Result<(), AllocError>
-    ensures { OnOk result (entries.new.items ≡ entries.old.items ++ map (standing_at path.now protected) list) }
+    ensures { OnOk result (entries.new.items ≡ entries.old.items ++ map
+        (standing_at path.now protected) list) }
 {
     for entry in list.into_vec() {
         let path = path.clone()?;
@@ -56,7 +57,8 @@ pub fn effective<K: Keeper>(
     keeper: &mut K,
     path: &Path,
 ) -> Result<Items<EffectiveEntry>, StoreFault>
-    ensures { Reads (K.standing keeper.old) (K.standing keeper.new) result (λ o entries. entries ≡ effective_at o path.now) }
+    ensures { Reads (K.standing keeper.old) (K.standing keeper.new) result
+        (λ o entries. entries ≡ effective_at o path.now) }
 {
     let lists = keeper.lists(alloc, path)?;
     Ok(effective_entries(alloc, lists)?)

@@ -66,7 +66,8 @@ fn listed_principal(
     label: Text,
     old: &Properties,
 ) -> Result<Properties, AllocError>
-    ensures { IfOk result (λ properties. properties ≡ with_lists_taken policy.now at.now (record old.now { owner = owner; label = label })) }
+    ensures { IfOk result (λ properties. properties ≡ with_lists_taken policy.now at.now
+        (record old.now { owner = owner; label = label })) }
 {
     let none: Items<Entry> = Items::new(alloc);
     let protected = list_or(policy.protected_at(at), &none)?;
@@ -81,7 +82,8 @@ fn listed_principal(
 
 /// The label that a place has under the policy.
 fn label_of(properties: &Properties, label: Option<&Text>) -> Result<Text, AllocError>
-    ensures { IfOk result (λ text. text ≡ (relabelled (option_copied label.entry) properties.now).label) }
+    ensures { IfOk result (λ text. text ≡
+        (relabelled (option_copied label.entry) properties.now).label) }
 {
     match label {
         Some(label) => label.clone(),
@@ -96,7 +98,8 @@ fn new_principals(
     home: &str,
     labels: &NameMap<Text>,
 ) -> Result<NameMap<Properties>, AllocError>
-    ensures { IfOk result (λ principals. principals ≡ all_inserted (new_properties policy.now home.now) empty (entries labels.now)) }
+    ensures { IfOk result (λ principals. principals ≡ all_inserted
+        (new_properties policy.now home.now) empty (entries labels.now)) }
 {
     let mut principals = NameMap::new(alloc);
     let new = Properties::empty(alloc, None);
@@ -117,7 +120,8 @@ fn old_properties_of(
     name: &Name,
     properties: &Properties,
 ) -> Result<Properties, AllocError>
-    ensures { IfOk result (λ new. new ≡ old_properties policy.now home.now labels.now name.now properties.now) }
+    ensures { IfOk result (λ new. new ≡ old_properties policy.now home.now labels.now name.now
+        properties.now) }
 {
     let at = member_text(alloc, home, name)?;
     let label = label_of(properties, labels.get(name))?;
@@ -134,7 +138,8 @@ fn put_principals(
     principals: &mut NameMap<Properties>,
     old: &NameMap<Properties>,
 ) -> Result<(), AllocError>
-    ensures { OnOk result (principals.new ≡ all_inserted (old_properties policy.now home.now labels.now) principals.old (entries old.now)) }
+    ensures { OnOk result (principals.new ≡ all_inserted
+        (old_properties policy.now home.now labels.now) principals.old (entries old.now)) }
 {
     for (name, properties) in old.iter() {
         let properties = old_properties_of(alloc, policy, home, labels, name, properties)?;
@@ -145,7 +150,12 @@ fn put_principals(
 
 /// A book with this place, and no cards.
 fn bare(alloc: Global, properties: Properties) -> Book
-    ensures { result ≡ record { properties = properties; cards = empty; changes = record { number = 0; last = empty } } }
+    ensures { result ≡ record {
+      properties = properties;
+      cards = empty;
+      changes = record
+          { number = 0; last = empty };
+    } }
 {
     Book {
         properties,
@@ -177,7 +187,8 @@ fn new_books(
     policy: &Policy,
     named: &NameMap<PolicyBook>,
 ) -> Result<NameMap<Book>, AllocError>
-    ensures { IfOk result (λ books. books ≡ all_inserted (fresh_book policy.now) empty (entries named.now)) }
+    ensures { IfOk result (λ books. books ≡ all_inserted (fresh_book policy.now) empty
+        (entries named.now)) }
 {
     let mut books = NameMap::new(alloc);
     for (name, book) in named.iter() {
@@ -192,7 +203,8 @@ fn owner_of(
     properties: &Properties,
     named: Option<&PolicyBook>,
 ) -> Result<Option<Principal>, AllocError>
-    ensures { IfOk result (λ owner. owner ≡ (reowned (option_copied named.entry) properties.now).owner) }
+    ensures { IfOk result (λ owner. owner ≡
+        (reowned (option_copied named.entry) properties.now).owner) }
 {
     match named {
         Some(named) => named.owner.clone(),
@@ -202,7 +214,8 @@ fn owner_of(
 
 /// The label that a book has under the policy.
 fn book_label_of(properties: &Properties, named: Option<&PolicyBook>) -> Result<Text, AllocError>
-    ensures { IfOk result (λ label. label ≡ (reowned (option_copied named.entry) properties.now).label) }
+    ensures { IfOk result (λ label. label ≡
+        (reowned (option_copied named.entry) properties.now).label) }
 {
     match named {
         Some(named) => named.label.clone(),
@@ -237,7 +250,8 @@ fn put_books(
     old: &NameMap<Book>,
 ) -> Result<(), AllocError>
     requires { named.now ≡ policy.now.books }
-    ensures { OnOk result (books.new ≡ all_inserted (bare_book policy.now) books.old (entries old.now)) }
+    ensures { OnOk result (books.new ≡ all_inserted (bare_book policy.now) books.old
+        (entries old.now)) }
 {
     for (name, book) in old.iter() {
         let book = bare_book_of(alloc, policy, named, name, book)?;
@@ -452,7 +466,11 @@ pub fn adoption_of(alloc: Global, office: &Office, policy: &Policy) -> Result<Ad
 /// Puts another Office in the place of this one, with this epoch. The books keep their cards and changes; no card is
 /// copied.
 fn replace(office: &mut Office, new: Office, epoch: u64)
-    ensures { office.new ≡ record new { books = moved new.books (entries office.old.books); epoch = epoch } }
+    ensures { office.new ≡ record new {
+      books = moved new.books
+          (entries office.old.books);
+      epoch = epoch;
+    } }
 {
     let old = mem::replace(office, new);
     move_contents(&mut office.books, old.books);

@@ -63,14 +63,16 @@ fn same_text(text: &Text, other: &Text) -> bool
 
 /// Whether two places have the same owner and label.
 pub fn same_place(properties: &Properties, other: &Properties) -> bool
-    ensures { IsTrue result ↔ ((properties.now.owner ≡ other.now.owner) × (properties.now.label ≡ other.now.label)) }
+    ensures { IsTrue result ↔ ((properties.now.owner ≡ other.now.owner)
+        × (properties.now.label ≡ other.now.label)) }
 {
     same_owner(&properties.owner, &other.owner) && same_text(&properties.label, &other.label)
 }
 
 /// Whether two places have the same lists.
 pub fn same_lists(properties: &Properties, other: &Properties) -> bool
-    ensures { IsTrue result ↔ ((properties.now.protected ≡ other.now.protected) × (properties.now.own ≡ other.now.own)) }
+    ensures { IsTrue result ↔ ((properties.now.protected ≡ other.now.protected)
+        × (properties.now.own ≡ other.now.own)) }
 {
     same_list(&properties.protected, &other.protected) && same_list(&properties.own, &other.own)
 }
@@ -87,7 +89,8 @@ fn same_properties(properties: &Properties, other: &Properties) -> bool
 
 /// Whether each pair of a list is there.
 fn are_there(list: Vec<Membership>, pairs: &Pairs) -> bool
-    ensures { IsTrue result ↔ AllByRecursion (λ (q : Pair). set.contains pairs.now q ≡ true) list.items }
+    ensures { IsTrue result ↔ AllByRecursion
+        (λ (q : Pair). set.contains pairs.now q ≡ true) list.items }
 {
     for pair in list {
         if !pairs.has(&pair.group, &pair.member) {
@@ -119,7 +122,8 @@ fn properties_stands(properties: &Properties, other: Option<&Properties>) -> boo
 
 /// Whether the place of a book is that of the other, if there is one.
 fn book_stands(book: &Book, other: Option<&Book>) -> bool
-    ensures { IsTrue result ↔ (option_map (λ (b : BookValue). b.properties) (option_copied other.entry) ≡ Some book.now.properties) }
+    ensures { IsTrue result ↔ (option_map (λ (b : BookValue). b.properties)
+        (option_copied other.entry) ≡ Some book.now.properties) }
 {
     match other {
         Some(other) => same_properties(&other.properties, &book.properties),
@@ -129,7 +133,8 @@ fn book_stands(book: &Book, other: Option<&Book>) -> bool
 
 /// Whether each place of a map stands in another.
 fn principals_stand(principals: &NameMap<Properties>, other: &NameMap<Properties>) -> bool
-    ensures { IsTrue result ↔ AllByRecursion (λ e. get other.now e.0 ≡ Some e.1) (entries principals.now) }
+    ensures { IsTrue result ↔ AllByRecursion (λ e. get other.now e.0 ≡ Some e.1)
+        (entries principals.now) }
 {
     for (name, properties) in principals.iter() {
         if !properties_stands(properties, other.get(name)) {
@@ -141,7 +146,9 @@ fn principals_stand(principals: &NameMap<Properties>, other: &NameMap<Properties
 
 /// Whether the place of each book of a map stands in another.
 fn books_stand(books: &NameMap<Book>, other: &NameMap<Book>) -> bool
-    ensures { IsTrue result ↔ AllByRecursion (λ e. option_map (λ (book : BookValue). book.properties) (get other.now e.0) ≡ Some e.1.properties) (entries books.now) }
+    ensures { IsTrue result ↔ AllByRecursion
+        (λ e. option_map (λ (book : BookValue). book.properties)
+        (get other.now e.0) ≡ Some e.1.properties) (entries books.now) }
 {
     for (name, book) in books.iter() {
         if !book_stands(book, other.get(name)) {
@@ -167,8 +174,9 @@ fn same_books(books: &NameMap<Book>, other: &NameMap<Book>) -> bool
 
 /// Whether two Offices have the same root and the same homes.
 fn same_homes(office: &Office, other: &Office) -> bool
-    ensures { IsTrue result ↔ ((office.now.root ≡ other.now.root) × (office.now.people ≡ other.now.people)
-        × (office.now.groups_home ≡ other.now.groups_home) × (office.now.books_home ≡ other.now.books_home)) }
+    ensures { IsTrue result ↔ ((office.now.root ≡ other.now.root)
+        × (office.now.people ≡ other.now.people) × (office.now.groups_home ≡ other.now.groups_home)
+        × (office.now.books_home ≡ other.now.books_home)) }
 {
     same_properties(&office.root, &other.root)
         && same_properties(&office.people, &other.people)
@@ -178,7 +186,8 @@ fn same_homes(office: &Office, other: &Office) -> bool
 
 /// Whether two Offices have the same persons, groups and books, but for cards and changes.
 fn same_maps(office: &Office, other: &Office) -> bool
-    ensures { IsTrue result ↔ ((office.now.persons ≡ other.now.persons) × (office.now.groups ≡ other.now.groups)
+    ensures { IsTrue result ↔ ((office.now.persons ≡ other.now.persons)
+        × (office.now.groups ≡ other.now.groups)
         × (bare_books office.now.books ≡ bare_books other.now.books)) }
 {
     same_principals(&office.persons, &other.persons)

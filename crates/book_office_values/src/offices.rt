@@ -75,7 +75,8 @@ impl Book {
         at_most: Option<u32>,
     ) -> Result<Items<(u64, Name)>, AllocError>
         ensures { IfOk result (λ changes. changes ≡ first_of at_most
-            (filter (λ (c : Change). is_some (get self.now.cards c.1)) (changes_after self.now.changes.last number))) }
+            (filter (λ (c : Change). is_some (get self.now.cards c.1))
+            (changes_after self.now.changes.last number))) }
     {
         if self.are_few_removed() {
             self.changes
@@ -98,7 +99,8 @@ impl Book {
         at_most: Option<u32>,
     ) -> Result<Items<(u64, Name)>, AllocError>
         ensures { IfOk result (λ changes. changes ≡ first_of at_most
-            (filter (λ (c : Change). is_some (get self.now.cards c.1)) (changes_after self.now.changes.last number))) }
+            (filter (λ (c : Change). is_some (get self.now.cards c.1))
+            (changes_after self.now.changes.last number))) }
     {
         self.changes.known();
         let mut names = NumberMap::new(alloc);

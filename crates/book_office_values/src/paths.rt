@@ -106,8 +106,10 @@ fn member(alloc: Global, text: &str) -> Result<Name, PathFault>
 
 /// The path with this text after `/people`.
 fn in_people(alloc: Global, rest: &str) -> Result<Path, PathFault>
-    ensures found { IfOk result (λ path. IsPath path × SpellsPath (codes "/people" ++ rest.now) path) }
-    ensures bad { IfErr result (λ fault. fault ≡ BadPath → SpellsNone (codes "/people" ++ rest.now)) }
+    ensures found { IfOk result (λ path. IsPath path
+        × SpellsPath (codes "/people" ++ rest.now) path) }
+    ensures bad { IfErr result (λ fault. fault ≡ BadPath
+        → SpellsNone (codes "/people" ++ rest.now)) }
 {
     match rest {
         "" | "/" => Ok(Path::People),
@@ -117,8 +119,10 @@ fn in_people(alloc: Global, rest: &str) -> Result<Path, PathFault>
 
 /// The path with this text after `/groups`.
 fn in_groups(alloc: Global, rest: &str) -> Result<Path, PathFault>
-    ensures found { IfOk result (λ path. IsPath path × SpellsPath (codes "/groups" ++ rest.now) path) }
-    ensures bad { IfErr result (λ fault. fault ≡ BadPath → SpellsNone (codes "/groups" ++ rest.now)) }
+    ensures found { IfOk result (λ path. IsPath path
+        × SpellsPath (codes "/groups" ++ rest.now) path) }
+    ensures bad { IfErr result (λ fault. fault ≡ BadPath
+        → SpellsNone (codes "/groups" ++ rest.now)) }
 {
     match rest {
         "" | "/" => Ok(Path::Groups),
@@ -129,9 +133,11 @@ fn in_groups(alloc: Global, rest: &str) -> Result<Path, PathFault>
 /// The names of a book and a card, or what stands in their places: the texts before and after the second slash of a
 /// text that begins with one, where text follows it.
 fn book_and_card(rest: &str) -> Option<(&str, &str)>
-    ensures some { IfSome result (λ parts. (rest.now ≡ codes "/" ++ parts.0.now ++ codes "/" ++ parts.1.now)
+    ensures some { IfSome result (λ parts.
+        (rest.now ≡ codes "/" ++ parts.0.now ++ codes "/" ++ parts.1.now)
         × (0 < length parts.1.now)) }
-    ensures only { (book card : List ℕ) → IsName book → IsName card → rest.now ≡ codes "/" ++ book ++ codes "/" ++ card
+    ensures only { (book card : List ℕ) → IsName book → IsName card
+        → rest.now ≡ codes "/" ++ book ++ codes "/" ++ card
         → IsSomeAnd result (λ parts. (parts.0.now ≡ book) × (parts.1.now ≡ card)) }
 {
     let (book, card) = after_slash(rest)?.split_once('/')?;
@@ -143,8 +149,10 @@ fn book_and_card(rest: &str) -> Option<(&str, &str)>
 
 /// The path with this text after `/books`.
 fn in_books(alloc: Global, rest: &str) -> Result<Path, PathFault>
-    ensures found { IfOk result (λ path. IsPath path × SpellsPath (codes "/books" ++ rest.now) path) }
-    ensures bad { IfErr result (λ fault. fault ≡ BadPath → SpellsNone (codes "/books" ++ rest.now)) }
+    ensures found { IfOk result (λ path. IsPath path
+        × SpellsPath (codes "/books" ++ rest.now) path) }
+    ensures bad { IfErr result (λ fault. fault ≡ BadPath
+        → SpellsNone (codes "/books" ++ rest.now)) }
 {
     match rest {
         "" | "/" => Ok(Path::Books),
@@ -174,7 +182,8 @@ pub fn push_book_path(text: &mut String, book: &Name) -> Result<(), AllocError>
 /// Adds the path of the card with a name in a book at the end of a string. Takes no memory where the string has the
 /// room. An error is want of memory.
 pub fn push_card_path(text: &mut String, book: &Name, card: &Name) -> Result<(), AllocError>
-    ensures { OnOk result (string_bytes text.new ≡ string_bytes text.old ++ card_path book.now card.now) }
+    ensures { OnOk result (string_bytes text.new ≡
+        string_bytes text.old ++ card_path book.now card.now) }
 {
     push_book_path(text, book)?;
     push_both(text, "/", card.text())
@@ -218,7 +227,8 @@ impl Path {
     /// Adds the text of the path at the end of a string. Takes no memory where the string has the room. An error is
     /// want of memory.
     pub fn push_text(&self, text: &mut String) -> Result<(), AllocError>
-        ensures { OnOk result (string_bytes text.new ≡ string_bytes text.old ++ path_text self.now) }
+        ensures { OnOk result (string_bytes text.new ≡
+            string_bytes text.old ++ path_text self.now) }
     {
         match self {
             Path::Root => text.push_str("/"),

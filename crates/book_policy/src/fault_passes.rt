@@ -76,7 +76,8 @@ impl Named for BookPart {
 
 /// Whether each name is one.
 fn all_named<T: Named>(alloc: Global, parts: &[T]) -> Result<bool, AllocError>
-    ensures { IfOk result (λ fine. IsTrue fine ↔ AllByRecursion (λ p. IsName (T.entry p).0) parts.now) }
+    ensures { IfOk result (λ fine. IsTrue fine
+        ↔ AllByRecursion (λ p. IsName (T.entry p).0) parts.now) }
 {
     for part in parts {
         let name = Name::parse(alloc, part.name().as_str())?;
@@ -89,7 +90,8 @@ fn all_named<T: Named>(alloc: Global, parts: &[T]) -> Result<bool, AllocError>
 
 /// Whether the persons, groups and books have names.
 pub(crate) fn are_names(alloc: Global, parts: &Parts) -> Result<bool, AllocError>
-    ensures { IfOk result (λ fine. IsTrue fine ↔ AreNames parts.now.persons parts.now.groups parts.now.books) }
+    ensures { IfOk result (λ fine. IsTrue fine
+        ↔ AreNames parts.now.persons parts.now.groups parts.now.books) }
 {
     if !all_named(alloc, parts.persons.as_slice())? {
         return Ok(false);
@@ -102,9 +104,11 @@ pub(crate) fn are_names(alloc: Global, parts: &Parts) -> Result<bool, AllocError
 
 /// The labels by name, if each name is one and stands once.
 fn labels_by_name<T: Named>(alloc: Global, parts: &[T]) -> Result<Option<NameMap<Text>>, AllocError>
-    ensures some { IfOk result (λ found. IfSome found (λ labels. CanAdd (λ _. Unit {0}) T.entry empty parts.now
+    ensures some { IfOk result (λ found. IfSome found
+        (λ labels. CanAdd (λ _. Unit {0}) T.entry empty parts.now
         × (labels ≡ added empty (map T.entry parts.now)))) }
-    ensures none { IfOk result (λ found. IfNone found (CanAdd (λ _. Unit {0}) T.entry empty parts.now → ⊥)) }
+    ensures none { IfOk result (λ found. IfNone found
+        (CanAdd (λ _. Unit {0}) T.entry empty parts.now → ⊥)) }
 {
     let mut labels = NameMap::new(alloc);
     for part in parts {
@@ -129,9 +133,11 @@ pub(crate) struct Labels {
 
 /// The labels of the parts by name, if each name is one and stands once.
 pub(crate) fn labels_of(alloc: Global, parts: &Parts) -> Result<Option<Labels>, AllocError>
-    ensures some { IfOk result (λ found. IfSome found (λ labels.
-        AreOnce parts.now.persons parts.now.groups parts.now.books × AreLabelsOf parts.now labels)) }
-    ensures none { IfOk result (λ found. IfNone found (AreNames parts.now.persons parts.now.groups parts.now.books
+    ensures some { IfOk result (λ found. IfSome found
+        (λ labels. AreOnce parts.now.persons parts.now.groups parts.now.books
+        × AreLabelsOf parts.now labels)) }
+    ensures none { IfOk result (λ found. IfNone found
+        (AreNames parts.now.persons parts.now.groups parts.now.books
         → AreOnce parts.now.persons parts.now.groups parts.now.books → ⊥)) }
 {
     let Some(persons) = labels_by_name(alloc, parts.persons.as_slice())? else {
@@ -184,7 +190,8 @@ fn all_name_principals(
     groups: &NameMap<Text>,
     texts: &[Text],
 ) -> Result<bool, AllocError>
-    ensures { IfOk result (λ fine. IsTrue fine ↔ AllByRecursion (NamesPrincipal persons.now groups.now) texts.now) }
+    ensures { IfOk result (λ fine. IsTrue fine
+        ↔ AllByRecursion (NamesPrincipal persons.now groups.now) texts.now) }
 {
     for text in texts {
         if !names_principal(alloc, persons, groups, text.as_str())? {
@@ -264,7 +271,8 @@ fn who_known(
     groups: &NameMap<Text>,
     text: &str,
 ) -> Result<bool, AllocError>
-    ensures { IfOk result (λ fine. IsTrue fine ↔ NamesForm persons.now groups.now (who_of text.now)) }
+    ensures { IfOk result (λ fine. IsTrue fine
+        ↔ NamesForm persons.now groups.now (who_of text.now)) }
 {
     if is_word(text) {
         return Ok(true);
@@ -280,7 +288,8 @@ fn forms_known(
     entries: &[EntryText],
 ) -> Result<bool, AllocError>
     ensures { IfOk result (λ fine. IsTrue fine
-        ↔ AllByRecursion (λ (e : EntryText). NamesForm persons.now groups.now (who_of e.who)) entries.now) }
+        ↔ AllByRecursion (λ (e : EntryText). NamesForm persons.now groups.now (who_of e.who))
+        entries.now) }
 {
     for entry in entries {
         if !who_known(alloc, persons, groups, entry.who.as_str())? {
@@ -311,7 +320,8 @@ pub(crate) fn principals_known(
 
 /// Whether the path is the root, a home, or a person, a group or a book that is there.
 fn is_place_of(labels: &Labels, path: &Path) -> bool
-    ensures { IsTrue result ↔ IsPlaceOf labels.now.persons labels.now.groups labels.now.books path.now }
+    ensures { IsTrue result ↔ IsPlaceOf labels.now.persons labels.now.groups
+        labels.now.books path.now }
 {
     match path {
         Path::Root | Path::People | Path::Groups | Path::Books => true,
@@ -387,7 +397,8 @@ fn who_of(alloc: Global, text: &str) -> Result<Option<Who>, AllocError>
 
 /// The leaves of the privileges with these names, if each is one.
 fn leaves_of(names: &[Text]) -> Option<LeafSet>
-    ensures some { IfSome result (λ set. (set ≡ leaves_of names.now) × AllByRecursion IsPrivilegeName names.now) }
+    ensures some { IfSome result (λ set. (set ≡ leaves_of names.now)
+        × AllByRecursion IsPrivilegeName names.now) }
     ensures none { IfNone result (AllByRecursion IsPrivilegeName names.now → ⊥) }
 {
     let mut set = LeafSet::empty();

@@ -23,7 +23,8 @@ use toml::Table;
 /// The table of a text.
 fn table_of(alloc: Global, text: &str) -> Result<Table, PolicyFault>
     ensures ok { IfOk result (λ table. parse_document text.now ≡ Some (table_view table)) }
-    ensures err { IfErr result (λ fault. (fault ≡ Memory) ⊎ ((fault ≡ NotToml) × (parse_document text.now ≡ None))) }
+    ensures err { IfErr result (λ fault. (fault ≡ Memory)
+        ⊎ ((fault ≡ NotToml) × (parse_document text.now ≡ None))) }
 {
     match toml::table_from_str(alloc, text) {
         Ok(table) => Ok(table),
@@ -39,7 +40,8 @@ fn table_of(alloc: Global, text: &str) -> Result<Table, PolicyFault>
 
 /// The version, where it is a whole number.
 fn version_of(table: &Table) -> Option<i64>
-    ensures { result ≡ option_and_then as_integer (get_member (codes "version") (table_view table.now)) }
+    ensures { result ≡ option_and_then as_integer
+        (get_member (codes "version") (table_view table.now)) }
 {
     match member(table, "version") {
         Some(value) => value.as_integer(),
@@ -108,9 +110,10 @@ fn whole(
     books: Items<BookPart>,
     entries: Items<EntryPart>,
 ) -> Result<Policy, PolicyFault>
-    ensures { MatchResult result
-        (λ policy. IsFaultless persons groups books entries × (policy ≡ policy_of persons groups books entries))
-        (λ fault. (fault ≡ Memory) ⊎ (fault ≡ TooMany) × (IsFaultless persons groups books entries → ⊥)) }
+    ensures { MatchResult result (λ policy. IsFaultless persons groups books entries
+        × (policy ≡ policy_of persons groups books entries))
+        (λ fault. (fault ≡ Memory) ⊎ (fault ≡ TooMany)
+        × (IsFaultless persons groups books entries → ⊥)) }
 {
     match Policy::new(alloc, persons, groups, books, entries) {
         Ok(Some(policy)) => Ok(policy),
@@ -121,8 +124,8 @@ fn whole(
 
 /// The policy of parts that have no fault in what they name.
 fn made(alloc: Global, parts: Parts) -> Result<Policy, PolicyFault>
-    ensures { MatchResult result
-        (λ policy. PartsRule parts UnknownPrivilege × PartsRule parts TooMany × (policy ≡ policy_of_parts parts))
+    ensures { MatchResult result (λ policy. PartsRule parts UnknownPrivilege
+        × PartsRule parts TooMany × (policy ≡ policy_of_parts parts))
         (λ fault. (fault ≡ Memory) ⊎ IsLaterFault parts fault) }
 {
     let Parts {

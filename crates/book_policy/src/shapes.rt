@@ -163,7 +163,8 @@ fn array_of<T: FromValue + Drop>(
     alloc: Global,
     value: Option<&Value>,
 ) -> Result<Option<Items<T>>, AllocError>
-    ensures { IfOk result (λ parts. parts ≡ array_of T.read (option_map (λ v. view v.now) value.entry)) }
+    ensures { IfOk result (λ parts. parts ≡ array_of T.read
+        (option_map (λ v. view v.now) value.entry)) }
 {
     let Some(value) = value else {
         return Ok(Some(Items::new(alloc)));
@@ -310,8 +311,8 @@ fn action_of(
     grant: Option<&Value>,
     deny: Option<&Value>,
 ) -> Result<Option<(bool, Items<Text>)>, AllocError>
-    ensures { IfOk result (λ action. action
-        ≡ action_of (option_map (λ v. view v.now) grant.entry) (option_map (λ v. view v.now) deny.entry)) }
+    ensures { IfOk result (λ action. action ≡ action_of (option_map (λ v. view v.now) grant.entry)
+        (option_map (λ v. view v.now) deny.entry)) }
 {
     let (denies, value) = match (grant, deny) {
         (Some(grant), None) => (false, grant),

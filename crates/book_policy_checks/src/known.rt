@@ -29,7 +29,8 @@ pub(crate) type Paths = TextMap<Known>;
 
 /// The value at a key.
 pub(crate) fn member<'a>(table: &'a Table, key: Key) -> Option<&'a Value>
-    ensures { option_map (λ v. view v.now) result ≡ get_member (key_text key) (table_view table.now) }
+    ensures { option_map (λ v. view v.now) result ≡ get_member (key_text key)
+        (table_view table.now) }
 {
     table.get(key.text())
 }

@@ -67,7 +67,8 @@ fn not_toml(alloc: Global, text: &str, start: usize, message: &str) -> Result<No
 
 /// The table of a text, or where and why it is not TOML. An error is want of memory.
 fn table_of(alloc: Global, text: &str) -> Result<Result<Table, NotToml>, AllocError>
-    ensures { IfOk result (λ read. MatchResult read (λ table. parse_document text.now ≡ Some (table_view table))
+    ensures { IfOk result (λ read. MatchResult read
+        (λ table. parse_document text.now ≡ Some (table_view table))
         (λ _. parse_document text.now ≡ None)) }
 {
     match toml::table_from_str(alloc, text) {
@@ -118,7 +119,8 @@ fn one_line(text: &str) -> &str
 
 /// Adds a text and an end of a line.
 fn push_ended(text: &mut String, line: &str) -> Result<(), AllocError>
-    ensures { OnOk result (string_bytes text.new ≡ string_bytes text.old ++ (line.now ++ codes "\n")) }
+    ensures { OnOk result (string_bytes text.new ≡ string_bytes text.old ++
+        (line.now ++ codes "\n")) }
 {
     text.push_str(line)?;
     text.push_str("\n")
@@ -186,7 +188,8 @@ fn not_toml_text(alloc: Global, place: &NotToml) -> Result<String, AllocError>
 
 /// The lines of faults, and how many more there are.
 fn faults_text(alloc: Global, table: &Table, faults: &PlacedFaults) -> Result<String, AllocError>
-    ensures { IfOk result (λ text. IsTextOf (Report.Faults table.now faults.now) (string_bytes text)) }
+    ensures { IfOk result (λ text. IsTextOf (Report.Faults table.now faults.now)
+        (string_bytes text)) }
 {
     let mut text = String::new(alloc);
     push_faults(alloc, &mut text, table, faults.told.as_slice())?;

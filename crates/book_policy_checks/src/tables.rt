@@ -308,8 +308,8 @@ fn members_faults(
     value: Option<&Value>,
     faults: &mut PlacedFaults,
 ) -> Result<(), AllocError>
-    ensures { OnOk result (faults.new
-        ≡ noted faults.old (members_faults named.now.paths number (option_map (λ v. view v.now) value.entry))) }
+    ensures { OnOk result (faults.new ≡ noted faults.old
+        (members_faults named.now.paths number (option_map (λ v. view v.now) value.entry))) }
 {
     let spot = spot_at(TableKind::Group, number, Key::Members);
     note(faults, spot, array_problem(value, None))?;
@@ -328,8 +328,8 @@ fn names_faults(
     value: Option<&Value>,
     faults: &mut PlacedFaults,
 ) -> Result<(), AllocError>
-    ensures { OnOk result (faults.new
-        ≡ noted faults.old (names_faults named.now.paths spot (option_map (λ v. view v.now) value.entry))) }
+    ensures { OnOk result (faults.new ≡ noted faults.old
+        (names_faults named.now.paths spot (option_map (λ v. view v.now) value.entry))) }
 {
     let Some(value) = value else {
         return Ok(());

@@ -37,7 +37,8 @@ fn add_one(
     entry: &PolicyEntry,
     list: &mut Items<Placed>,
 ) -> Result<(), AllocError>
-    ensures { OnOk result (list.new ≡ list.old ++ placed_at protected at.now index (entry.now ∷ [])) }
+    ensures { OnOk result (list.new ≡ list.old ++ placed_at protected at.now index
+        (entry.now ∷ [])) }
 {
     if stands_at(protected, at, entry) {
         list.push(Placed {

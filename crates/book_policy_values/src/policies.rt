@@ -69,8 +69,10 @@ impl Policy {
         books: Items<BookPart>,
         entries: Items<EntryPart>,
     ) -> Result<Option<Policy>, AllocError>
-        ensures faultless { IfOk result (λ found. IsSome found ↔ IsFaultless persons groups books entries) }
-        ensures policy { IfOk result (λ found. IfSome found (λ policy. policy ≡ policy_of persons groups books entries)) }
+        ensures faultless { IfOk result (λ found. IsSome found
+            ↔ IsFaultless persons groups books entries) }
+        ensures policy { IfOk result (λ found. IfSome found
+            (λ policy. policy ≡ policy_of persons groups books entries)) }
     {
         if persons.len() > MAX_NAMED || groups.len() > MAX_NAMED || books.len() > MAX_NAMED {
             return Ok(None);

@@ -22,7 +22,8 @@ fn new_name<V>(
     name: &Text,
     label: &Text,
 ) -> Result<Option<Name>, AllocError>
-    ensures some { IfOk result (λ found. IfSome found (λ read. (read ≡ name.now) × IsNew map.now name.now label.now)) }
+    ensures some { IfOk result (λ found. IfSome found
+        (λ read. (read ≡ name.now) × IsNew map.now name.now label.now)) }
     ensures none { IfOk result (λ found. IfNone found (IsNew map.now name.now label.now → ⊥)) }
 {
     label.known();
@@ -43,7 +44,8 @@ pub(crate) fn read_persons(
     alloc: Global,
     parts: Items<PersonPart>,
 ) -> Result<Option<NameMap<Text>>, AllocError>
-    ensures some { IfOk result (λ found. IfSome found (λ persons. PersonsFit empty parts × (persons ≡ added empty (map named_person parts)))) }
+    ensures some { IfOk result (λ found. IfSome found
+        (λ persons. PersonsFit empty parts × (persons ≡ added empty (map named_person parts)))) }
     ensures none { IfOk result (λ found. IfNone found (PersonsFit empty parts → ⊥)) }
 {
     let mut persons = NameMap::new(alloc);
@@ -85,7 +87,8 @@ pub(crate) fn read_groups(
 
 /// The path that the text spells.
 fn path_at(alloc: Global, text: &str) -> Result<Option<Path>, AllocError>
-    ensures some { IfOk result (λ found. IfSome found (λ path. IsPath path × SpellsPath text.now path)) }
+    ensures some { IfOk result (λ found. IfSome found
+        (λ path. IsPath path × SpellsPath text.now path)) }
     ensures none { IfOk result (λ found. IfNone found (SpellsNone text.now)) }
 {
     match Path::parse(alloc, text) {
@@ -102,8 +105,11 @@ fn principal_of(
     groups: &NameMap<Text>,
     path: &Path,
 ) -> Result<Option<Principal>, AllocError>
-    ensures some { IfOk result (λ found. IfSome found (λ principal. (principal ≡ path_text path.now) × IsPrincipalOf persons.now groups.now path.now)) }
-    ensures none { IfOk result (λ found. IfNone found (IsPrincipalOf persons.now groups.now path.now → ⊥)) }
+    ensures some { IfOk result (λ found. IfSome found
+        (λ principal. (principal ≡ path_text path.now)
+        × IsPrincipalOf persons.now groups.now path.now)) }
+    ensures none { IfOk result (λ found. IfNone found
+        (IsPrincipalOf persons.now groups.now path.now → ⊥)) }
 {
     match path {
         Path::Person(name) => {
@@ -129,8 +135,11 @@ fn principal_at(
     groups: &NameMap<Text>,
     text: &str,
 ) -> Result<Option<Principal>, AllocError>
-    ensures some { IfOk result (λ found. IfSome found (λ principal. (principal ≡ spelled text.now) × NamesPrincipal persons.now groups.now text.now)) }
-    ensures none { IfOk result (λ found. IfNone found (NamesPrincipal persons.now groups.now text.now → ⊥)) }
+    ensures some { IfOk result (λ found. IfSome found
+        (λ principal. (principal ≡ spelled text.now)
+        × NamesPrincipal persons.now groups.now text.now)) }
+    ensures none { IfOk result (λ found. IfNone found
+        (NamesPrincipal persons.now groups.now text.now → ⊥)) }
 {
     let Some(path) = path_at(alloc, text)? else {
         return Ok(None);
@@ -146,8 +155,11 @@ fn book_of(
     label: Text,
     owner: Option<Text>,
 ) -> Result<Option<PolicyBook>, AllocError>
-    ensures some { IfOk result (λ found. IfSome found (λ book. (book ≡ record { label = label; owner = option_map spelled owner }) × NamesOwner persons.now groups.now owner)) }
-    ensures none { IfOk result (λ found. IfNone found (NamesOwner persons.now groups.now owner → ⊥)) }
+    ensures some { IfOk result (λ found. IfSome found
+        (λ book. (book ≡ record { label = label; owner = option_map spelled owner })
+        × NamesOwner persons.now groups.now owner)) }
+    ensures none { IfOk result (λ found. IfNone found
+        (NamesOwner persons.now groups.now owner → ⊥)) }
 {
     let Some(text) = owner else {
         return Ok(Some(PolicyBook { label, owner: None }));
@@ -168,9 +180,11 @@ pub(crate) fn read_books(
     groups: &NameMap<Text>,
     parts: Items<BookPart>,
 ) -> Result<Option<NameMap<PolicyBook>>, AllocError>
-    ensures some { IfOk result (λ found. IfSome found (λ books. CanAdd (BookFits persons.now groups.now) named_book empty parts
+    ensures some { IfOk result (λ found. IfSome found
+        (λ books. CanAdd (BookFits persons.now groups.now) named_book empty parts
         × (books ≡ added empty (map named_book parts)))) }
-    ensures none { IfOk result (λ found. IfNone found (CanAdd (BookFits persons.now groups.now) named_book empty parts → ⊥)) }
+    ensures none { IfOk result (λ found. IfNone found
+        (CanAdd (BookFits persons.now groups.now) named_book empty parts → ⊥)) }
 {
     let mut books = NameMap::new(alloc);
     for part in parts.into_vec() {
@@ -195,8 +209,10 @@ fn add_members(
     group: &Principal,
     texts: Items<Text>,
 ) -> Result<bool, AllocError>
-    ensures fit { IfOk result (λ fine. IsTrue fine ↔ MembersFit persons.now groups.now (group.now, texts)) }
-    ensures added { IfOk result (λ fine. IsTrue fine → pairs.new ≡ paired pairs.old (direct group.now texts)) }
+    ensures fit { IfOk result (λ fine. IsTrue fine
+        ↔ MembersFit persons.now groups.now (group.now, texts)) }
+    ensures added { IfOk result (λ fine. IsTrue fine
+        → pairs.new ≡ paired pairs.old (direct group.now texts)) }
 {
     let mut alone = Pairs::new(alloc);
     for text in texts.into_vec() {
@@ -216,9 +232,11 @@ pub(crate) fn read_members(
     groups: &NameMap<Text>,
     given: Items<(Principal, Items<Text>)>,
 ) -> Result<Option<Pairs>, AllocError>
-    ensures some { IfOk result (λ found. IfSome found (λ pairs. AllByRecursion (MembersFit persons.now groups.now) given
+    ensures some { IfOk result (λ found. IfSome found
+        (λ pairs. AllByRecursion (MembersFit persons.now groups.now) given
         × (pairs ≡ paired_all set.empty given))) }
-    ensures none { IfOk result (λ found. IfNone found (AllByRecursion (MembersFit persons.now groups.now) given → ⊥)) }
+    ensures none { IfOk result (λ found. IfNone found
+        (AllByRecursion (MembersFit persons.now groups.now) given → ⊥)) }
 {
     let mut pairs = Pairs::new(alloc);
     for (group, texts) in given.into_vec() {
@@ -288,8 +306,10 @@ fn place_at(
     books: &NameMap<PolicyBook>,
     text: &str,
 ) -> Result<Option<Text>, AllocError>
-    ensures some { IfOk result (λ found. IfSome found (λ at. (at ≡ spelled text.now) × NamesPlace persons.now groups.now books.now text.now)) }
-    ensures none { IfOk result (λ found. IfNone found (NamesPlace persons.now groups.now books.now text.now → ⊥)) }
+    ensures some { IfOk result (λ found. IfSome found
+        (λ at. (at ≡ spelled text.now) × NamesPlace persons.now groups.now books.now text.now)) }
+    ensures none { IfOk result (λ found. IfNone found
+        (NamesPlace persons.now groups.now books.now text.now → ⊥)) }
 {
     let Some(path) = path_at(alloc, text)? else {
         return Ok(None);
@@ -315,8 +335,10 @@ fn read_entry(
     books: &NameMap<PolicyBook>,
     part: EntryPart,
 ) -> Result<Option<PolicyEntry>, AllocError>
-    ensures some { IfOk result (λ found. IfSome found (λ entry. (entry ≡ entry_of part) × EntryFits persons.now groups.now books.now part)) }
-    ensures none { IfOk result (λ found. IfNone found (EntryFits persons.now groups.now books.now part → ⊥)) }
+    ensures some { IfOk result (λ found. IfSome found
+        (λ entry. (entry ≡ entry_of part) × EntryFits persons.now groups.now books.now part)) }
+    ensures none { IfOk result (λ found. IfNone found
+        (EntryFits persons.now groups.now books.now part → ⊥)) }
 {
     let EntryPart {
         at,
@@ -346,8 +368,10 @@ fn push_at(
     at: &Text,
     entry: &Entry,
 ) -> Result<bool, AllocError>
-    ensures room { IfOk result (λ fine. IsTrue fine ↔ length (list_at lists.old at.now) < MAX_ENTRIES) }
-    ensures pushed { IfOk result (λ fine. IsTrue fine → lists.new ≡ pushed_at lists.old at.now entry.now) }
+    ensures room { IfOk result (λ fine. IsTrue fine
+        ↔ length (list_at lists.old at.now) < MAX_ENTRIES) }
+    ensures pushed { IfOk result (λ fine. IsTrue fine
+        → lists.new ≡ pushed_at lists.old at.now entry.now) }
 {
     let mut list = match lists.remove(at) {
         Some(list) => list,
@@ -369,7 +393,8 @@ fn list_entry(
     entry: &PolicyEntry,
 ) -> Result<bool, AllocError>
     ensures room { IfOk result (λ fine. IsTrue fine ↔ HasRoom protected.old own.old entry.now) }
-    ensures protected { IfOk result (λ fine. IsTrue fine → protected.new ≡ with_entry true protected.old entry.now) }
+    ensures protected { IfOk result (λ fine. IsTrue fine
+        → protected.new ≡ with_entry true protected.old entry.now) }
     ensures own { IfOk result (λ fine. IsTrue fine → own.new ≡ with_entry false own.old entry.now) }
 {
     if entry.protected {
@@ -395,10 +420,13 @@ pub(crate) fn read_entries(
     books: &NameMap<PolicyBook>,
     parts: Items<EntryPart>,
 ) -> Result<Option<ReadEntries>, AllocError>
-    ensures some { IfOk result (λ found. IfSome found (λ read. EntriesFit (EntryFits persons.now groups.now books.now) empty empty parts
+    ensures some { IfOk result (λ found. IfSome found
+        (λ read. EntriesFit (EntryFits persons.now groups.now books.now) empty empty parts
         × (read.entries ≡ map entry_of parts)
-        × (read.protected ≡ with_entries true empty (map entry_of parts)) × (read.own ≡ with_entries false empty (map entry_of parts)))) }
-    ensures none { IfOk result (λ found. IfNone found (EntriesFit (EntryFits persons.now groups.now books.now) empty empty parts → ⊥)) }
+        × (read.protected ≡ with_entries true empty (map entry_of parts))
+        × (read.own ≡ with_entries false empty (map entry_of parts)))) }
+    ensures none { IfOk result (λ found. IfNone found
+        (EntriesFit (EntryFits persons.now groups.now books.now) empty empty parts → ⊥)) }
 {
     let mut entries = Vec::new(alloc);
     let mut protected = TextMap::new(alloc);

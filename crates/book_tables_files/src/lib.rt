@@ -75,7 +75,8 @@ fn is_unmade<D: Disk>(alloc: Global, files: &mut Files<D>, size: PageSize) -> Re
     requires log { IsTrue (D.Disk.is_usable files.old.log) }
     requires db { IsTrue (D.Disk.is_usable files.old.db) }
     requires size { bytes_of size ≡ 512 }
-    ensures ok { IfOk result (λ b. AreClean D.Disk files.new.log files.new.db → (IsTrue b ↔ IsUnmade (image_of D.Disk files.old))) }
+    ensures ok { IfOk result (λ b. AreClean D.Disk files.new.log files.new.db
+        → (IsTrue b ↔ IsUnmade (image_of D.Disk files.old))) }
     ensures named { IfErr result (λ e. IsTrue (is_open_error e)) }
     ensures log { OnlyReads D.Disk files.old.log files.new.log }
     ensures db { OnlyReads D.Disk files.old.db files.new.db }
@@ -89,7 +90,8 @@ fn is_unmade<D: Disk>(alloc: Global, files: &mut Files<D>, size: PageSize) -> Re
 /// Whether recovery takes a frame of the log, of pages of this size.
 fn has_frame<D: Disk>(alloc: Global, log: &mut D, size: PageSize) -> Result<bool, Error>
     requires { IsTrue (D.Disk.is_usable log.old) }
-    ensures ok { IfOk result (λ b. IsTrue (D.Disk.is_clean log.new) → TellsFrame (bytes_of size) (D.Disk.seen log.old) b) }
+    ensures ok { IfOk result (λ b. IsTrue (D.Disk.is_clean log.new)
+        → TellsFrame (bytes_of size) (D.Disk.seen log.old) b) }
     ensures named { IfErr result (λ e. IsTrue (is_open_error e)) }
     ensures same { OnlyReads D.Disk log.old log.new }
 {
@@ -141,7 +143,8 @@ fn is_new<D: Disk>(alloc: Global, files: &mut Files<D>, size: PageSize) -> Resul
     requires log { IsTrue (D.Disk.is_usable files.old.log) }
     requires db { IsTrue (D.Disk.is_usable files.old.db) }
     requires size { bytes_of size ≡ 512 }
-    ensures ok { IfOk result (λ b. AreClean D.Disk files.new.log files.new.db → TellsNew (image_of D.Disk files.old) b) }
+    ensures ok { IfOk result (λ b. AreClean D.Disk files.new.log files.new.db
+        → TellsNew (image_of D.Disk files.old) b) }
     ensures named { IfErr result (λ e. IsTrue (is_open_error e)) }
     ensures log { OnlyReads D.Disk files.old.log files.new.log }
     ensures db { OnlyReads D.Disk files.old.db files.new.db }
@@ -191,7 +194,8 @@ fn make<D: Disk>(
     ensures made { IfOk result (λ store. IsTrue (view store).is_clean → IsMadeIn files store) }
     ensures guarded { IfOk result (λ store. IsTrue (view store).is_clean → is_shielded store) }
     ensures named { IfErr result (λ e. IsTrue (is_open_error e.0)) }
-    ensures begun { IfErr result (λ e. IsCleanLeft e.1 → AreClean D.Disk files.log files.db × LeavesFirstOpen files e.1) }
+    ensures begun { IfErr result (λ e. IsCleanLeft e.1 → AreClean D.Disk files.log files.db
+        × LeavesFirstOpen files e.1) }
 {
     let unopened = match unopened(alloc, files, size, options) {
         Ok(unopened) => unopened,
@@ -215,11 +219,13 @@ fn create<D: Disk + Drop>(
     requires size { bytes_of size ≡ 512 }
     requires unmade { AreClean D.Disk files.log files.db → IsUnmade (image_of D.Disk files) }
     ensures opened { IfOk result (λ c. HasCleanDisk (file_state c) → IsOpened c) }
-    ensures made { IfOk result (λ c. HasCleanDisk (file_state c) → AreClean D.Disk files.log files.db × IsEmpty (file_state c).committed.trees) }
+    ensures made { IfOk result (λ c. HasCleanDisk (file_state c)
+        → AreClean D.Disk files.log files.db × IsEmpty (file_state c).committed.trees) }
     ensures fresh { IfOk result IsNew }
     ensures guarded { IfOk result (λ c. HasCleanDisk (file_state c) → (file_state c).IsShielded) }
     ensures named { IfErr result (λ e. IsTrue (is_open_error e.0)) }
-    ensures begun { IfErr result (λ e. IsCleanLeft e.1 → AreClean D.Disk files.log files.db × LeavesFirstOpen files e.1) }
+    ensures begun { IfErr result (λ e. IsCleanLeft e.1 → AreClean D.Disk files.log files.db
+        × LeavesFirstOpen files e.1) }
 {
     match Connection::over(alloc, make(alloc, files, size, options)?) {
         Ok(connection) => Ok(connection),

@@ -15,9 +15,10 @@ use sqlite::{Alter, Error, Row, Transaction};
 /// The mask of each entry of version 1, in no order.
 pub(crate) fn first_masks<S: Alter>(transaction: &mut Transaction<'_, S>) -> Result<Vec<Row>, Error>
     ensures same_reference { transaction.new.conn.ghost_name ≡ transaction.old.conn.ghost_name }
-    ensures survives { Survives (state S.Store transaction.old.conn.now) (state S.Store transaction.new.conn.now)
-        (λ _. ⊥) }
-    ensures kept { Keeps (state S.Store transaction.old.conn.now) (state S.Store transaction.new.conn.now) }
+    ensures survives { Survives (state S.Store transaction.old.conn.now)
+        (state S.Store transaction.new.conn.now) (λ _. ⊥) }
+    ensures kept { Keeps (state S.Store transaction.old.conn.now)
+        (state S.Store transaction.new.conn.now) }
     ensures shown { HasCleanDisk (state S.Store transaction.new.conn.now)
         → IfOk result (λ rows. ShowsMasks (state S.Store transaction.old.conn.now)
         (state S.Store transaction.new.conn.now) rows.items) }

@@ -72,10 +72,13 @@ fn set_place<S: Alter>(
     label: &str,
 ) -> Result<(), Error>
     ensures same_reference { transaction.new.conn.ghost_name ≡ transaction.old.conn.ghost_name }
-    ensures survives { Unseen (state S.Store transaction.old.conn.now) (state S.Store transaction.new.conn.now) }
-    ensures kept { Keeps (state S.Store transaction.old.conn.now) (state S.Store transaction.new.conn.now) }
-    ensures done { Goes (state S.Store transaction.old.conn.now) (state S.Store transaction.new.conn.now) result
-        nothing (plan_of (SetPlace path.entry owner.entry label.entry)) }
+    ensures survives { Unseen (state S.Store transaction.old.conn.now)
+        (state S.Store transaction.new.conn.now) }
+    ensures kept { Keeps (state S.Store transaction.old.conn.now)
+        (state S.Store transaction.new.conn.now) }
+    ensures done { Goes (state S.Store transaction.old.conn.now)
+        (state S.Store transaction.new.conn.now) result nothing
+        (plan_of (SetPlace path.entry owner.entry label.entry)) }
 {
     run(transaction, &Statement::SetPlace { path, owner, label })
 }
@@ -87,10 +90,13 @@ fn write_place<S: Alter>(
     place: &PlaceRow,
 ) -> Result<(), Error>
     ensures same_reference { transaction.new.conn.ghost_name ≡ transaction.old.conn.ghost_name }
-    ensures survives { Unseen (state S.Store transaction.old.conn.now) (state S.Store transaction.new.conn.now) }
-    ensures kept { Keeps (state S.Store transaction.old.conn.now) (state S.Store transaction.new.conn.now) }
-    ensures done { Goes (state S.Store transaction.old.conn.now) (state S.Store transaction.new.conn.now) result
-        nothing (turns CanPlace policy.write_place (placed_row place.now ∷ [])) }
+    ensures survives { Unseen (state S.Store transaction.old.conn.now)
+        (state S.Store transaction.new.conn.now) }
+    ensures kept { Keeps (state S.Store transaction.old.conn.now)
+        (state S.Store transaction.new.conn.now) }
+    ensures done { Goes (state S.Store transaction.old.conn.now)
+        (state S.Store transaction.new.conn.now) result nothing
+        (turns CanPlace policy.write_place (placed_row place.now ∷ [])) }
 {
     let path = place.path.as_str();
     let label = place.label.as_str();
@@ -125,10 +131,13 @@ fn write_lists<S: Alter>(
     lists: &ListsRow,
 ) -> Result<(), Error>
     ensures same_reference { transaction.new.conn.ghost_name ≡ transaction.old.conn.ghost_name }
-    ensures survives { Unseen (state S.Store transaction.old.conn.now) (state S.Store transaction.new.conn.now) }
-    ensures kept { Keeps (state S.Store transaction.old.conn.now) (state S.Store transaction.new.conn.now) }
-    ensures done { Goes (state S.Store transaction.old.conn.now) (state S.Store transaction.new.conn.now) result
-        nothing (turns CanList policy.write_lists (listed_row lists.now ∷ [])) }
+    ensures survives { Unseen (state S.Store transaction.old.conn.now)
+        (state S.Store transaction.new.conn.now) }
+    ensures kept { Keeps (state S.Store transaction.old.conn.now)
+        (state S.Store transaction.new.conn.now) }
+    ensures done { Goes (state S.Store transaction.old.conn.now)
+        (state S.Store transaction.new.conn.now) result nothing
+        (turns CanList policy.write_lists (listed_row lists.now ∷ [])) }
 {
     let Some(node) = look_up(transaction, lists.path.as_str())? else {
         return Err(Error::QueryReturnedNoRows);
@@ -155,10 +164,13 @@ fn write_lists<S: Alter>(
 /// Writes the direct members of a group anew.
 fn write_group<S: Alter>(transaction: &mut Transaction<'_, S>, row: &GroupRow) -> Result<(), Error>
     ensures same_reference { transaction.new.conn.ghost_name ≡ transaction.old.conn.ghost_name }
-    ensures survives { Unseen (state S.Store transaction.old.conn.now) (state S.Store transaction.new.conn.now) }
-    ensures kept { Keeps (state S.Store transaction.old.conn.now) (state S.Store transaction.new.conn.now) }
-    ensures done { Goes (state S.Store transaction.old.conn.now) (state S.Store transaction.new.conn.now) result
-        nothing (turns (λ _ _. ⊤) policy.write_group (joined row.now ∷ [])) }
+    ensures survives { Unseen (state S.Store transaction.old.conn.now)
+        (state S.Store transaction.new.conn.now) }
+    ensures kept { Keeps (state S.Store transaction.old.conn.now)
+        (state S.Store transaction.new.conn.now) }
+    ensures done { Goes (state S.Store transaction.old.conn.now)
+        (state S.Store transaction.new.conn.now) result nothing
+        (turns (λ _ _. ⊤) policy.write_group (joined row.now ∷ [])) }
 {
     let group = row.group.as_str();
     run_all(
@@ -188,10 +200,13 @@ fn write_at<S: Alter>(
 ) -> Result<(), Error>
     requires { place < part_count part.now }
     ensures same_reference { transaction.new.conn.ghost_name ≡ transaction.old.conn.ghost_name }
-    ensures survives { Unseen (state S.Store transaction.old.conn.now) (state S.Store transaction.new.conn.now) }
-    ensures kept { Keeps (state S.Store transaction.old.conn.now) (state S.Store transaction.new.conn.now) }
-    ensures done { Goes (state S.Store transaction.old.conn.now) (state S.Store transaction.new.conn.now) result
-        (part_from part.now (place + 1)) (part_from part.now place) }
+    ensures survives { Unseen (state S.Store transaction.old.conn.now)
+        (state S.Store transaction.new.conn.now) }
+    ensures kept { Keeps (state S.Store transaction.old.conn.now)
+        (state S.Store transaction.new.conn.now) }
+    ensures done { Goes (state S.Store transaction.old.conn.now)
+        (state S.Store transaction.new.conn.now) result (part_from part.now (place + 1))
+        (part_from part.now place) }
 {
     match part {
         Part::Places(places) => write_place(transaction, item_at(places, place)),
@@ -203,10 +218,12 @@ fn write_at<S: Alter>(
 /// Writes them one after another.
 fn write_part<S: Alter>(transaction: &mut Transaction<'_, S>, part: &Part<'_>) -> Result<(), Error>
     ensures same_reference { transaction.new.conn.ghost_name ≡ transaction.old.conn.ghost_name }
-    ensures survives { Unseen (state S.Store transaction.old.conn.now) (state S.Store transaction.new.conn.now) }
-    ensures kept { Keeps (state S.Store transaction.old.conn.now) (state S.Store transaction.new.conn.now) }
-    ensures done { Goes (state S.Store transaction.old.conn.now) (state S.Store transaction.new.conn.now) result
-        nothing (part_from part.now 0) }
+    ensures survives { Unseen (state S.Store transaction.old.conn.now)
+        (state S.Store transaction.new.conn.now) }
+    ensures kept { Keeps (state S.Store transaction.old.conn.now)
+        (state S.Store transaction.new.conn.now) }
+    ensures done { Goes (state S.Store transaction.old.conn.now)
+        (state S.Store transaction.new.conn.now) result nothing (part_from part.now 0) }
 {
     'part: for place in 0..count(part) {
         write_at(transaction, part, place)?;
@@ -224,9 +241,12 @@ fn write_policy<'x, S: Alter>(
     new: &'x [ReachRow],
 ) -> Result<(), Error>
     ensures same_reference { transaction.new.conn.ghost_name ≡ transaction.old.conn.ghost_name }
-    ensures survives { Unseen (state S.Store transaction.old.conn.now) (state S.Store transaction.new.conn.now) }
-    ensures kept { Keeps (state S.Store transaction.old.conn.now) (state S.Store transaction.new.conn.now) }
-    ensures done { Performs (state S.Store transaction.old.conn.now) (state S.Store transaction.new.conn.now) result
+    ensures survives { Unseen (state S.Store transaction.old.conn.now)
+        (state S.Store transaction.new.conn.now) }
+    ensures kept { Keeps (state S.Store transaction.old.conn.now)
+        (state S.Store transaction.new.conn.now) }
+    ensures done { Performs (state S.Store transaction.old.conn.now)
+        (state S.Store transaction.new.conn.now) result
         (adopting (map placed_row places.now) (map listed_row lists.now) (map joined groups.now)
         (map pair_said old.now) (map pair_said new.now)) }
 {
@@ -270,8 +290,9 @@ pub fn adopt_rows<S: Alter>(
     ensures kept { HasCleanDisk (state S.Store connection.new)
         → OnErr result (Stays (state S.Store connection.old) (state S.Store connection.new)) }
     ensures left { Survives (state S.Store connection.old) (state S.Store connection.new)
-        (MayLeave (state S.Store connection.old) (adopting (map placed_row places.now) (map listed_row lists.now)
-        (map joined groups.now) (map pair_said old.now) (map pair_said new.now))) }
+        (MayLeave (state S.Store connection.old)
+        (adopting (map placed_row places.now) (map listed_row lists.now) (map joined groups.now)
+        (map pair_said old.now) (map pair_said new.now))) }
 {
     if !connection.is_autocommit() {
         return Err(Error::SqliteFailure(ErrorCode::TransactionState));

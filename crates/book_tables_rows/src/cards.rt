@@ -21,10 +21,13 @@ fn set_text<'x, S: Alter>(
 ) -> Result<bool, Error>
     requires { number < 2 ^ 53 }
     ensures same_reference { transaction.new.conn.ghost_name ≡ transaction.old.conn.ghost_name }
-    ensures survives { Unseen (state S.Store transaction.old.conn.now) (state S.Store transaction.new.conn.now) }
-    ensures kept { Keeps (state S.Store transaction.old.conn.now) (state S.Store transaction.new.conn.now) }
-    ensures done { WritesAt (state S.Store transaction.old.conn.now) (state S.Store transaction.new.conn.now) result
-        path.now (writes.set_text path.now text.now number) }
+    ensures survives { Unseen (state S.Store transaction.old.conn.now)
+        (state S.Store transaction.new.conn.now) }
+    ensures kept { Keeps (state S.Store transaction.old.conn.now)
+        (state S.Store transaction.new.conn.now) }
+    ensures done { WritesAt (state S.Store transaction.old.conn.now)
+        (state S.Store transaction.new.conn.now) result path.now
+        (writes.set_text path.now text.now number) }
 {
     let count = transaction.execute(
         "UPDATE node SET text = ?2, number = ?3 WHERE path = ?1",
@@ -40,9 +43,12 @@ pub(crate) fn delete_gone_name<S: Alter>(
     name: &str,
 ) -> Result<(), Error>
     ensures same_reference { transaction.new.conn.ghost_name ≡ transaction.old.conn.ghost_name }
-    ensures survives { Unseen (state S.Store transaction.old.conn.now) (state S.Store transaction.new.conn.now) }
-    ensures kept { Keeps (state S.Store transaction.old.conn.now) (state S.Store transaction.new.conn.now) }
-    ensures done { Writes (state S.Store transaction.old.conn.now) (state S.Store transaction.new.conn.now) result
+    ensures survives { Unseen (state S.Store transaction.old.conn.now)
+        (state S.Store transaction.new.conn.now) }
+    ensures kept { Keeps (state S.Store transaction.old.conn.now)
+        (state S.Store transaction.new.conn.now) }
+    ensures done { Writes (state S.Store transaction.old.conn.now)
+        (state S.Store transaction.new.conn.now) result
         (writes.delete_gone_name (Int book) name.now) }
 {
     transaction.execute(
@@ -62,10 +68,13 @@ fn set_copy<'x, S: Alter>(
 ) -> Result<bool, Error>
     requires { number < 2 ^ 53 }
     ensures same_reference { transaction.new.conn.ghost_name ≡ transaction.old.conn.ghost_name }
-    ensures survives { Unseen (state S.Store transaction.old.conn.now) (state S.Store transaction.new.conn.now) }
-    ensures kept { Keeps (state S.Store transaction.old.conn.now) (state S.Store transaction.new.conn.now) }
-    ensures done { WritesAt (state S.Store transaction.old.conn.now) (state S.Store transaction.new.conn.now) result
-        path.now (writes.set_copy path.now label.now text.now number) }
+    ensures survives { Unseen (state S.Store transaction.old.conn.now)
+        (state S.Store transaction.new.conn.now) }
+    ensures kept { Keeps (state S.Store transaction.old.conn.now)
+        (state S.Store transaction.new.conn.now) }
+    ensures done { WritesAt (state S.Store transaction.old.conn.now)
+        (state S.Store transaction.new.conn.now) result path.now
+        (writes.set_copy path.now label.now text.now number) }
 {
     let count = transaction.execute(
         "UPDATE node SET label = ?2, text = ?3, number = ?4 WHERE path = ?1",
@@ -87,11 +96,14 @@ pub(crate) fn write_card<'x, S: Alter>(
 ) -> Result<(), Error>
     requires { number < 2 ^ 53 }
     ensures same_reference { transaction.new.conn.ghost_name ≡ transaction.old.conn.ghost_name }
-    ensures survives { Unseen (state S.Store transaction.old.conn.now) (state S.Store transaction.new.conn.now) }
-    ensures kept { Keeps (state S.Store transaction.old.conn.now) (state S.Store transaction.new.conn.now) }
-    ensures done { Writes (state S.Store transaction.old.conn.now) (state S.Store transaction.new.conn.now) result
-        (λ rows. writes.write_card (Int book) (is_mapped path.now rows) path.now name.now (option_copied owner.entry)
-        text.now number rows) }
+    ensures survives { Unseen (state S.Store transaction.old.conn.now)
+        (state S.Store transaction.new.conn.now) }
+    ensures kept { Keeps (state S.Store transaction.old.conn.now)
+        (state S.Store transaction.new.conn.now) }
+    ensures done { Writes (state S.Store transaction.old.conn.now)
+        (state S.Store transaction.new.conn.now) result
+        (λ rows. writes.write_card (Int book) (is_mapped path.now rows) path.now name.now
+        (option_copied owner.entry) text.now number rows) }
 {
     if set_text(transaction, path, text, number)? {
         return Ok(());
@@ -114,11 +126,14 @@ pub(crate) fn write_copy<'x, S: Alter>(
 ) -> Result<(), Error>
     requires { number < 2 ^ 53 }
     ensures same_reference { transaction.new.conn.ghost_name ≡ transaction.old.conn.ghost_name }
-    ensures survives { Unseen (state S.Store transaction.old.conn.now) (state S.Store transaction.new.conn.now) }
-    ensures kept { Keeps (state S.Store transaction.old.conn.now) (state S.Store transaction.new.conn.now) }
-    ensures done { Writes (state S.Store transaction.old.conn.now) (state S.Store transaction.new.conn.now) result
-        (λ rows. writes.write_copy (Int book) (is_mapped path.now rows) path.now name.now (option_copied owner.entry)
-        label.now text.now number rows) }
+    ensures survives { Unseen (state S.Store transaction.old.conn.now)
+        (state S.Store transaction.new.conn.now) }
+    ensures kept { Keeps (state S.Store transaction.old.conn.now)
+        (state S.Store transaction.new.conn.now) }
+    ensures done { Writes (state S.Store transaction.old.conn.now)
+        (state S.Store transaction.new.conn.now) result
+        (λ rows. writes.write_copy (Int book) (is_mapped path.now rows) path.now name.now
+        (option_copied owner.entry) label.now text.now number rows) }
 {
     if set_copy(transaction, path, label, text, number)? {
         return Ok(());

@@ -20,9 +20,12 @@ fn find_and_remove_card<'x, S: Alter>(
     name: &'x str,
 ) -> Result<(), Error>
     ensures same_reference { transaction.new.conn.ghost_name ≡ transaction.old.conn.ghost_name }
-    ensures survives { Unseen (state S.Store transaction.old.conn.now) (state S.Store transaction.new.conn.now) }
-    ensures kept { Keeps (state S.Store transaction.old.conn.now) (state S.Store transaction.new.conn.now) }
-    ensures done { Performs (state S.Store transaction.old.conn.now) (state S.Store transaction.new.conn.now) result
+    ensures survives { Unseen (state S.Store transaction.old.conn.now)
+        (state S.Store transaction.new.conn.now) }
+    ensures kept { Keeps (state S.Store transaction.old.conn.now)
+        (state S.Store transaction.new.conn.now) }
+    ensures done { Performs (state S.Store transaction.old.conn.now)
+        (state S.Store transaction.new.conn.now) result
         (removing_card book_path.now card_path.now name.now) }
 {
     let Some(book) = look_up(transaction, book_path)? else {
@@ -61,7 +64,8 @@ pub fn remove_card<S: Alter>(
     ensures kept { HasCleanDisk (state S.Store connection.new)
         → OnErr result (Stays (state S.Store connection.old) (state S.Store connection.new)) }
     ensures left { Survives (state S.Store connection.old) (state S.Store connection.new)
-        (MayLeave (state S.Store connection.old) (removing_card book_path.now card_path.now name.now)) }
+        (MayLeave (state S.Store connection.old)
+        (removing_card book_path.now card_path.now name.now)) }
 {
     if !connection.is_autocommit() {
         return Err(Error::SqliteFailure(ErrorCode::TransactionState));
@@ -79,9 +83,12 @@ fn find_and_add_book<'x, S: Alter>(
     owner: Option<&'x str>,
 ) -> Result<(), Error>
     ensures same_reference { transaction.new.conn.ghost_name ≡ transaction.old.conn.ghost_name }
-    ensures survives { Unseen (state S.Store transaction.old.conn.now) (state S.Store transaction.new.conn.now) }
-    ensures kept { Keeps (state S.Store transaction.old.conn.now) (state S.Store transaction.new.conn.now) }
-    ensures done { Performs (state S.Store transaction.old.conn.now) (state S.Store transaction.new.conn.now) result
+    ensures survives { Unseen (state S.Store transaction.old.conn.now)
+        (state S.Store transaction.new.conn.now) }
+    ensures kept { Keeps (state S.Store transaction.old.conn.now)
+        (state S.Store transaction.new.conn.now) }
+    ensures done { Performs (state S.Store transaction.old.conn.now)
+        (state S.Store transaction.new.conn.now) result
         (adding_book home_path.now path.now (option_copied owner.entry)) }
 {
     let Some(home) = look_up(transaction, home_path)? else {
@@ -116,7 +123,8 @@ pub fn add_book<'x, S: Alter>(
     ensures kept { HasCleanDisk (state S.Store connection.new)
         → OnErr result (Stays (state S.Store connection.old) (state S.Store connection.new)) }
     ensures left { Survives (state S.Store connection.old) (state S.Store connection.new)
-        (MayLeave (state S.Store connection.old) (adding_book home_path.now path.now (option_copied owner.entry))) }
+        (MayLeave (state S.Store connection.old)
+        (adding_book home_path.now path.now (option_copied owner.entry))) }
 {
     if !connection.is_autocommit() {
         return Err(Error::SqliteFailure(ErrorCode::TransactionState));

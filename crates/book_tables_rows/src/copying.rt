@@ -22,10 +22,14 @@ fn find_and_copy<'x, S: Alter>(
     owner: Option<&'x str>,
 ) -> Result<(), Error>
     ensures same_reference { transaction.new.conn.ghost_name ≡ transaction.old.conn.ghost_name }
-    ensures survives { Unseen (state S.Store transaction.old.conn.now) (state S.Store transaction.new.conn.now) }
-    ensures kept { Keeps (state S.Store transaction.old.conn.now) (state S.Store transaction.new.conn.now) }
-    ensures done { Performs (state S.Store transaction.old.conn.now) (state S.Store transaction.new.conn.now) result
-        (copying_card source_path.now book_path.now card_path.now name.now (option_copied owner.entry)) }
+    ensures survives { Unseen (state S.Store transaction.old.conn.now)
+        (state S.Store transaction.new.conn.now) }
+    ensures kept { Keeps (state S.Store transaction.old.conn.now)
+        (state S.Store transaction.new.conn.now) }
+    ensures done { Performs (state S.Store transaction.old.conn.now)
+        (state S.Store transaction.new.conn.now) result
+        (copying_card source_path.now book_path.now card_path.now name.now
+        (option_copied owner.entry)) }
 {
     let Some(source) = look_up(transaction, source_path)? else {
         return Err(Error::QueryReturnedNoRows);
@@ -71,11 +75,13 @@ pub fn copy_card<'x, S: Alter>(
 ) -> Result<(), Error>
     ensures made { HasCleanDisk (state S.Store connection.new)
         → OnOk result (Commits (state S.Store connection.old) (state S.Store connection.new)
-        (copying_card source_path.now book_path.now card_path.now name.now (option_copied owner.entry))) }
+        (copying_card source_path.now book_path.now card_path.now name.now
+        (option_copied owner.entry))) }
     ensures kept { HasCleanDisk (state S.Store connection.new)
         → OnErr result (Stays (state S.Store connection.old) (state S.Store connection.new)) }
     ensures left { Survives (state S.Store connection.old) (state S.Store connection.new)
-        (MayLeave (state S.Store connection.old) (copying_card source_path.now book_path.now card_path.now name.now
+        (MayLeave (state S.Store connection.old)
+        (copying_card source_path.now book_path.now card_path.now name.now
         (option_copied owner.entry))) }
 {
     if !connection.is_autocommit() {

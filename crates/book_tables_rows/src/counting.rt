@@ -12,11 +12,15 @@ use sqlite::{Alter, Error, Row, Transaction, params};
 /// One row with the count, or none.
 fn count_rows<S: Alter>(transaction: &mut Transaction<'_, S>, path: &str) -> Result<Vec<Row>, Error>
     ensures same_reference { transaction.new.conn.ghost_name ≡ transaction.old.conn.ghost_name }
-    ensures survives { Unseen (state S.Store transaction.old.conn.now) (state S.Store transaction.new.conn.now) }
-    ensures kept { Keeps (state S.Store transaction.old.conn.now) (state S.Store transaction.new.conn.now) }
-    ensures stays { Spares (state S.Store transaction.old.conn.now) (state S.Store transaction.new.conn.now) result }
+    ensures survives { Unseen (state S.Store transaction.old.conn.now)
+        (state S.Store transaction.new.conn.now) }
+    ensures kept { Keeps (state S.Store transaction.old.conn.now)
+        (state S.Store transaction.new.conn.now) }
+    ensures stays { Spares (state S.Store transaction.old.conn.now)
+        (state S.Store transaction.new.conn.now) result }
     ensures shown { HasCleanDisk (state S.Store transaction.new.conn.now)
-        → IfOk result (λ rows. ShowsCount (state S.Store transaction.old.conn.now) path.now (first_number rows.items)) }
+        → IfOk result (λ rows. ShowsCount (state S.Store transaction.old.conn.now) path.now
+        (first_number rows.items)) }
 {
     transaction.query_all(
         "SELECT (SELECT count(*) FROM node AS child WHERE child.parent = node.id) FROM node WHERE path = ?1",
@@ -40,12 +44,15 @@ pub fn count_children<S: Alter>(
     path: &str,
 ) -> Result<u64, Error>
     ensures same_reference { transaction.new.conn.ghost_name ≡ transaction.old.conn.ghost_name }
-    ensures survives { Survives (state S.Store transaction.old.conn.now) (state S.Store transaction.new.conn.now)
-        (λ _. ⊥) }
-    ensures kept { Keeps (state S.Store transaction.old.conn.now) (state S.Store transaction.new.conn.now) }
-    ensures stays { Spares (state S.Store transaction.old.conn.now) (state S.Store transaction.new.conn.now) result }
+    ensures survives { Survives (state S.Store transaction.old.conn.now)
+        (state S.Store transaction.new.conn.now) (λ _. ⊥) }
+    ensures kept { Keeps (state S.Store transaction.old.conn.now)
+        (state S.Store transaction.new.conn.now) }
+    ensures stays { Spares (state S.Store transaction.old.conn.now)
+        (state S.Store transaction.new.conn.now) result }
     ensures found { HasCleanDisk (state S.Store transaction.new.conn.now)
-        → IfOk result (λ count. ShowsCount (state S.Store transaction.old.conn.now) path.now count) }
+        → IfOk result (λ count. ShowsCount
+        (state S.Store transaction.old.conn.now) path.now count) }
 {
     let rows = count_rows(transaction, path)?;
     first_count(&rows)

@@ -62,11 +62,16 @@ fn write_entry<S: Alter>(
 ) -> Result<(), Error>
     requires { place < length list.now }
     ensures same_reference { transaction.new.conn.ghost_name ≡ transaction.old.conn.ghost_name }
-    ensures survives { Unseen (state S.Store transaction.old.conn.now) (state S.Store transaction.new.conn.now) }
-    ensures kept { Keeps (state S.Store transaction.old.conn.now) (state S.Store transaction.new.conn.now) }
-    ensures done { Goes (state S.Store transaction.old.conn.now) (state S.Store transaction.new.conn.now) result
-        (pieces (Entries node protected list.entry) (place + 1)) (pieces (Entries node protected list.entry) place) }
-    ensures open { StaysOpen (state S.Store transaction.old.conn.now) (state S.Store transaction.new.conn.now) result }
+    ensures survives { Unseen (state S.Store transaction.old.conn.now)
+        (state S.Store transaction.new.conn.now) }
+    ensures kept { Keeps (state S.Store transaction.old.conn.now)
+        (state S.Store transaction.new.conn.now) }
+    ensures done { Goes (state S.Store transaction.old.conn.now)
+        (state S.Store transaction.new.conn.now) result
+        (pieces (Entries node protected list.entry) (place + 1))
+        (pieces (Entries node protected list.entry) place) }
+    ensures open { StaysOpen (state S.Store transaction.old.conn.now)
+        (state S.Store transaction.new.conn.now) result }
 {
     let entry = &list[place];
     execute(
@@ -93,11 +98,15 @@ fn write_at<S: Alter>(
 ) -> Result<(), Error>
     requires { place < item_count items.now }
     ensures same_reference { transaction.new.conn.ghost_name ≡ transaction.old.conn.ghost_name }
-    ensures survives { Unseen (state S.Store transaction.old.conn.now) (state S.Store transaction.new.conn.now) }
-    ensures kept { Keeps (state S.Store transaction.old.conn.now) (state S.Store transaction.new.conn.now) }
-    ensures done { Goes (state S.Store transaction.old.conn.now) (state S.Store transaction.new.conn.now) result
-        (pieces items.now (place + 1)) (pieces items.now place) }
-    ensures open { StaysOpen (state S.Store transaction.old.conn.now) (state S.Store transaction.new.conn.now) result }
+    ensures survives { Unseen (state S.Store transaction.old.conn.now)
+        (state S.Store transaction.new.conn.now) }
+    ensures kept { Keeps (state S.Store transaction.old.conn.now)
+        (state S.Store transaction.new.conn.now) }
+    ensures done { Goes (state S.Store transaction.old.conn.now)
+        (state S.Store transaction.new.conn.now) result (pieces items.now (place + 1))
+        (pieces items.now place) }
+    ensures open { StaysOpen (state S.Store transaction.old.conn.now)
+        (state S.Store transaction.new.conn.now) result }
 {
     match items {
         Items::Entries {
@@ -139,11 +148,14 @@ pub(crate) fn write_items<S: Alter>(
     items: &Items<'_>,
 ) -> Result<(), Error>
     ensures same_reference { transaction.new.conn.ghost_name ≡ transaction.old.conn.ghost_name }
-    ensures survives { Unseen (state S.Store transaction.old.conn.now) (state S.Store transaction.new.conn.now) }
-    ensures kept { Keeps (state S.Store transaction.old.conn.now) (state S.Store transaction.new.conn.now) }
-    ensures done { Goes (state S.Store transaction.old.conn.now) (state S.Store transaction.new.conn.now) result
-        nothing (pieces items.now 0) }
-    ensures open { StaysOpen (state S.Store transaction.old.conn.now) (state S.Store transaction.new.conn.now) result }
+    ensures survives { Unseen (state S.Store transaction.old.conn.now)
+        (state S.Store transaction.new.conn.now) }
+    ensures kept { Keeps (state S.Store transaction.old.conn.now)
+        (state S.Store transaction.new.conn.now) }
+    ensures done { Goes (state S.Store transaction.old.conn.now)
+        (state S.Store transaction.new.conn.now) result nothing (pieces items.now 0) }
+    ensures open { StaysOpen (state S.Store transaction.old.conn.now)
+        (state S.Store transaction.new.conn.now) result }
 {
     'items: for place in 0..count(items) {
         write_at(transaction, items, place)?;

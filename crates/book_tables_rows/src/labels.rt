@@ -19,9 +19,12 @@ fn find_and_label_card<'x, S: Alter>(
     label: &'x str,
 ) -> Result<(), Error>
     ensures same_reference { transaction.new.conn.ghost_name ≡ transaction.old.conn.ghost_name }
-    ensures survives { Unseen (state S.Store transaction.old.conn.now) (state S.Store transaction.new.conn.now) }
-    ensures kept { Keeps (state S.Store transaction.old.conn.now) (state S.Store transaction.new.conn.now) }
-    ensures done { Performs (state S.Store transaction.old.conn.now) (state S.Store transaction.new.conn.now) result
+    ensures survives { Unseen (state S.Store transaction.old.conn.now)
+        (state S.Store transaction.new.conn.now) }
+    ensures kept { Keeps (state S.Store transaction.old.conn.now)
+        (state S.Store transaction.new.conn.now) }
+    ensures done { Performs (state S.Store transaction.old.conn.now)
+        (state S.Store transaction.new.conn.now) result
         (labelling_card book_path.now card_path.now label.now) }
 {
     let Some(book) = look_up(transaction, book_path)? else {
@@ -55,7 +58,8 @@ pub fn label_card<'x, S: Alter>(
     ensures kept { HasCleanDisk (state S.Store connection.new)
         → OnErr result (Stays (state S.Store connection.old) (state S.Store connection.new)) }
     ensures left { Survives (state S.Store connection.old) (state S.Store connection.new)
-        (MayLeave (state S.Store connection.old) (labelling_card book_path.now card_path.now label.now)) }
+        (MayLeave (state S.Store connection.old)
+        (labelling_card book_path.now card_path.now label.now)) }
 {
     if !connection.is_autocommit() {
         return Err(Error::SqliteFailure(ErrorCode::TransactionState));
@@ -72,10 +76,12 @@ fn find_and_label_node<'x, S: Alter>(
     label: &'x str,
 ) -> Result<(), Error>
     ensures same_reference { transaction.new.conn.ghost_name ≡ transaction.old.conn.ghost_name }
-    ensures survives { Unseen (state S.Store transaction.old.conn.now) (state S.Store transaction.new.conn.now) }
-    ensures kept { Keeps (state S.Store transaction.old.conn.now) (state S.Store transaction.new.conn.now) }
-    ensures done { Performs (state S.Store transaction.old.conn.now) (state S.Store transaction.new.conn.now) result
-        (labelling_node path.now label.now) }
+    ensures survives { Unseen (state S.Store transaction.old.conn.now)
+        (state S.Store transaction.new.conn.now) }
+    ensures kept { Keeps (state S.Store transaction.old.conn.now)
+        (state S.Store transaction.new.conn.now) }
+    ensures done { Performs (state S.Store transaction.old.conn.now)
+        (state S.Store transaction.new.conn.now) result (labelling_node path.now label.now) }
 {
     let Some(node) = look_up(transaction, path)? else {
         return Err(Error::QueryReturnedNoRows);

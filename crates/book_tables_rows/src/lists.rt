@@ -16,12 +16,15 @@ pub fn entry_rows_at<S: Alter>(
     path: &str,
 ) -> Result<Vec<Row>, Error>
     ensures same_reference { transaction.new.conn.ghost_name ≡ transaction.old.conn.ghost_name }
-    ensures survives { Survives (state S.Store transaction.old.conn.now) (state S.Store transaction.new.conn.now)
-        (λ _. ⊥) }
-    ensures kept { Keeps (state S.Store transaction.old.conn.now) (state S.Store transaction.new.conn.now) }
-    ensures stays { Spares (state S.Store transaction.old.conn.now) (state S.Store transaction.new.conn.now) result }
+    ensures survives { Survives (state S.Store transaction.old.conn.now)
+        (state S.Store transaction.new.conn.now) (λ _. ⊥) }
+    ensures kept { Keeps (state S.Store transaction.old.conn.now)
+        (state S.Store transaction.new.conn.now) }
+    ensures stays { Spares (state S.Store transaction.old.conn.now)
+        (state S.Store transaction.new.conn.now) result }
     ensures shown { HasCleanDisk (state S.Store transaction.new.conn.now)
-        → IfOk result (λ rows. ShowsEntriesAt (state S.Store transaction.old.conn.now) path.now rows.items) }
+        → IfOk result (λ rows. ShowsEntriesAt
+        (state S.Store transaction.old.conn.now) path.now rows.items) }
 {
     transaction.query_all(
         "SELECT ace2.node, protected, form, principal, invert, deny, mask FROM node, ace2 WHERE path = ?1 AND ace2.node = node.id ORDER BY ace2.node, protected, place",
@@ -36,12 +39,15 @@ pub fn child_rows<S: Alter>(
     node: i64,
 ) -> Result<Vec<Row>, Error>
     ensures same_reference { transaction.new.conn.ghost_name ≡ transaction.old.conn.ghost_name }
-    ensures survives { Survives (state S.Store transaction.old.conn.now) (state S.Store transaction.new.conn.now)
-        (λ _. ⊥) }
-    ensures kept { Keeps (state S.Store transaction.old.conn.now) (state S.Store transaction.new.conn.now) }
-    ensures stays { Spares (state S.Store transaction.old.conn.now) (state S.Store transaction.new.conn.now) result }
+    ensures survives { Survives (state S.Store transaction.old.conn.now)
+        (state S.Store transaction.new.conn.now) (λ _. ⊥) }
+    ensures kept { Keeps (state S.Store transaction.old.conn.now)
+        (state S.Store transaction.new.conn.now) }
+    ensures stays { Spares (state S.Store transaction.old.conn.now)
+        (state S.Store transaction.new.conn.now) result }
     ensures shown { HasCleanDisk (state S.Store transaction.new.conn.now)
-        → IfOk result (λ rows. ShowsChildren (state S.Store transaction.old.conn.now) node rows.items) }
+        → IfOk result (λ rows. ShowsChildren
+        (state S.Store transaction.old.conn.now) node rows.items) }
 {
     transaction.query_all(
         "SELECT id, path, kind, owner, label, number FROM node WHERE parent = ?1 ORDER BY path",
@@ -57,12 +63,15 @@ pub fn child_entry_rows<S: Alter>(
     node: i64,
 ) -> Result<Vec<Row>, Error>
     ensures same_reference { transaction.new.conn.ghost_name ≡ transaction.old.conn.ghost_name }
-    ensures survives { Survives (state S.Store transaction.old.conn.now) (state S.Store transaction.new.conn.now)
-        (λ _. ⊥) }
-    ensures kept { Keeps (state S.Store transaction.old.conn.now) (state S.Store transaction.new.conn.now) }
-    ensures stays { Spares (state S.Store transaction.old.conn.now) (state S.Store transaction.new.conn.now) result }
+    ensures survives { Survives (state S.Store transaction.old.conn.now)
+        (state S.Store transaction.new.conn.now) (λ _. ⊥) }
+    ensures kept { Keeps (state S.Store transaction.old.conn.now)
+        (state S.Store transaction.new.conn.now) }
+    ensures stays { Spares (state S.Store transaction.old.conn.now)
+        (state S.Store transaction.new.conn.now) result }
     ensures shown { HasCleanDisk (state S.Store transaction.new.conn.now)
-        → IfOk result (λ rows. ShowsChildEntries (state S.Store transaction.old.conn.now) node rows.items) }
+        → IfOk result (λ rows. ShowsChildEntries
+        (state S.Store transaction.old.conn.now) node rows.items) }
 {
     transaction.query_all(
         "SELECT ace2.node, protected, form, principal, invert, deny, mask FROM node, ace2 WHERE parent = ?1 AND node.id = ace2.node ORDER BY ace2.node, protected, place",
@@ -83,13 +92,15 @@ pub fn changed_entry_rows<S: Alter>(
     requires above { number < 2 ^ 53 }
     requires at_most { last < 2 ^ 53 }
     ensures same_reference { transaction.new.conn.ghost_name ≡ transaction.old.conn.ghost_name }
-    ensures survives { Survives (state S.Store transaction.old.conn.now) (state S.Store transaction.new.conn.now)
-        (λ _. ⊥) }
-    ensures kept { Keeps (state S.Store transaction.old.conn.now) (state S.Store transaction.new.conn.now) }
-    ensures stays { Spares (state S.Store transaction.old.conn.now) (state S.Store transaction.new.conn.now) result }
+    ensures survives { Survives (state S.Store transaction.old.conn.now)
+        (state S.Store transaction.new.conn.now) (λ _. ⊥) }
+    ensures kept { Keeps (state S.Store transaction.old.conn.now)
+        (state S.Store transaction.new.conn.now) }
+    ensures stays { Spares (state S.Store transaction.old.conn.now)
+        (state S.Store transaction.new.conn.now) result }
     ensures shown { HasCleanDisk (state S.Store transaction.new.conn.now)
-        → IfOk result (λ rows. ShowsChangedEntries (state S.Store transaction.old.conn.now) node number last
-        rows.items) }
+        → IfOk result (λ rows. ShowsChangedEntries
+        (state S.Store transaction.old.conn.now) node number last rows.items) }
 {
     transaction.query_all(
         "SELECT ace2.node, protected, form, principal, invert, deny, mask FROM node, ace2 WHERE parent = ?1 AND number > ?2 AND number <= ?3 AND node.id = ace2.node ORDER BY ace2.node, protected, place",
@@ -118,12 +129,15 @@ pub fn changed_rows<S: Alter>(
 ) -> Result<Vec<Row>, Error>
     requires { number < 2 ^ 53 }
     ensures same_reference { transaction.new.conn.ghost_name ≡ transaction.old.conn.ghost_name }
-    ensures survives { Survives (state S.Store transaction.old.conn.now) (state S.Store transaction.new.conn.now)
-        (λ _. ⊥) }
-    ensures kept { Keeps (state S.Store transaction.old.conn.now) (state S.Store transaction.new.conn.now) }
-    ensures stays { Spares (state S.Store transaction.old.conn.now) (state S.Store transaction.new.conn.now) result }
+    ensures survives { Survives (state S.Store transaction.old.conn.now)
+        (state S.Store transaction.new.conn.now) (λ _. ⊥) }
+    ensures kept { Keeps (state S.Store transaction.old.conn.now)
+        (state S.Store transaction.new.conn.now) }
+    ensures stays { Spares (state S.Store transaction.old.conn.now)
+        (state S.Store transaction.new.conn.now) result }
     ensures shown { HasCleanDisk (state S.Store transaction.new.conn.now)
-        → IfOk result (λ rows. ShowsFirst (state S.Store transaction.old.conn.now) at_most changed_number_place
+        → IfOk result (λ rows. ShowsFirst
+        (state S.Store transaction.old.conn.now) at_most changed_number_place
         (changed_rows node number) rows.items) }
 {
     transaction.query_all(
@@ -142,12 +156,15 @@ pub fn gone_rows<S: Alter>(
 ) -> Result<Vec<Row>, Error>
     requires { number < 2 ^ 53 }
     ensures same_reference { transaction.new.conn.ghost_name ≡ transaction.old.conn.ghost_name }
-    ensures survives { Survives (state S.Store transaction.old.conn.now) (state S.Store transaction.new.conn.now)
-        (λ _. ⊥) }
-    ensures kept { Keeps (state S.Store transaction.old.conn.now) (state S.Store transaction.new.conn.now) }
-    ensures stays { Spares (state S.Store transaction.old.conn.now) (state S.Store transaction.new.conn.now) result }
+    ensures survives { Survives (state S.Store transaction.old.conn.now)
+        (state S.Store transaction.new.conn.now) (λ _. ⊥) }
+    ensures kept { Keeps (state S.Store transaction.old.conn.now)
+        (state S.Store transaction.new.conn.now) }
+    ensures stays { Spares (state S.Store transaction.old.conn.now)
+        (state S.Store transaction.new.conn.now) result }
     ensures shown { HasCleanDisk (state S.Store transaction.new.conn.now)
-        → IfOk result (λ rows. ShowsFirst (state S.Store transaction.old.conn.now) at_most removed_number_place
+        → IfOk result (λ rows. ShowsFirst
+        (state S.Store transaction.old.conn.now) at_most removed_number_place
         (gone_after book number) rows.items) }
 {
     transaction.query_all(
@@ -159,12 +176,15 @@ pub fn gone_rows<S: Alter>(
 /// The direct members of all groups, in some order: the paths of group and member of each pair.
 pub fn member_rows<S: Alter>(transaction: &mut Transaction<'_, S>) -> Result<Vec<Row>, Error>
     ensures same_reference { transaction.new.conn.ghost_name ≡ transaction.old.conn.ghost_name }
-    ensures survives { Survives (state S.Store transaction.old.conn.now) (state S.Store transaction.new.conn.now)
-        (λ _. ⊥) }
-    ensures kept { Keeps (state S.Store transaction.old.conn.now) (state S.Store transaction.new.conn.now) }
-    ensures stays { Spares (state S.Store transaction.old.conn.now) (state S.Store transaction.new.conn.now) result }
+    ensures survives { Survives (state S.Store transaction.old.conn.now)
+        (state S.Store transaction.new.conn.now) (λ _. ⊥) }
+    ensures kept { Keeps (state S.Store transaction.old.conn.now)
+        (state S.Store transaction.new.conn.now) }
+    ensures stays { Spares (state S.Store transaction.old.conn.now)
+        (state S.Store transaction.new.conn.now) result }
     ensures shown { HasCleanDisk (state S.Store transaction.new.conn.now)
-        → IfOk result (λ rows. ShowsRows (state S.Store transaction.old.conn.now) pairs_of rows.items) }
+        → IfOk result (λ rows. ShowsRows
+        (state S.Store transaction.old.conn.now) pairs_of rows.items) }
 {
     transaction.query_all("SELECT grp, member FROM member", &[])
 }

@@ -19,9 +19,12 @@ fn leave_book<'x, S: Alter>(
     destination: &str,
 ) -> Result<(), Error>
     ensures same_reference { transaction.new.conn.ghost_name ≡ transaction.old.conn.ghost_name }
-    ensures survives { Unseen (state S.Store transaction.old.conn.now) (state S.Store transaction.new.conn.now) }
-    ensures kept { Keeps (state S.Store transaction.old.conn.now) (state S.Store transaction.new.conn.now) }
-    ensures done { Performs (state S.Store transaction.old.conn.now) (state S.Store transaction.new.conn.now) result
+    ensures survives { Unseen (state S.Store transaction.old.conn.now)
+        (state S.Store transaction.new.conn.now) }
+    ensures kept { Keeps (state S.Store transaction.old.conn.now)
+        (state S.Store transaction.new.conn.now) }
+    ensures done { Performs (state S.Store transaction.old.conn.now)
+        (state S.Store transaction.new.conn.now) result
         (leaving_book book_path.now name.now destination.now) }
 {
     let Some(book) = look_up(transaction, book_path)? else {
@@ -62,9 +65,12 @@ fn arrive_in<'x, S: Alter>(
     name: &'x str,
 ) -> Result<(), Error>
     ensures same_reference { transaction.new.conn.ghost_name ≡ transaction.old.conn.ghost_name }
-    ensures survives { Unseen (state S.Store transaction.old.conn.now) (state S.Store transaction.new.conn.now) }
-    ensures kept { Keeps (state S.Store transaction.old.conn.now) (state S.Store transaction.new.conn.now) }
-    ensures done { Performs (state S.Store transaction.old.conn.now) (state S.Store transaction.new.conn.now) result
+    ensures survives { Unseen (state S.Store transaction.old.conn.now)
+        (state S.Store transaction.new.conn.now) }
+    ensures kept { Keeps (state S.Store transaction.old.conn.now)
+        (state S.Store transaction.new.conn.now) }
+    ensures done { Performs (state S.Store transaction.old.conn.now)
+        (state S.Store transaction.new.conn.now) result
         (arriving_in book_path.now card_path.now destination.now name.now) }
 {
     let Some(book) = look_up(transaction, book_path)? else {
@@ -100,10 +106,14 @@ fn find_and_move<'x, S: Alter>(
     target_name: &str,
 ) -> Result<(), Error>
     ensures same_reference { transaction.new.conn.ghost_name ≡ transaction.old.conn.ghost_name }
-    ensures survives { Unseen (state S.Store transaction.old.conn.now) (state S.Store transaction.new.conn.now) }
-    ensures kept { Keeps (state S.Store transaction.old.conn.now) (state S.Store transaction.new.conn.now) }
-    ensures done { Performs (state S.Store transaction.old.conn.now) (state S.Store transaction.new.conn.now) result
-        (moving_card source_book.now card_path.now source_name.now target_book.now destination.now target_name.now) }
+    ensures survives { Unseen (state S.Store transaction.old.conn.now)
+        (state S.Store transaction.new.conn.now) }
+    ensures kept { Keeps (state S.Store transaction.old.conn.now)
+        (state S.Store transaction.new.conn.now) }
+    ensures done { Performs (state S.Store transaction.old.conn.now)
+        (state S.Store transaction.new.conn.now) result
+        (moving_card source_book.now card_path.now source_name.now target_book.now destination.now
+        target_name.now) }
 {
     leave_book(transaction, source_book, source_name, destination)?;
     arrive_in(
@@ -130,12 +140,14 @@ pub fn move_card<'x, S: Alter>(
 ) -> Result<(), Error>
     ensures made { HasCleanDisk (state S.Store connection.new)
         → OnOk result (Commits (state S.Store connection.old) (state S.Store connection.new)
-        (moving_card source_book.now card_path.now source_name.now target_book.now destination.now target_name.now)) }
+        (moving_card source_book.now card_path.now source_name.now target_book.now destination.now
+        target_name.now)) }
     ensures kept { HasCleanDisk (state S.Store connection.new)
         → OnErr result (Stays (state S.Store connection.old) (state S.Store connection.new)) }
     ensures left { Survives (state S.Store connection.old) (state S.Store connection.new)
-        (MayLeave (state S.Store connection.old) (moving_card source_book.now card_path.now source_name.now
-        target_book.now destination.now target_name.now)) }
+        (MayLeave (state S.Store connection.old)
+        (moving_card source_book.now card_path.now source_name.now target_book.now destination.now
+        target_name.now)) }
 {
     if !connection.is_autocommit() {
         return Err(Error::SqliteFailure(ErrorCode::TransactionState));

@@ -59,7 +59,8 @@ fn read_node(row: &Row) -> Result<FoundNode, Error>
 }
 
 fn first_node(rows: &[Row]) -> Result<Option<FoundNode>, Error>
-    ensures { IfOk result (λ found. option_map told found ≡ option_map told_shown (slice_get rows.now 0)) }
+    ensures { IfOk result (λ found. option_map told found ≡ option_map told_shown
+        (slice_get rows.now 0)) }
 {
     let Some(row) = rows.first() else {
         return Ok(None);
@@ -70,9 +71,12 @@ fn first_node(rows: &[Row]) -> Result<Option<FoundNode>, Error>
 /// The rows of the node at a path: one, or none.
 fn node_rows<S: Alter>(transaction: &mut Transaction<'_, S>, path: &str) -> Result<Vec<Row>, Error>
     ensures same_reference { transaction.new.conn.ghost_name ≡ transaction.old.conn.ghost_name }
-    ensures survives { Unseen (state S.Store transaction.old.conn.now) (state S.Store transaction.new.conn.now) }
-    ensures kept { Keeps (state S.Store transaction.old.conn.now) (state S.Store transaction.new.conn.now) }
-    ensures stays { Spares (state S.Store transaction.old.conn.now) (state S.Store transaction.new.conn.now) result }
+    ensures survives { Unseen (state S.Store transaction.old.conn.now)
+        (state S.Store transaction.new.conn.now) }
+    ensures kept { Keeps (state S.Store transaction.old.conn.now)
+        (state S.Store transaction.new.conn.now) }
+    ensures stays { Spares (state S.Store transaction.old.conn.now)
+        (state S.Store transaction.new.conn.now) result }
     ensures shown { HasCleanDisk (state S.Store transaction.new.conn.now)
         → IfOk result (λ rows. Finds (state S.Store transaction.old.conn.now) path.now
         (option_map told_shown (slice_get rows.items 0))) }
@@ -89,12 +93,15 @@ pub fn look_up<S: Alter>(
     path: &str,
 ) -> Result<Option<FoundNode>, Error>
     ensures same_reference { transaction.new.conn.ghost_name ≡ transaction.old.conn.ghost_name }
-    ensures survives { Survives (state S.Store transaction.old.conn.now) (state S.Store transaction.new.conn.now)
-        (λ _. ⊥) }
-    ensures kept { Keeps (state S.Store transaction.old.conn.now) (state S.Store transaction.new.conn.now) }
-    ensures stays { Spares (state S.Store transaction.old.conn.now) (state S.Store transaction.new.conn.now) result }
+    ensures survives { Survives (state S.Store transaction.old.conn.now)
+        (state S.Store transaction.new.conn.now) (λ _. ⊥) }
+    ensures kept { Keeps (state S.Store transaction.old.conn.now)
+        (state S.Store transaction.new.conn.now) }
+    ensures stays { Spares (state S.Store transaction.old.conn.now)
+        (state S.Store transaction.new.conn.now) result }
     ensures found { HasCleanDisk (state S.Store transaction.new.conn.now)
-        → IfOk result (λ found. Finds (state S.Store transaction.old.conn.now) path.now (option_map told found)) }
+        → IfOk result (λ found. Finds (state S.Store transaction.old.conn.now) path.now
+        (option_map told found)) }
 {
     let rows = node_rows(transaction, path)?;
     first_node(&rows)
@@ -113,10 +120,12 @@ pub fn insert_node<'x, S: Alter>(
 ) -> Result<(), Error>
     requires { number < 2 ^ 53 }
     ensures same_reference { transaction.new.conn.ghost_name ≡ transaction.old.conn.ghost_name }
-    ensures survives { Survives (state S.Store transaction.old.conn.now) (state S.Store transaction.new.conn.now)
-        (λ _. ⊥) }
-    ensures kept { Keeps (state S.Store transaction.old.conn.now) (state S.Store transaction.new.conn.now) }
-    ensures done { Writes (state S.Store transaction.old.conn.now) (state S.Store transaction.new.conn.now) result
+    ensures survives { Survives (state S.Store transaction.old.conn.now)
+        (state S.Store transaction.new.conn.now) (λ _. ⊥) }
+    ensures kept { Keeps (state S.Store transaction.old.conn.now)
+        (state S.Store transaction.new.conn.now) }
+    ensures done { Writes (state S.Store transaction.old.conn.now)
+        (state S.Store transaction.new.conn.now) result
         (writes.insert_node path.now (Int parent) kind (option_copied owner.entry) label.now
         (option_copied text.entry) number) }
 {
@@ -133,10 +142,12 @@ pub(crate) fn delete_entries<S: Alter>(
     node: i64,
 ) -> Result<(), Error>
     ensures same_reference { transaction.new.conn.ghost_name ≡ transaction.old.conn.ghost_name }
-    ensures survives { Unseen (state S.Store transaction.old.conn.now) (state S.Store transaction.new.conn.now) }
-    ensures kept { Keeps (state S.Store transaction.old.conn.now) (state S.Store transaction.new.conn.now) }
-    ensures done { Writes (state S.Store transaction.old.conn.now) (state S.Store transaction.new.conn.now) result
-        (writes.delete_entries (Int node)) }
+    ensures survives { Unseen (state S.Store transaction.old.conn.now)
+        (state S.Store transaction.new.conn.now) }
+    ensures kept { Keeps (state S.Store transaction.old.conn.now)
+        (state S.Store transaction.new.conn.now) }
+    ensures done { Writes (state S.Store transaction.old.conn.now)
+        (state S.Store transaction.new.conn.now) result (writes.delete_entries (Int node)) }
 {
     transaction.execute("DELETE FROM ace2 WHERE node = ?1", params![node])?;
     Ok(())

@@ -27,13 +27,15 @@ pub fn reached_rows<S: Alter>(
     member: &str,
 ) -> Result<Vec<Row>, Error>
     ensures same_reference { transaction.new.conn.ghost_name ≡ transaction.old.conn.ghost_name }
-    ensures survives { Survives (state S.Store transaction.old.conn.now) (state S.Store transaction.new.conn.now)
-        (λ _. ⊥) }
-    ensures kept { Keeps (state S.Store transaction.old.conn.now) (state S.Store transaction.new.conn.now) }
-    ensures stays { Spares (state S.Store transaction.old.conn.now) (state S.Store transaction.new.conn.now) result }
+    ensures survives { Survives (state S.Store transaction.old.conn.now)
+        (state S.Store transaction.new.conn.now) (λ _. ⊥) }
+    ensures kept { Keeps (state S.Store transaction.old.conn.now)
+        (state S.Store transaction.new.conn.now) }
+    ensures stays { Spares (state S.Store transaction.old.conn.now)
+        (state S.Store transaction.new.conn.now) result }
     ensures shown { HasCleanDisk (state S.Store transaction.new.conn.now)
-        → IfOk result (λ rows. ShowsRows (state S.Store transaction.old.conn.now) (reach.reached_of member.now)
-        rows.items) }
+        → IfOk result (λ rows. ShowsRows (state S.Store transaction.old.conn.now)
+        (reach.reached_of member.now) rows.items) }
 {
     transaction.query_all("SELECT grp FROM reach WHERE member = ?1", params![member])
 }
@@ -41,12 +43,15 @@ pub fn reached_rows<S: Alter>(
 /// All rows of `reach`, in some order: the paths of group and member of each.
 pub fn reach_rows<S: Alter>(transaction: &mut Transaction<'_, S>) -> Result<Vec<Row>, Error>
     ensures same_reference { transaction.new.conn.ghost_name ≡ transaction.old.conn.ghost_name }
-    ensures survives { Survives (state S.Store transaction.old.conn.now) (state S.Store transaction.new.conn.now)
-        (λ _. ⊥) }
-    ensures kept { Keeps (state S.Store transaction.old.conn.now) (state S.Store transaction.new.conn.now) }
-    ensures stays { Spares (state S.Store transaction.old.conn.now) (state S.Store transaction.new.conn.now) result }
+    ensures survives { Survives (state S.Store transaction.old.conn.now)
+        (state S.Store transaction.new.conn.now) (λ _. ⊥) }
+    ensures kept { Keeps (state S.Store transaction.old.conn.now)
+        (state S.Store transaction.new.conn.now) }
+    ensures stays { Spares (state S.Store transaction.old.conn.now)
+        (state S.Store transaction.new.conn.now) result }
     ensures shown { HasCleanDisk (state S.Store transaction.new.conn.now)
-        → IfOk result (λ rows. ShowsRows (state S.Store transaction.old.conn.now) reach.reach_shown rows.items) }
+        → IfOk result (λ rows. ShowsRows
+        (state S.Store transaction.old.conn.now) reach.reach_shown rows.items) }
 {
     transaction.query_all("SELECT grp, member FROM reach", &[])
 }
@@ -54,11 +59,12 @@ pub fn reach_rows<S: Alter>(transaction: &mut Transaction<'_, S>) -> Result<Vec<
 /// Takes out all rows of `reach`.
 pub fn clear_reach<S: Alter>(transaction: &mut Transaction<'_, S>) -> Result<(), Error>
     ensures same_reference { transaction.new.conn.ghost_name ≡ transaction.old.conn.ghost_name }
-    ensures survives { Survives (state S.Store transaction.old.conn.now) (state S.Store transaction.new.conn.now)
-        (λ _. ⊥) }
-    ensures kept { Keeps (state S.Store transaction.old.conn.now) (state S.Store transaction.new.conn.now) }
-    ensures done { Writes (state S.Store transaction.old.conn.now) (state S.Store transaction.new.conn.now) result
-        writes.clear_reach }
+    ensures survives { Survives (state S.Store transaction.old.conn.now)
+        (state S.Store transaction.new.conn.now) (λ _. ⊥) }
+    ensures kept { Keeps (state S.Store transaction.old.conn.now)
+        (state S.Store transaction.new.conn.now) }
+    ensures done { Writes (state S.Store transaction.old.conn.now)
+        (state S.Store transaction.new.conn.now) result writes.clear_reach }
 {
     transaction.execute("DELETE FROM reach", &[])?;
     Ok(())
@@ -71,10 +77,12 @@ pub fn renew_reach<S: Alter>(
     new: &[ReachRow],
 ) -> Result<(), Error>
     ensures same_reference { transaction.new.conn.ghost_name ≡ transaction.old.conn.ghost_name }
-    ensures survives { Survives (state S.Store transaction.old.conn.now) (state S.Store transaction.new.conn.now)
-        (λ _. ⊥) }
-    ensures kept { Keeps (state S.Store transaction.old.conn.now) (state S.Store transaction.new.conn.now) }
-    ensures done { Advances (state S.Store transaction.old.conn.now) (state S.Store transaction.new.conn.now) result
+    ensures survives { Survives (state S.Store transaction.old.conn.now)
+        (state S.Store transaction.new.conn.now) (λ _. ⊥) }
+    ensures kept { Keeps (state S.Store transaction.old.conn.now)
+        (state S.Store transaction.new.conn.now) }
+    ensures done { Advances (state S.Store transaction.old.conn.now)
+        (state S.Store transaction.new.conn.now) result
         (writes.renew_reach (map pair_said old.now) (map pair_said new.now)) }
 {
     write_items(transaction, &Items::OldPairs(old))?;

@@ -18,10 +18,12 @@ use sqlite::{Alter, Connection, Error, ErrorCode, Transaction};
 /// store is looked at.
 fn find_and_remove<S: Alter>(transaction: &mut Transaction<'_, S>, path: &str) -> Result<(), Error>
     ensures same_reference { transaction.new.conn.ghost_name ≡ transaction.old.conn.ghost_name }
-    ensures survives { Unseen (state S.Store transaction.old.conn.now) (state S.Store transaction.new.conn.now) }
-    ensures kept { Keeps (state S.Store transaction.old.conn.now) (state S.Store transaction.new.conn.now) }
-    ensures done { Performs (state S.Store transaction.old.conn.now) (state S.Store transaction.new.conn.now) result
-        (removing_book path.now) }
+    ensures survives { Unseen (state S.Store transaction.old.conn.now)
+        (state S.Store transaction.new.conn.now) }
+    ensures kept { Keeps (state S.Store transaction.old.conn.now)
+        (state S.Store transaction.new.conn.now) }
+    ensures done { Performs (state S.Store transaction.old.conn.now)
+        (state S.Store transaction.new.conn.now) result (removing_book path.now) }
 {
     let Some(book) = look_up(transaction, path)? else {
         return Err(Error::QueryReturnedNoRows);
@@ -49,7 +51,8 @@ fn find_and_remove<S: Alter>(transaction: &mut Transaction<'_, S>, path: &str) -
 /// of the store, and leaves the tables as they were.
 pub fn remove_book<S: Alter>(connection: &mut Connection<S>, path: &str) -> Result<(), Error>
     ensures made { HasCleanDisk (state S.Store connection.new)
-        → OnOk result (Commits (state S.Store connection.old) (state S.Store connection.new) (removing_book path.now)) }
+        → OnOk result (Commits (state S.Store connection.old) (state S.Store connection.new)
+        (removing_book path.now)) }
     ensures kept { HasCleanDisk (state S.Store connection.new)
         → OnErr result (Stays (state S.Store connection.old) (state S.Store connection.new)) }
     ensures left { Survives (state S.Store connection.old) (state S.Store connection.new)

@@ -94,13 +94,16 @@ pub(crate) fn execute<S: Alter>(
     values: &[ValueRef<'_>],
 ) -> Result<(), Error>
     ensures same_reference { transaction.new.conn.ghost_name ≡ transaction.old.conn.ghost_name }
-    ensures survives { Unseen (state S.Store transaction.old.conn.now) (state S.Store transaction.new.conn.now) }
-    ensures kept { Keeps (state S.Store transaction.old.conn.now) (state S.Store transaction.new.conn.now) }
+    ensures survives { Unseen (state S.Store transaction.old.conn.now)
+        (state S.Store transaction.new.conn.now) }
+    ensures kept { Keeps (state S.Store transaction.old.conn.now)
+        (state S.Store transaction.new.conn.now) }
     ensures done { HasCleanDisk (state S.Store transaction.new.conn.now)
         → IsTrue (state S.Store transaction.old.conn.now).in_transaction
         → OnOk result (Executed sql.now (bound values.now) (state S.Store transaction.old.conn.now)
         (state S.Store transaction.new.conn.now)) }
-    ensures open { StaysOpen (state S.Store transaction.old.conn.now) (state S.Store transaction.new.conn.now) result }
+    ensures open { StaysOpen (state S.Store transaction.old.conn.now)
+        (state S.Store transaction.new.conn.now) result }
 {
     transaction.execute(sql, values)?;
     Ok(())
@@ -113,10 +116,12 @@ pub(crate) fn run<S: Alter>(
 ) -> Result<(), Error>
     requires { IsSmall statement.now }
     ensures same_reference { transaction.new.conn.ghost_name ≡ transaction.old.conn.ghost_name }
-    ensures survives { Unseen (state S.Store transaction.old.conn.now) (state S.Store transaction.new.conn.now) }
-    ensures kept { Keeps (state S.Store transaction.old.conn.now) (state S.Store transaction.new.conn.now) }
-    ensures done { Goes (state S.Store transaction.old.conn.now) (state S.Store transaction.new.conn.now) result
-        nothing (plan_of statement.now) }
+    ensures survives { Unseen (state S.Store transaction.old.conn.now)
+        (state S.Store transaction.new.conn.now) }
+    ensures kept { Keeps (state S.Store transaction.old.conn.now)
+        (state S.Store transaction.new.conn.now) }
+    ensures done { Goes (state S.Store transaction.old.conn.now)
+        (state S.Store transaction.new.conn.now) result nothing (plan_of statement.now) }
 {
     match statement {
         Statement::SetNumber(path, number) => {
@@ -251,10 +256,12 @@ pub(crate) fn run_all<S: Alter>(
 ) -> Result<(), Error>
     requires { AllByRecursion IsSmall statements.now }
     ensures same_reference { transaction.new.conn.ghost_name ≡ transaction.old.conn.ghost_name }
-    ensures survives { Unseen (state S.Store transaction.old.conn.now) (state S.Store transaction.new.conn.now) }
-    ensures kept { Keeps (state S.Store transaction.old.conn.now) (state S.Store transaction.new.conn.now) }
-    ensures done { Goes (state S.Store transaction.old.conn.now) (state S.Store transaction.new.conn.now) result
-        nothing (script statements.now) }
+    ensures survives { Unseen (state S.Store transaction.old.conn.now)
+        (state S.Store transaction.new.conn.now) }
+    ensures kept { Keeps (state S.Store transaction.old.conn.now)
+        (state S.Store transaction.new.conn.now) }
+    ensures done { Goes (state S.Store transaction.old.conn.now)
+        (state S.Store transaction.new.conn.now) result nothing (script statements.now) }
 {
     'statements: for statement in statements {
         run(transaction, statement)?;

@@ -39,9 +39,12 @@ fn find_and_set_list<S: Alter>(
     list: &[EntryRow],
 ) -> Result<(), Error>
     ensures same_reference { transaction.new.conn.ghost_name ≡ transaction.old.conn.ghost_name }
-    ensures survives { Unseen (state S.Store transaction.old.conn.now) (state S.Store transaction.new.conn.now) }
-    ensures kept { Keeps (state S.Store transaction.old.conn.now) (state S.Store transaction.new.conn.now) }
-    ensures done { Performs (state S.Store transaction.old.conn.now) (state S.Store transaction.new.conn.now) result
+    ensures survives { Unseen (state S.Store transaction.old.conn.now)
+        (state S.Store transaction.new.conn.now) }
+    ensures kept { Keeps (state S.Store transaction.old.conn.now)
+        (state S.Store transaction.new.conn.now) }
+    ensures done { Performs (state S.Store transaction.old.conn.now)
+        (state S.Store transaction.new.conn.now) result
         (setting_list path.now (map said list.now)) }
 {
     let Some(node) = look_up(transaction, path)? else {
@@ -105,10 +108,14 @@ fn write_members_and_epoch<'x, S: Alter>(
     new: &'x [ReachRow],
 ) -> Result<(), Error>
     ensures same_reference { transaction.new.conn.ghost_name ≡ transaction.old.conn.ghost_name }
-    ensures survives { Unseen (state S.Store transaction.old.conn.now) (state S.Store transaction.new.conn.now) }
-    ensures kept { Keeps (state S.Store transaction.old.conn.now) (state S.Store transaction.new.conn.now) }
-    ensures done { Performs (state S.Store transaction.old.conn.now) (state S.Store transaction.new.conn.now) result
-        (setting_members group.now (map string_bytes members.now) (map pair_said old.now) (map pair_said new.now)) }
+    ensures survives { Unseen (state S.Store transaction.old.conn.now)
+        (state S.Store transaction.new.conn.now) }
+    ensures kept { Keeps (state S.Store transaction.old.conn.now)
+        (state S.Store transaction.new.conn.now) }
+    ensures done { Performs (state S.Store transaction.old.conn.now)
+        (state S.Store transaction.new.conn.now) result
+        (setting_members group.now (map string_bytes members.now) (map pair_said old.now)
+        (map pair_said new.now)) }
 {
     let epoch = read_epoch(transaction)?;
     if epoch >= LAST_NUMBER {
@@ -139,12 +146,14 @@ pub fn set_members<S: Alter>(
 ) -> Result<(), Error>
     ensures made { HasCleanDisk (state S.Store connection.new)
         → OnOk result (Commits (state S.Store connection.old) (state S.Store connection.new)
-        (setting_members group.now (map string_bytes members.now) (map pair_said old.now) (map pair_said new.now))) }
+        (setting_members group.now (map string_bytes members.now) (map pair_said old.now)
+        (map pair_said new.now))) }
     ensures kept { HasCleanDisk (state S.Store connection.new)
         → OnErr result (Stays (state S.Store connection.old) (state S.Store connection.new)) }
     ensures left { Survives (state S.Store connection.old) (state S.Store connection.new)
-        (MayLeave (state S.Store connection.old) (setting_members group.now (map string_bytes members.now)
-        (map pair_said old.now) (map pair_said new.now))) }
+        (MayLeave (state S.Store connection.old)
+        (setting_members group.now (map string_bytes members.now) (map pair_said old.now)
+        (map pair_said new.now))) }
 {
     if !connection.is_autocommit() {
         return Err(Error::SqliteFailure(ErrorCode::TransactionState));

@@ -15,13 +15,14 @@ use sqlite::{Alter, Error, Transaction};
 /// Takes the indexes of children and of owners away, where they are there.
 fn drop_node_indexes<S: Alter>(transaction: &mut Transaction<'_, S>) -> Result<(), Error>
     ensures same_reference { transaction.new.conn.ghost_name ≡ transaction.old.conn.ghost_name }
-    ensures survives { Survives (state S.Store transaction.old.conn.now) (state S.Store transaction.new.conn.now)
-        (λ _. ⊥) }
-    ensures kept { Keeps (state S.Store transaction.old.conn.now) (state S.Store transaction.new.conn.now) }
+    ensures survives { Survives (state S.Store transaction.old.conn.now)
+        (state S.Store transaction.new.conn.now) (λ _. ⊥) }
+    ensures kept { Keeps (state S.Store transaction.old.conn.now)
+        (state S.Store transaction.new.conn.now) }
     ensures dropped { HasCleanDisk (state S.Store transaction.new.conn.now)
         → IsTrue (state S.Store transaction.old.conn.now).in_transaction
-        → OnOk result (DropsIndexes own.without_node_indexes (state S.Store transaction.old.conn.now)
-        (state S.Store transaction.new.conn.now)) }
+        → OnOk result (DropsIndexes own.without_node_indexes
+        (state S.Store transaction.old.conn.now) (state S.Store transaction.new.conn.now)) }
 {
     run(transaction, "DROP INDEX IF EXISTS node_parent")?;
     run(transaction, "DROP INDEX IF EXISTS node_owner")
@@ -30,13 +31,14 @@ fn drop_node_indexes<S: Alter>(transaction: &mut Transaction<'_, S>) -> Result<(
 /// Takes the indexes of principals of version 1 and of members away, where they are there.
 fn drop_principal_indexes<S: Alter>(transaction: &mut Transaction<'_, S>) -> Result<(), Error>
     ensures same_reference { transaction.new.conn.ghost_name ≡ transaction.old.conn.ghost_name }
-    ensures survives { Survives (state S.Store transaction.old.conn.now) (state S.Store transaction.new.conn.now)
-        (λ _. ⊥) }
-    ensures kept { Keeps (state S.Store transaction.old.conn.now) (state S.Store transaction.new.conn.now) }
+    ensures survives { Survives (state S.Store transaction.old.conn.now)
+        (state S.Store transaction.new.conn.now) (λ _. ⊥) }
+    ensures kept { Keeps (state S.Store transaction.old.conn.now)
+        (state S.Store transaction.new.conn.now) }
     ensures dropped { HasCleanDisk (state S.Store transaction.new.conn.now)
         → IsTrue (state S.Store transaction.old.conn.now).in_transaction
-        → OnOk result (DropsIndexes own.without_principal_indexes (state S.Store transaction.old.conn.now)
-        (state S.Store transaction.new.conn.now)) }
+        → OnOk result (DropsIndexes own.without_principal_indexes
+        (state S.Store transaction.old.conn.now) (state S.Store transaction.new.conn.now)) }
 {
     run(transaction, "DROP INDEX IF EXISTS ace_principal")?;
     run(transaction, "DROP INDEX IF EXISTS member_member")
@@ -45,13 +47,14 @@ fn drop_principal_indexes<S: Alter>(transaction: &mut Transaction<'_, S>) -> Res
 /// Takes the indexes of principals, of removed names and of groups away, where they are there.
 fn drop_last_indexes<S: Alter>(transaction: &mut Transaction<'_, S>) -> Result<(), Error>
     ensures same_reference { transaction.new.conn.ghost_name ≡ transaction.old.conn.ghost_name }
-    ensures survives { Survives (state S.Store transaction.old.conn.now) (state S.Store transaction.new.conn.now)
-        (λ _. ⊥) }
-    ensures kept { Keeps (state S.Store transaction.old.conn.now) (state S.Store transaction.new.conn.now) }
+    ensures survives { Survives (state S.Store transaction.old.conn.now)
+        (state S.Store transaction.new.conn.now) (λ _. ⊥) }
+    ensures kept { Keeps (state S.Store transaction.old.conn.now)
+        (state S.Store transaction.new.conn.now) }
     ensures dropped { HasCleanDisk (state S.Store transaction.new.conn.now)
         → IsTrue (state S.Store transaction.old.conn.now).in_transaction
-        → OnOk result (DropsIndexes own.without_last_indexes (state S.Store transaction.old.conn.now)
-        (state S.Store transaction.new.conn.now)) }
+        → OnOk result (DropsIndexes own.without_last_indexes
+        (state S.Store transaction.old.conn.now) (state S.Store transaction.new.conn.now)) }
 {
     run(transaction, "DROP INDEX IF EXISTS ace2_principal")?;
     run(transaction, "DROP INDEX IF EXISTS gone_book")?;
@@ -60,9 +63,10 @@ fn drop_last_indexes<S: Alter>(transaction: &mut Transaction<'_, S>) -> Result<(
 
 fn drop_indexes<S: Alter>(transaction: &mut Transaction<'_, S>) -> Result<(), Error>
     ensures same_reference { transaction.new.conn.ghost_name ≡ transaction.old.conn.ghost_name }
-    ensures survives { Survives (state S.Store transaction.old.conn.now) (state S.Store transaction.new.conn.now)
-        (λ _. ⊥) }
-    ensures kept { Keeps (state S.Store transaction.old.conn.now) (state S.Store transaction.new.conn.now) }
+    ensures survives { Survives (state S.Store transaction.old.conn.now)
+        (state S.Store transaction.new.conn.now) (λ _. ⊥) }
+    ensures kept { Keeps (state S.Store transaction.old.conn.now)
+        (state S.Store transaction.new.conn.now) }
     ensures dropped { HasCleanDisk (state S.Store transaction.new.conn.now)
         → IsTrue (state S.Store transaction.old.conn.now).in_transaction
         → OnOk result (DropsIndexes own.bared (state S.Store transaction.old.conn.now)
@@ -77,12 +81,14 @@ fn drop_indexes<S: Alter>(transaction: &mut Transaction<'_, S>) -> Result<(), Er
 /// its indexes, where one stands behind all other tables.
 pub fn drop_derived<S: Alter>(transaction: &mut Transaction<'_, S>) -> Result<(), Error>
     ensures same_reference { transaction.new.conn.ghost_name ≡ transaction.old.conn.ghost_name }
-    ensures survives { Survives (state S.Store transaction.old.conn.now) (state S.Store transaction.new.conn.now)
-        (λ _. ⊥) }
-    ensures kept { Keeps (state S.Store transaction.old.conn.now) (state S.Store transaction.new.conn.now) }
+    ensures survives { Survives (state S.Store transaction.old.conn.now)
+        (state S.Store transaction.new.conn.now) (λ _. ⊥) }
+    ensures kept { Keeps (state S.Store transaction.old.conn.now)
+        (state S.Store transaction.new.conn.now) }
     ensures dropped { HasCleanDisk (state S.Store transaction.new.conn.now)
         → IsTrue (state S.Store transaction.old.conn.now).in_transaction
-        → OnOk result (DropsDerived (state S.Store transaction.old.conn.now) (state S.Store transaction.new.conn.now)) }
+        → OnOk result (DropsDerived (state S.Store transaction.old.conn.now)
+        (state S.Store transaction.new.conn.now)) }
 {
     drop_indexes(transaction)?;
     run(transaction, "DROP TABLE IF EXISTS reach")
@@ -91,12 +97,14 @@ pub fn drop_derived<S: Alter>(transaction: &mut Transaction<'_, S>) -> Result<()
 /// Takes the table of entries of the former order away, with its key: the tables are then those of version 1.
 pub fn drop_former_entries<S: Alter>(transaction: &mut Transaction<'_, S>) -> Result<(), Error>
     ensures same_reference { transaction.new.conn.ghost_name ≡ transaction.old.conn.ghost_name }
-    ensures survives { Survives (state S.Store transaction.old.conn.now) (state S.Store transaction.new.conn.now)
-        (λ _. ⊥) }
-    ensures kept { Keeps (state S.Store transaction.old.conn.now) (state S.Store transaction.new.conn.now) }
+    ensures survives { Survives (state S.Store transaction.old.conn.now)
+        (state S.Store transaction.new.conn.now) (λ _. ⊥) }
+    ensures kept { Keeps (state S.Store transaction.old.conn.now)
+        (state S.Store transaction.new.conn.now) }
     ensures dropped { HasCleanDisk (state S.Store transaction.new.conn.now)
         → IsTrue (state S.Store transaction.old.conn.now).in_transaction
-        → OnOk result (DropsFormer (state S.Store transaction.old.conn.now) (state S.Store transaction.new.conn.now)) }
+        → OnOk result (DropsFormer (state S.Store transaction.old.conn.now)
+        (state S.Store transaction.new.conn.now)) }
 {
     run(transaction, "DROP TABLE ace2")
 }

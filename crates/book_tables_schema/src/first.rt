@@ -19,11 +19,12 @@ const ROOT: i64 = 1;
 /// Adds the row of `meta`: version 2 and epoch 0.
 fn insert_meta<S: Alter>(transaction: &mut Transaction<'_, S>) -> Result<(), Error>
     ensures same_reference { transaction.new.conn.ghost_name ≡ transaction.old.conn.ghost_name }
-    ensures survives { Survives (state S.Store transaction.old.conn.now) (state S.Store transaction.new.conn.now)
-        (λ _. ⊥) }
-    ensures kept { Keeps (state S.Store transaction.old.conn.now) (state S.Store transaction.new.conn.now) }
-    ensures done { Writes (state S.Store transaction.old.conn.now) (state S.Store transaction.new.conn.now) result
-        (writes.insert_meta 2 0) }
+    ensures survives { Survives (state S.Store transaction.old.conn.now)
+        (state S.Store transaction.new.conn.now) (λ _. ⊥) }
+    ensures kept { Keeps (state S.Store transaction.old.conn.now)
+        (state S.Store transaction.new.conn.now) }
+    ensures done { Writes (state S.Store transaction.old.conn.now)
+        (state S.Store transaction.new.conn.now) result (writes.insert_meta 2 0) }
 {
     transaction.execute(
         "INSERT INTO meta (version, epoch) VALUES (?1, ?2)",
@@ -35,11 +36,12 @@ fn insert_meta<S: Alter>(transaction: &mut Transaction<'_, S>) -> Result<(), Err
 /// Adds the row of the root, which has no parent.
 fn insert_root<S: Alter>(transaction: &mut Transaction<'_, S>) -> Result<(), Error>
     ensures same_reference { transaction.new.conn.ghost_name ≡ transaction.old.conn.ghost_name }
-    ensures survives { Survives (state S.Store transaction.old.conn.now) (state S.Store transaction.new.conn.now)
-        (λ _. ⊥) }
-    ensures kept { Keeps (state S.Store transaction.old.conn.now) (state S.Store transaction.new.conn.now) }
-    ensures done { Writes (state S.Store transaction.old.conn.now) (state S.Store transaction.new.conn.now) result
-        founding.insert_root }
+    ensures survives { Survives (state S.Store transaction.old.conn.now)
+        (state S.Store transaction.new.conn.now) (λ _. ⊥) }
+    ensures kept { Keeps (state S.Store transaction.old.conn.now)
+        (state S.Store transaction.new.conn.now) }
+    ensures done { Writes (state S.Store transaction.old.conn.now)
+        (state S.Store transaction.new.conn.now) result founding.insert_root }
 {
     transaction.execute(
         "INSERT INTO node (path, parent, kind, owner, label, text, number) VALUES (?1, ?2, ?3, ?4, ?5, ?6, ?7)",
@@ -51,11 +53,12 @@ fn insert_root<S: Alter>(transaction: &mut Transaction<'_, S>) -> Result<(), Err
 /// Adds the rows of the three homes, each with the root as its parent.
 fn insert_homes<S: Alter>(transaction: &mut Transaction<'_, S>) -> Result<(), Error>
     ensures same_reference { transaction.new.conn.ghost_name ≡ transaction.old.conn.ghost_name }
-    ensures survives { Survives (state S.Store transaction.old.conn.now) (state S.Store transaction.new.conn.now)
-        (λ _. ⊥) }
-    ensures kept { Keeps (state S.Store transaction.old.conn.now) (state S.Store transaction.new.conn.now) }
-    ensures done { Writes (state S.Store transaction.old.conn.now) (state S.Store transaction.new.conn.now) result
-        founding.insert_homes }
+    ensures survives { Survives (state S.Store transaction.old.conn.now)
+        (state S.Store transaction.new.conn.now) (λ _. ⊥) }
+    ensures kept { Keeps (state S.Store transaction.old.conn.now)
+        (state S.Store transaction.new.conn.now) }
+    ensures done { Writes (state S.Store transaction.old.conn.now)
+        (state S.Store transaction.new.conn.now) result founding.insert_homes }
 {
     insert_node(transaction, "/people", ROOT, HOME, None, "", None, 0)?;
     insert_node(transaction, "/groups", ROOT, HOME, None, "", None, 0)?;
@@ -65,11 +68,12 @@ fn insert_homes<S: Alter>(transaction: &mut Transaction<'_, S>) -> Result<(), Er
 /// Writes the first rows.
 pub(crate) fn insert_first<S: Alter>(transaction: &mut Transaction<'_, S>) -> Result<(), Error>
     ensures same_reference { transaction.new.conn.ghost_name ≡ transaction.old.conn.ghost_name }
-    ensures survives { Survives (state S.Store transaction.old.conn.now) (state S.Store transaction.new.conn.now)
-        (λ _. ⊥) }
-    ensures kept { Keeps (state S.Store transaction.old.conn.now) (state S.Store transaction.new.conn.now) }
-    ensures done { Writes (state S.Store transaction.old.conn.now) (state S.Store transaction.new.conn.now) result
-        founding.insert_first }
+    ensures survives { Survives (state S.Store transaction.old.conn.now)
+        (state S.Store transaction.new.conn.now) (λ _. ⊥) }
+    ensures kept { Keeps (state S.Store transaction.old.conn.now)
+        (state S.Store transaction.new.conn.now) }
+    ensures done { Writes (state S.Store transaction.old.conn.now)
+        (state S.Store transaction.new.conn.now) result founding.insert_first }
 {
     insert_meta(transaction)?;
     insert_root(transaction)?;

@@ -21,12 +21,14 @@ pub fn is_empty<S: Alter>(connection: &Connection<S>) -> bool
 /// Makes the tables, and writes the first rows.
 fn found<S: Alter>(transaction: &mut Transaction<'_, S>) -> Result<(), Error>
     ensures same_reference { transaction.new.conn.ghost_name ≡ transaction.old.conn.ghost_name }
-    ensures survives { Survives (state S.Store transaction.old.conn.now) (state S.Store transaction.new.conn.now)
-        (λ _. ⊥) }
-    ensures kept { Keeps (state S.Store transaction.old.conn.now) (state S.Store transaction.new.conn.now) }
+    ensures survives { Survives (state S.Store transaction.old.conn.now)
+        (state S.Store transaction.new.conn.now) (λ _. ⊥) }
+    ensures kept { Keeps (state S.Store transaction.old.conn.now)
+        (state S.Store transaction.new.conn.now) }
     ensures done { HasCleanDisk (state S.Store transaction.new.conn.now)
         → IsTrue (state S.Store transaction.old.conn.now).in_transaction
-        → OnOk result (Founds (state S.Store transaction.old.conn.now) (state S.Store transaction.new.conn.now)) }
+        → OnOk result (Founds (state S.Store transaction.old.conn.now)
+        (state S.Store transaction.new.conn.now)) }
 {
     make_tables(transaction)?;
     insert_first(transaction)

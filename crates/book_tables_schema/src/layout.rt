@@ -121,8 +121,9 @@ fn has_no_terms(terms: &Terms) -> bool
 
 /// Whether a table has no checks and no computed defaults.
 fn is_plain(table: &Table) -> bool
-    ensures { IsTrue result ↔ (table.now ≡ plain_table table.now.name table.now.tree table.now.columns table.now.key
-        table.now.primary table.now.uniques table.now.orders table.now.references) }
+    ensures { IsTrue result ↔ (table.now ≡
+        plain_table table.now.name table.now.tree table.now.columns table.now.key table.now.primary
+        table.now.uniques table.now.orders table.now.references) }
 {
     has_no_terms(&table.checks)
         && table.computed.as_slice().is_empty()

@@ -11,12 +11,14 @@ use sqlite::{Alter, Error, Transaction};
 /// Runs a text that has no parameters.
 pub(crate) fn run<S: Alter>(transaction: &mut Transaction<'_, S>, sql: &str) -> Result<(), Error>
     ensures same_reference { transaction.new.conn.ghost_name ≡ transaction.old.conn.ghost_name }
-    ensures survives { Survives (state S.Store transaction.old.conn.now) (state S.Store transaction.new.conn.now)
-        (λ _. ⊥) }
-    ensures kept { Keeps (state S.Store transaction.old.conn.now) (state S.Store transaction.new.conn.now) }
+    ensures survives { Survives (state S.Store transaction.old.conn.now)
+        (state S.Store transaction.new.conn.now) (λ _. ⊥) }
+    ensures kept { Keeps (state S.Store transaction.old.conn.now)
+        (state S.Store transaction.new.conn.now) }
     ensures done { HasCleanDisk (state S.Store transaction.new.conn.now)
         → IsTrue (state S.Store transaction.old.conn.now).in_transaction
-        → OnOk result (Ran sql.now (state S.Store transaction.old.conn.now) (state S.Store transaction.new.conn.now)) }
+        → OnOk result (Ran sql.now (state S.Store transaction.old.conn.now)
+        (state S.Store transaction.new.conn.now)) }
 {
     transaction.execute(sql, &[])?;
     Ok(())
@@ -25,11 +27,12 @@ pub(crate) fn run<S: Alter>(transaction: &mut Transaction<'_, S>, sql: &str) -> 
 /// Makes the tables of nodes, of entries of version 1, which stays empty, and of members.
 fn make_first_tables<S: Alter>(transaction: &mut Transaction<'_, S>) -> Result<(), Error>
     ensures same_reference { transaction.new.conn.ghost_name ≡ transaction.old.conn.ghost_name }
-    ensures survives { Survives (state S.Store transaction.old.conn.now) (state S.Store transaction.new.conn.now)
-        (λ _. ⊥) }
-    ensures kept { Keeps (state S.Store transaction.old.conn.now) (state S.Store transaction.new.conn.now) }
-    ensures done { Extending (state S.Store transaction.old.conn.now) (state S.Store transaction.new.conn.now) result
-        no_schema with_member }
+    ensures survives { Survives (state S.Store transaction.old.conn.now)
+        (state S.Store transaction.new.conn.now) (λ _. ⊥) }
+    ensures kept { Keeps (state S.Store transaction.old.conn.now)
+        (state S.Store transaction.new.conn.now) }
+    ensures done { Extending (state S.Store transaction.old.conn.now)
+        (state S.Store transaction.new.conn.now) result no_schema with_member }
 {
     run(
         transaction,
@@ -48,11 +51,12 @@ fn make_first_tables<S: Alter>(transaction: &mut Transaction<'_, S>) -> Result<(
 /// Makes the tables of removed names and of the version.
 fn make_last_tables<S: Alter>(transaction: &mut Transaction<'_, S>) -> Result<(), Error>
     ensures same_reference { transaction.new.conn.ghost_name ≡ transaction.old.conn.ghost_name }
-    ensures survives { Survives (state S.Store transaction.old.conn.now) (state S.Store transaction.new.conn.now)
-        (λ _. ⊥) }
-    ensures kept { Keeps (state S.Store transaction.old.conn.now) (state S.Store transaction.new.conn.now) }
-    ensures done { Extending (state S.Store transaction.old.conn.now) (state S.Store transaction.new.conn.now) result
-        with_member with_meta }
+    ensures survives { Survives (state S.Store transaction.old.conn.now)
+        (state S.Store transaction.new.conn.now) (λ _. ⊥) }
+    ensures kept { Keeps (state S.Store transaction.old.conn.now)
+        (state S.Store transaction.new.conn.now) }
+    ensures done { Extending (state S.Store transaction.old.conn.now)
+        (state S.Store transaction.new.conn.now) result with_member with_meta }
 {
     run(
         transaction,
@@ -68,14 +72,16 @@ fn make_last_tables<S: Alter>(transaction: &mut Transaction<'_, S>) -> Result<()
 /// that has rows.
 pub fn make_second_table<S: Alter>(transaction: &mut Transaction<'_, S>) -> Result<(), Error>
     ensures same_reference { transaction.new.conn.ghost_name ≡ transaction.old.conn.ghost_name }
-    ensures survives { Survives (state S.Store transaction.old.conn.now) (state S.Store transaction.new.conn.now)
-        (λ _. ⊥) }
-    ensures kept { Keeps (state S.Store transaction.old.conn.now) (state S.Store transaction.new.conn.now) }
-    ensures done { Extending (state S.Store transaction.old.conn.now) (state S.Store transaction.new.conn.now) result
-        with_meta with_ace2 }
+    ensures survives { Survives (state S.Store transaction.old.conn.now)
+        (state S.Store transaction.new.conn.now) (λ _. ⊥) }
+    ensures kept { Keeps (state S.Store transaction.old.conn.now)
+        (state S.Store transaction.new.conn.now) }
+    ensures done { Extending (state S.Store transaction.old.conn.now)
+        (state S.Store transaction.new.conn.now) result with_meta with_ace2 }
     ensures renewed { HasCleanDisk (state S.Store transaction.new.conn.now)
         → IsTrue (state S.Store transaction.old.conn.now).in_transaction
-        → OnOk result (Renews (state S.Store transaction.old.conn.now) (state S.Store transaction.new.conn.now)) }
+        → OnOk result (Renews (state S.Store transaction.old.conn.now)
+        (state S.Store transaction.new.conn.now)) }
 {
     run(
         transaction,
@@ -86,11 +92,12 @@ pub fn make_second_table<S: Alter>(transaction: &mut Transaction<'_, S>) -> Resu
 /// Makes the indexes of children and of owners.
 fn make_node_indexes<S: Alter>(transaction: &mut Transaction<'_, S>) -> Result<(), Error>
     ensures same_reference { transaction.new.conn.ghost_name ≡ transaction.old.conn.ghost_name }
-    ensures survives { Survives (state S.Store transaction.old.conn.now) (state S.Store transaction.new.conn.now)
-        (λ _. ⊥) }
-    ensures kept { Keeps (state S.Store transaction.old.conn.now) (state S.Store transaction.new.conn.now) }
-    ensures done { Indexing (state S.Store transaction.old.conn.now) (state S.Store transaction.new.conn.now) result
-        with_reach with_owner }
+    ensures survives { Survives (state S.Store transaction.old.conn.now)
+        (state S.Store transaction.new.conn.now) (λ _. ⊥) }
+    ensures kept { Keeps (state S.Store transaction.old.conn.now)
+        (state S.Store transaction.new.conn.now) }
+    ensures done { Indexing (state S.Store transaction.old.conn.now)
+        (state S.Store transaction.new.conn.now) result with_reach with_owner }
 {
     run(
         transaction,
@@ -102,11 +109,12 @@ fn make_node_indexes<S: Alter>(transaction: &mut Transaction<'_, S>) -> Result<(
 /// Makes the indexes of principals of version 1 and of members.
 fn make_principal_indexes<S: Alter>(transaction: &mut Transaction<'_, S>) -> Result<(), Error>
     ensures same_reference { transaction.new.conn.ghost_name ≡ transaction.old.conn.ghost_name }
-    ensures survives { Survives (state S.Store transaction.old.conn.now) (state S.Store transaction.new.conn.now)
-        (λ _. ⊥) }
-    ensures kept { Keeps (state S.Store transaction.old.conn.now) (state S.Store transaction.new.conn.now) }
-    ensures done { Indexing (state S.Store transaction.old.conn.now) (state S.Store transaction.new.conn.now) result
-        with_owner with_members }
+    ensures survives { Survives (state S.Store transaction.old.conn.now)
+        (state S.Store transaction.new.conn.now) (λ _. ⊥) }
+    ensures kept { Keeps (state S.Store transaction.old.conn.now)
+        (state S.Store transaction.new.conn.now) }
+    ensures done { Indexing (state S.Store transaction.old.conn.now)
+        (state S.Store transaction.new.conn.now) result with_owner with_members }
 {
     run(transaction, "CREATE INDEX ace_principal ON ace (principal)")?;
     run(transaction, "CREATE INDEX member_member ON member (member)")
@@ -115,11 +123,12 @@ fn make_principal_indexes<S: Alter>(transaction: &mut Transaction<'_, S>) -> Res
 /// Makes the indexes of principals, of removed names and of groups.
 fn make_last_indexes<S: Alter>(transaction: &mut Transaction<'_, S>) -> Result<(), Error>
     ensures same_reference { transaction.new.conn.ghost_name ≡ transaction.old.conn.ghost_name }
-    ensures survives { Survives (state S.Store transaction.old.conn.now) (state S.Store transaction.new.conn.now)
-        (λ _. ⊥) }
-    ensures kept { Keeps (state S.Store transaction.old.conn.now) (state S.Store transaction.new.conn.now) }
-    ensures done { Indexing (state S.Store transaction.old.conn.now) (state S.Store transaction.new.conn.now) result
-        with_members with_all }
+    ensures survives { Survives (state S.Store transaction.old.conn.now)
+        (state S.Store transaction.new.conn.now) (λ _. ⊥) }
+    ensures kept { Keeps (state S.Store transaction.old.conn.now)
+        (state S.Store transaction.new.conn.now) }
+    ensures done { Indexing (state S.Store transaction.old.conn.now)
+        (state S.Store transaction.new.conn.now) result with_members with_all }
 {
     run(
         transaction,
@@ -131,11 +140,12 @@ fn make_last_indexes<S: Alter>(transaction: &mut Transaction<'_, S>) -> Result<(
 
 fn make_indexes<S: Alter>(transaction: &mut Transaction<'_, S>) -> Result<(), Error>
     ensures same_reference { transaction.new.conn.ghost_name ≡ transaction.old.conn.ghost_name }
-    ensures survives { Survives (state S.Store transaction.old.conn.now) (state S.Store transaction.new.conn.now)
-        (λ _. ⊥) }
-    ensures kept { Keeps (state S.Store transaction.old.conn.now) (state S.Store transaction.new.conn.now) }
-    ensures done { Indexing (state S.Store transaction.old.conn.now) (state S.Store transaction.new.conn.now) result
-        with_reach with_all }
+    ensures survives { Survives (state S.Store transaction.old.conn.now)
+        (state S.Store transaction.new.conn.now) (λ _. ⊥) }
+    ensures kept { Keeps (state S.Store transaction.old.conn.now)
+        (state S.Store transaction.new.conn.now) }
+    ensures done { Indexing (state S.Store transaction.old.conn.now)
+        (state S.Store transaction.new.conn.now) result with_reach with_all }
 {
     make_node_indexes(transaction)?;
     make_principal_indexes(transaction)?;
@@ -146,14 +156,16 @@ fn make_indexes<S: Alter>(transaction: &mut Transaction<'_, S>) -> Result<(), Er
 /// make look-ups fast: in a store that is founded, and in one that has rows.
 pub fn make_derived<S: Alter>(transaction: &mut Transaction<'_, S>) -> Result<(), Error>
     ensures same_reference { transaction.new.conn.ghost_name ≡ transaction.old.conn.ghost_name }
-    ensures survives { Survives (state S.Store transaction.old.conn.now) (state S.Store transaction.new.conn.now)
-        (λ _. ⊥) }
-    ensures kept { Keeps (state S.Store transaction.old.conn.now) (state S.Store transaction.new.conn.now) }
-    ensures done { Extending (state S.Store transaction.old.conn.now) (state S.Store transaction.new.conn.now) result
-        with_ace2 with_all }
+    ensures survives { Survives (state S.Store transaction.old.conn.now)
+        (state S.Store transaction.new.conn.now) (λ _. ⊥) }
+    ensures kept { Keeps (state S.Store transaction.old.conn.now)
+        (state S.Store transaction.new.conn.now) }
+    ensures done { Extending (state S.Store transaction.old.conn.now)
+        (state S.Store transaction.new.conn.now) result with_ace2 with_all }
     ensures got { HasCleanDisk (state S.Store transaction.new.conn.now)
         → IsTrue (state S.Store transaction.old.conn.now).in_transaction
-        → OnOk result (GetsDerived (state S.Store transaction.old.conn.now) (state S.Store transaction.new.conn.now)) }
+        → OnOk result (GetsDerived (state S.Store transaction.old.conn.now)
+        (state S.Store transaction.new.conn.now)) }
 {
     run(
         transaction,
@@ -165,11 +177,12 @@ pub fn make_derived<S: Alter>(transaction: &mut Transaction<'_, S>) -> Result<()
 /// Makes the tables, and then the indexes that only make look-ups fast.
 pub(crate) fn make_tables<S: Alter>(transaction: &mut Transaction<'_, S>) -> Result<(), Error>
     ensures same_reference { transaction.new.conn.ghost_name ≡ transaction.old.conn.ghost_name }
-    ensures survives { Survives (state S.Store transaction.old.conn.now) (state S.Store transaction.new.conn.now)
-        (λ _. ⊥) }
-    ensures kept { Keeps (state S.Store transaction.old.conn.now) (state S.Store transaction.new.conn.now) }
-    ensures done { Extending (state S.Store transaction.old.conn.now) (state S.Store transaction.new.conn.now) result
-        no_schema with_all }
+    ensures survives { Survives (state S.Store transaction.old.conn.now)
+        (state S.Store transaction.new.conn.now) (λ _. ⊥) }
+    ensures kept { Keeps (state S.Store transaction.old.conn.now)
+        (state S.Store transaction.new.conn.now) }
+    ensures done { Extending (state S.Store transaction.old.conn.now)
+        (state S.Store transaction.new.conn.now) result no_schema with_all }
 {
     make_first_tables(transaction)?;
     make_last_tables(transaction)?;

@@ -158,7 +158,8 @@ impl Changes {
         number: u64,
         at_most: Option<u32>,
     ) -> Result<Items<(u64, Name)>, AllocError>
-        ensures { IfOk result (λ changes. changes ≡ first_of at_most (changes_after self.now.last number)) }
+        ensures { IfOk result (λ changes. changes ≡ first_of at_most
+            (changes_after self.now.last number)) }
     {
         self.names.after(alloc, number, at_most)
     }
@@ -174,7 +175,8 @@ impl Changes {
         names: &NameMap<V>,
     ) -> Result<Items<(u64, Name)>, AllocError>
         ensures { IfOk result (λ changes. changes ≡ first_of at_most
-            (filter (λ (c : Change). is_some (get names.now c.1)) (changes_after self.now.last number))) }
+            (filter (λ (c : Change). is_some (get names.now c.1))
+            (changes_after self.now.last number))) }
     {
         self.names.after_among(alloc, number, at_most, names)
     }

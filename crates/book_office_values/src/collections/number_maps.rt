@@ -101,7 +101,8 @@ impl NumberMap {
         at_most: Option<u32>,
         names: &NameMap<V>,
     ) -> Result<Items<(u64, Name)>, AllocError>
-        ensures { IfOk result (λ after. after ≡ first_of at_most (filter (λ c. is_some (map.get names.now c.1))
+        ensures { IfOk result (λ after. after ≡ first_of at_most
+            (filter (λ c. is_some (map.get names.now c.1))
             (filter (λ c. nat_lt number c.0) (map.entries self.now)))) }
     {
         let mut after = Items::new(alloc);

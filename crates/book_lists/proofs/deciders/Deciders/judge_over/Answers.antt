@@ -1,9 +1,9 @@
-use Rattle.book_lists.proofs.Common.{◌≡◌, ◌++◌, ◌-◌, ◌^◌, length, refl, sym, ap, ◌∙◌, subst, arith, append-nil, length-append, both_ways, read_by, Reading}
+use Rattle.book_lists.proofs.Common.{◌≡◌, ◌++◌, ◌-◌, ◌^◌, length, refl, sym, subst, arith, append-nil, length-append, both_ways, read_by, Reading}
 use Rattle.std.proofs.Common.{min, drop}
 use Rattle.std.proofs.lemmas.List.{length-map}
 use Rattle.book_lists.specs.declared.entries.Entry.{Entry}
 use Rattle.book_lists.specs.Readings.{Settles}
-use Rattle.book_lists.specs.Deciders.{IsDeciders, IsJudged}
+use Rattle.book_lists.specs.Deciders.{IsJudged}
 use Rattle.book_lists.proofs.IdleReadings.{settles_more}
 use Rattle.book_lists.proofs.JudgedNeeds.{judged, all_seen, unsettled_none, settled_more}
 use Rattle.book_lists.proofs.OneReader.{read_more, read_parts, read_all}

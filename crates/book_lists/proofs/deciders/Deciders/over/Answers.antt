@@ -2,7 +2,7 @@ use Rattle.book_lists.proofs.Common.{◌≡◌, ◌++◌, ◌-◌, ◌^◌, leng
 use Rattle.std.proofs.Common.{min, drop}
 use Rattle.std.proofs.lemmas.List.{length-map}
 use Rattle.book_lists.specs.declared.entries.Entry.{Entry}
-use Rattle.book_lists.specs.Deciders.{AreDecided, IsDeciders}
+use Rattle.book_lists.specs.Deciders.{IsDeciders}
 use Rattle.book_lists.specs.declared.deciders.Deciders.{Deciders}
 use Rattle.book_lists.proofs.KeptDeciders.{all_decided, decided_more}
 use Rattle.book_lists.proofs.OneReader.{read_more, read_parts, read_all}
