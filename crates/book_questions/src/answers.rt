@@ -15,8 +15,14 @@ use book_office_values::{Path, Text};
 use book_rights::Privilege;
 use std::alloc::Global;
 
-/// What a question needs.
-fn needed_for<K: Keeper>(
+/// What a question needs of a caller by its bare name, of which none is nobody. Nothing changes.
+///
+/// # Errors
+///
+/// The refusal of a request that ends before its needs, as `serve` answers it. Of a privilege: `UnknownCaller` where the
+/// caller is no person, `NotFound` where nothing is mapped at the path. `Unavailable` where memory was refused or the
+/// store failed.
+pub fn needed_for<K: Keeper>(
     alloc: Global,
     machine: &mut Machine<K>,
     name: Option<&str>,

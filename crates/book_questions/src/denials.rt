@@ -93,8 +93,8 @@ fn denial_at(why: &WhyNeed) -> Result<Option<Denial>, AllocError>
     }
 }
 
-/// The denial of the first need that is not granted.
-pub(crate) fn first_denial(whys: &[WhyNeed]) -> Result<Option<Denial>, AllocError>
+/// The denial of the first need that is not granted. An error is want of memory.
+pub fn first_denial(whys: &[WhyNeed]) -> Result<Option<Denial>, AllocError>
     ensures { IfOk result (λ denial. denial ≡ first_denial whys.now) }
 {
     let mut rest = whys;

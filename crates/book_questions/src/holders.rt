@@ -100,8 +100,9 @@ fn holder_each<K: Keeper>(
     Ok(holders)
 }
 
-/// Everybody with the rulings at a path, whose levels are read once.
-fn holders_at<K: Keeper>(
+/// Everybody with the rulings at a path, whose levels are read once: nobody, and each person in byte order of the names. An
+/// error is want of memory or a failure of the store.
+pub fn holders_at<K: Keeper>(
     alloc: Global,
     keeper: &mut K,
     path: &Path,

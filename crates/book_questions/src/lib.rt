@@ -23,11 +23,13 @@ mod rulings;
 mod who_lines;
 mod whys;
 
-pub use answers::{who, why};
-pub use holders::{Holder, callers_of};
+pub use answers::{needed_for, who, why};
+pub use denials::first_denial;
+pub use holders::{Holder, callers_of, holders_at};
 pub use laws::{rulings_tell_the_verdict, who_is_exact, why_tells_the_reply};
 pub use lines::push_names;
+pub use places::count_in;
 pub use questions::{Question, question_of};
-pub use rulings::{here_at, in_force, listed_pairs};
-pub use who_lines::caller_text;
+pub use rulings::{here_at, in_force, listed_pairs, why_of};
+pub use who_lines::{caller_text, is_denied};
 pub use whys::{InForce, Why, WhyNeed};

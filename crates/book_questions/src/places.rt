@@ -37,8 +37,9 @@ fn stands_in(
     is_at(alloc, place, &entry.path)
 }
 
-/// How many of these entries stand in the list of a place.
-pub(crate) fn count_in(
+/// How many of these entries stand in the list of a place, which is named by the text of its path: in the protected one, or
+/// in the own one. An error is want of memory.
+pub fn count_in(
     alloc: Global,
     place: &str,
     protected: bool,

@@ -141,12 +141,9 @@ fn chains_at<K: Keeper>(
     Ok(chains_of(alloc, pairs.as_slice(), caller)?)
 }
 
-/// What decides each need of a request, for its caller, with the chains by which it belongs to principals.
-pub(crate) fn why_of<K: Keeper>(
-    alloc: Global,
-    keeper: &mut K,
-    needed: &Needed,
-) -> Result<Why, StoreFault>
+/// What decides each need of a request, for its caller, with the chains by which it belongs to principals. An error is
+/// want of memory or a failure of the store.
+pub fn why_of<K: Keeper>(alloc: Global, keeper: &mut K, needed: &Needed) -> Result<Why, StoreFault>
     ensures { Reads (K.standing keeper.old) (K.standing keeper.new) result
         (λ o why. IsWhy o needed.now why) }
 {

@@ -45,7 +45,7 @@ fn push_holder(
 }
 
 /// Whether a leaf of the set is not granted.
-fn is_denied(set: LeafSet, holder: &Holder) -> bool
+pub fn is_denied(set: LeafSet, holder: &Holder) -> bool
     ensures { result ≡ is_denied set holder.now }
 {
     earliest(holder.rulings.as_slice(), set).is_some()

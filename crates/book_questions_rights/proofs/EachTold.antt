@@ -30,7 +30,7 @@ use Rattle.book_questions_rights.proofs.Classes.{cards_have_one_class}
 use Rattle.book_questions_rights.proofs.Elements.{Mem, contains_of, mem_flat, mem_map, mem_of, mem_of_flat, mem_of_map, mem_right, mem_split}
 
 -- ---- what is gathered
-found : (m : NamesTo (List ℕ)) (bs : List Block) (k v : List ℕ) → get (gathered m bs) k ≡ Some v → (get m k ≡ Some v) ⊎ Mem (k, v) bs
+pub found : (m : NamesTo (List ℕ)) (bs : List Block) (k v : List ℕ) → get (gathered m bs) k ≡ Some v → (get m k ≡ Some v) ⊎ Mem (k, v) bs
 found m [] k v e = inl e
 found m (b ∷ bs) k v e = elim (found (insert m b.0 b.1) bs k v e) [
   | inl h ↦ by_same k b.0 (λ t. cond t (Some b.1) (get m k) ≡ Some v → (get m k ≡ Some v) ⊎ Mem (k, v) (b ∷ bs))
@@ -45,7 +45,7 @@ stays m (b ∷ bs) k v e =
     subst (λ r. (w : List ℕ) × (r ≡ Some w)) (sym (put_at m b.0 b.1 k)) (by_same k b.0 (λ t. (w : List ℕ) × (cond t (Some b.1) (get m k) ≡ Some w)) (λ here. (b.1, refl)) (v, e)) in
     stays (insert m b.0 b.1) bs k h.0 h.1
 
-there : (m : NamesTo (List ℕ)) (bs : List Block) (b : Block) → Mem b bs → (w : List ℕ) × (get (gathered m bs) b.0 ≡ Some w)
+pub there : (m : NamesTo (List ℕ)) (bs : List Block) (b : Block) → Mem b bs → (w : List ℕ) × (get (gathered m bs) b.0 ≡ Some w)
 there m [] b h = absurd h
 there m (c ∷ bs) b (inl e) =
     stays (insert m c.0 c.1) bs b.0 c.1
@@ -115,7 +115,7 @@ module _ (o : Office) where
   at_itself (path.Card b c) h = absurd (false≢true h)
 
   -- a card of a book is what the Office has at its path
-  card_there : (b : List ℕ) (card : Listed) → Mem card (cards_of o (path.Book b)) → (r : Resource) × (resource_at o (path.Card b card.name) ≡ Some r) × (card ≡ as_listed card.name r)
+  pub card_there : (b : List ℕ) (card : Listed) → Mem card (cards_of o (path.Book b)) → (r : Resource) × (resource_at o (path.Card b card.name) ≡ Some r) × (card ≡ as_listed card.name r)
   card_there b card m = go (get o.books b) refl m
     where
       go : (found : Option Book) → get o.books b ≡ found → Mem card (unwrap_or (option_map listed_cards found) [])
