@@ -258,7 +258,7 @@ fn write_line(alloc: Global, out: &mut JsonText, line: &Line) -> Result<(), Allo
 
 /// The line of a resource. An error is want of memory.
 #[tactic(auto, using(crate::proofs::Written::text_written))]
-pub(crate) fn line_bytes(alloc: Global, line: &Line) -> Result<Vec<u8>, AllocError>
+pub fn line_bytes(alloc: Global, line: &Line) -> Result<Vec<u8>, AllocError>
     ensures { IfOk result (λ bytes. bytes.items ≡ line_text line.now) }
 {
     let mut out = JsonText::new(alloc);
