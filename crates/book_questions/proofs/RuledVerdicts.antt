@@ -176,7 +176,7 @@ module _ (list : List EffectiveEntry) (circle : CircleOf) (here : Here) where
       (omega (arith, same, here_le), rulings_in_order (place_of r.leaf) ls rs (subst (λ k. LeavesInOrder k ls) (sym same) o.1) all.1)
 
   -- the number of an entry that decides
-  numbered : (i : ℕ) (leaf : Leaf) (entry : Entry) → Decides (bare_entries list) circle here i leaf entry
+  pub numbered : (i : ℕ) (leaf : Leaf) (entry : Entry) → Decides (bare_entries list) circle here i leaf entry
       → (x : DecidingEntry) × (deciding_entry (paths_of list) (Some i) ≡ Some x) × (x.number ≡ i + 1)
   numbered i leaf entry d = go (slice_get (paths_of list) i) refl
     where

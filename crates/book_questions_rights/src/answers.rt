@@ -81,8 +81,12 @@ fn person_at<K: Keeper>(
     Ok(Asked { callers, at })
 }
 
-/// Who is asked about at a path: the person of a name, or everybody.
-fn asked_at<K: Keeper>(
+/// Who is asked about at a path: the person of a name, or everybody. Nothing changes.
+///
+/// # Errors
+///
+/// Those of `rights`.
+pub fn asked_at<K: Keeper>(
     alloc: Global,
     machine: &mut Machine<K>,
     name: Option<&str>,

@@ -26,8 +26,8 @@ fn asker_of<K: Keeper>(alloc: Global, keeper: &mut K, caller: &Caller) -> Result
     Ok(Asker { caller, circle })
 }
 
-/// Each caller with its circle.
-pub(crate) fn askers_of<K: Keeper>(
+/// Each caller with its circle. An error is want of memory or a failure of the store.
+pub fn askers_of<K: Keeper>(
     alloc: Global,
     keeper: &mut K,
     callers: &[Caller],

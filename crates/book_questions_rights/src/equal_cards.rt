@@ -55,14 +55,14 @@ fn is_alike(card: &Listed, other: &Listed) -> bool
 }
 
 /// Whether one of these cards is like the card.
-pub(crate) fn is_told(card: &Listed, before: &[Listed]) -> bool
+pub fn is_told(card: &Listed, before: &[Listed]) -> bool
     ensures { result ≡ list_any (is_alike card.now) before.now }
 {
     before.iter().any(|other| is_alike(card, other))
 }
 
 /// How many of these cards are like the card.
-pub(crate) fn count_alike(card: &Listed, cards: &[Listed]) -> usize
+pub fn count_alike(card: &Listed, cards: &[Listed]) -> usize
     ensures { result ≡ count_by (is_alike card.now) cards.now }
 {
     cards.iter().filter(|other| is_alike(card, other)).count()

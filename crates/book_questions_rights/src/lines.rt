@@ -13,7 +13,7 @@ use book_rights::LeafSet;
 use std::alloc::{AllocError, Global};
 
 /// The leaves that the entries grant, as a set.
-fn granted_by(entries: &[Entry], circle: &Circle, here: &Here) -> LeafSet
+pub fn granted_by(entries: &[Entry], circle: &Circle, here: &Here) -> LeafSet
     ensures { result ≡ granted_by entries.now circle.now here.now }
 {
     granted(entries, circle, here)

@@ -271,8 +271,8 @@ fn read_place<K: Keeper>(alloc: Global, keeper: &mut K, path: &Path) -> Result<P
     Ok(place_with(alloc, path, here, &lists, cards)?)
 }
 
-/// What is read at each path.
-pub(crate) fn read_places<K: Keeper>(
+/// What is read at each path. An error is want of memory or a failure of the store.
+pub fn read_places<K: Keeper>(
     alloc: Global,
     keeper: &mut K,
     paths: &[Path],

@@ -16,8 +16,8 @@ use book_office::Listed;
 use book_office_values::Text;
 use std::alloc::{AllocError, Global};
 
-/// The entries in force at a place, with an own list below it.
-fn entries_with(alloc: Global, place: &Place, own: &[Entry]) -> Result<Vec<Entry>, AllocError>
+/// The entries in force at a place, with an own list below it. An error is want of memory.
+pub fn entries_with(alloc: Global, place: &Place, own: &[Entry]) -> Result<Vec<Entry>, AllocError>
     ensures { IfOk result (λ entries. entries.items ≡ place.now.protected ++
         (own.now ++ place.now.own)) }
 {
@@ -57,8 +57,8 @@ fn add_own(
     blocks.add(key, lines)
 }
 
-/// What entries ask of a card.
-fn here_of(card: &Listed) -> Result<Here, AllocError>
+/// What entries ask of a card. An error is want of memory.
+pub fn card_here(card: &Listed) -> Result<Here, AllocError>
     ensures { IfOk result (λ here. here ≡ card_here card.now) }
 {
     Ok(Here {
@@ -70,8 +70,8 @@ fn here_of(card: &Listed) -> Result<Here, AllocError>
     })
 }
 
-/// The path of a card.
-fn card_key(alloc: Global, place: &Place, card: &Listed) -> Result<Text, AllocError>
+/// The path of a card of a place. An error is want of memory.
+pub fn card_key(alloc: Global, place: &Place, card: &Listed) -> Result<Text, AllocError>
     ensures { IfOk result (λ key. key ≡ card_key place.now card.now) }
 {
     let mut key = place.path.text(alloc)?;
@@ -106,8 +106,9 @@ fn is_shared(
     Ok(any_gains(entries, others.as_slice(), here, askers))
 }
 
-/// Whether equal cards are told.
-fn are_told(
+/// Whether equal cards are told: where shared cards alone are, those whose own list grants somebody a leaf that the entries
+/// of their book do not. An error is want of memory.
+pub fn are_told(
     alloc: Global,
     shared: bool,
     askers: &[Asker],
@@ -139,7 +140,7 @@ fn add_class(
         (class_blocks shared askers.now place.now (record { card = card.now; count = count }))) }
 {
     let entries = entries_with(alloc, place, card.own.as_slice())?;
-    let here = here_of(card)?;
+    let here = card_here(card)?;
     if !are_told(alloc, shared, askers, place, &here, entries.as_slice())? {
         return Ok(());
     }
