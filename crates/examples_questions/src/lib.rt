@@ -12,4 +12,6 @@ mod everybody;
 #[cfg(test)]
 mod offices;
 #[cfg(test)]
+mod restated;
+#[cfg(test)]
 mod whys;

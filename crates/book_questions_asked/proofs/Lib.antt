@@ -1,0 +1,11 @@
+pub mod Common
+pub mod Leading
+pub mod StatedDecisions
+pub mod ShortLists
+pub mod Splits
+pub mod Spelling
+pub mod StatedLines
+pub mod SoundLists
+pub mod Askers
+pub mod Explained
+pub mod ToldWhy

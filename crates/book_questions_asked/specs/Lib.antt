@@ -1,0 +1,4 @@
+pub mod Stated
+pub mod Lines
+pub mod Asking
+pub mod Laws
