@@ -12,6 +12,8 @@ mod everybody;
 #[cfg(test)]
 mod offices;
 #[cfg(test)]
+mod parts;
+#[cfg(test)]
 mod restated;
 #[cfg(test)]
 mod whys;
