@@ -2,4 +2,9 @@ pub mod Placing
 pub mod Deciders
 pub mod Clearing
 pub mod Model
+pub mod Asking
 pub mod Telling
+pub mod Reasoning
+pub mod ToldEntries
+pub mod Granting
+pub mod Alikeness

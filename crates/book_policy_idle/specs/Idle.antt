@@ -18,7 +18,6 @@ use Rattle.book_office_values.specs.declared.paths.Path.TheVariants as path
 use Rattle.book_policy_values.specs.Policies.{stands_at}
 use Rattle.book_policy_values.specs.declared.parts.PolicyEntry.{PolicyEntry}
 use Rattle.book_policy_values.specs.declared.parts.PolicyTables.{PolicyTables}
-use Rattle.book_policy_idle.specs.declared.idle.IdleEntry.{IdleEntry}
 use Rattle.book_policy_idle.specs.declared.in_force.Placed.{Placed}
 
 -- the entries of one list at the text of a path, each with its index among those of the policy, of which the first has index i
@@ -87,16 +86,3 @@ is_marked marks i = unwrap_or (slice_get marks i) false
 -- the marks are set exactly at the entries that decide no leaf for anybody
 abbrev pub AreIdleMarks : PolicyTables → List Bool → Type 0
 AreIdleMarks t marks = (i : ℕ) → (is_marked marks i ≡ true) ↔ ((i < length t.entries) × NeverDecides t i)
-
--- an entry as it is told: its number from 1, where it stands, and to whom it applies
-abbrev pub idle_entry : ℕ → PolicyEntry → IdleEntry
-idle_entry i e = record { number = i + 1; at = e.at; who = e.entry.who }
-
--- the marked entries of a list, of which the first has index i
-abbrev pub marked_entries : List Bool → ℕ → List PolicyEntry → List IdleEntry
-marked_entries marks i [] = []
-marked_entries marks i (e ∷ es) = cond (is_marked marks i) (idle_entry i e ∷ marked_entries marks (i + 1) es) (marked_entries marks (i + 1) es)
-
--- exactly the entries that decide no leaf for anybody, each once, in order
-abbrev pub AreIdle : PolicyTables → List IdleEntry → Type 0
-AreIdle t idle = (marks : List Bool) × AreIdleMarks t marks × (idle ≡ marked_entries marks 0 t.entries)

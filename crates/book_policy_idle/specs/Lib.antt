@@ -1,2 +1,5 @@
 pub mod Idle
 pub mod Marks
+pub mod Alike
+pub mod Reasons
+pub mod Told

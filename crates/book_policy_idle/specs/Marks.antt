@@ -8,16 +8,18 @@ use Rattle.book_lists.specs.Principals.{person_path}
 use Rattle.book_lists.specs.declared.circles.Caller.{Caller}
 use Rattle.book_lists.specs.declared.circles.Caller.TheVariants.{Nobody, Known}
 use Rattle.book_lists.specs.declared.entries.Here.{Here}
-use Rattle.book_office_values.specs.Paths.{is_kind, kind_of}
+use Rattle.book_office_values.specs.Paths.{is_kind, kind_of, levels}
 use Rattle.book_office_values.specs.declared.paths.Kind.{Kind}
 use Rattle.book_office_values.specs.declared.paths.Kind.TheVariants as kind
 use Rattle.book_office_values.specs.declared.paths.Path.{Path}
 use Rattle.book_office_values.specs.declared.paths.Path.TheVariants as path
 use Rattle.book_policy_values.specs.declared.parts.PolicyEntry.{PolicyEntry}
 use Rattle.book_policy_values.specs.declared.parts.PolicyTables.{PolicyTables}
-use Rattle.book_policy_idle.specs.Idle.{callers_of, decider, is_marked, placed_in_force, principal_of}
+use Rattle.book_policy_idle.specs.Idle.{callers_of, decider, is_marked, placed_along, placed_in_force, places_of, principal_of}
 use Rattle.book_policy_idle.specs.declared.askers.Asker.{Asker}
 use Rattle.book_policy_idle.specs.declared.in_force.Placed.{Placed}
+use Rattle.book_policy_idle.specs.declared.scope.Scope.{Scope}
+use Rattle.book_policy_idle.specs.declared.spots.Spot.{Spot}
 
 -- ---- who asks, and where
 
@@ -58,6 +60,21 @@ path_in kind.Card name = path.Book name
 abbrev pub here_unowned : Path → Here
 here_unowned p = record { owner = None; principal = principal_of p }
 
+-- a place of a policy with these entries: the protected ones, and the others, each with its index
+abbrev pub spot_at : List PolicyEntry → Path → Spot
+spot_at es p = record {
+  protected = placed_along true es (levels p);
+  rest = placed_along false es (levels p);
+  here = here_unowned p;
+  is_book = is_kind kind.Book (kind_of p);
+}
+
+-- each caller, once; each place; and each place with the entries in force there
+pub record IsScope (t : PolicyTables) (scope : Scope) : Type 0 where
+  pub asking : AreAskers t scope.askers
+  pub there : scope.places ≡ places_of t
+  pub spots : scope.spots ≡ map (spot_at t.entries) scope.places
+
 -- ---- the marks that are left
 
 -- the entry with an index decides no leaf of these
@@ -65,9 +82,12 @@ abbrev pub Spares : CircleOf → Here → List Placed → ℕ → Type 0
 Spares circle here list i = (leaf : Leaf) → decider circle here leaf list ≢ Some i
 
 -- for one who asks: at a place, and at a card that they own where it is a book
-pub record SparesBoth (here : Here) (is_book : Bool) (list : List Placed) (asker : Asker) (i : ℕ) : Type 0 where
-  pub unowned : Spares asker.circle here list i
-  pub owned : is_book ≡ true → Spares asker.circle asker.own list i
+pub record Both (Q : CircleOf → Here → Type 0) (here : Here) (is_book : Bool) (asker : Asker) : Type 0 where
+  pub unowned : Q asker.circle here
+  pub owned : is_book ≡ true → Q asker.circle asker.own
+
+abbrev pub SparesBoth : Here → Bool → List Placed → Asker → ℕ → Type 0
+SparesBoth here is_book list asker i = Both (λ circle at. Spares circle at list i) here is_book asker
 
 -- for each who asks
 abbrev pub SparesEach : Here → Bool → List Placed → List Asker → ℕ → Type 0

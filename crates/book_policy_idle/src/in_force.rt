@@ -65,7 +65,7 @@ fn add_placed(
 }
 
 /// Adds the lists of one kind at the paths, one after the other.
-fn add_along(
+pub(crate) fn add_along(
     alloc: Global,
     entries: &[PolicyEntry],
     protected: bool,

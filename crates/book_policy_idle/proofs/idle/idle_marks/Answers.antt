@@ -11,12 +11,12 @@ use Rattle.book_policy_idle.proofs.idle.idle_marks.Goals as goal
 pub returns : goal.returns
 returns c =
     let t = c.args.policy.now in
-    let askers = c.in_ok-askers.askers in
-    let places = c.in_ok-places.places in
+    let askers = c.args.scope.now.askers in
+    let places = c.args.scope.now.places in
     IfOk-weaker c.marks_of.result _ _
     (λ marks h.
-    idle_marks t marks.items askers places c.in_ok-askers.ensures c.in_ok-places.ensures
-    (subst (λ (es : List PolicyEntry). AreMarksOf es askers places marks.items) (c.as_slice-entries.ensures ∙ ap (λ (x : PolicyTables). x.entries) c.tables-tables.ensures)
+    idle_marks t marks.items askers places c.requires.asking c.requires.there
+    (subst (λ (es : List PolicyEntry). AreMarksOf es askers places marks.items) (c.as_slice-entries.ensures ∙ ap (λ (x : PolicyTables). x.entries) c.tables.ensures)
     (subst (λ (who : List Asker). AreMarksOf c.as_slice-entries.result.now who places marks.items) c.as_slice-asking.ensures
     (subst (λ (ps : List Path). AreMarksOf c.as_slice-entries.result.now c.as_slice-asking.result.now ps marks.items) c.as_slice-paths.ensures h))))
     c.marks_of.ensures
