@@ -1,5 +1,5 @@
 -- The lines that tell warnings (own profile).
-use Rattle.std.specs.Prelude.{ℕ, zero, suc, ◌++◌, ◌-◌, List, [], length, take, codes, decimal, Option, Some, None}
+use Rattle.std.specs.Prelude.{ℕ, zero, suc, Bool, true, false, ◌++◌, ◌-◌, List, [], length, take, codes, decimal, Option, Some, None}
 use Rattle.std.specs.List.{flat_map}
 use Rattle.book_lists.specs.Principals.{group_path, person_path}
 use Rattle.book_lists.specs.declared.entries.Who.{Who}
@@ -7,6 +7,9 @@ use Rattle.book_lists.specs.declared.entries.Who.TheVariants.{Href, Everyone, Au
 use Rattle.book_office_values.specs.Paths.{path_text}
 use Rattle.book_policy_gaps.specs.Lines.{gap_line}
 use Rattle.book_policy_idle.specs.declared.idle.IdleEntry.{IdleEntry}
+use Rattle.book_policy_idle.specs.declared.reasons.Ahead.{Ahead}
+use Rattle.book_policy_idle.specs.declared.reasons.Reason.{Reason}
+use Rattle.book_policy_idle.specs.declared.reasons.Reason.TheVariants.{ForNobody, BehindOne, BehindSeveral, DecidedAlike}
 use Rattle.book_policy_openings.specs.declared.openings.Opening.{Opening}
 use Rattle.book_policy_openings.specs.declared.steps.Step.{Step}
 use Rattle.book_policy_openings.specs.declared.steps.Step.TheVariants.{Join, Grant}
@@ -40,13 +43,29 @@ who_text Unauthenticated = codes "unauthenticated"
 who_text Owner = codes "owner"
 who_text Own = codes "self"
 
--- where an entry stands, for whom it is, and that it never decides
+-- where an entry stands, and for whom it is
 abbrev pub place_text : List ℕ → Who → List ℕ
-place_text at who = codes " (at " ++ (at ++ (codes ", who " ++ (who_text who ++ codes "): never decides\n")))
+place_text at who = codes " (at " ++ (at ++ (codes ", who " ++ (who_text who ++ codes "): ")))
 
--- an entry that decides nothing, by its number among those of the policy, from 1
+-- the list in which an entry stands
+abbrev pub list_text : Bool → List ℕ
+list_text true = codes "protected"
+list_text false = codes "own"
+
+-- the entry behind which one is
+abbrev pub ahead_text : Ahead → List ℕ
+ahead_text ahead = list_text ahead.protected ++ (codes " entry " ++ (decimal ahead.number ++ (codes " at " ++ ahead.at)))
+
+-- why an entry changes no decision
+abbrev pub reason_text : Reason → List ℕ
+reason_text ForNobody = codes "never decides: it is for nobody\n"
+reason_text (BehindOne ahead) = codes "never decides: behind " ++ (ahead_text ahead ++ codes "\n")
+reason_text BehindSeveral = codes "never decides: behind the entries before it\n"
+reason_text DecidedAlike = codes "can be left out: without it the same is decided\n"
+
+-- an entry that changes no decision, by its number among those of the policy, from 1
 abbrev pub idle_line : IdleEntry → List ℕ
-idle_line idle = codes "entry " ++ (decimal idle.number ++ place_text idle.at idle.who)
+idle_line idle = codes "entry " ++ (decimal idle.number ++ (place_text idle.at idle.who ++ reason_text idle.reason))
 
 abbrev pub warning_line : Warning → List ℕ
 warning_line (NeverDecides idle) = idle_line idle

@@ -5,7 +5,7 @@ use Rattle.book_office.specs.Edits.{empty_office}
 use Rattle.book_office_adopting.specs.Adopting.{adopt}
 use Rattle.book_policy_gaps.specs.Finding.{AreGaps}
 use Rattle.book_policy_gaps.specs.declared.gaps.Gap.{Gap}
-use Rattle.book_policy_idle.specs.Idle.{AreIdle}
+use Rattle.book_policy_idle.specs.Told.{AreIdle}
 use Rattle.book_policy_idle.specs.declared.idle.IdleEntry.{IdleEntry}
 use Rattle.book_policy_openings.specs.Openings.{IsOpening}
 use Rattle.book_policy_openings.specs.declared.openings.Opening.{Opening}
@@ -21,7 +21,7 @@ gap_warnings gaps = map (λ gap. LeavesOpen gap) gaps
 abbrev pub opening_warnings : List Opening → List Warning
 opening_warnings openings = map (λ opening. Opens opening) openings
 
--- what is told of a policy: exactly the entries that decide nothing for anybody, in order; exactly the plain facts of the Office that
+-- what is told of a policy: exactly the entries that change no decision, in order, and why; exactly the plain facts of the Office that
 -- it makes of an empty one; and then openings, of which each is one
 pub record AreWarningsOf (t : PolicyTables) (warnings : List Warning) : Type 0 where
   pub idle : List IdleEntry

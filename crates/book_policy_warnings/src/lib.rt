@@ -2,7 +2,7 @@
 //!
 //! It stands on `book_policy` and `book_policy_checks`, which read a policy and tell its faults, on `book_policy_idle` and
 //! on `book_policy_openings`. The program above uses that `tell_policy` tells of a policy's file its faults, or else its
-//! warnings (`AreWarningsOf`): exactly the entries that decide nothing for anybody, and openings, each with its witness.
+//! warnings (`AreWarningsOf`): exactly the entries that change no decision, and openings, each with its witness.
 //!
 //! Read `warnings` first, then `telling`.
 #![tactic(auto)]
@@ -10,7 +10,7 @@
 mod telling;
 mod warnings;
 
-pub use book_policy_idle::IdleEntry;
+pub use book_policy_idle::{Ahead, IdleEntry, Reason};
 pub use book_policy_openings::{Opening, Step};
 pub use telling::{Told, tell_policy};
 pub use warnings::{Warning, warnings_of, warnings_text};

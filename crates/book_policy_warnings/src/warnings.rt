@@ -7,13 +7,13 @@ ghost use Rattle.book_office.specs.Sound.{IsSound};
 ghost use Rattle.book_office_adopting.specs.Adopting.{adopt};
 ghost use Rattle.book_policy_gaps.specs.Finding.{AreGaps};
 ghost use Rattle.book_policy_warnings.specs.Warnings.{AreWarningsOf, gap_warnings, idle_warnings, opening_warnings};
-ghost use Rattle.book_policy_warnings.specs.Sentences.{granted_text, idle_line, more_line, opening_line, place_text, second_text, step_text, warning_line, warning_lines, warnings_text, who_text};
+ghost use Rattle.book_policy_warnings.specs.Sentences.{ahead_text, granted_text, idle_line, list_text, more_line, opening_line, place_text, reason_text, second_text, step_text, warning_line, warning_lines, warnings_text, who_text};
 
 use book_lists::{Name, Who};
 use book_office::{MemoryKeeper, StoreFault};
 use book_office_values::Items;
 use book_policy_gaps::{Gap, gaps_of, push_gap_line};
-use book_policy_idle::{IdleEntry, idle_entries};
+use book_policy_idle::{Ahead, IdleEntry, Reason, idle_entries};
 use book_policy_openings::{Opening, Step, adopted, openings_of};
 use book_policy_values::Policy;
 use std::alloc::{AllocError, Global};
@@ -24,7 +24,7 @@ const MOST_LINES: usize = 1_000;
 /// What a sound policy leaves open (own profile).
 #[derive(Debug, Drop)]
 pub enum Warning {
-    /// An entry decides nothing for anybody.
+    /// An entry changes no decision: it never decides, or the same is decided without it.
     NeverDecides(IdleEntry),
     /// A plain fact of the Office that the policy makes.
     LeavesOpen(Gap),
@@ -128,7 +128,7 @@ fn who_text(who: &Who) -> &str
     }
 }
 
-/// Adds where an entry stands, for whom it is, and that it never decides.
+/// Adds where an entry stands, and for whom it is.
 fn push_place(text: &mut String, at: &str, who: &Who) -> Result<(), AllocError>
     ensures { OnOk result (string_bytes text.new ≡
         string_bytes text.old ++ place_text at.now who.now) }
@@ -137,10 +137,49 @@ fn push_place(text: &mut String, at: &str, who: &Who) -> Result<(), AllocError>
     text.push_str(at)?;
     text.push_str(", who ")?;
     text.push_str(who_text(who))?;
-    text.push_str("): never decides\n")
+    text.push_str("): ")
 }
 
-/// Adds the line of an entry that decides nothing.
+/// The list in which an entry stands.
+fn list_text(protected: bool) -> &'static str
+    ensures { result.now ≡ list_text protected }
+{
+    if protected { "protected" } else { "own" }
+}
+
+/// Adds the entry behind which one is.
+fn push_ahead(alloc: Global, text: &mut String, ahead: &Ahead) -> Result<(), AllocError>
+    ensures { OnOk result (string_bytes text.new ≡
+        string_bytes text.old ++ ahead_text ahead.now) }
+{
+    let number = ahead.number;
+    let digits = format!(in alloc; "{number}")?;
+    text.push_str(list_text(ahead.protected))?;
+    text.push_str(" entry ")?;
+    text.push_str(digits.as_str())?;
+    push_both(text, " at ", ahead.at.as_str())
+}
+
+/// Adds why an entry changes no decision.
+fn push_reason(alloc: Global, text: &mut String, reason: &Reason) -> Result<(), AllocError>
+    ensures { OnOk result (string_bytes text.new ≡
+        string_bytes text.old ++ reason_text reason.now) }
+{
+    match reason {
+        Reason::ForNobody => text.push_str("never decides: it is for nobody\n"),
+        Reason::BehindOne(ahead) => {
+            text.push_str("never decides: behind ")?;
+            push_ahead(alloc, text, ahead)?;
+            text.push_str("\n")
+        }
+        Reason::BehindSeveral => text.push_str("never decides: behind the entries before it\n"),
+        Reason::DecidedAlike => {
+            text.push_str("can be left out: without it the same is decided\n")
+        }
+    }
+}
+
+/// Adds the line of an entry that changes no decision.
 fn push_idle(alloc: Global, text: &mut String, idle: &IdleEntry) -> Result<(), AllocError>
     ensures { OnOk result (string_bytes text.new ≡ string_bytes text.old ++ idle_line idle.now) }
 {
@@ -148,7 +187,8 @@ fn push_idle(alloc: Global, text: &mut String, idle: &IdleEntry) -> Result<(), A
     let digits = format!(in alloc; "{number}")?;
     text.push_str("entry ")?;
     text.push_str(digits.as_str())?;
-    push_place(text, idle.at.as_str(), &idle.who)
+    push_place(text, idle.at.as_str(), &idle.who)?;
+    push_reason(alloc, text, &idle.reason)
 }
 
 impl Warning {
@@ -198,7 +238,7 @@ pub fn warnings_text(alloc: Global, warnings: &[Warning]) -> Result<String, Allo
     Ok(text)
 }
 
-/// Adds entries that decide nothing.
+/// Adds entries that change no decision.
 fn add_idle(idle: Items<IdleEntry>, warnings: &mut Items<Warning>) -> Result<(), AllocError>
     ensures { OnOk result (warnings.new ≡ warnings.old ++ idle_warnings idle) }
 {
@@ -244,8 +284,8 @@ fn gaps_after(alloc: Global, policy: &Policy) -> Result<Items<Gap>, StoreFault>
     gaps_in(alloc, &mut machine.keeper)
 }
 
-/// What a policy leaves open (own profile): exactly the entries that decide nothing for anybody, in order; then exactly the
-/// plain facts of the Office that it makes of an empty one (`gaps_of`); and then who may open what is closed, each with its
+/// What a policy leaves open (own profile): exactly the entries that change no decision, in order, and why
+/// (`idle_entries`); then exactly the plain facts of the Office that it makes of an empty one (`gaps_of`); and then who may open what is closed, each with its
 /// witness. That no opening is told is no promise.
 ///
 /// # Errors

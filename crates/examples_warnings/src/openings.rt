@@ -1,5 +1,5 @@
 //! Who may open what is closed. In each policy the book law is closed to whoever is not in the group law; dan is in it,
-//! and ada is in no group. An entry that decides nothing is told too, before them.
+//! and ada is in no group. An entry that changes no decision is told too, before them.
 
 use crate::comparing::{Example, compare};
 
@@ -29,7 +29,7 @@ const EXAMPLES: &[Example] = &[
     (
         "[[entry]]\nat = \"/groups/law\"\nwho = \"all\"\ndeny = [\"write-properties\"]\nprotected = true\n\
          [[entry]]\nat = \"/groups/law\"\nwho = \"/people/ada\"\ngrant = [\"write-properties\"]\n",
-        "entry 4 (at /groups/law, who /people/ada): never decides\n",
+        "entry 4 (at /groups/law, who /people/ada): never decides: behind protected entry 3 at /groups/law\n",
     ),
     // She replaces the list with the closing entry.
     (
@@ -46,7 +46,7 @@ const EXAMPLES: &[Example] = &[
     (
         "[[entry]]\nat = \"/books/law\"\nwho = \"/people/dan\"\ninvert = true\ndeny = [\"all\"]\nprotected = true\n\
          [[entry]]\nat = \"/books\"\nwho = \"/people/ada\"\ngrant = [\"all\"]\n",
-        "entry 1 (at /books/law, who /groups/law): never decides\n",
+        "entry 1 (at /books/law, who /groups/law): never decides: behind protected entry 3 at /books/law\n",
     ),
     // She gets the right to set the members first.
     (
@@ -59,7 +59,7 @@ const EXAMPLES: &[Example] = &[
         "[[group]]\nname = \"clerks\"\n\
          [[entry]]\nat = \"/groups/clerks\"\nwho = \"/people/ada\"\ngrant = [\"write-properties\"]\n\
          [[entry]]\nat = \"/groups/law\"\nwho = \"/groups/clerks\"\ngrant = [\"write-properties\"]\n",
-        "entry 4 (at /groups/law, who /groups/clerks): never decides\n\
+        "entry 4 (at /groups/law, who /groups/clerks): never decides: it is for nobody\n\
          ada: PROPPATCH /groups/clerks (+ /people/ada); PROPPATCH /groups/law (+ /people/ada); \
          then GET /books/law/* is granted\n",
     ),
@@ -68,7 +68,7 @@ const EXAMPLES: &[Example] = &[
         "[[group]]\nname = \"clerks\"\n\
          [[entry]]\nat = \"/groups/clerks\"\nwho = \"/people/ada\"\ngrant = [\"write-acl\"]\n\
          [[entry]]\nat = \"/groups/law\"\nwho = \"/groups/clerks\"\ngrant = [\"write-properties\"]\n",
-        "entry 4 (at /groups/law, who /groups/clerks): never decides\n",
+        "entry 4 (at /groups/law, who /groups/clerks): never decides: it is for nobody\n",
     ),
     // What she may read is not closed to her.
     (
