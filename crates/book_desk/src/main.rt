@@ -2,9 +2,10 @@
 //! the rest, over any store, reader and writers: `run_text` what `explain`, `card` and help do, `run` what `import`,
 //! `audit` and `pipe` do, `run_migration` and `serve` what the commands of their names do, and `prepare` what `serve`
 //! does before it listens, and `begin` what `init` does in a folder. `run_question` of `book_desk_questions` does what
-//! `why` and `who` do. Their contracts say what is written where these tell their bytes. Nothing stands above it: `main`
-//! joins them to the process, to the files (`files`, `folders`) and to the port, and tells each stage before it calls
-//! it, where standard error is a terminal (`progress`).
+//! `why`, `who`, `rights`, `ask`, `show` and the `audit` of a part do, and `run_dump` what `dump` does; `check` of
+//! `book_desk_checks` does what the command of its name does. Their contracts say what is written where these tell their
+//! bytes. Nothing stands above it: `main` joins them to the process, to the files (`files`, `folders`) and to the port,
+//! and tells each stage before it calls it, where standard error is a terminal (`progress`).
 #![tactic(auto)]
 
 ghost use Rattle.std.specs.Prelude.{◌≡◌};
@@ -23,10 +24,13 @@ use book_desk_app::{
 };
 use book_desk_checks::check;
 use book_desk_loop::{Limits, Polled};
-use book_desk_questions::{RightsWords, WhoWords, WhyWords, Words, run_dump, run_question};
+use book_desk_questions::{
+    DecisionWords, PartWords, RightsWords, WhoWords, WhyWords, Words, run_dump, run_question,
+};
 use book_desk_words::{Command, WordsFault, command_of, words_not_text};
 use book_machine::Machine;
 use book_office::Keeper;
+use book_questions_audit::Wanted;
 use book_tables_schema::Unopened;
 use builds::BUILD;
 use files::{Opened, close, open_former, open_inputs, open_policy};
@@ -210,6 +214,20 @@ fn words_of_who<'a>(privilege: &'a str, path: &'a str, denied: bool) -> Words<'a
 /// The words of `rights`.
 fn words_of_rights<'a>(at: Option<&'a str>, caller: Option<&'a str>, shared: bool) -> Words<'a> {
     Words::Rights(RightsWords { at, caller, shared })
+}
+
+/// The words of `ask`.
+fn words_of_ask<'a>(caller: &'a str, path: &'a str, privileges: &'a [String]) -> Words<'a> {
+    Words::Decision(DecisionWords {
+        caller,
+        path,
+        privileges,
+    })
+}
+
+/// The words of an `audit` of a part.
+fn words_of_part<'a>(at: Option<&'a str>, wanted: Wanted) -> Words<'a> {
+    Words::Part(PartWords { at, wanted })
 }
 
 /// The words of `show`.
@@ -441,13 +459,33 @@ fn perform<W: Write, E: Lines>(
             writer,
             errors,
         ),
-        Command::Audit { store, existing } => {
+        Command::Audit {
+            store,
+            existing,
+            at: None,
+            books: false,
+            labels: false,
+        } => {
             let named = Named {
                 store: Some(store),
                 policy: None,
                 existing,
             };
             work(rt, Work::Audit, &named, writer, errors)
+        }
+        Command::Audit {
+            store,
+            existing: _,
+            at,
+            books,
+            labels,
+        } => {
+            let wanted = Wanted {
+                listed: books,
+                labels,
+            };
+            let words = words_of_part(at.as_deref(), wanted);
+            ask(rt, store, &words, writer, errors)
         }
         Command::Pipe { store, policy } => {
             let named = Named {
@@ -489,6 +527,15 @@ fn perform<W: Write, E: Lines>(
             shared,
         } => {
             let words = words_of_rights(at.as_deref(), caller.as_deref(), shared);
+            ask(rt, store, &words, writer, errors)
+        }
+        Command::Ask {
+            store,
+            caller,
+            path,
+            privileges,
+        } => {
+            let words = words_of_ask(caller.as_str(), path.as_str(), privileges.as_slice());
             ask(rt, store, &words, writer, errors)
         }
         Command::Show { store, path } => {

@@ -4,7 +4,7 @@ use Rattle.book_machine.specs.declared.refusals.Refusal.{Refusal}
 use Rattle.book_machine.specs.declared.refusals.Refusal.TheVariants as refusals
 use Rattle.book_desk_questions.specs.Failures.{refused_status, unanswered_status}
 use Rattle.book_desk_questions.specs.declared.failures.Unanswered.{Unanswered}
-use Rattle.book_desk_questions.specs.declared.failures.Unanswered.TheVariants.{Refused, UnknownPrivilege, Output}
+use Rattle.book_desk_questions.specs.declared.failures.Unanswered.TheVariants.{Refused, UnknownPrivilege, TooMany, Output}
 
 refused_not_done : (refusal : Refusal) → refused_status refusal ≡ 0 → ⊥
 refused_not_done refusals.Unavailable e = omega (arith, e)
@@ -28,4 +28,5 @@ refused_not_done refusals.Full e = omega (arith, e)
 pub unanswered_not_done : (failure : Unanswered) → unanswered_status failure ≡ 0 → ⊥
 unanswered_not_done (Refused refusal) e = refused_not_done refusal e
 unanswered_not_done UnknownPrivilege e = omega (arith, e)
+unanswered_not_done TooMany e = omega (arith, e)
 unanswered_not_done Output e = omega (arith, e)

@@ -1,3 +1,4 @@
 pub mod Common
+pub mod Always
 pub mod Ended
 pub mod Names

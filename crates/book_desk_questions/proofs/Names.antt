@@ -30,4 +30,6 @@ pub asking_names_are_short : (command : Asking) → length (asking_name command)
 asking_names_are_short asking.Why = lit≤ tt
 asking_names_are_short asking.Who = lit≤ tt
 asking_names_are_short asking.Rights = lit≤ tt
+asking_names_are_short asking.Ask = lit≤ tt
+asking_names_are_short asking.Audit = lit≤ tt
 asking_names_are_short asking.Show = lit≤ tt

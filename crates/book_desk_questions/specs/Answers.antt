@@ -10,6 +10,8 @@ use Rattle.book_machine.specs.Asking.{Asks, Meets}
 use Rattle.book_machine.specs.declared.refusals.Refusal.{Refusal}
 use Rattle.book_machine.specs.declared.refusals.Refusal.TheVariants.{NotFound}
 use Rattle.book_office_values.specs.declared.paths.Path.{Path}
+use Rattle.book_questions_asked.specs.Asking.{TellsAsk}
+use Rattle.book_questions_audit.specs.Telling.{TellsPart}
 use Rattle.book_questions_rights.specs.Rights.{TellsRights}
 use Rattle.book_questions.specs.Questions.{TellsWhy}
 use Rattle.book_questions.specs.Who.{TellsWho}
@@ -23,7 +25,7 @@ use Rattle.book_desk_questions.specs.declared.asked.Asked.TheVariants as asked
 use Rattle.book_desk_questions.specs.declared.asked.Asking.{Asking}
 use Rattle.book_desk_questions.specs.declared.asked.Words.{Words}
 use Rattle.book_desk_questions.specs.declared.failures.Unanswered.{Unanswered}
-use Rattle.book_desk_questions.specs.declared.failures.Unanswered.TheVariants.{Refused, UnknownPrivilege, Output}
+use Rattle.book_desk_questions.specs.declared.failures.Unanswered.TheVariants.{Refused, UnknownPrivilege, TooMany, Output}
 
 -- ---- the answer, over what a keeper stands for
 -- the line of the dump for a path; or nothing is mapped there
@@ -35,26 +37,40 @@ abbrev pub shown_at : Office → Option Path → Result (List ℕ) Refusal
 shown_at o None = Err NotFound
 shown_at o (Some p) = or_not_found (option_map line_text (line_at o p))
 
-abbrev pub TellsAsked : Office → Asked → Result (List ℕ) Refusal → Type 0
-TellsAsked o (asked.Why caller question) r = TellsWhy o (caller_in caller) question r
-TellsAsked o (asked.Who privilege p denied) r = TellsWho o denied privilege p r
-TellsAsked o (asked.Rights name p shared) r = TellsRights o name p shared r
-TellsAsked o (asked.Show p) r = Meets r (shown_at o p)
+-- what is told of a question that always has an answer
+abbrev pub always : Result (List ℕ) Refusal → Result (Option (List ℕ)) Refusal
+always (Ok text) = Ok (Some text)
+always (Err refusal) = Err refusal
+
+abbrev pub Always : (Result (List ℕ) Refusal → Type 0) → Result (Option (List ℕ)) Refusal → Type 0
+Always Tells (Ok None) = ⊥
+Always Tells (Ok (Some text)) = Tells (Ok text)
+Always Tells (Err refusal) = Tells (Err refusal)
+
+-- the answer; none where there is too much to tell
+abbrev pub TellsAsked : Office → Asked → Result (Option (List ℕ)) Refusal → Type 0
+TellsAsked o (asked.Why caller question) r = Always (TellsWhy o (caller_in caller) question) r
+TellsAsked o (asked.Who privilege p denied) r = Always (TellsWho o denied privilege p) r
+TellsAsked o (asked.Rights name p shared) r = Always (TellsRights o name p shared) r
+TellsAsked o (asked.Decision caller p set) r = TellsAsk o (caller_in caller) p set r
+TellsAsked o (asked.Part p wanted) r = Always (TellsPart o p wanted) r
+TellsAsked o (asked.Show p) r = Always (λ told. Meets told (shown_at o p)) r
 
 module _ (old : Standing) (a : Asked) (held holds : Option (List ℕ)) (new : Standing) where
-  -- the text that was told of the Office, which stays
-  abbrev pub IsTextOf : List ℕ → Type 0
-  IsTextOf text = Asks old new (Ok text) (λ o r. TellsAsked o a r)
+  -- the text that was told of the Office, which stays, or none
+  abbrev pub IsToldOf : Option (List ℕ) → Type 0
+  IsToldOf told = Asks old new (Ok told) (λ o r. TellsAsked o a r)
 
   -- what was written is the answer
   abbrev pub Answers : Type 0
-  Answers = (text : List ℕ) × IsTextOf text × Appends held holds text
+  Answers = (text : List ℕ) × IsToldOf (Some text) × Appends held holds text
 
-  -- it was refused, and nothing was written; or its text could not be written
+  -- it was refused, or there is too much to tell, and nothing was written; or its text could not be written
   abbrev pub FailsToAnswer : Unanswered → Type 0
-  FailsToAnswer (Refused refusal) = Asks {A = List ℕ} old new (Err refusal) (λ o r. TellsAsked o a r) × Keeps held holds
+  FailsToAnswer (Refused refusal) = Asks {A = Option (List ℕ)} old new (Err refusal) (λ o r. TellsAsked o a r) × Keeps held holds
   FailsToAnswer UnknownPrivilege = ⊥
-  FailsToAnswer Output = (text : List ℕ) × IsTextOf text
+  FailsToAnswer TooMany = IsToldOf None × Keeps held holds
+  FailsToAnswer Output = (text : List ℕ) × IsToldOf (Some text)
 
 -- it was answered; or it was not, with the status of what was told. With how a line is told, the command, and the status
 abbrev pub EndsAsked : (List ℕ → Type 0) → Asking → Standing → Asked → Option (List ℕ) → Option (List ℕ) → ℕ → Standing → Type 0

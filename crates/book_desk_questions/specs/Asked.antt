@@ -1,8 +1,10 @@
 -- What the words of a question ask (own profile).
-use Rattle.std.specs.Prelude.{◌≡◌, ◌≢◌, ◌⊎◌, ℕ, List, codes, Option, Some, None, if◌then◌else◌}
+use Rattle.std.specs.Prelude.{◌≡◌, ◌≢◌, ◌⊎◌, ℕ, Bool, List, codes, map, string_bytes, Option, Some, None, if◌then◌else◌}
 use Rattle.std.specs.Option.{option_copied}
 use Rattle.std.specs.Str.{bytes_eq}
 use Rattle.book_rights.specs.Privileges.{name_of}
+use Rattle.book_lists_explain.specs.Lines.{AreLeaves, HasUnknown}
+use Rattle.book_rights.specs.declared.privileges.Leaf.{Leaf}
 use Rattle.book_rights.specs.declared.privileges.Privilege.{Privilege}
 use Rattle.book_office_values.specs.declared.paths.Path.{Path}
 use Rattle.book_machine.specs.declared.refusals.Refusal.TheVariants.{Unavailable}
@@ -12,6 +14,8 @@ use Rattle.book_desk_questions.specs.declared.asked.Asked.{Asked}
 use Rattle.book_desk_questions.specs.declared.asked.Asked.TheVariants as asked
 use Rattle.book_desk_questions.specs.declared.asked.Asking.{Asking}
 use Rattle.book_desk_questions.specs.declared.asked.Asking.TheVariants as asking
+use Rattle.book_desk_questions.specs.declared.asked.DecisionWords.{DecisionWords}
+use Rattle.book_desk_questions.specs.declared.asked.PartWords.{PartWords}
 use Rattle.book_desk_questions.specs.declared.asked.RightsWords.{RightsWords}
 use Rattle.book_desk_questions.specs.declared.asked.WhoWords.{WhoWords}
 use Rattle.book_desk_questions.specs.declared.asked.WhyWords.{WhyWords}
@@ -28,12 +32,16 @@ abbrev pub asking_name : Asking → List ℕ
 asking_name asking.Why = codes "why"
 asking_name asking.Who = codes "who"
 asking_name asking.Rights = codes "rights"
+asking_name asking.Ask = codes "ask"
+asking_name asking.Audit = codes "audit"
 asking_name asking.Show = codes "show"
 
 abbrev pub asking_of : Words → Asking
 asking_of (words.Why w) = asking.Why
 asking_of (words.Who w) = asking.Who
 asking_of (words.Rights w) = asking.Rights
+asking_of (words.Decision w) = asking.Ask
+asking_of (words.Part w) = asking.Audit
 asking_of (words.Show path) = asking.Show
 
 -- ---- why something is granted to a caller, or denied
@@ -66,6 +74,23 @@ at_or_root (Some path) = path
 abbrev pub AsksRights : RightsWords → Asked → Type 0
 AsksRights w a = (p : Option Path) × (a ≡ asked.Rights (option_copied w.caller) p w.shared) × ReadsPath (at_or_root (option_copied w.at)) p
 
+-- ---- a decision
+-- the words ask this of a decision
+abbrev pub AsksDecision : DecisionWords → Asked → Type 0
+AsksDecision w a =
+    (p : Option Path) × (set : Leaf → Bool) × (a ≡ asked.Decision w.caller.now p set) × ReadsPath w.path.now p
+    × AreLeaves (map string_bytes w.privileges.now) set
+
+-- one of them names no privilege; or memory was refused
+abbrev pub AsksDecisionNothing : DecisionWords → Unanswered → Type 0
+AsksDecisionNothing w failure =
+    ((failure ≡ UnknownPrivilege) × HasUnknown (map string_bytes w.privileges.now)) ⊎ (failure ≡ Refused Unavailable)
+
+-- ---- a part
+-- the words ask this of a part
+abbrev pub AsksPart : PartWords → Asked → Type 0
+AsksPart w a = (p : Option Path) × (a ≡ asked.Part p w.wanted) × ReadsPath (at_or_root (option_copied w.at)) p
+
 -- ---- one resource
 abbrev pub AsksShow : List ℕ → Asked → Type 0
 AsksShow path a = (p : Option Path) × (a ≡ asked.Show p) × ReadsPath path p
@@ -75,10 +100,14 @@ abbrev pub AsksFor : Words → Asked → Type 0
 AsksFor (words.Why w) a = AsksWhy w a
 AsksFor (words.Who w) a = AsksWho w a
 AsksFor (words.Rights w) a = AsksRights w a
+AsksFor (words.Decision w) a = AsksDecision w a
+AsksFor (words.Part w) a = AsksPart w a
 AsksFor (words.Show path) a = AsksShow path.now a
 
 abbrev pub AsksForNothing : Words → Unanswered → Type 0
 AsksForNothing (words.Why w) failure = AsksWhyNothing w failure
 AsksForNothing (words.Who w) failure = AsksWhoNothing w failure
 AsksForNothing (words.Rights w) failure = failure ≡ Refused Unavailable
+AsksForNothing (words.Decision w) failure = AsksDecisionNothing w failure
+AsksForNothing (words.Part w) failure = failure ≡ Refused Unavailable
 AsksForNothing (words.Show path) failure = failure ≡ Refused Unavailable

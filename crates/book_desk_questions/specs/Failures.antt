@@ -6,11 +6,12 @@ use Rattle.book_machine.specs.declared.refusals.Refusal.TheVariants as refusals
 use Rattle.book_desk_questions.specs.Asked.{asking_name}
 use Rattle.book_desk_questions.specs.declared.asked.Asking.{Asking}
 use Rattle.book_desk_questions.specs.declared.failures.Unanswered.{Unanswered}
-use Rattle.book_desk_questions.specs.declared.failures.Unanswered.TheVariants.{Refused, UnknownPrivilege, Output}
+use Rattle.book_desk_questions.specs.declared.failures.Unanswered.TheVariants.{Refused, UnknownPrivilege, TooMany, Output}
 
 abbrev pub unanswered_text : Asking → Unanswered → List ℕ
 unanswered_text a (Refused refusal) = asking_name a ++ (codes ": " ++ refusal_name refusal)
 unanswered_text a UnknownPrivilege = asking_name a ++ (codes ": " ++ codes "unknown-privilege")
+unanswered_text a TooMany = asking_name a ++ (codes ": " ++ codes "too-many")
 unanswered_text a Output = codes "output" ++ (codes ": " ++ codes "write")
 
 -- 3 is memory, the store, or a failed write
@@ -36,4 +37,5 @@ refused_status refusals.Full = 1
 abbrev pub unanswered_status : Unanswered → ℕ
 unanswered_status (Refused refusal) = refused_status refusal
 unanswered_status UnknownPrivilege = 1
+unanswered_status TooMany = 1
 unanswered_status Output = 3

@@ -8,7 +8,7 @@ ghost use Rattle.book_machine.specs.Asking.{Meets, StageAsks};
 ghost use Rattle.book_desk_app.specs.Runs.{IsNotHad};
 ghost use Rattle.book_desk_app.specs.Telling.{TellsLine};
 ghost use Rattle.book_desk_questions.specs.Answers.{Answers, AnswersIn, AnswersOver, EndsAsked};
-ghost use Rattle.book_desk_questions.specs.Answers.{FailsToAnswer, RunsAsked, TellsAsked, shown_at};
+ghost use Rattle.book_desk_questions.specs.Answers.{FailsToAnswer, RunsAsked, TellsAsked, always, shown_at};
 ghost use Rattle.book_tables.specs.declared.tables.Tables.{Tables};
 
 use crate::asked::{Asked, Asking, Words, asked_of, asking_of, caller_in};
@@ -19,6 +19,8 @@ use book_machine::{Machine, Refusal};
 use book_office::Keeper;
 use book_office_values::{Path, Text};
 use book_questions::{who, why};
+use book_questions_asked::ask;
+use book_questions_audit::audit_part;
 use book_questions_rights::rights;
 use book_tables::Tables;
 use sqlite::{Alter, Connection};
@@ -53,20 +55,40 @@ fn named(name: &Option<Text>) -> Option<&str>
     }
 }
 
-/// The answer to a question.
+/// What is told of a question that always has an answer.
+fn always(told: Result<Text, Refusal>) -> Result<Option<Text>, Refusal>
+    ensures { result ≡ always told }
+{
+    match told {
+        Ok(text) => Ok(Some(text)),
+        Err(refusal) => Err(refusal),
+    }
+}
+
+/// The answer to a question; none where there is too much to tell.
 fn answer_of<K: Keeper>(
     alloc: Global,
     machine: &mut Machine<K>,
     asked: &Asked,
-) -> Result<Text, Refusal>
+) -> Result<Option<Text>, Refusal>
     ensures { StageAsks K.standing machine.old machine.new result
         (λ o r. TellsAsked o asked.now r) }
 {
     match asked {
-        Asked::Why(caller, question) => why(alloc, machine, caller_in(caller.as_str()), question),
-        Asked::Who(privilege, path, denied) => who(alloc, machine, *privilege, path, *denied),
-        Asked::Rights(name, path, shared) => rights(alloc, machine, named(name), path, *shared),
-        Asked::Show(path) => shown(alloc, machine, path),
+        Asked::Why(caller, question) => {
+            always(why(alloc, machine, caller_in(caller.as_str()), question))
+        }
+        Asked::Who(privilege, path, denied) => {
+            always(who(alloc, machine, *privilege, path, *denied))
+        }
+        Asked::Rights(name, path, shared) => {
+            always(rights(alloc, machine, named(name), path, *shared))
+        }
+        Asked::Decision(caller, path, set) => {
+            ask(alloc, machine, caller_in(caller.as_str()), path, *set)
+        }
+        Asked::Part(path, wanted) => always(audit_part(alloc, machine, path, *wanted)),
+        Asked::Show(path) => always(shown(alloc, machine, path)),
     }
 }
 
@@ -83,7 +105,8 @@ fn write_answer<K: Keeper, W: Write>(
         (W.contents writer.old) (W.contents writer.new) (K.standing machine.new.keeper)) }
 {
     let text = match answer_of(alloc, machine, asked) {
-        Ok(text) => text,
+        Ok(Some(text)) => text,
+        Ok(None) => return Err(Unanswered::TooMany),
         Err(refusal) => return Err(Unanswered::Refused(refusal)),
     };
     if writer.write_all(text.as_str().as_bytes()).is_err() || writer.flush().is_err() {

@@ -1,8 +1,9 @@
 //! What is asked about a store: the words of a question, and what they ask.
 
-ghost use Rattle.std.specs.Prelude.{◌≡◌, IfErr, IfOk};
+ghost use Rattle.std.specs.Prelude.{◌≡◌, IfErr, IfNone, IfOk, IfSome, map, string_bytes};
+ghost use Rattle.book_lists_explain.specs.Lines.{AreLeaves, HasUnknown};
 ghost use Rattle.std.specs.Option.{option_copied};
-ghost use Rattle.book_desk_questions.specs.Asked.{AsksFor, AsksForNothing, AsksRights, AsksShow, AsksWho};
+ghost use Rattle.book_desk_questions.specs.Asked.{AsksDecision, AsksDecisionNothing, AsksFor, AsksForNothing, AsksPart, AsksRights, AsksShow, AsksWho};
 ghost use Rattle.book_desk_questions.specs.Asked.{AsksWhoNothing, AsksWhy, AsksWhyNothing};
 ghost use Rattle.book_desk_questions.specs.declared.failures.Unanswered.TheVariants.{Refused};
 ghost use Rattle.book_machine.specs.declared.refusals.Refusal.TheVariants.{Unavailable};
@@ -13,7 +14,8 @@ use crate::failures::Unanswered;
 use book_machine::Refusal;
 use book_office_values::{Path, PathFault, Text};
 use book_questions::{Question, question_of};
-use book_rights::Privilege;
+use book_questions_audit::Wanted;
+use book_rights::{LeafSet, Privilege};
 use std::alloc::Global;
 
 /// The words of a question about a caller.
@@ -51,6 +53,26 @@ pub struct RightsWords<'a> {
     pub shared: bool,
 }
 
+/// The words of a decision.
+#[derive(Clone, Copy, Drop)]
+pub struct DecisionWords<'a> {
+    /// The bare name of a person; a dash is nobody.
+    pub caller: &'a str,
+    /// The path of the resource.
+    pub path: &'a str,
+    /// The privileges.
+    pub privileges: &'a [String],
+}
+
+/// The words of an audit of a part.
+#[derive(Clone, Copy, Drop)]
+pub struct PartWords<'a> {
+    /// The path at which and below which resources are told; without one, the root's.
+    pub at: Option<&'a str>,
+    /// Whether cards without a list of their own are left out, and labels told.
+    pub wanted: Wanted,
+}
+
 /// A question in words.
 #[derive(Clone, Copy, Drop)]
 pub enum Words<'a> {
@@ -60,6 +82,10 @@ pub enum Words<'a> {
     Who(WhoWords<'a>),
     /// Who holds which rights.
     Rights(RightsWords<'a>),
+    /// What a decision rests on.
+    Decision(DecisionWords<'a>),
+    /// The owners and lists of a part.
+    Part(PartWords<'a>),
     /// The resource at a path.
     Show(&'a str),
 }
@@ -73,6 +99,10 @@ pub enum Asking {
     Who,
     /// `rights`.
     Rights,
+    /// `ask`.
+    Ask,
+    /// `audit`.
+    Audit,
     /// `show`.
     Show,
 }
@@ -87,6 +117,10 @@ pub enum Asked {
     /// Who holds which rights at a path and below it, by the word that names a person where one does, or with the flag only
     /// those that cards' own lists give; no path where its text was none.
     Rights(Option<Text>, Option<Path>, bool),
+    /// What the decision on leaves at a path rests on, by the word that names the caller; no path where its text was none.
+    Decision(Text, Option<Path>, LeafSet),
+    /// The owners and lists at a path and below it; no path where its text was none.
+    Part(Option<Path>, Wanted),
     /// The resource at a path; none where its text was none.
     Show(Option<Path>),
 }
@@ -106,6 +140,8 @@ pub(crate) fn asking_name(asking: Asking) -> &'static str
         Asking::Why => "why",
         Asking::Who => "who",
         Asking::Rights => "rights",
+        Asking::Ask => "ask",
+        Asking::Audit => "audit",
         Asking::Show => "show",
     }
 }
@@ -118,6 +154,8 @@ pub(crate) fn asking_of(words: &Words<'_>) -> Asking
         Words::Why(_) => Asking::Why,
         Words::Who(_) => Asking::Who,
         Words::Rights(_) => Asking::Rights,
+        Words::Decision(_) => Asking::Ask,
+        Words::Part(_) => Asking::Audit,
         Words::Show(_) => Asking::Show,
     }
 }
@@ -192,6 +230,47 @@ fn asked_of_rights(alloc: Global, words: &RightsWords<'_>) -> Result<Asked, Unan
     }
 }
 
+/// The leaves of the privileges with these names; none where one of them names no privilege.
+fn leaves_of(names: &[String]) -> Option<LeafSet>
+    ensures known { IfSome result (λ set. AreLeaves (map string_bytes names.now) set) }
+    ensures unknown { IfNone result (HasUnknown (map string_bytes names.now)) }
+{
+    let mut set = LeafSet::empty();
+    for name in names {
+        let privilege = Privilege::from_name(name.as_str())?;
+        set = set.union(privilege.leaves());
+    }
+    Some(set)
+}
+
+/// What the words ask about a decision.
+fn asked_of_decision(alloc: Global, words: &DecisionWords<'_>) -> Result<Asked, Unanswered>
+    ensures asks { IfOk result (AsksDecision words.now) }
+    ensures nothing { IfErr result (AsksDecisionNothing words.now) }
+{
+    let Some(set) = leaves_of(words.privileges) else {
+        return Err(Unanswered::UnknownPrivilege);
+    };
+    let Ok(caller) = Text::copy_of(alloc, words.caller) else {
+        return Err(Unanswered::Refused(Refusal::Unavailable));
+    };
+    match path_of(alloc, words.path) {
+        Ok(path) => Ok(Asked::Decision(caller, path, set)),
+        Err(failure) => Err(failure),
+    }
+}
+
+/// What the words ask about a part.
+fn asked_of_part(alloc: Global, words: &PartWords<'_>) -> Result<Asked, Unanswered>
+    ensures asks { IfOk result (AsksPart words.now) }
+    ensures memory { IfErr result (λ failure. failure ≡ Refused Unavailable) }
+{
+    match path_of(alloc, words.at.unwrap_or("/")) {
+        Ok(path) => Ok(Asked::Part(path, words.wanted)),
+        Err(failure) => Err(failure),
+    }
+}
+
 /// What the words ask about one resource.
 fn asked_of_resource(alloc: Global, path: &str) -> Result<Asked, Unanswered>
     ensures asks { IfOk result (AsksShow path.now) }
@@ -216,6 +295,8 @@ pub(crate) fn asked_of(alloc: Global, words: &Words<'_>) -> Result<Asked, Unansw
         Words::Why(words) => asked_of_caller(alloc, words),
         Words::Who(words) => asked_of_all(alloc, words),
         Words::Rights(words) => asked_of_rights(alloc, words),
+        Words::Decision(words) => asked_of_decision(alloc, words),
+        Words::Part(words) => asked_of_part(alloc, words),
         Words::Show(path) => asked_of_resource(alloc, path),
     }
 }

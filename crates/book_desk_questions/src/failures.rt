@@ -20,8 +20,11 @@ pub enum Unanswered {
     /// `why: NAME`, `who: NAME`: the refusal of a request that ends before its needs; `unavailable`: memory was refused,
     /// or the store failed.
     Refused(Refusal),
-    /// `why: unknown-privilege`: a word is neither a method nor a privilege; `who: unknown-privilege`: it is none.
+    /// `why: unknown-privilege`: a word is neither a method nor a privilege; `who: unknown-privilege`,
+    /// `ask: unknown-privilege`: it is none.
     UnknownPrivilege,
+    /// `ask: too-many`: it is more than `explain` takes, or an entry names no privilege.
+    TooMany,
     /// `output: write`: the answer could not be written.
     Output,
 }
@@ -57,7 +60,7 @@ fn status_of(failure: &Unanswered) -> u8
 {
     match failure {
         Unanswered::Refused(refusal) => refused_status(refusal),
-        Unanswered::UnknownPrivilege => REFUSED,
+        Unanswered::UnknownPrivilege | Unanswered::TooMany => REFUSED,
         Unanswered::Output => BROKEN,
     }
 }
@@ -94,6 +97,7 @@ fn line_of(asking: Asking, failure: &Unanswered) -> ArrayString<MAX_LINE>
     match failure {
         Unanswered::Refused(refusal) => refused_line(asking_name(asking), refusal),
         Unanswered::UnknownPrivilege => named_line(asking_name(asking), "unknown-privilege"),
+        Unanswered::TooMany => named_line(asking_name(asking), "too-many"),
         Unanswered::Output => named_line("output", "write"),
     }
 }

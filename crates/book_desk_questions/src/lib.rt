@@ -2,8 +2,9 @@
 //! writes the answer for its Office, or tells why there is none (`RunsAsked`); `run_dump` writes the Office itself
 //! (`DumpsIn`).
 //!
-//! It stands on `book_questions`, `book_questions_rights` and `book_dumps`, which answer over any keeper, and on `book_desk_app`, which opens a store and tells
-//! failures. The program calls it for `why`, `who`, `rights`, `show` and `dump`.
+//! It stands on `book_questions`, `book_questions_rights`, `book_questions_asked`, `book_questions_audit` and `book_dumps`,
+//! which answer over any keeper, and on `book_desk_app`, which opens a store and tells failures. The program calls it for
+//! `why`, `who`, `rights`, `ask`, `show`, `dump`, and the `audit` of a part.
 //!
 //! Read `asked` first, then `failures` and `answers`; and `dumping`.
 #![tactic(auto)]
@@ -14,6 +15,6 @@ mod dumping;
 mod failures;
 
 pub use answers::run_question;
-pub use asked::{Asked, Asking, RightsWords, WhoWords, WhyWords, Words};
+pub use asked::{Asked, Asking, DecisionWords, PartWords, RightsWords, WhoWords, WhyWords, Words};
 pub use dumping::run_dump;
 pub use failures::Unanswered;

@@ -1,16 +1,16 @@
 -- The command line (own profile): the words that it has, and the command that clap's matches of them give.
-use Rattle.std.specs.Prelude.{◌≡◌, ◌≢◌, ◌⊎◌, ◌||◌, ℕ, ◌≤◌, pos, Bool, true, false, List, [], codes, Option, Some, None, is_none, is_some, String, option_map, string_bytes, bytes_eq}
+use Rattle.std.specs.Prelude.{◌≡◌, ◌≢◌, ◌⊎◌, ◌||◌, ℕ, ◌≤◌, pos, Bool, true, false, List, [], codes, Option, Some, None, is_none, is_some, String, option_map, map, string_bytes, bytes_eq, Vec}
 use Rattle.std.specs.declared.alloc.Global.{Global}
 use Rattle.std.specs.Str.Parse.{IsNumeral, digits_value, without_leading_plus}
-use Rattle.clap.specs.Words.{App, Row, Rule, Text, first_of, new_app, new_rule, one_of, with_rule, with_subcommand}
+use Rattle.clap.specs.Words.{App, Row, Rule, Text, all_of, first_of, new_app, new_rule, one_of, with_rule, with_subcommand}
 use Rattle.clap.specs.Kinds.{Kinds, IsAmong}
 use Rattle.clap.specs.Simple.{on_top}
-use Rattle.clap.specs.declared.builder.action.ArgAction.TheVariants.{SetTrue}
+use Rattle.clap.specs.declared.builder.action.ArgAction.TheVariants.{Append, SetTrue}
 use Rattle.clap.specs.declared.builder.value_parser.ValueParser.TheVariants as parsers
 use Rattle.clap.specs.declared.error.kind.ErrorKind.{ErrorKind}
 use Rattle.clap.specs.declared.error.kind.ErrorKind.TheVariants as kind
 use Rattle.book_desk_words.specs.declared.commands.Command.{Command}
-use Rattle.book_desk_words.specs.declared.commands.Command.TheVariants.{Explain, Card, Init, Import, Check, Audit, Migrate, Why, Who, Rights, Dump, Show, Pipe, Serve, Help, Version}
+use Rattle.book_desk_words.specs.declared.commands.Command.TheVariants.{Explain, Card, Init, Import, Check, Audit, Migrate, Why, Who, Rights, Ask, Dump, Show, Pipe, Serve, Help, Version}
 use Rattle.book_desk_words.specs.declared.commands.WordsFault.{WordsFault}
 use Rattle.book_desk_words.specs.declared.commands.WordsFault.TheVariants.{Usage, Memory}
 use Rattle.book_desk_words.specs.WordsFaults.{IsUsage, serve_wants}
@@ -41,6 +41,10 @@ flag_rule name = record (new_rule name) { long = Some name; action = Some SetTru
 abbrev pub word_rule : Text → Rule
 word_rule name = record (new_rule name) { value_names = 1; required = true }
 
+-- words, one at least, that follow no option's name
+abbrev pub words_rule : Text → Rule
+words_rule name = record (word_rule name) { action = Some Append }
+
 abbrev pub init_app : App
 init_app = with_rule (new_app (codes "init")) (word_rule (codes "folder"))
 
@@ -50,8 +54,12 @@ import_app = with_rule (with_rule (new_app (codes "import")) (required_rule (cod
 abbrev pub check_app : App
 check_app = with_rule (with_rule (new_app (codes "check")) (word_rule (codes "policy"))) (flag_rule (codes "strict"))
 
+-- the words that say which part is printed, and what of it
+abbrev pub with_part : App → App
+with_part app = with_rule (with_rule (with_rule app (option_rule (codes "at"))) (flag_rule (codes "books"))) (flag_rule (codes "labels"))
+
 abbrev pub audit_app : App
-audit_app = with_rule (with_rule (new_app (codes "audit")) (required_rule (codes "store"))) (flag_rule (codes "existing"))
+audit_app = with_part (with_rule (with_rule (new_app (codes "audit")) (required_rule (codes "store"))) (flag_rule (codes "existing")))
 
 abbrev pub migrate_app : App
 migrate_app = with_rule (new_app (codes "migrate")) (required_rule (codes "store"))
@@ -84,6 +92,14 @@ with_scope app = with_rule (with_rule app (option_rule (codes "at"))) (option_ru
 
 abbrev pub rights_app : App
 rights_app = with_rule (with_scope (with_rule (new_app (codes "rights")) (required_rule (codes "store")))) (flag_rule (codes "shared"))
+
+-- who asks, where, and for what
+abbrev pub with_decision : App → App
+with_decision app =
+    with_rule (with_rule (with_rule app (word_rule (codes "caller"))) (word_rule (codes "path"))) (words_rule (codes "privilege"))
+
+abbrev pub ask_app : App
+ask_app = with_decision (with_rule (new_app (codes "ask")) (required_rule (codes "store")))
 
 abbrev pub dump_app : App
 dump_app = with_rule (new_app (codes "dump")) (required_rule (codes "store"))
@@ -118,9 +134,9 @@ top_app = on_top (λ s. record s { no_binary_name = true; subcommand_required = 
 abbrev pub program_app : App
 program_app =
     with_subcommand (with_subcommand (with_subcommand (with_subcommand (with_subcommand (with_subcommand (with_subcommand
-    (with_subcommand (with_subcommand (with_subcommand (with_subcommand (with_subcommand (with_subcommand (with_subcommand top_app
+    (with_subcommand (with_subcommand (with_subcommand (with_subcommand (with_subcommand (with_subcommand (with_subcommand (with_subcommand top_app
     (new_app (codes "explain")).top) (new_app (codes "card")).top) init_app.top) import_app.top) audit_app.top) migrate_app.top) why_app.top) pipe_app.top) serve_app.top) check_app.top)
-    who_app.top) rights_app.top) dump_app.top) show_app.top
+    who_app.top) rights_app.top) dump_app.top) show_app.top) ask_app.top
 
 -- ---- the command that the matches give
 
@@ -137,6 +153,10 @@ MayHaveNumber rows id most None = first_of id rows ≡ None
 -- the file or folder that an option or a word names, if it does
 abbrev pub NamesFile : List Row → Text → Option (String Global) → Type 0
 NamesFile rows id file = option_map string_bytes file ≡ first_of id rows
+
+-- the texts that the words give under a name, if they do
+abbrev pub HasTexts : List Row → Text → Option (Vec (String Global) Global) → Type 0
+HasTexts rows id texts = option_map (λ (v : Vec (String Global) Global). map string_bytes v.items) texts ≡ all_of id rows
 
 -- whether an option without a value was given
 abbrev pub is_given : Option Text → Bool
@@ -172,8 +192,9 @@ ReadsAs name rows (Import store policy) =
     (name ≡ codes "import") × NamesFile rows (codes "store") (Some store) × NamesFile rows (codes "policy") (Some policy)
 ReadsAs name rows (Check policy strict) =
     (name ≡ codes "check") × NamesFile rows (codes "policy") (Some policy) × (strict ≡ has_flag rows (codes "strict"))
-ReadsAs name rows (Audit store existing) =
+ReadsAs name rows (Audit store existing at books labels) =
     (name ≡ codes "audit") × NamesFile rows (codes "store") (Some store) × (existing ≡ has_flag rows (codes "existing"))
+    × NamesFile rows (codes "at") at × (books ≡ has_flag rows (codes "books")) × (labels ≡ has_flag rows (codes "labels"))
 ReadsAs name rows (Migrate store) = (name ≡ codes "migrate") × NamesFile rows (codes "store") (Some store)
 ReadsAs name rows (Why store caller what path destination) =
     (name ≡ codes "why") × NamesFile rows (codes "store") (Some store) × NamesFile rows (codes "caller") (Some caller) × NamesFile rows (codes "what") (Some what)
@@ -185,6 +206,9 @@ ReadsAs name rows (Who store privilege path denied) =
 ReadsAs name rows (Rights store at caller shared) =
     (name ≡ codes "rights") × NamesFile rows (codes "store") (Some store) × NamesFile rows (codes "at") at × NamesFile rows (codes "caller") caller
     × (shared ≡ has_flag rows (codes "shared"))
+ReadsAs name rows (Ask store caller path privileges) =
+    (name ≡ codes "ask") × NamesFile rows (codes "store") (Some store) × NamesFile rows (codes "caller") (Some caller)
+    × NamesFile rows (codes "path") (Some path) × HasTexts rows (codes "privilege") (Some privileges)
 ReadsAs name rows (Dump store) = (name ≡ codes "dump") × NamesFile rows (codes "store") (Some store)
 ReadsAs name rows (Show store path) =
     (name ≡ codes "show") × NamesFile rows (codes "store") (Some store) × NamesFile rows (codes "path") (Some path)

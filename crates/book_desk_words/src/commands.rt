@@ -4,12 +4,12 @@ ghost use Rattle.std.specs.Prelude.{◌≡◌, ◌≢◌, ◌≤◌, ◌⊎◌, 
 ghost use Rattle.clap.specs.Faults.{fault_of};
 ghost use Rattle.clap.specs.Values.{kind_of};
 ghost use Rattle.clap.specs.Words.{first_of, found_of, rows_of, subcommand_of, subcommand_rows_of};
-ghost use Rattle.book_desk_words.specs.CommandLine.{program_app, has_flag, HasCounts, HasNumber, IsAskedBy, IsMatched, IsRefused, MatchesNone, MayHaveNumber, NamesFile, Reads, ReadsAs, ReadsNone};
+ghost use Rattle.book_desk_words.specs.CommandLine.{program_app, has_flag, HasCounts, HasNumber, HasTexts, IsAskedBy, IsMatched, IsRefused, MatchesNone, MayHaveNumber, NamesFile, Reads, ReadsAs, ReadsNone};
 ghost use Rattle.book_desk_words.specs.WordsFaults.{IsUsage, not_text, usage_text, words_status};
 
 use crate::helps::{NOT_TEXT, SERVE_WANTS, USAGE_LINES};
 use crate::programs::program;
-use crate::questions::{dump_of, rights_of, show_of, who_of, why_of};
+use crate::questions::{ask_of, dump_of, rights_of, show_of, who_of, why_of};
 use clap::ArgMatches;
 use clap::error::ErrorKind;
 use std::alloc::{AllocError, Global};
@@ -59,8 +59,15 @@ pub enum Command {
     Audit {
         /// The file of the store.
         store: String,
-        /// Whether the store has to be there already: a file that is missing or empty is no store.
+        /// Whether the store has to be there already: a file that is missing or empty is no store. It has to be where one of
+        /// the following is given.
         existing: bool,
+        /// The path at which and below which resources are printed; without one, everywhere.
+        at: Option<String>,
+        /// Whether cards without an own list are left out.
+        books: bool,
+        /// Whether labels are printed.
+        labels: bool,
     },
     /// Make a store of version 1 one of version 2.
     Migrate {
@@ -101,6 +108,17 @@ pub enum Command {
         caller: Option<String>,
         /// Whether only cards are told whose own list gives somebody more than their book.
         shared: bool,
+    },
+    /// Print what a decision rests on as a text that `Explain` reads.
+    Ask {
+        /// The file of the store.
+        store: String,
+        /// The bare name of a person; `-` is nobody.
+        caller: String,
+        /// The path of the resource.
+        path: String,
+        /// The privileges, of which there is one at least.
+        privileges: Vec<String>,
     },
     /// Print a store as text.
     Dump {
@@ -200,6 +218,31 @@ pub(crate) fn file_in(
 {
     match found.get_str(id) {
         Some(text) => Ok(Some(String::from_str(alloc, text)?)),
+        None => Ok(None),
+    }
+}
+
+/// Copies of texts.
+fn copies_of(alloc: Global, texts: &[&str]) -> Result<Vec<String>, AllocError>
+    ensures { IfOk result (λ copies. map string_bytes copies.items ≡ map (λ t. t.now) texts.now) }
+{
+    let mut copies = Vec::new(alloc);
+    for text in texts {
+        copies.push(String::from_str(alloc, text)?)?;
+    }
+    Ok(copies)
+}
+
+/// The texts that the words give under a name, if they have one.
+pub(crate) fn texts_in(
+    alloc: Global,
+    found: &ArgMatches<'_>,
+    id: &str,
+) -> Result<Option<Vec<String>>, AllocError>
+    ensures { IfOk result (HasTexts (rows_of (found_of found.now)) id.now) }
+{
+    match found.get_strs(id) {
+        Some(texts) => Ok(Some(copies_of(alloc, texts)?)),
         None => Ok(None),
     }
 }
@@ -383,7 +426,16 @@ fn audit_of(alloc: Global, found: &ArgMatches<'_>) -> Result<Option<Command>, Al
         return Ok(None);
     };
     let existing = flag_in(found, "existing");
-    Ok(Some(Command::Audit { store, existing }))
+    let at = file_in(alloc, found, "at")?;
+    let books = flag_in(found, "books");
+    let labels = flag_in(found, "labels");
+    Ok(Some(Command::Audit {
+        store,
+        existing,
+        at,
+        books,
+        labels,
+    }))
 }
 
 /// The command `migrate` with what the words give it; none where the file is missing.
@@ -429,6 +481,7 @@ fn command_named(
         "why" => why_of(alloc, found),
         "who" => who_of(alloc, found),
         "rights" => rights_of(alloc, found),
+        "ask" => ask_of(alloc, found),
         "dump" => dump_of(alloc, found),
         "show" => show_of(alloc, found),
         "pipe" => pipe_of(alloc, found),

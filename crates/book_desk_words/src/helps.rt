@@ -4,7 +4,7 @@ pub(crate) const ABOUT: &str =
     "Shared contact books of an office: WebDAV access lists (RFC 3744) and vCards (RFC 6350)";
 
 /// The number of VERSION, at the top of the repository, which `tools/check-streams` compares.
-pub(crate) const VERSION: &str = "0.3.0";
+pub(crate) const VERSION: &str = "0.4.0";
 
 /// What follows a text of what is wrong with the words.
 pub(crate) const USAGE_LINES: &str =
@@ -147,7 +147,7 @@ No store is opened, and no file is changed.
 
 Output, where the policy is sound: a line for each thing that it leaves open, with its place; at most 1,000, and then how
 many more. As in
-  entry 9 (at /books/law, who all): never decides
+  entry 9 (at /books/law, who all): never decides: behind own entry 2 at /books/law
   /books/law: nobody may change its list
   ada: PROPPATCH /groups/law (+ /people/ada); then GET /books/law/* is granted
 The last is of a person to whom a book is closed and whose own requests open it: they were served over the policy in
@@ -172,17 +172,24 @@ As in: book_desk audit --store office.db
 Output:
   epoch N
   member GROUP MEMBER               a direct membership, in byte order of the lines
-  PATH owner OWNER                  a resource, in byte order of the paths; - where it has no owner
+  PATH owner OWNER [label TEXT]     a resource, in byte order of the paths; - where it has no owner
     protected grant|deny [not] WHO NAME ..   its protected list, in order
     own grant|deny [not] WHO NAME ..         its own list, in order
 WHO is a person, a group, or one of all, authenticated, unauthenticated, owner, self.
+With --at, --books or --labels the resources alone are printed, and the store has to be there. TEXT is a JSON text.
 
 Told on standard error, on a line
   store: FAULT          the store can't be had or read: other-version, no-store, memory, or store
+  audit: not-found      nothing is there at PATH
+  audit: unavailable    with --at, --books or --labels: memory was refused, or the store failed
   output: write         it could not be told
 
-Status: 0 printed; 2 usage; 3 the store, memory, or a failed write.
+Status: 0 printed; 1 nothing is there; 2 usage; 3 the store, memory, or a failed write.
 ";
+
+pub(crate) const BOOKS: &str = "No card without an own list";
+
+pub(crate) const LABELS: &str = "Also the labels";
 
 pub(crate) const MIGRATE: &str = "Makes a store of version 1 one of version 2";
 
@@ -292,6 +299,27 @@ Told on standard error, on a line
   rights: unknown-caller  PERSON is no person
   rights: not-found       nothing is there
   rights: unavailable     memory was refused, or the store failed
+  store: FAULT            as audit
+  output: write           it could not be written
+
+Status: 0 answered, 1 the question was refused, 2 usage, 3 memory, the store, or a failed write.
+";
+
+pub(crate) const ASK: &str = "Prints what a decision rests on as a text that explain reads";
+
+pub(crate) const ASK_TEXT: &str = "\
+It changes nothing. As in:
+  book_desk ask --store office.db bob /books/sales/b.vcf read | book_desk explain
+
+Output: the memberships on chains of groups to the caller, the caller, the owner, the resource where it is a principal,
+the leaves of the privileges, and the list in force in order, as explain reads them.
+
+Told on standard error, on a line
+  ask: unknown-privilege  there is no such privilege
+  ask: unknown-caller     the caller is no person
+  ask: not-found          nothing is there
+  ask: too-many           it is more than explain takes, or an entry names no privilege; why answers then
+  ask: unavailable        memory was refused, or the store failed
   store: FAULT            as audit
   output: write           it could not be written
 

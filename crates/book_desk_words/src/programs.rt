@@ -3,15 +3,15 @@
 ghost use Rattle.std.specs.Prelude.{◌≡◌, IfOk, false, codes};
 ghost use Rattle.clap.specs.Words.{app_of, new_app, rule_of};
 ghost use Rattle.clap.specs.declared.builder.command.Command.TheViews.{out-Command};
-ghost use Rattle.book_desk_words.specs.CommandLine.{program_app, top_app, audit_app, check_app, dump_app, import_app, init_app, migrate_app, pipe_app, rights_app, serve_app, show_app, who_app, why_app, flag_rule, last_word_rule, option_rule, counted_rule, number_rule, required_rule, with_ends, with_files, with_pace, with_places, with_privilege, with_question, with_scope, word_rule};
+ghost use Rattle.book_desk_words.specs.CommandLine.{program_app, top_app, ask_app, audit_app, check_app, dump_app, import_app, init_app, migrate_app, pipe_app, rights_app, serve_app, show_app, who_app, why_app, flag_rule, last_word_rule, option_rule, counted_rule, number_rule, required_rule, with_decision, with_ends, with_files, with_pace, with_part, with_places, with_privilege, with_question, with_scope, word_rule, words_rule};
 
 use crate::helps::{
-    ABOUT, ASKED_STORE, AT_ONCE, AUDIT, AUDIT_TEXT, BELOW, CALLER, CARD, CARD_TEXT, CHECK,
-    CHECK_TEXT, CONNECTIONS, DENIED, DESTINATION, DUMP, DUMP_TEXT, EXISTING, EXPLAIN, FIRST_STORE,
-    FOLDER, FOREVER, FOUNDED_STORE, IDLE, IMPORT, IMPORT_TEXT, INIT, INIT_TEXT, KEPT_STORE,
-    MIGRATE, MIGRATE_TEXT, PERSON, PIPE, PIPE_TEXT, POLICY, POLICY_WORD, PORT, PRIVILEGE, QUESTION,
-    RESOURCE, RIGHTS, RIGHTS_TEXT, SERVE, SERVE_TEXT, SHARED, SHOW, SHOW_TEXT, STRICT, VERSION,
-    WHAT, WHO, WHO_TEXT, WHY, WHY_TEXT,
+    ABOUT, ASK, ASK_TEXT, ASKED_STORE, AT_ONCE, AUDIT, AUDIT_TEXT, BELOW, BOOKS, CALLER, CARD,
+    CARD_TEXT, CHECK, CHECK_TEXT, CONNECTIONS, DENIED, DESTINATION, DUMP, DUMP_TEXT, EXISTING,
+    EXPLAIN, FIRST_STORE, FOLDER, FOREVER, FOUNDED_STORE, IDLE, IMPORT, IMPORT_TEXT, INIT,
+    INIT_TEXT, KEPT_STORE, LABELS, MIGRATE, MIGRATE_TEXT, PERSON, PIPE, PIPE_TEXT, POLICY,
+    POLICY_WORD, PORT, PRIVILEGE, QUESTION, RESOURCE, RIGHTS, RIGHTS_TEXT, SERVE, SERVE_TEXT,
+    SHARED, SHOW, SHOW_TEXT, STRICT, VERSION, WHAT, WHO, WHO_TEXT, WHY, WHY_TEXT,
 };
 use clap::{Arg, ArgAction, value_parser};
 use std::alloc::{AllocError, Global};
@@ -56,6 +56,18 @@ fn word_option<'a>(alloc: Global, name: &'a str, value_name: &'a str, help: &'a 
     ensures local { result.global ≡ false }
 {
     Arg::new(alloc, name).value_name(value_name).help(help)
+}
+
+/// Words, one at least, that follow no option's name.
+fn words_needed<'a>(alloc: Global, name: &'a str, value_name: &'a str, help: &'a str) -> Arg<'a>
+    ensures rule { rule_of result ≡ words_rule name.entry.now }
+    ensures local { result.global ≡ false }
+{
+    Arg::new(alloc, name)
+        .value_name(value_name)
+        .help(help)
+        .required(true)
+        .action(ArgAction::Append)
 }
 
 /// An option that gives a number and is required.
@@ -141,14 +153,27 @@ fn check<'a>(alloc: Global) -> Result<clap::Command<'a>, AllocError>
         .arg(flag_option(alloc, "strict", STRICT))
 }
 
+/// The command with the words that say which part is printed, and what of it.
+fn with_part<'a>(alloc: Global, command: clap::Command<'a>) -> Result<clap::Command<'a>, AllocError>
+    ensures app { IfOk result (λ c. app_of c ≡ with_part (app_of command.entry)) }
+    ensures local { (out-Command command.entry).has_globals ≡ false
+        → IfOk result (λ c. (out-Command c).has_globals ≡ false) }
+{
+    command
+        .arg(value_option(alloc, "at", "PATH", BELOW))?
+        .arg(flag_option(alloc, "books", BOOKS))?
+        .arg(flag_option(alloc, "labels", LABELS))
+}
+
 fn audit<'a>(alloc: Global) -> Result<clap::Command<'a>, AllocError>
     ensures { IfOk result (λ c. (app_of c ≡ audit_app) × ((out-Command c).has_globals ≡ false)) }
 {
-    clap::Command::new(alloc, "audit")
+    let command = clap::Command::new(alloc, "audit")
         .about(AUDIT)
         .after_help(AUDIT_TEXT)
         .arg(file_needed(alloc, "store", FOUNDED_STORE))?
-        .arg(flag_option(alloc, "existing", EXISTING))
+        .arg(flag_option(alloc, "existing", EXISTING))?;
+    with_part(alloc, command)
 }
 
 fn migrate<'a>(alloc: Global) -> Result<clap::Command<'a>, AllocError>
@@ -245,6 +270,31 @@ fn rights<'a>(alloc: Global) -> Result<clap::Command<'a>, AllocError>
         .after_help(RIGHTS_TEXT)
         .arg(file_needed(alloc, "store", ASKED_STORE))?;
     with_scope(alloc, command)?.arg(flag_option(alloc, "shared", SHARED))
+}
+
+/// The command with the words that say who asks, where, and for what.
+fn with_decision<'a>(
+    alloc: Global,
+    command: clap::Command<'a>,
+) -> Result<clap::Command<'a>, AllocError>
+    ensures app { IfOk result (λ c. app_of c ≡ with_decision (app_of command.entry)) }
+    ensures local { (out-Command command.entry).has_globals ≡ false
+        → IfOk result (λ c. (out-Command c).has_globals ≡ false) }
+{
+    command
+        .arg(word_needed(alloc, "caller", "CALLER", CALLER))?
+        .arg(word_needed(alloc, "path", "PATH", RESOURCE))?
+        .arg(words_needed(alloc, "privilege", "PRIVILEGE", PRIVILEGE))
+}
+
+fn ask<'a>(alloc: Global) -> Result<clap::Command<'a>, AllocError>
+    ensures { IfOk result (λ c. (app_of c ≡ ask_app) × ((out-Command c).has_globals ≡ false)) }
+{
+    let command = clap::Command::new(alloc, "ask")
+        .about(ASK)
+        .after_help(ASK_TEXT)
+        .arg(file_needed(alloc, "store", ASKED_STORE))?;
+    with_decision(alloc, command)
 }
 
 fn dump<'a>(alloc: Global) -> Result<clap::Command<'a>, AllocError>
@@ -353,5 +403,6 @@ pub(crate) fn program<'a>(alloc: Global) -> Result<clap::Command<'a>, AllocError
         .subcommand(who(alloc)?)?
         .subcommand(rights(alloc)?)?
         .subcommand(dump(alloc)?)?
-        .subcommand(show(alloc)?)
+        .subcommand(show(alloc)?)?
+        .subcommand(ask(alloc)?)
 }

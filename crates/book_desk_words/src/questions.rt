@@ -4,7 +4,7 @@ ghost use Rattle.std.specs.Prelude.{◌≡◌, IfNone, IfOk, IfSome, codes};
 ghost use Rattle.clap.specs.Words.{found_of, rows_of};
 ghost use Rattle.book_desk_words.specs.CommandLine.{ReadsAs, ReadsNone, leads_on};
 
-use crate::commands::{Command, file_in, flag_in};
+use crate::commands::{Command, file_in, flag_in, texts_in};
 use clap::ArgMatches;
 use std::alloc::{AllocError, Global};
 
@@ -94,6 +94,33 @@ pub(crate) fn rights_of(
         at,
         caller,
         shared,
+    }))
+}
+
+/// The command `ask` with what the words give it; none where something is missing.
+pub(crate) fn ask_of(alloc: Global, found: &ArgMatches<'_>) -> Result<Option<Command>, AllocError>
+    ensures read { IfOk result (λ command. IfSome command
+        (ReadsAs (codes "ask") (rows_of (found_of found.now)))) }
+    ensures none { IfOk result (λ command. IfNone command
+        (ReadsNone (codes "ask") (rows_of (found_of found.now)))) }
+{
+    let Some(store) = file_in(alloc, found, "store")? else {
+        return Ok(None);
+    };
+    let Some(caller) = file_in(alloc, found, "caller")? else {
+        return Ok(None);
+    };
+    let Some(path) = file_in(alloc, found, "path")? else {
+        return Ok(None);
+    };
+    let Some(privileges) = texts_in(alloc, found, "privilege")? else {
+        return Ok(None);
+    };
+    Ok(Some(Command::Ask {
+        store,
+        caller,
+        path,
+        privileges,
     }))
 }
 

@@ -27,11 +27,23 @@ const COMMANDS: &[(&str, &str)] = &[
     ),
     (
         "audit --store office.db",
-        "Audit { store: \"office.db\", existing: false }",
+        "Audit { store: \"office.db\", existing: false, at: None, books: false, labels: false }",
     ),
     (
         "audit --existing --store office.db",
-        "Audit { store: \"office.db\", existing: true }",
+        "Audit { store: \"office.db\", existing: true, at: None, books: false, labels: false }",
+    ),
+    (
+        "audit --labels --store office.db --at /books --books",
+        "Audit { store: \"office.db\", existing: false, at: Some(\"/books\"), books: true, labels: true }",
+    ),
+    (
+        "ask --store office.db - /books read",
+        "Ask { store: \"office.db\", caller: \"-\", path: \"/books\", privileges: [\"read\"] }",
+    ),
+    (
+        "ask bob /books/a/b.vcf read --store office.db write-acl",
+        "Ask { store: \"office.db\", caller: \"bob\", path: \"/books/a/b.vcf\", privileges: [\"read\", \"write-acl\"] }",
     ),
     (
         "migrate --store office.db",
@@ -130,6 +142,10 @@ const REFUSED: &[(&str, &str)] = &[
     ),
     (
         "who --store office.db read",
+        "2 error: the following required arguments were not provided:",
+    ),
+    (
+        "ask --store office.db bob /books",
         "2 error: the following required arguments were not provided:",
     ),
     (

@@ -22,5 +22,6 @@ returns c =
     let eleven = c.in_ok-subcommand-11.ensures.shape c.in_ok-who.ensures.1 ∙ ap₂ with_subcommand ten (ap top_of c.in_ok-who.ensures.0) in
     let twelve = c.in_ok-subcommand-12.ensures.shape c.in_ok-rights.ensures.1 ∙ ap₂ with_subcommand eleven (ap top_of c.in_ok-rights.ensures.0) in
     let thirteen = c.in_ok-subcommand-13.ensures.shape c.in_ok-dump.ensures.1 ∙ ap₂ with_subcommand twelve (ap top_of c.in_ok-dump.ensures.0) in
-    IfOk-weaker c.subcommand-14.result _ _
-    (λ r h. h.shape c.in_ok-show.ensures.1 ∙ ap₂ with_subcommand thirteen (ap top_of c.in_ok-show.ensures.0)) c.subcommand-14.ensures
+    let fourteen = c.in_ok-subcommand-14.ensures.shape c.in_ok-show.ensures.1 ∙ ap₂ with_subcommand thirteen (ap top_of c.in_ok-show.ensures.0) in
+    IfOk-weaker c.subcommand-15.result _ _
+    (λ r h. h.shape c.in_ok-ask.ensures.1 ∙ ap₂ with_subcommand fourteen (ap top_of c.in_ok-ask.ensures.0)) c.subcommand-15.ensures
