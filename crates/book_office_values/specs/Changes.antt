@@ -1,5 +1,5 @@
 -- The last change of each name of a book, and the changes of a book in order of number.
-use Rattle.std.specs.Prelude.{◌≡◌, ℕ, ◌+◌, ◌-◌, ◌≤◌, Bool, false, cond, List, Option, Some, None, map, filter, take, nat_lt, nat_le}
+use Rattle.std.specs.Prelude.{◌≡◌, ℕ, ◌+◌, ◌-◌, ◌≤◌, Bool, false, cond, List, Option, Some, None, map, filter, take, max, nat_lt, nat_le}
 use Rattle.std.specs.Ordering.{nat_cmp}
 use Rattle.std.specs.FinMap.{FinMap, get, insert, remove, entries, from_entries}
 use Rattle.book_office_values.specs.Names.{NamesTo, changed_at}
@@ -16,6 +16,10 @@ Change = ℕ × List ℕ
 -- the name takes the next number
 abbrev pub touched : Numbers → List ℕ → Numbers
 touched c name = record { number = c.number + 1; last = insert c.last name (c.number + 1) }
+
+-- the number of the last change is at least this one; no name changes
+abbrev pub raised : Numbers → ℕ → Numbers
+raised c n = record { number = max c.number n; last = c.last }
 
 -- the names by the numbers of their last changes
 abbrev pub by_number : NamesTo ℕ → NumberedNames

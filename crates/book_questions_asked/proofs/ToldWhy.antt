@@ -1,5 +1,5 @@
 -- The first line of what `explain` answers is the decision that `why` tells.
-use Rattle.book_questions_asked.proofs.Common.{◌≡◌, ◌++◌, ◌∷◌, ◌∙◌, ◌+◌, [], ℕ, Bool, List, Option, Some, None, ap, codes, refl, subst, sym, CircleOf, Leaf, Office, Asked}
+use Rattle.book_questions_asked.proofs.Common.{◌≡◌, ◌++◌, ◌∷◌, ◌∙◌, [], ℕ, Bool, List, Option, Some, None, ap, codes, refl, subst, sym, CircleOf, Leaf, Office, Asked}
 use Rattle.std.proofs.Common.{◌↔◌, decimal}
 use Rattle.book_rights.specs.Privileges.{denied_name, name_of}
 use Rattle.book_lists.proofs.OneLeaf.{denied_not_allowed}

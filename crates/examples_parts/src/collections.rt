@@ -211,3 +211,17 @@ fn changes_are_made_together(rt: HostRuntime) {
     check_told(&rt, alloc, &changes, (0, None), "2 a 3 b ");
     check_told(&rt, alloc, &others, (0, None), "1 a ");
 }
+
+/// A number is raised and never lowered; the names keep theirs, and the next change takes the one after it.
+#[test]
+fn a_number_is_raised(rt: HostRuntime) {
+    let alloc = rt.alloc();
+    let mut changes = Changes::new(alloc);
+    touch(&rt, alloc, &mut changes, ["a", "b"].as_slice());
+    changes.raise(9);
+    changes.raise(3);
+    check_fact(&rt, changes.number() == 9, "raised");
+    check_number(&rt, alloc, &changes, "b", Some(2));
+    touch(&rt, alloc, &mut changes, ["a"].as_slice());
+    check_told(&rt, alloc, &changes, (0, None), "2 b 10 a ");
+}

@@ -2,7 +2,7 @@
 
 ghost use Rattle.std.specs.Prelude.{◌≡◌, ◌+◌, ◌^◌, ◌<◌, None, filter, is_some, IfOk, OnOk, OnErr};
 ghost use Rattle.std.specs.FinMap.{empty, get, insert, len, remove};
-ghost use Rattle.book_office_values.specs.Changes.{Change, touched, changes_after, first_of, left, put_back, AreNumbers};
+ghost use Rattle.book_office_values.specs.Changes.{Change, touched, raised, changes_after, first_of, left, put_back, AreNumbers};
 
 use crate::collections::items::Items;
 use crate::collections::name_maps::NameMap;
@@ -132,6 +132,14 @@ impl Changes {
                 Err(error)
             }
         }
+    }
+
+    /// Raises the number of the last change to this one, if it is above: as if names that nothing knows of any more had
+    /// changed meanwhile. No name's last change is another. Takes no memory.
+    pub fn raise(&mut self, number: u64)
+        ensures { self.new ≡ raised self.old number }
+    {
+        self.numbers.number = self.numbers.number.max(number);
     }
 
     /// Hands out the rule that the numbers of each book meet.
