@@ -6,3 +6,15 @@ pub mod RulesDecided
 pub mod Shaped
 pub mod Whole
 pub mod Words
+pub mod Free
+pub mod Read
+pub mod Rows
+pub mod Early
+pub mod Tabled
+pub mod Paths
+pub mod Naming
+pub mod Few
+pub mod Asked
+pub mod Kept
+pub mod Agreed
+pub mod Found

@@ -13,7 +13,8 @@ use Rattle.book_rights.specs.declared.privileges.Leaf.TheVariants.{ReadTexts, Wr
 use Rattle.book_rights.specs.declared.privileges.Privilege.{Privilege}
 use Rattle.book_rights.specs.declared.privileges.Privilege.TheVariants.{One, Read, Write, All as Whole}
 use Rattle.book_policy_values.specs.Policies.{HoldsSome}
-use Rattle.book_policy.specs.Rules.{IsPrivilegeName, all_privileges, leaves_named, leaves_of}
+use Rattle.book_policy.specs.Rules.{IsPrivilegeName, leaves_named, leaves_of}
+use Rattle.book_policy_faults.specs.Values.{all_privileges}
 
 pub leaves_of_name : (p : Privilege) → leaves_named all_privileges (name_of p) ≡ contained p
 leaves_of_name (One ReadTexts) = refl

@@ -12,9 +12,10 @@ use Rattle.book_policy_values.specs.declared.parts.PersonPart.{PersonPart}
 use Rattle.book_office_values.specs.Texts.{IsLabel}
 use Rattle.book_office_values.proofs.Labels.{empty_label}
 use Rattle.book_policy_values.proofs.Names.{same_some}
-use Rattle.book_policy.specs.declared.shapes.TableKind.TheVariants.{Top, Person, Group, Book, Entry}
+use Rattle.book_policy_faults.specs.declared.places.TableKind.TheVariants.{Top, Person, Group, Book, Entry}
 use Rattle.book_policy.specs.Passes.{IsShaped}
-use Rattle.book_policy.specs.Shapes.{action_of, array_of, book_in, book_of, book_with, each_after, entry_in, entry_text_of, entry_with, group_in, group_of, group_with, has_only, keys_of, label_of, mark_of, names_in, owner_of, parts_in, parts_with, person_in, person_of, person_with, short_label, some_names, text_at}
+use Rattle.book_policy.specs.Shapes.{action_of, array_of, book_in, book_of, book_with, each_after, entry_in, entry_text_of, entry_with, group_in, group_of, group_with, has_only, label_of, names_in, owner_of, parts_in, parts_with, person_in, person_of, person_with, some_names, text_at}
+use Rattle.book_policy_faults.specs.Values.{keys_of, mark_of, short_label}
 
 none_some : {A P : Type 0} {y : A} → None ≡ Some y → P
 none_some e = absurd cc

@@ -1,19 +1,21 @@
 -- The policy of parts, and of a text.
-use Rattle.book_policy.proofs.Common.{◌≡◌, inl, inr, ◌<◌, ◌≤◌, ℕ, List, [], ◌∷◌, length, refl, sym, ap, ◌∙◌, subst, arith, AllByRecursion, added, named_group, named_person, entry_part, Parts, empty, map}
-use Rattle.std.proofs.Common.{◌⊎◌, get_or, Result, Ok, Err, IfOk, IfErr, MatchResult}
-use Rattle.std.proofs.lemmas.Bool.{cases_lt}
+use Rattle.book_policy.proofs.Common.{◌≡◌, inl, inr, ◌<◌, ◌≤◌, ℕ, List, length, refl, sym, ap, ◌∙◌, subst, arith, true, Some, None, AllByRecursion, added, named_group, named_person, entry_part, Parts, empty, map}
+use Rattle.std.proofs.Common.{◌⊎◌, ◌↔◌, Option, Result, Ok, Err, IfOk, IfSome, IfNone, IsSome}
+use Rattle.std.proofs.lemmas.Bool.{cases_lt, false≢true}
 use Rattle.std.proofs.lemmas.List.Elements.{All-from_recursion, recursion_from_All}
+use Rattle.toml.specs.Data.{Members}
 use Rattle.book_policy_values.specs.declared.parts.EntryPart.{EntryPart}
 use Rattle.book_policy_values.specs.declared.parts.PolicyTables.{PolicyTables}
 use Rattle.book_policy_values.specs.Policies.{HoldsSome, IsFaultless, policy_of}
 use Rattle.book_policy_values.proofs.Faults.{all_mapped}
-use Rattle.book_policy.specs.Passes.{HasPrivileges, IsLaterFault, IsPolicyOfParts, IsReadable, IsShaped, KeepsNames}
+use Rattle.book_policy.specs.Passes.{HasPrivileges, IsNoPolicy, IsPolicyOfParts, IsReadable, IsShaped, KeepsNames, SpellsPolicy, fault_numbered}
 use Rattle.book_policy.specs.Rules.{ArePrivileges, HasOneFault, HasOnePolicy, IsFaultOf, IsLeastBroken, IsPolicyOf, IsPrivilegeName, PartsRule, PolicyExcludesFault, Rule, SpellsParts, entries_in, number, policy_of_parts}
+use Rattle.book_policy.specs.Shapes.{has_version_one, parts_in}
 use Rattle.book_policy.specs.declared.faults.PolicyFault.{PolicyFault}
 use Rattle.book_policy.specs.declared.faults.PolicyFault.TheVariants.{NotToml, OtherVersion, BadKey, BadName, NameTwice, UnknownPrincipal, UnknownResource, UnknownPrivilege, TooMany, Memory}
 use Rattle.book_limits.specs.declared.TheConstants.{MAX_POLICY_BYTES}
 use Rattle.book_policy.proofs.Labelled.{forms_of}
-use Rattle.book_policy.proofs.Least.{all_rules, least_of_text, lifted, same_parts, too_many, unknown_privilege}
+use Rattle.book_policy.proofs.Least.{all_rules, lifted, same_parts}
 use Rattle.book_policy.proofs.Privileges.{holds_some}
 use Rattle.book_policy.proofs.Shaped.{shaped}
 use Rattle.book_policy.proofs.Words.{known_spells}
@@ -43,28 +45,32 @@ module _ (parts : Parts) where
   }
 
   -- ---- the policy that was made
-  pub whole_is : (entries : List EntryPart) (r : Result PolicyTables PolicyFault) → entries ≡ entries_in parts → AllByRecursion HasPrivileges parts.entries
-      → MatchResult r (λ policy. IsFaultless parts.persons parts.groups parts.books entries × (policy ≡ policy_of parts.persons parts.groups parts.books entries))
-      (λ fault. (fault ≡ Memory) ⊎ (fault ≡ TooMany) × (IsFaultless parts.persons parts.groups parts.books entries → ⊥))
-      → MatchResult r (λ policy. PartsRule parts UnknownPrivilege × PartsRule parts TooMany × (policy ≡ policy_of_parts parts)) (λ fault. (fault ≡ Memory) ⊎ IsLaterFault parts fault)
-  whole_is entries (Ok policy) is privileges h =
-      let faultless = subst (λ (es : List EntryPart). IsFaultless parts.persons parts.groups parts.books es) is h.0 in
-      (are_privileges privileges, faultless.few, h.1 ∙ ap (λ (es : List EntryPart). policy_of parts.persons parts.groups parts.books es) is)
-  whole_is entries (Err fault) is privileges (inl memory) = inl memory
-  whole_is entries (Err fault) is privileges (inr h) =
-      inr (inr (h.0, are_privileges privileges, subst (λ (es : List EntryPart). IsFaultless parts.persons parts.groups parts.books es → ⊥) is h.1))
+  keeps : ((g : PolicyFault) → PartsRule parts g) → KeepsNames parts
+  keeps rules = record { names = rules BadName; once = rules NameTwice; known = rules UnknownPrincipal; places = rules UnknownResource }
 
-  later_fault : (fault : PolicyFault) → IsShaped parts → KeepsNames parts → IsLaterFault parts fault → IsLeastBroken (PartsRule parts) fault
-  later_fault fault s h (inl (is, not)) = subst (IsLeastBroken (PartsRule parts)) (sym is) (unknown_privilege parts h (not h.known))
-  later_fault fault s h (inr (is, privileges, not)) =
-      subst (IsLeastBroken (PartsRule parts)) (sym is) (too_many parts h privileges (λ few. not (faultless_of s h privileges few)))
+  pub unread : (AllByRecursion IsReadable parts.entries → ⊥) → IsNoPolicy parts
+  unread none rules = not_readable none (rules UnknownPrincipal) (rules UnknownPrivilege)
 
-  pub made_is : (r : Result PolicyTables PolicyFault) → IsShaped parts → KeepsNames parts
-      → MatchResult r (λ policy. PartsRule parts UnknownPrivilege × PartsRule parts TooMany × (policy ≡ policy_of_parts parts)) (λ fault. (fault ≡ Memory) ⊎ IsLaterFault parts fault)
-      → MatchResult r (IsPolicyOfParts parts) (λ fault. (fault ≡ Memory) ⊎ IsLeastBroken (PartsRule parts) fault)
-  made_is (Ok policy) s h made = (all_rules parts h made.0 made.1, made.2)
-  made_is (Err fault) s h (inl memory) = inl memory
-  made_is (Err fault) s h (inr f) = inr (later_fault fault s h f)
+  module _ (entries : List EntryPart) (are : entries ≡ entries_in parts) where
+    pub made_some : {E : Type 0} (r : Result (Option PolicyTables) E) → AllByRecursion HasPrivileges parts.entries
+        → IfOk r (λ found. IsSome found ↔ IsFaultless parts.persons parts.groups parts.books entries)
+        → IfOk r (λ found. IfSome found (λ policy. policy ≡ policy_of parts.persons parts.groups parts.books entries))
+        → IfOk r (λ found. IfSome found (IsPolicyOfParts parts))
+    made_some (Ok None) privileges fine is = tt
+    made_some (Ok (Some policy)) privileges fine is =
+        let f = subst (λ (es : List EntryPart). IsFaultless parts.persons parts.groups parts.books es) are (fine.0 refl) in (
+          all_rules parts (record { names = f.names; once = f.once; known = f.known; places = f.places }) (are_privileges privileges) f.few,
+          is ∙ ap (λ (es : List EntryPart). policy_of parts.persons parts.groups parts.books es) are,
+        )
+    made_some (Err e) privileges fine is = tt
+
+    pub made_none : {E : Type 0} (r : Result (Option PolicyTables) E) → IsShaped parts
+        → IfOk r (λ found. IsSome found ↔ IsFaultless parts.persons parts.groups parts.books entries) → IfOk r (λ found. IfNone found (IsNoPolicy parts))
+    made_none (Ok None) s fine = λ rules.
+        let f = faultless_of s (keeps rules) (rules UnknownPrivilege) (rules TooMany) in
+        false≢true (fine.1 (subst (λ (es : List EntryPart). IsFaultless parts.persons parts.groups parts.books es) (sym are) f))
+    made_none (Ok (Some policy)) s fine = tt
+    made_none (Err e) s fine = tt
 
 pub text_policy : (text : List ℕ) (parts : Parts) (policy : PolicyTables) → length text ≤ MAX_POLICY_BYTES → SpellsParts text parts → IsPolicyOfParts parts policy → IsPolicyOf text policy
 text_policy text parts policy short s h = record {
@@ -78,30 +84,33 @@ text_policy text parts policy short s h = record {
 pub text_fault : (text : List ℕ) (fault : PolicyFault) → length text ≤ MAX_POLICY_BYTES → IsLeastBroken (Rule text) fault → IsFaultOf text fault
 text_fault text fault short l = record { long = λ above. absurd (omega arith); least = λ _. l }
 
-pub spelled_shaped : (text : List ℕ) (parts : Parts) → SpellsParts text parts → IsShaped parts
-spelled_shaped text parts s = shaped s.table parts s.spelled
+module _ (ms : Members) (parts : Parts) (version : has_version_one ms ≡ true) (are : parts_in ms ≡ Some parts) where
+  pub spelled_some : {E : Type 0} (r : Result (Option PolicyTables) E) → (IsShaped parts → IfOk r (λ found. IfSome found (IsPolicyOfParts parts)))
+      → IfOk r (λ found. IfSome found (SpellsPolicy ms))
+  spelled_some r made = by_result r (made (shaped ms parts are))
+    where
+      by_result : {E : Type 0} (r : Result (Option PolicyTables) E) → IfOk r (λ found. IfSome found (IsPolicyOfParts parts)) → IfOk r (λ found. IfSome found (SpellsPolicy ms))
+      by_result (Ok None) h = tt
+      by_result (Ok (Some policy)) h = record { version = version; parts = parts; spelled = are; is = h }
+      by_result (Err e) h = tt
 
-module _ (text : List ℕ) (parts : Parts) (short : length text ≤ MAX_POLICY_BYTES) (s : SpellsParts text parts) where
-  pub ok_part : (r : Result PolicyTables PolicyFault) → MatchResult r (IsPolicyOfParts parts) (λ fault. (fault ≡ Memory) ⊎ IsLeastBroken (PartsRule parts) fault) → IfOk r (IsPolicyOf text)
-  ok_part (Ok policy) h = text_policy text parts policy short s h
-  ok_part (Err fault) h = tt
-
-  pub err_part : (r : Result PolicyTables PolicyFault) → MatchResult r (IsPolicyOfParts parts) (λ fault. (fault ≡ Memory) ⊎ IsLeastBroken (PartsRule parts) fault)
-      → IfErr r (λ fault. (fault ≡ Memory) ⊎ IsFaultOf text fault)
-  err_part (Ok policy) h = tt
-  err_part (Err fault) (inl memory) = inl memory
-  err_part (Err fault) (inr l) = inr (text_fault text fault short (least_of_text text parts s fault l))
+  pub spelled_none : {E : Type 0} (r : Result (Option PolicyTables) E) → (IsShaped parts → IfOk r (λ found. IfNone found (IsNoPolicy parts)))
+      → IfOk r (λ found. IfNone found ((policy : PolicyTables) → SpellsPolicy ms policy → ⊥))
+  spelled_none r made = by_result r (made (shaped ms parts are))
+    where
+      by_result : {E : Type 0} (r : Result (Option PolicyTables) E) → IfOk r (λ found. IfNone found (IsNoPolicy parts))
+          → IfOk r (λ found. IfNone found ((policy : PolicyTables) → SpellsPolicy ms policy → ⊥))
+      by_result (Ok None) h = λ policy p.
+          let same : p.parts ≡ parts = (let e : Some p.parts ≡ Some parts = sym p.spelled ∙ are in cc) in
+          h (λ g. subst (λ (q : Parts). PartsRule q g) same (p.is.0 g))
+      by_result (Ok (Some policy)) h = tt
+      by_result (Err e) h = tt
 
 -- ---- laws
 pub one_policy : HasOnePolicy
 one_policy text policy other a b = a.is ∙ ap policy_of_parts (same_parts text a.parts b.parts a.spelled b.spelled) ∙ sym b.is
 
--- the fault with a number
-abbrev fault_at : ℕ → PolicyFault
-fault_at n = get_or
-    (Memory ∷ NotToml ∷ OtherVersion ∷ BadKey ∷ BadName ∷ NameTwice ∷ UnknownPrincipal ∷ UnknownResource ∷ UnknownPrivilege ∷ TooMany ∷ Memory ∷ []) n Memory
-
-numbered : (f : PolicyFault) → fault_at (number f) ≡ f
+pub numbered : (f : PolicyFault) → fault_numbered (number f) ≡ f
 numbered NotToml = refl
 numbered OtherVersion = refl
 numbered BadKey = refl
@@ -124,7 +133,7 @@ one_least K f g a b =
     let le = not_below K f g a b in
     let ge = not_below K g f b a in
     let same : number f ≡ number g = omega (arith, le, ge) in
-    sym (numbered f) ∙ ap fault_at same ∙ numbered g
+    sym (numbered f) ∙ ap fault_numbered same ∙ numbered g
 
 pub one_fault : HasOneFault
 one_fault text fault other a b = by_length (cases_lt MAX_POLICY_BYTES (length text))

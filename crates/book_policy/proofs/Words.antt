@@ -1,6 +1,6 @@
 -- Words for principal forms, and the paths of principals.
 use Rattle.book_policy.proofs.Common.{◌≡◌, ℕ, List, [], ◌∷◌, ◌++◌, Bool, true, false, cond, inl, inr, refl, sym, ap, ◌∙◌, subst, Path, NamesForm, NamesPrincipal, who_of}
-use Rattle.std.proofs.Common.{◌⊎◌, ◌↔◌, ◌||◌, codes, nat_eq, IsTrue, IfOk, Result, Ok, Err}
+use Rattle.std.proofs.Common.{◌⊎◌, ◌↔◌, ◌||◌, codes, nat_eq, IsTrue}
 use Rattle.std.specs.Str.{bytes_eq}
 use Rattle.std.proofs.lemmas.Bool.{eqb-true, false≢true}
 use Rattle.book_lists.specs.Principals.{IsPrincipal, Spells}
@@ -12,7 +12,8 @@ use Rattle.book_office_values.specs.declared.paths.Path.TheVariants as path
 use Rattle.book_policy_values.specs.Policies.{IsKnown, IsPrincipalOf, spelled, trimmed}
 use Rattle.book_policy_values.proofs.Faults.{known_spelled}
 use Rattle.book_policy_values.proofs.Paths.{spelled_path}
-use Rattle.book_policy.specs.Passes.{SpellsWho, is_word}
+use Rattle.book_policy.specs.Passes.{SpellsWho}
+use Rattle.book_policy_faults.specs.Values.{is_word}
 
 -- ---- a slash at the end
 trimmed_or : (xs : List ℕ) → (xs ≡ trimmed xs) ⊎ (xs ≡ trimmed xs ++ codes "/")
@@ -107,11 +108,6 @@ path_known persons groups text fine isnt h = (
   λ yes. subst (NamesForm persons groups) (sym (path_form text isnt)) (known_spelled persons groups text (h.0 yes)),
   λ form. h.1 (known_named persons groups text (subst (NamesForm persons groups) (path_form text isnt) form)),
 )
-
-pub path_known_in : {E : Type 0} (persons groups : NamesTo (List ℕ)) (text : List ℕ) (r : Result Bool E) → is_word text ≡ false
-    → IfOk r (λ fine. IsTrue fine ↔ NamesPrincipal persons groups text) → IfOk r (λ fine. IsTrue fine ↔ NamesForm persons groups (who_of text))
-path_known_in persons groups text (Ok fine) isnt h = path_known persons groups text fine isnt h
-path_known_in persons groups text (Err e) isnt h = tt
 
 pub no_word : (text : List ℕ) → bytes_eq text (codes "all") ≡ false → bytes_eq text (codes "authenticated") ≡ false → bytes_eq text (codes "unauthenticated") ≡ false
     → bytes_eq text (codes "owner") ≡ false → bytes_eq text (codes "self") ≡ false → is_word text ≡ false

@@ -4,9 +4,7 @@ use Rattle.std.specs.Str.{bytes_eq}
 use Rattle.toml.specs.Data.{Members}
 use Rattle.toml.specs.Parse.{parse_document}
 use Rattle.book_rights.specs.declared.privileges.Leaf.{Leaf}
-use Rattle.book_rights.specs.declared.privileges.Leaf.TheVariants.{ReadTexts, WriteContent, WriteProperties, Bind, Unbind, ReadAcl, WriteAcl, ReadCurrentUserPrivilegeSet, ReadNames}
 use Rattle.book_rights.specs.declared.privileges.Privilege.{Privilege}
-use Rattle.book_rights.specs.declared.privileges.Privilege.TheVariants.{One, Read, Write, All as Whole}
 use Rattle.book_rights.specs.Leaves.{no_leaf, union}
 use Rattle.book_rights.specs.Privileges.{contained, name_of}
 use Rattle.book_lists.specs.declared.entries.Who.{Who}
@@ -14,6 +12,7 @@ use Rattle.book_lists.specs.declared.entries.Who.TheVariants.{Href, Everyone, Au
 use Rattle.book_policy_values.specs.declared.parts.EntryPart.{EntryPart}
 use Rattle.book_policy_values.specs.declared.parts.PolicyTables.{PolicyTables}
 use Rattle.book_policy_values.specs.Policies.{AreKnown, AreNames, AreOnce, ArePlaces, IsFew, policy_of, spelled}
+use Rattle.book_policy_faults.specs.Values.{all_privileges}
 use Rattle.book_policy.specs.Shapes.{has_version_one, parts_in}
 use Rattle.book_policy.specs.declared.faults.PolicyFault.{PolicyFault}
 use Rattle.book_policy.specs.declared.faults.PolicyFault.TheVariants.{NotToml, OtherVersion, BadKey, BadName, NameTwice, UnknownPrincipal, UnknownResource, UnknownPrivilege, TooMany, Memory}
@@ -32,11 +31,6 @@ who_of text =
     else if bytes_eq text (codes "owner") then Owner
     else if bytes_eq text (codes "self") then Own
     else Href (spelled text)
-
-abbrev pub all_privileges : List Privilege
-all_privileges =
-    One ReadTexts ∷ One WriteContent ∷ One WriteProperties ∷ One Bind ∷ One Unbind ∷ One ReadAcl ∷ One WriteAcl
-    ∷ One ReadCurrentUserPrivilegeSet ∷ One ReadNames ∷ Read ∷ Write ∷ Whole ∷ []
 
 -- the leaves of the privilege with the name; none where none of these has it
 abbrev pub leaves_named : List Privilege → List ℕ → Leaf → Bool

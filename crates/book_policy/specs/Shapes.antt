@@ -1,43 +1,22 @@
 -- The parts that the table of a policy spells, where its keys and values are of the right kinds.
-use Rattle.std.specs.Prelude.{ℕ, ℤ, pos, negsuc, List, [], ◌∷◌, ◌++◌, length, codes, nat_le, ◌==◌, ◌||◌, ◌&&◌, if◌then◌else◌, Bool, true, false, option_and_then, option_map, Option, Some, None}
-use Rattle.std.specs.Str.{bytes_eq, is_utf8}
-use Rattle.toml.specs.Data.{Data, Items, no_items, item, Members, no_members, member, get_member, as_bool, as_integer, as_str, as_array, as_table}
+use Rattle.std.specs.Prelude.{ℕ, List, [], ◌∷◌, ◌++◌, length, codes, nat_le, ◌&&◌, if◌then◌else◌, Bool, true, false, option_and_then, option_map, Option, Some, None}
+use Rattle.toml.specs.Data.{Data, Items, no_items, item, Members, no_members, member, get_member, as_integer, as_str, as_array, as_table}
 use Rattle.book_policy_values.specs.declared.parts.PersonPart.{PersonPart}
 use Rattle.book_policy_values.specs.declared.parts.GroupPart.{GroupPart}
 use Rattle.book_policy_values.specs.declared.parts.BookPart.{BookPart}
-use Rattle.book_limits.specs.declared.TheConstants.{MAX_LABEL_BYTES, MAX_PRIVILEGE_NAMES}
-use Rattle.book_policy.specs.declared.shapes.TableKind.{TableKind}
-use Rattle.book_policy.specs.declared.shapes.TableKind.TheVariants.{Top, Person, Group, Book, Entry}
+use Rattle.book_limits.specs.declared.TheConstants.{MAX_PRIVILEGE_NAMES}
+use Rattle.book_policy_faults.specs.Values.{is_among, is_some_one, keys_of, mark_of, short_label}
+use Rattle.book_policy_faults.specs.declared.places.TableKind.TheVariants.{Top, Person, Group, Book, Entry}
 use Rattle.book_policy.specs.declared.parts.EntryText.{EntryText}
 use Rattle.book_policy.specs.declared.parts.Parts.{Parts}
 
 -- ---- the version
-
-abbrev pub is_one : ℤ → Bool
-is_one (pos n) = n == 1
-is_one (negsuc n) = false
-
-abbrev pub is_some_one : Option ℤ → Bool
-is_some_one None = false
-is_some_one (Some z) = is_one z
 
 -- the version is the whole number 1
 abbrev pub has_version_one : Members → Bool
 has_version_one ms = is_some_one (option_and_then as_integer (get_member (codes "version") ms))
 
 -- ---- keys
-
--- the keys that the whole text, a person, a group, a book and an entry may have
-abbrev pub keys_of : TableKind → List (List ℕ)
-keys_of Top = codes "version" ∷ codes "person" ∷ codes "group" ∷ codes "book" ∷ codes "entry" ∷ []
-keys_of Person = codes "name" ∷ codes "label" ∷ []
-keys_of Group = codes "name" ∷ codes "label" ∷ codes "members" ∷ []
-keys_of Book = codes "name" ∷ codes "label" ∷ codes "owner" ∷ []
-keys_of Entry = codes "at" ∷ codes "who" ∷ codes "invert" ∷ codes "grant" ∷ codes "deny" ∷ codes "protected" ∷ []
-
-abbrev pub is_among : List ℕ → List (List ℕ) → Bool
-is_among k [] = false
-is_among k (n ∷ ns) = bytes_eq k n || is_among k ns
 
 -- a table has no other keys than these
 abbrev pub has_only : List (List ℕ) → Members → Bool
@@ -50,10 +29,7 @@ has_only names (member k d ms) = is_among k names && has_only names ms
 abbrev pub text_at : List ℕ → Members → Option (List ℕ)
 text_at key ms = option_and_then as_str (get_member key ms)
 
--- a label is optional and then empty; it is UTF-8, of at most 256 bytes
-abbrev pub short_label : List ℕ → Option (List ℕ)
-short_label text = if is_utf8 text && nat_le (length text) MAX_LABEL_BYTES then Some text else None
-
+-- a label is optional, and then empty
 abbrev pub label_of : Option Data → Option (List ℕ)
 label_of None = Some []
 label_of (Some d) = option_and_then short_label (as_str d)
@@ -62,11 +38,6 @@ label_of (Some d) = option_and_then short_label (as_str d)
 abbrev pub owner_of : Option Data → Option (Option (List ℕ))
 owner_of None = Some None
 owner_of (Some d) = option_map (λ text. Some text) (as_str d)
-
--- a mark is optional, and then not there
-abbrev pub mark_of : Option Data → Option Bool
-mark_of None = Some false
-mark_of (Some d) = as_bool d
 
 -- what each item of an array is read as, if all can be read
 abbrev pub each_after : {A : Type 0} → (Data → Option A) → List A → Items → Option (List A)

@@ -5,30 +5,30 @@ use book_policy_values::{BookPart, GroupPart, PersonPart};
 
 /// An entry as it was written; what it names may be wrong.
 #[derive(Drop)]
-pub struct EntryText {
+pub(crate) struct EntryText {
     /// The path of the resource at which it stands.
-    pub at: Text,
+    pub(crate) at: Text,
     /// A word for a principal form, or the path of a principal.
-    pub who: Text,
+    pub(crate) who: Text,
     /// Whether it applies where its form does not.
-    pub invert: bool,
+    pub(crate) invert: bool,
     /// Whether it denies, and else grants.
-    pub deny: bool,
+    pub(crate) deny: bool,
     /// The names of its privileges, 1 to 16.
-    pub names: Items<Text>,
+    pub(crate) names: Items<Text>,
     /// Whether it stands in the protected list, and else in the own list.
-    pub protected: bool,
+    pub(crate) protected: bool,
 }
 
 /// What a text of the right shape says.
 #[derive(Drop)]
-pub struct Parts {
+pub(crate) struct Parts {
     /// The persons, in order.
-    pub persons: Items<PersonPart>,
+    pub(crate) persons: Items<PersonPart>,
     /// The groups, in order.
-    pub groups: Items<GroupPart>,
+    pub(crate) groups: Items<GroupPart>,
     /// The books, in order.
-    pub books: Items<BookPart>,
+    pub(crate) books: Items<BookPart>,
     /// The entries, in order.
-    pub entries: Items<EntryText>,
+    pub(crate) entries: Items<EntryText>,
 }

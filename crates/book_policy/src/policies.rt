@@ -1,22 +1,25 @@
 //! The policy of a text.
 
-ghost use Rattle.std.specs.Prelude.{◌≡◌, ◌⊎◌, Some, None, codes, option_and_then, IfOk, IfErr, MatchResult};
+ghost use Rattle.std.specs.Prelude.{◌≡◌, ◌⊎◌, Some, None, codes, option_and_then, IfOk, IfErr, IfSome, IfNone};
 ghost use Rattle.toml.specs.Data.{as_integer, get_member};
 ghost use Rattle.toml.specs.Parse.{parse_document};
 ghost use Rattle.toml.specs.View.{table_view};
-ghost use Rattle.book_policy_values.specs.Policies.{IsFaultless, policy_of};
-ghost use Rattle.book_policy.specs.Passes.{IsLaterFault, IsPolicyOfParts, IsShaped, KeepsNames};
-ghost use Rattle.book_policy.specs.Rules.{IsFaultOf, IsLeastBroken, IsPolicyOf, PartsRule, Rule, SpellsParts, policy_of_parts};
+ghost use Rattle.book_policy.specs.Passes.{IsNoPolicy, IsPolicyOfParts, IsShaped, SpellsPolicy, fault_numbered};
+ghost use Rattle.book_policy.specs.Rules.{IsFaultOf, IsPolicyOf};
 ghost use Rattle.book_policy.specs.Shapes.{has_version_one};
-ghost use Rattle.book_policy.specs.declared.faults.PolicyFault.TheVariants.{Memory, NotToml, TooMany, UnknownPrivilege};
+ghost use Rattle.book_policy.specs.declared.faults.PolicyFault.TheVariants.{Memory, NotToml};
+ghost use Rattle.book_policy_values.specs.declared.parts.PolicyTables.{PolicyTables};
+ghost use Rattle.book_policy_faults.specs.Laws.{least_of};
+ghost use Rattle.book_policy_faults.specs.Placing.{no_faults, noted};
+ghost use Rattle.book_policy_faults.specs.Tables.{faults_in};
 
-use crate::fault_passes::{are_names, entry_parts, labels_of, places_known, principals_known};
+use crate::entries::entry_parts;
 use crate::faults::PolicyFault;
 use crate::parts::Parts;
 use crate::shapes::{member, parts_in};
 use book_limits::MAX_POLICY_BYTES;
-use book_office_values::Items;
-use book_policy_values::{BookPart, EntryPart, GroupPart, PersonPart, Policy};
+use book_policy_faults::faults_of;
+use book_policy_values::Policy;
 use std::alloc::{AllocError, Global};
 use toml::Table;
 
@@ -59,74 +62,10 @@ fn has_version_one(table: &Table) -> bool
     }
 }
 
-/// The parts that a text spells.
-fn parts_of(alloc: Global, text: &str) -> Result<Parts, PolicyFault>
-    ensures { MatchResult result (λ parts. SpellsParts text.now parts)
-        (λ fault. (fault ≡ Memory) ⊎ IsLeastBroken (Rule text.now) fault) }
-{
-    let table = match table_of(alloc, text) {
-        Ok(table) => table,
-        Err(fault) => return Err(fault),
-    };
-    let fine = has_version_one(&table);
-    if !fine {
-        return Err(PolicyFault::OtherVersion);
-    }
-    match parts_in(alloc, &table) {
-        Ok(Some(parts)) => Ok(parts),
-        Ok(None) => Err(PolicyFault::BadKey),
-        Err(AllocError) => Err(PolicyFault::Memory),
-    }
-}
-
-/// The least fault of the parts in what they name, if there is one.
-fn check_parts(alloc: Global, parts: &Parts) -> Result<(), PolicyFault>
-    ensures { MatchResult result (λ _. KeepsNames parts.now)
-        (λ fault. (fault ≡ Memory) ⊎ IsLeastBroken (PartsRule parts.now) fault) }
-{
-    let named = are_names(alloc, parts)?;
-    if !named {
-        return Err(PolicyFault::BadName);
-    }
-    let Some(labels) = labels_of(alloc, parts)? else {
-        return Err(PolicyFault::NameTwice);
-    };
-    let known = principals_known(alloc, &labels, parts)?;
-    if !known {
-        return Err(PolicyFault::UnknownPrincipal);
-    }
-    let placed = places_known(alloc, &labels, parts)?;
-    if !placed {
-        return Err(PolicyFault::UnknownResource);
-    }
-    Ok(())
-}
-
-/// The policy of these arrays. Where they have a fault, it is told as too many.
-fn whole(
-    alloc: Global,
-    persons: Items<PersonPart>,
-    groups: Items<GroupPart>,
-    books: Items<BookPart>,
-    entries: Items<EntryPart>,
-) -> Result<Policy, PolicyFault>
-    ensures { MatchResult result (λ policy. IsFaultless persons groups books entries
-        × (policy ≡ policy_of persons groups books entries))
-        (λ fault. (fault ≡ Memory) ⊎ (fault ≡ TooMany)
-        × (IsFaultless persons groups books entries → ⊥)) }
-{
-    match Policy::new(alloc, persons, groups, books, entries) {
-        Ok(Some(policy)) => Ok(policy),
-        Ok(None) => Err(PolicyFault::TooMany),
-        Err(AllocError) => Err(PolicyFault::Memory),
-    }
-}
-
-/// The policy of parts that have no fault in what they name.
-fn made(alloc: Global, parts: Parts) -> Result<Policy, PolicyFault>
-    ensures { MatchResult result (λ policy. PartsRule parts UnknownPrivilege
-        × PartsRule parts TooMany × (policy ≡ policy_of_parts parts))
-        (λ fault. (fault ≡ Memory) ⊎ IsLaterFault parts fault) }
+/// The policy of parts, if they keep every rule.
+fn made(alloc: Global, parts: Parts) -> Result<Option<Policy>, AllocError>
+    ensures some { IsShaped parts → IfOk result (λ found. IfSome found (IsPolicyOfParts parts)) }
+    ensures none { IsShaped parts → IfOk result (λ found. IfNone found (IsNoPolicy parts)) }
 {
     let Parts {
         persons,
@@ -134,22 +73,52 @@ fn made(alloc: Global, parts: Parts) -> Result<Policy, PolicyFault>
         books,
         entries,
     } = parts;
-    match entry_parts(alloc, entries) {
-        Ok(Some(entries)) => whole(alloc, persons, groups, books, entries),
-        Ok(None) => Err(PolicyFault::UnknownPrivilege),
-        Err(AllocError) => Err(PolicyFault::Memory),
+    let Some(entries) = entry_parts(alloc, entries)? else {
+        return Ok(None);
+    };
+    Policy::new(alloc, persons, groups, books, entries)
+}
+
+/// The policy that a table spells, if it breaks no rule.
+fn policy_in(alloc: Global, table: &Table) -> Result<Option<Policy>, AllocError>
+    ensures some { IfOk result (λ found. IfSome found (SpellsPolicy (table_view table.now))) }
+    ensures none { IfOk result (λ found. IfNone found
+        ((policy : PolicyTables) → SpellsPolicy (table_view table.now) policy → ⊥)) }
+{
+    if !has_version_one(table) {
+        return Ok(None);
+    }
+    let Some(parts) = parts_in(alloc, table)? else {
+        return Ok(None);
+    };
+    made(alloc, parts)
+}
+
+/// The fault with a number in their order.
+fn fault_numbered(number: usize) -> PolicyFault
+    ensures { result ≡ fault_numbered number }
+{
+    match number {
+        1 => PolicyFault::NotToml,
+        2 => PolicyFault::OtherVersion,
+        3 => PolicyFault::BadKey,
+        4 => PolicyFault::BadName,
+        5 => PolicyFault::NameTwice,
+        6 => PolicyFault::UnknownPrincipal,
+        7 => PolicyFault::UnknownResource,
+        8 => PolicyFault::UnknownPrivilege,
+        9 => PolicyFault::TooMany,
+        _ => PolicyFault::Memory,
     }
 }
 
-/// The policy of the parts.
-fn policy_of(alloc: Global, parts: Parts) -> Result<Policy, PolicyFault>
-    ensures { IsShaped parts → MatchResult result (IsPolicyOfParts parts)
-        (λ fault. (fault ≡ Memory) ⊎ IsLeastBroken (PartsRule parts) fault) }
+/// The least fault of a table.
+fn fault_in(alloc: Global, table: &Table) -> Result<PolicyFault, AllocError>
+    ensures { IfOk result (λ fault. fault ≡ fault_numbered
+        (least_of (noted no_faults (faults_in (table_view table.now))))) }
 {
-    match check_parts(alloc, &parts) {
-        Ok(()) => made(alloc, parts),
-        Err(fault) => Err(fault),
-    }
+    let faults = faults_of(alloc, table)?;
+    Ok(fault_numbered(faults.least))
 }
 
 /// The policy that a text spells in TOML (own profile): `version = 1`, and arrays of tables, each optional. `person`
@@ -176,8 +145,12 @@ pub fn read_policy(alloc: Global, text: &str) -> Result<Policy, PolicyFault>
     if text.len() > MAX_POLICY_BYTES {
         return Err(PolicyFault::TooMany);
     }
-    match parts_of(alloc, text) {
-        Ok(parts) => policy_of(alloc, parts),
-        Err(fault) => Err(fault),
+    let table = match table_of(alloc, text) {
+        Ok(table) => table,
+        Err(fault) => return Err(fault),
+    };
+    match policy_in(alloc, &table)? {
+        Some(policy) => Ok(policy),
+        None => Err(fault_in(alloc, &table)?),
     }
 }

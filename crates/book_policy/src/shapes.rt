@@ -1,59 +1,18 @@
 //! Tables of TOML as parts. Where a key or a value is bad, the answer is none.
 
-ghost use Rattle.std.specs.Prelude.{◌≡◌, codes, IfOk, option_map, option_copied, option_and_then};
+ghost use Rattle.std.specs.Prelude.{◌≡◌, IfOk, option_map, option_copied};
 ghost use Rattle.toml.specs.Data.{as_str, get_member};
 ghost use Rattle.toml.specs.View.{items_view, table_view, view};
-ghost use Rattle.book_policy.specs.Shapes.{action_of, array_of, book_in, each, entry_in, group_in, has_only, is_among, keys_of, label_of, mark_of, names_in, owner_of, parts_in, person_in, short_label, text_at};
+ghost use Rattle.book_policy_faults.specs.Values.{keys_of, mark_of, short_label};
+ghost use Rattle.book_policy.specs.Shapes.{action_of, array_of, book_in, each, entry_in, group_in, has_only, label_of, names_in, owner_of, parts_in, person_in, text_at};
 
 use crate::parts::{EntryText, Parts};
 use book_limits::{MAX_LABEL_BYTES, MAX_PRIVILEGE_NAMES};
 use book_office_values::{Items, Text};
+use book_policy_faults::TableKind;
 use book_policy_values::{BookPart, GroupPart, PersonPart};
 use std::alloc::{AllocError, Global};
 use toml::{Table, Value};
-
-/// The kinds of tables of a policy's text.
-#[derive(Clone, Copy, Debug, PartialEq, Eq, Drop)]
-pub enum TableKind {
-    /// The whole text.
-    Top,
-    /// A person.
-    Person,
-    /// A group.
-    Group,
-    /// A book.
-    Book,
-    /// An entry.
-    Entry,
-}
-
-impl TableKind {
-    /// Whether a table of this kind may have the key.
-    pub fn has_key(self, key: &str) -> bool
-        ensures { result ≡ is_among key.now (keys_of self) }
-    {
-        match self {
-            TableKind::Top => {
-                key == "version"
-                    || key == "person"
-                    || key == "group"
-                    || key == "book"
-                    || key == "entry"
-            }
-            TableKind::Person => key == "name" || key == "label",
-            TableKind::Group => key == "name" || key == "label" || key == "members",
-            TableKind::Book => key == "name" || key == "label" || key == "owner",
-            TableKind::Entry => {
-                key == "at"
-                    || key == "who"
-                    || key == "invert"
-                    || key == "grant"
-                    || key == "deny"
-                    || key == "protected"
-            }
-        }
-    }
-}
 
 /// Whether the table has no other keys than those of its kind.
 fn has_only(table: &Table, kind: TableKind) -> bool

@@ -1,15 +1,2 @@
-pub mod Noting
-pub mod Tests
 pub mod Reported
 pub mod Told
-pub mod Free
-pub mod Read
-pub mod Rows
-pub mod Early
-pub mod Whole
-pub mod Paths
-pub mod Naming
-pub mod Few
-pub mod Asked
-pub mod Kept
-pub mod Agreed

@@ -3,12 +3,10 @@ use Rattle.std.proofs.Common.{◌≡◌, ◌<◌, ◌+◌, ℕ, suc, List, [], �
 use Rattle.std.specs.Prelude.{Option}
 use Rattle.std.proofs.Math.Seq.{drop-cons}
 use Rattle.std.specs.Str.{IsUtf8}
-use Rattle.book_policy.specs.declared.faults.PolicyFault.TheVariants.{Memory}
 use Rattle.book_policy_checks.specs.Reports.{AddsFault, AddsFaults, AreLinesOf, IsReportOf, head_text, is_one_line, joined, more_text}
-use Rattle.book_policy_checks.specs.declared.places.PlacedFault.{PlacedFault}
+use Rattle.book_policy_faults.specs.declared.places.PlacedFault.{PlacedFault}
 use Rattle.book_policy_checks.specs.Telling.{TellsChecked, TellsReport}
 use Rattle.book_policy_checks.specs.declared.reports.Report.{Report}
-use Rattle.book_policy_checks.specs.declared.reports.Report.TheVariants.{Sound}
 use Rattle.book_policy_checks.specs.declared.telling.Checked.{Checked}
 use Rattle.book_policy_checks.specs.declared.telling.Checked.TheVariants as checked
 

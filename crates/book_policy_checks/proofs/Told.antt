@@ -1,124 +1,60 @@
--- The faults that are told, and the least of all.
-use Rattle.std.proofs.Common.{◌≡◌, ◌≢◌, ◌⊎◌, ◌≤◌, ◌<◌, ◌+◌, ℕ, List, [], ◌∷◌, ◌++◌, length, take, Bool, true, false, if◌then◌else◌, nat_lt, inl, inr, refl, sym, subst, ap, ◌∙◌, ◌==◌, arith, append_assoc}
-use Rattle.std.specs.List.{AllByRecursion}
-use Rattle.std.proofs.Math.Seq.{take-append_seam}
+-- What is told of a table is a report of its text.
+use Rattle.std.proofs.Common.{◌≡◌, ◌⊎◌, ◌≤◌, ℕ, List, [], ◌∷◌, length, take, true, IfOk, Result, Ok, Err, Some, None, inl, inr, refl, sym, subst, ap, ◌∙◌, ◌==◌, arith}
 use Rattle.std.proofs.lemmas.Bool.{eqb-true}
-use Rattle.std.proofs.lemmas.Bool.Decides.{nat_tests}
-use Rattle.std.proofs.lemmas.List.{take_all}
-use Rattle.book_policy.specs.Rules.{number}
+use Rattle.toml.specs.Data.{Members}
+use Rattle.toml.specs.Parse.{parse_document}
+use Rattle.book_limits.specs.declared.TheConstants.{MAX_POLICY_BYTES}
+use Rattle.book_policy.specs.Rules.{IsFaultOf, IsPolicyOf, number}
 use Rattle.book_policy.specs.declared.faults.PolicyFault.{PolicyFault}
-use Rattle.book_policy.specs.declared.faults.PolicyFault.TheVariants.{NotToml, OtherVersion, BadKey, BadName, NameTwice, UnknownPrincipal, UnknownResource, UnknownPrivilege, TooMany, Memory}
-use Rattle.book_policy_checks.specs.Laws.{HasNumber, LeastIsTold, ToldAreFirst, least_of, order_of, told_of}
-use Rattle.book_policy_checks.specs.Placing.{fault_of, has_none, least, no_faults, noted, pushed}
-use Rattle.book_policy_checks.specs.declared.places.PlacedFault.{PlacedFault}
-use Rattle.book_policy_checks.specs.declared.places.PlacedFaults.{PlacedFaults}
-use Rattle.book_policy_checks.specs.declared.places.TheConstants.{MAX_TOLD}
+use Rattle.book_policy.specs.declared.faults.PolicyFault.TheVariants.{NotToml}
+use Rattle.book_policy.proofs.Agreed.{fault_is, none_policy, policy_none}
+use Rattle.book_policy.proofs.Least.{not_toml}
+use Rattle.book_policy.proofs.RulesDecided.{policy_or_fault}
+use Rattle.book_policy.proofs.Whole.{one_fault, policy_no_fault, text_fault}
+use Rattle.book_policy_values.specs.declared.parts.PolicyTables.{PolicyTables}
+use Rattle.book_policy_faults.specs.Laws.{least_of}
+use Rattle.book_policy_faults.specs.Placing.{has_none, no_faults, noted}
+use Rattle.book_policy_faults.specs.Tables.{faults_in}
+use Rattle.book_policy_faults.specs.declared.places.PlacedFault.{PlacedFault}
+use Rattle.book_policy_faults.specs.declared.places.TheConstants.{MAX_TOLD}
+use Rattle.book_policy_faults.proofs.Told.{told_first}
+use Rattle.book_policy_checks.specs.Laws.{ReportsAgree}
+use Rattle.book_policy_checks.specs.Reports.{IsReportOf, IsTold}
+use Rattle.book_policy_checks.specs.declared.reports.Report.{Report}
+use Rattle.book_policy_checks.specs.declared.reports.Report.TheVariants as report
 
-nothing : {A : Type 0} (xs : List A) → xs ++ [] ≡ xs
-nothing [] = refl
-nothing (x ∷ xs) = ap (λ ys. x ∷ ys) (nothing xs)
+told_of_table : (text : List ℕ) (ms : Members) → length text ≤ MAX_POLICY_BYTES → parse_document text ≡ Some ms → (r : Report) → IsTold ms r → IsReportOf text r
+told_of_table text ms short is report.Sound none = none_policy text ms is short none
+told_of_table text ms short is report.TooLong h = absurd h
+told_of_table text ms short is (report.NotToml place) h = absurd h
+told_of_table text ms short is (report.Faults table told) h = by_fault (policy_or_fault text)
+  where
+    by_fault : ((policy : PolicyTables) × IsPolicyOf text policy) ⊎ ((fault : PolicyFault) × IsFaultOf text fault) → IsReportOf text (report.Faults table told)
+    by_fault (inl p) = absurd (h.2 (policy_none text ms is p.0 p.1))
+    by_fault (inr it) = (
+      short,
+      is ∙ ap Some (sym h.0),
+      h.1 ∙ ap (λ (t : Members). noted no_faults (faults_in t)) (sym h.0),
+      (it.0, it.1, fault_is text ms is short it.0 it.1 ∙ ap least_of (sym h.1)),
+    )
 
-take_front : {A : Type 0} (n : ℕ) (xs ys : List A) → length xs ≡ n → take n (xs ++ ys) ≡ xs
-take_front n xs ys e = ap (λ k. take k (xs ++ ys)) (sym e) ∙ take-append_seam xs ys
+pub told_report : {E : Type 0} (text : List ℕ) (ms : Members) (r : Result Report E) → length text ≤ MAX_POLICY_BYTES → parse_document text ≡ Some ms
+    → IfOk r (IsTold ms) → IfOk r (IsReportOf text)
+told_report text ms (Ok report) short is h = told_of_table text ms short is report h
+told_report text ms (Err e) short is h = tt
 
-length_more : {A : Type 0} (xs : List A) (x : A) → length (xs ++ x ∷ []) ≡ length xs + 1
-length_more [] x = refl
-length_more (y ∷ xs) x = let e = length_more xs x in omega (arith, e)
+pub not_toml_report : (text : List ℕ) → length text ≤ MAX_POLICY_BYTES → parse_document text ≡ None → IsFaultOf text NotToml
+not_toml_report text short none = text_fault text NotToml short (not_toml text none)
 
-abbrev step : List PlacedFault → PlacedFault → List PlacedFault
-step t f = if nat_lt (length t) MAX_TOLD then t ++ f ∷ [] else t
-
-abbrev told_all : List PlacedFault → List PlacedFault → List PlacedFault
-told_all t [] = t
-told_all t (f ∷ fs) = told_all (step t f) fs
-
-told_is : (s : PlacedFaults) (fs : List PlacedFault) → told_of (noted s fs) ≡ told_all s.told fs
-told_is s [] = refl
-told_is s (f ∷ fs) = told_is (pushed s f) fs
-
-below : (n : ℕ) → nat_lt n MAX_TOLD ≡ true → n < MAX_TOLD
-below n h = grind (arith, nat_tests)
-
-not_below : (n : ℕ) → nat_lt n MAX_TOLD ≡ false → MAX_TOLD ≤ n
-not_below n h = grind (arith, nat_tests)
-
-step_in : (t : List PlacedFault) (f : PlacedFault) (b : Bool) → nat_lt (length t) MAX_TOLD ≡ b → step t f ≡ (if b then t ++ f ∷ [] else t)
-step_in t f b e = ap (λ (x : Bool). if x then t ++ f ∷ [] else t) e
-
-told_from : (t fs : List PlacedFault) → length t ≤ MAX_TOLD → told_all t fs ≡ take MAX_TOLD (t ++ fs)
-told_from t [] short = sym (ap (take MAX_TOLD) (nothing t) ∙ take_all MAX_TOLD t short)
-told_from t (f ∷ fs) short = elim (nat_lt (length t) MAX_TOLD) as (λ b. nat_lt (length t) MAX_TOLD ≡ b → told_all (step t f) fs ≡ take MAX_TOLD (t ++ f ∷ fs)) [
-  | true ↦ λ e.
-      let room : length (t ++ f ∷ []) ≤ MAX_TOLD = (let l = length_more t f in let h = below (length t) e in omega (arith, l, h)) in
-      ap (λ (u : List PlacedFault). told_all u fs) (step_in t f true e) ∙ told_from (t ++ f ∷ []) fs room
-      ∙ ap (take MAX_TOLD) (append_assoc t (f ∷ []) fs)
-  | false ↦ λ e.
-      let full : length t ≡ MAX_TOLD = (let h = not_below (length t) e in omega (arith, h, short)) in
-      ap (λ (u : List PlacedFault). told_all u fs) (step_in t f false e) ∙ told_from t fs short
-      ∙ take_front MAX_TOLD t fs full ∙ sym (take_front MAX_TOLD t (f ∷ fs) full)
-] refl
-
-pub told_first : ToldAreFirst
-told_first fs = told_is no_faults fs ∙ told_from [] fs (omega arith)
-
--- where none is told there is none
+-- where none of all is told, there are none
 pub none_told : (fs : List PlacedFault) → has_none (noted no_faults fs) ≡ true → fs ≡ []
 none_told [] none = refl
 none_told (f ∷ fs) none =
     let zero : length (take MAX_TOLD (f ∷ fs)) ≡ 0 = eqb-true (length (take MAX_TOLD (f ∷ fs))) 0 (subst (λ (xs : List PlacedFault). (length xs == 0) ≡ true) (told_first (f ∷ fs)) none) in
     absurd (omega (arith, zero))
 
--- ---- the least
-
-least_left : (m n : ℕ) → least m n ≤ m
-least_left m n = grind (arith, nat_tests)
-
-least_right : (m n : ℕ) → least m n ≤ n
-least_right m n = grind (arith, nat_tests)
-
-least_one : (m n : ℕ) → (least m n ≡ m) ⊎ (least m n ≡ n)
-least_one m n = elim (nat_lt m n) as (λ b. ((if b then m else n) ≡ m) ⊎ ((if b then m else n) ≡ n)) [ true ↦ inl refl | false ↦ inr refl ]
-
-least_all : (s : PlacedFaults) (fs : List PlacedFault) → least_of (noted s fs) ≤ s.least
-least_all s [] = omega arith
-least_all s (f ∷ fs) = let a = least_all (pushed s f) fs in let b = least_left s.least (order_of f) in omega (arith, a, b)
-
-each_after : (s : PlacedFaults) (fs : List PlacedFault) → AllByRecursion (λ f. least_of (noted s fs) ≤ order_of f) fs
-each_after s [] = tt
-each_after s (f ∷ fs) = (
-  (let a = least_all (pushed s f) fs in let b = least_right s.least (order_of f) in omega (arith, a, b)),
-  each_after (pushed s f) fs,
-)
-
-one_after : (s : PlacedFaults) (fs : List PlacedFault) → (least_of (noted s fs) ≡ s.least) ⊎ HasNumber (least_of (noted s fs)) fs
-one_after s [] = inl refl
-one_after s (f ∷ fs) = elim (one_after (pushed s f) fs) [
-  | inr h ↦ inr (inr h)
-  | inl e ↦ elim (least_one s.least (order_of f)) [
-    | inl l ↦ inl (e ∙ l)
-    | inr r ↦ inr (inl (sym (e ∙ r)))
-  ]
-]
-
-number_small : (f : PolicyFault) → number f ≤ 10
-number_small NotToml = omega arith
-number_small OtherVersion = omega arith
-number_small BadKey = omega arith
-number_small BadName = omega arith
-number_small NameTwice = omega arith
-number_small UnknownPrincipal = omega arith
-number_small UnknownResource = omega arith
-number_small UnknownPrivilege = omega arith
-number_small TooMany = omega arith
-number_small Memory = omega arith
-
-some_below : (fs : List PlacedFault) → fs ≢ [] → least_of (noted no_faults fs) ≡ 11 → ⊥
-some_below [] some e = some refl
-some_below (f ∷ fs) some e =
-    let a = (each_after no_faults (f ∷ fs)).0 in let b = number_small (fault_of f.problem) in absurd (omega (arith, a, b, e))
-
-pub least_told : LeastIsTold
-least_told fs = (
-  each_after no_faults fs,
-  λ some. elim (one_after no_faults fs) [ inl e ↦ absurd (some_below fs some e) | inr h ↦ h ],
-)
+pub reports_agree : ReportsAgree
+reports_agree text report.Sound is fault f = policy_no_fault text is.0 fault is.1 f
+reports_agree text report.TooLong is fault f = f.long is
+reports_agree text (report.NotToml place) is fault f = one_fault text fault NotToml f is
+reports_agree text (report.Faults table told) is fault f = ap number (one_fault text fault is.3.0 f is.3.1) ∙ is.3.2

@@ -1,5 +1,5 @@
 -- What is told of a policy's text.
-use Rattle.std.specs.Prelude.{◌≡◌, ◌≢◌, ◌<◌, ◌≤◌, ◌+◌, ℕ, List, [], ◌∷◌, ◌++◌, length, codes, Bool, true, false, ◌==◌, ◌||◌, not, nat_le, nat_lt, if◌then◌else◌, decimal, Some}
+use Rattle.std.specs.Prelude.{◌≡◌, ◌≢◌, ◌<◌, ◌≤◌, ℕ, List, [], ◌∷◌, ◌++◌, length, codes, Bool, true, false, ◌==◌, ◌||◌, not, nat_le, nat_lt, if◌then◌else◌, decimal, Some}
 use Rattle.std.specs.List.{list_any}
 use Rattle.toml.specs.Data.{Members}
 use Rattle.toml.specs.Parse.{parse_document}
@@ -9,11 +9,11 @@ use Rattle.book_policy.specs.Rules.{IsFaultOf, IsPolicyOf, number}
 use Rattle.book_policy.specs.declared.faults.PolicyFault.{PolicyFault}
 use Rattle.book_policy.specs.declared.faults.PolicyFault.TheVariants as names
 use Rattle.book_policy_values.specs.declared.parts.PolicyTables.{PolicyTables}
-use Rattle.book_policy_checks.specs.Placing.{next, no_faults, noted}
-use Rattle.book_policy_checks.specs.Tables.{faults_in}
-use Rattle.book_policy_checks.specs.declared.places.PlacedFault.{PlacedFault}
-use Rattle.book_policy.specs.declared.shapes.TableKind.{TableKind}
-use Rattle.book_policy.specs.declared.shapes.TableKind.TheVariants.{Top, Person, Group, Book, Entry}
+use Rattle.book_policy_faults.specs.Placing.{next, no_faults, noted}
+use Rattle.book_policy_faults.specs.Tables.{faults_in}
+use Rattle.book_policy_faults.specs.declared.places.PlacedFault.{PlacedFault}
+use Rattle.book_policy_faults.specs.declared.places.TableKind.{TableKind}
+use Rattle.book_policy_faults.specs.declared.places.TableKind.TheVariants.{Top, Person, Group, Book, Entry}
 use Rattle.book_policy_checks.specs.declared.reports.NotToml.{NotToml as NotTomlPlace}
 use Rattle.book_policy_checks.specs.declared.reports.Report.{Report}
 use Rattle.book_policy_checks.specs.declared.reports.Report.TheVariants.{Sound, TooLong, NotToml, Faults}

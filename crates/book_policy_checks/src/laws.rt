@@ -1,13 +1,9 @@
-//! Laws of the definitions that the contract of `check_policy` cites.
+//! A law: what `check_policy` tells of a text and what `read_policy` answers agree.
 
-ghost use Rattle.book_policy_checks.specs.Laws.{LeastIsTold, ToldAreFirst};
+ghost use Rattle.book_policy_checks.specs.Laws.{ReportsAgree};
 
-/// A law: the faults that are told are the first 1,000 of all.
-pub fn told_are_first()
-    ensures { ToldAreFirst }
-{}
-
-/// A law: no fault of all is before the least, and where there is a fault one of them is the least.
-pub fn least_is_told()
-    ensures { LeastIsTold }
+/// A law: where a text has a fault (`read_policy` tells it), its report (`check_policy`) isn't that it is sound, and the
+/// least fault that the report tells is that one.
+pub fn reports_agree()
+    ensures { ReportsAgree }
 {}

@@ -6,10 +6,9 @@ ghost use Rattle.toml.specs.View.{table_view};
 ghost use Rattle.book_policy_checks.specs.Reports.{AddsFault, AddsFaults, IsReportOf, IsTextOf, IsTold, is_one_line, is_sound, more_text, place_in};
 ghost use Rattle.book_policy_checks.specs.declared.reports.Report.TheVariants as Report;
 
-use crate::places::{PlacedFault, PlacedFaults};
 use crate::sentences::{head, more_words, not_toml_place, not_toml_words, tail};
-use crate::tables::faults_of;
 use book_limits::MAX_POLICY_BYTES;
+use book_policy_faults::{PlacedFault, PlacedFaults, faults_of};
 use std::alloc::{AllocError, Global};
 use toml::Table;
 

@@ -3,11 +3,9 @@
 ghost use Rattle.std.specs.Prelude.{◌≡◌, ◌++◌, codes, decimal, string_bytes, IfOk};
 ghost use Rattle.book_policy_checks.specs.Reports.{head_text, kind_word, place_text};
 
-use crate::known::{member, rows_of};
-use crate::places::{Key, PlacedFault, Problem};
 use crate::reports::NotToml;
 use book_limits::{MAX_LABEL_BYTES, MAX_MEMBERS, MAX_NAMED, MAX_PRIVILEGE_NAMES};
-use book_policy::TableKind;
+use book_policy_faults::{Key, PlacedFault, Problem, TableKind, member, rows_of};
 use std::alloc::{AllocError, Global};
 use strsim::levenshtein;
 use toml::{Table, Value};

@@ -1,12 +1,14 @@
-use Rattle.book_policy.proofs.Whole.{err_part, ok_part, spelled_shaped}
+use Rattle.std.proofs.Common.{inr}
+use Rattle.toml.specs.View.{table_view}
+use Rattle.book_policy.proofs.Found.{fault_found, policy_is}
 use Rattle.book_policy.proofs.policies.read_policy.Goals as goal
 
-pub returns-in-Ok-clause-policy : goal.returns-in-Ok-clause-policy
-returns-in-Ok-clause-policy c =
-    ok_part c.args.text.now c.in-Ok.parts c.if-text-gt-MAX_POLICY_BYTES.false c.in-Ok.ensures c.policy_of.result
-    (c.policy_of.ensures (spelled_shaped c.args.text.now c.in-Ok.parts c.in-Ok.ensures))
+pub returns-in-Some-clause-policy : goal.returns-in-Some-clause-policy
+returns-in-Some-clause-policy c =
+    policy_is c.args.text.now (table_view c.in-Ok.table) c.if-text-gt-MAX_POLICY_BYTES.false c.in-Ok.ensures.ok c.in-Some.policy
+    (rw c.in-Some.is at c.in_ok-policy.ensures.some)
 
-pub returns-in-Ok-clause-fault : goal.returns-in-Ok-clause-fault
-returns-in-Ok-clause-fault c =
-    err_part c.args.text.now c.in-Ok.parts c.if-text-gt-MAX_POLICY_BYTES.false c.in-Ok.ensures c.policy_of.result
-    (c.policy_of.ensures (spelled_shaped c.args.text.now c.in-Ok.parts c.in-Ok.ensures))
+pub returns-clause-fault : goal.returns-clause-fault
+returns-clause-fault c =
+    inr (fault_found c.args.text.now (table_view c.in-Ok.table) c.if-text-gt-MAX_POLICY_BYTES.false c.in-Ok.ensures.ok c.in_ok-fault_in-in-None.field-0
+    (rw c.in-None.is at c.in_ok-policy.ensures.none) c.in_ok-fault_in-in-None.ensures)

@@ -3,7 +3,7 @@ use Rattle.std.proofs.lemmas.Bool.Decides.{nat_tests}
 use Rattle.std.proofs.lemmas.Str.{is_utf8-from_IsUtf8}
 use Rattle.std.specs.Str.{is_utf8}
 use Rattle.book_limits.specs.declared.TheConstants.{MAX_LABEL_BYTES}
-use Rattle.book_policy.specs.Shapes.{short_label}
+use Rattle.book_policy_faults.specs.Values.{short_label}
 use Rattle.book_policy.proofs.shapes.short_label.Goals as goal
 
 both : (t : List ℕ) (a b : Bool) → a ≡ true → b ≡ true → Some t ≡ cond (a && b) (Some t) None

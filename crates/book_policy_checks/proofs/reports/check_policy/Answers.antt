@@ -2,7 +2,7 @@ use Rattle.std.proofs.Common.{◌≡◌, ◌≤◌, length, Some, None, arith, r
 use Rattle.toml.specs.Parse.{parse_document}
 use Rattle.toml.specs.View.{table_view}
 use Rattle.book_limits.specs.declared.TheConstants.{MAX_POLICY_BYTES}
-use Rattle.book_policy_checks.proofs.Agreed.{not_toml_report, told_report}
+use Rattle.book_policy_checks.proofs.Told.{not_toml_report, told_report}
 use Rattle.book_policy_checks.proofs.reports.check_policy.Goals as goal
 
 pub returns-in-Ok : goal.returns-in-Ok

@@ -1,6 +1,6 @@
 use Rattle.std.proofs.Common.{List, string_bytes, subst}
 use Rattle.book_policy_checks.specs.Reports.{AddsFaults}
-use Rattle.book_policy_checks.specs.declared.places.PlacedFault.{PlacedFault}
+use Rattle.book_policy_faults.specs.declared.places.PlacedFault.{PlacedFault}
 use Rattle.book_policy_checks.proofs.Reported.{all_text}
 use Rattle.book_policy_checks.proofs.reports.faults_text.Goals as goal
 

@@ -1,5 +1,0 @@
-use Rattle.book_policy_checks.proofs.Agreed.{checks_agree}
-use Rattle.book_policy_checks.proofs.agreement.checks_agree.Goals as goal
-
-pub returns : goal.returns
-returns c = checks_agree

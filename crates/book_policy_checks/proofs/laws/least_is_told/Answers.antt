@@ -1,5 +1,0 @@
-use Rattle.book_policy_checks.proofs.Told.{least_told}
-use Rattle.book_policy_checks.proofs.laws.least_is_told.Goals as goal
-
-pub returns : goal.returns
-returns c = least_told

@@ -1,5 +1,0 @@
-use Rattle.book_policy_checks.proofs.Told.{told_first}
-use Rattle.book_policy_checks.proofs.laws.told_are_first.Goals as goal
-
-pub returns : goal.returns
-returns c = told_first

@@ -1,0 +1,7 @@
+pub mod Keys
+pub mod Values
+pub mod Placing
+pub mod Known
+pub mod Problems
+pub mod Tables
+pub mod Laws
