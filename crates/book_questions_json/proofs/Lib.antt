@@ -1,0 +1,5 @@
+pub mod Common
+pub mod Floats
+pub mod ToldFacts
+pub mod ToldHeld
+pub mod ToldWords
