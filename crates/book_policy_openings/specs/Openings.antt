@@ -5,6 +5,11 @@ use Rattle.book_limits.specs.declared.TheConstants.{LAST_NUMBER, MAX_CARDS}
 use Rattle.book_rights.specs.declared.methods.Method.TheVariants as method
 use Rattle.book_policy_values.specs.declared.parts.PolicyTables.{PolicyTables}
 use Rattle.book_office_adopting.specs.Adopting.{adopt}
+use Rattle.book_office_adopting.specs.TakingOver.{bare}
+use Rattle.book_office.specs.Sound.{IsSound}
+use Rattle.book_machine.specs.Adoptions.{HasRoomFor}
+use Rattle.book_machine.specs.declared.adoptions.AdoptFault.{AdoptFault}
+use Rattle.book_machine.specs.declared.adoptions.AdoptFault.TheVariants.{Full, Unavailable}
 use Rattle.book_office_listings.specs.declared.messages.Denial.{Denial}
 use Rattle.book_office.specs.Edits.{apply, empty_office}
 use Rattle.book_office.specs.declared.edits.Edit.{Edit}
@@ -29,9 +34,9 @@ use Rattle.book_policy_openings.specs.declared.steps.Step.{Step}
 abbrev pub trial_card : List ℕ → Edit
 trial_card book = PutCard book (codes "card") None (codes "card")
 
--- an Office that adopted the policy and nothing before it, with that card in a book
-abbrev pub trial_office : PolicyTables → List ℕ → Office
-trial_office t book = apply (adopt t empty_office) (trial_card book)
+-- an Office without its cards, with that card in a book
+abbrev pub trial_office : Office → List ℕ → Office
+trial_office o book = apply (bare o) (trial_card book)
 
 -- what a keeper tells of a book that is there, with how many cards it has: one more has room
 abbrev pub MayHaveMore : Option Node → ℕ → Type 0
@@ -79,10 +84,19 @@ pub record IsOpeningFrom (o : Office) (opening : Opening) : Type 0 where
   pub led : Leads o opening.person opening.first opening.second after
   pub opened : Reads after opening.person opening.book true
 
--- over a policy
+-- in an Office, of which the cards have no part
+abbrev pub IsOpeningIn : Office → Opening → Type 0
+IsOpeningIn o opening = IsOpeningFrom (trial_office o opening.book) opening
+
+-- over a policy: in the Office that it makes of an empty one
 abbrev pub IsOpening : PolicyTables → Opening → Type 0
-IsOpening t opening = IsOpeningFrom (trial_office t opening.book) opening
+IsOpening t opening = IsOpeningIn (adopt t empty_office) opening
 
 -- what is added to openings is such
-abbrev pub AddsOpenings : PolicyTables → List Opening → List Opening → Type 0
-AddsOpenings t old new = All (IsOpening t) old → All (IsOpening t) new
+abbrev pub AddsOpenings : Office → List Opening → List Opening → Type 0
+AddsOpenings o old new = All (IsOpeningIn o) old → All (IsOpeningIn o) new
+
+-- why a policy is not adopted over a sound Office: there is no room for what it makes of it, or memory was refused
+abbrev pub IsRefused : PolicyTables → Office → AdoptFault → Type 0
+IsRefused t o Full = IsSound o → HasRoomFor t o → ⊥
+IsRefused t o Unavailable = Unit {0}

@@ -1,17 +1,21 @@
-//! A keeper in memory, and a machine over it, in the words of the Office that it has.
+//! A keeper in memory, and a machine over it, in the words of the Office that it has. Where that is sound, a read leaves it
+//! as it is and a request is served.
 
-ghost use Rattle.std.specs.Prelude.{◌≡◌, IfOk, OnOk, Some};
+ghost use Rattle.std.specs.Prelude.{◌≡◌, IfErr, IfOk, OnOk, Some};
 ghost use Rattle.book_lists.specs.Memberships.{members_of};
 ghost use Rattle.book_office.specs.Edits.{apply, empty_office};
 ghost use Rattle.book_office.specs.Resources.{count_at, node_at};
 ghost use Rattle.book_office.specs.Sound.{Fits, IsSound};
 ghost use Rattle.book_office_adopting.specs.Adopting.{adopt};
+ghost use Rattle.book_office_adopting.specs.TakingOver.{bare};
 ghost use Rattle.book_machine.specs.Steps.{Serves};
+ghost use Rattle.book_policy_openings.specs.Openings.{IsRefused};
 
 use book_lists::{Name, Pairs, Principal};
 use book_machine::{AdoptFault, Adopted, Machine, Reply, Request};
 use book_office::{Edit, Keeper, MemoryKeeper, Node, StoreFault};
-use book_office_values::Path;
+use book_office_copies::copy_without_cards;
+use book_office_values::{Office, Path};
 use book_policy_values::Policy;
 use std::alloc::Global;
 
@@ -21,9 +25,9 @@ pub(crate) fn members_in(
     keeper: &mut MemoryKeeper,
     group: &Principal,
 ) -> Result<Pairs, StoreFault>
-    requires { IsSound keeper.old }
-    ensures pairs { IfOk result (λ pairs. pairs ≡ members_of keeper.old.pairs group.now) }
-    ensures kept { keeper.new ≡ keeper.old }
+    ensures pairs { IfOk result (λ pairs. IsSound keeper.old
+        → pairs ≡ members_of keeper.old.pairs group.now) }
+    ensures kept { IsSound keeper.old → keeper.new ≡ keeper.old }
 {
     keeper.members(alloc, group)
 }
@@ -34,9 +38,8 @@ pub(crate) fn node_in(
     keeper: &mut MemoryKeeper,
     path: &Path,
 ) -> Result<Option<Node>, StoreFault>
-    requires { IsSound keeper.old }
-    ensures node { IfOk result (λ node. node ≡ node_at keeper.old path.now) }
-    ensures kept { keeper.new ≡ keeper.old }
+    ensures node { IfOk result (λ node. IsSound keeper.old → node ≡ node_at keeper.old path.now) }
+    ensures kept { IsSound keeper.old → keeper.new ≡ keeper.old }
 {
     keeper.find(alloc, path)
 }
@@ -47,11 +50,19 @@ pub(crate) fn count_in(
     keeper: &mut MemoryKeeper,
     path: &Path,
 ) -> Result<usize, StoreFault>
-    requires { IsSound keeper.old }
-    ensures count { IfOk result (λ count. count ≡ count_at keeper.old path.now) }
-    ensures kept { keeper.new ≡ keeper.old }
+    ensures count { IfOk result (λ count. IsSound keeper.old
+        → count ≡ count_at keeper.old path.now) }
+    ensures kept { IsSound keeper.old → keeper.new ≡ keeper.old }
 {
     keeper.count(alloc, path)
+}
+
+/// A copy of the Office, without its cards.
+pub(crate) fn bare_in(alloc: Global, keeper: &mut MemoryKeeper) -> Result<Office, StoreFault>
+    ensures bare { IfOk result (λ office. IsSound keeper.old → office ≡ bare keeper.old) }
+    ensures kept { IsSound keeper.old → keeper.new ≡ keeper.old }
+{
+    copy_without_cards(alloc, keeper)
 }
 
 /// Makes an edit that fits.
@@ -60,10 +71,10 @@ pub(crate) fn act_in(
     keeper: &mut MemoryKeeper,
     edit: &Edit,
 ) -> Result<(), StoreFault>
-    requires sound { IsSound keeper.old }
-    requires fits { Fits keeper.old edit.now }
-    ensures office { OnOk result (keeper.new ≡ apply keeper.old edit.now) }
-    ensures sound { OnOk result (IsSound keeper.new) }
+    ensures office { OnOk result (IsSound keeper.old → Fits keeper.old edit.now
+        → keeper.new ≡ apply keeper.old edit.now) }
+    ensures sound { OnOk result (IsSound keeper.old → Fits keeper.old edit.now
+        → IsSound keeper.new) }
 {
     keeper.act(alloc, edit)
 }
@@ -75,10 +86,9 @@ pub(crate) fn serve_in(
     person: &Name,
     request: &Request,
 ) -> Reply
-    requires { IsSound machine.old.keeper }
-    ensures served { Serves machine.old.keeper
+    ensures served { IsSound machine.old.keeper → Serves machine.old.keeper
         (Some person.now) request.now result machine.new.keeper }
-    ensures sound { IsSound machine.new.keeper }
+    ensures sound { IsSound machine.old.keeper → IsSound machine.new.keeper }
 {
     machine.serve(alloc, Some(person.text()), request)
 }
@@ -89,11 +99,34 @@ fn adopt_in(
     machine: &mut Machine<MemoryKeeper>,
     policy: &Policy,
 ) -> Result<Adopted, AdoptFault>
-    requires { IsSound machine.old.keeper }
-    ensures office { OnOk result (machine.new.keeper ≡ adopt policy.now machine.old.keeper) }
-    ensures sound { OnOk result (IsSound machine.new.keeper) }
+    ensures office { OnOk result (IsSound machine.old.keeper
+        → machine.new.keeper ≡ adopt policy.now machine.old.keeper) }
+    ensures sound { OnOk result (IsSound machine.old.keeper → IsSound machine.new.keeper) }
+    ensures refused { IfErr result (IsRefused policy.now machine.old.keeper) }
 {
     machine.adopt(alloc, policy)
+}
+
+/// A machine over an Office in memory that adopted the policy.
+///
+/// # Errors
+///
+/// `Full` where the Office would pass a limit or its epoch is at the last value, `Unavailable` where memory was refused.
+pub fn adopted_over(
+    alloc: Global,
+    policy: &Policy,
+    start: Office,
+) -> Result<Machine<MemoryKeeper>, AdoptFault>
+    ensures office { IfOk result (λ machine. IsSound start
+        → machine.keeper ≡ adopt policy.now start) }
+    ensures sound { IfOk result (λ machine. IsSound start → IsSound machine.keeper) }
+    ensures refused { IfErr result (IsRefused policy.now start) }
+{
+    let mut machine = Machine::new(MemoryKeeper::from_office(start));
+    match adopt_in(alloc, &mut machine, policy) {
+        Ok(_) => Ok(machine),
+        Err(fault) => Err(fault),
+    }
 }
 
 /// A machine over an empty Office in memory that adopted the policy. An error is want of memory.

@@ -1,8 +1,8 @@
-//! Decisions by the entries of a policy alone. No contract tells them: what they lead to is served before it is told.
+//! Decisions by the entries of an Office's lists. No contract tells them: what they lead to is served before it is told.
 
+use crate::lists::OfficeLists;
 use book_lists::{Circle, Deciders, Entry, Here, Outcome, Principal};
 use book_office_values::{Items, Path, Text};
-use book_policy_values::Policy;
 use book_rights::LeafSet;
 use std::alloc::{AllocError, Global};
 
@@ -24,14 +24,18 @@ pub(crate) struct Place {
     here: Here,
 }
 
-/// The list that stands in place of the own list at a path, or else the one of the policy; none where there is neither.
-fn own_at<'a>(policy: &'a Policy, at: &Text, replaced: &'a [Replaced]) -> Option<&'a Items<Entry>> {
+/// The list that stands in place of the own list at a path, or else the own list; none where there is neither.
+fn own_at<'a>(
+    lists: &'a OfficeLists,
+    at: &Text,
+    replaced: &'a [Replaced],
+) -> Option<&'a Items<Entry>> {
     for one in replaced {
         if one.at == *at {
             return Some(&one.list);
         }
     }
-    policy.own_at(at)
+    lists.own_at(at)
 }
 
 impl Place {
@@ -53,9 +57,9 @@ impl Place {
     }
 
     /// Goes over the protected entries.
-    fn judge_protected(&self, policy: &Policy, circle: &Circle, scan: &mut Deciders) {
+    fn judge_protected(&self, lists: &OfficeLists, circle: &Circle, scan: &mut Deciders) {
         for level in &self.levels {
-            if let Some(list) = policy.protected_at(level) {
+            if let Some(list) = lists.protected_at(level) {
                 scan.judge_over(list.as_slice(), circle, &self.here);
             }
         }
@@ -64,13 +68,13 @@ impl Place {
     /// Goes over the other entries, where these lists stand in place of own lists.
     fn judge_own(
         &self,
-        policy: &Policy,
+        lists: &OfficeLists,
         circle: &Circle,
         replaced: &[Replaced],
         scan: &mut Deciders,
     ) {
         for level in &self.levels {
-            if let Some(list) = own_at(policy, level, replaced) {
+            if let Some(list) = own_at(lists, level, replaced) {
                 scan.judge_over(list.as_slice(), circle, &self.here);
             }
         }
@@ -80,14 +84,14 @@ impl Place {
     /// place of own lists. It looks at each entry once.
     pub(crate) fn grants(
         &self,
-        policy: &Policy,
+        lists: &OfficeLists,
         circle: &Circle,
         set: LeafSet,
         replaced: &[Replaced],
     ) -> bool {
         let mut scan = Deciders::start(set);
-        self.judge_protected(policy, circle, &mut scan);
-        self.judge_own(policy, circle, replaced, &mut scan);
+        self.judge_protected(lists, circle, &mut scan);
+        self.judge_own(lists, circle, replaced, &mut scan);
         matches!(scan.outcome(), Outcome::Allowed)
     }
 }

@@ -1,15 +1,18 @@
 //! The search for openings. What is found is served before it is told; that none is found is no promise.
 
-ghost use Rattle.std.specs.Prelude.{All, IfOk, OnOk};
-ghost use Rattle.book_policy_openings.specs.Openings.{AddsOpenings, IsOpening};
+ghost use Rattle.std.specs.Prelude.{◌≡◌, All, IfOk, OnOk};
+ghost use Rattle.book_office.specs.Sound.{IsSound};
+ghost use Rattle.book_policy_openings.specs.Openings.{AddsOpenings, IsOpening, IsOpeningIn};
 
+use crate::in_memory::{adopted, bare_in};
+use crate::lists::OfficeLists;
+use crate::office_places::{OfficePlaces, State};
 use crate::openings::Opening;
-use crate::policy_places::{PolicyPlaces, State};
 use crate::steps::Step;
 use crate::trials::is_opening;
 use book_lists::{Name, Principal};
-use book_office::StoreFault;
-use book_office_values::Items;
+use book_office::{MemoryKeeper, StoreFault};
+use book_office_values::{Items, Office};
 use book_policy_values::Policy;
 use book_rights::Privilege;
 use std::alloc::{AllocError, Global};
@@ -76,10 +79,10 @@ fn spend(left: &mut usize, count: usize) -> bool {
     true
 }
 
-/// The opening by these steps of the book with an index, where the entries of the policy say that it is one.
+/// The opening by these steps of the book with an index, where the lists say that it is one.
 fn opening_by(
-    policy: &Policy,
-    places: &PolicyPlaces,
+    lists: &OfficeLists,
+    places: &OfficePlaces,
     made: &Made,
     index: usize,
 ) -> Result<Option<Opening>, AllocError> {
@@ -90,7 +93,7 @@ fn opening_by(
     let set = Privilege::Read.leaves();
     if !book
         .card
-        .grants(policy, &after.circle, set, after.replaced.as_slice())
+        .grants(lists, &after.circle, set, after.replaced.as_slice())
     {
         return Ok(None);
     }
@@ -123,15 +126,15 @@ fn keep(
 /// Which of the books stay closed after the steps. The others are found.
 fn opens_each(
     alloc: Global,
-    policy: &Policy,
-    places: &PolicyPlaces,
+    lists: &OfficeLists,
+    places: &OfficePlaces,
     made: &Made,
     closed: &[usize],
     found: &mut Vec<Opening>,
 ) -> Result<Vec<usize>, AllocError> {
     let mut still = Vec::new(alloc);
     for index in closed {
-        let opening = opening_by(policy, places, made, *index)?;
+        let opening = opening_by(lists, places, made, *index)?;
         keep(opening, *index, &mut still, found)?;
     }
     Ok(still)
@@ -140,13 +143,13 @@ fn opens_each(
 /// Which of the books stay closed to a person after any one step. The others are found.
 fn by_one(
     alloc: Global,
-    policy: &Policy,
-    places: &PolicyPlaces,
+    lists: &OfficeLists,
+    places: &OfficePlaces,
     task: &Task,
     search: &mut Search,
 ) -> Result<Vec<usize>, AllocError> {
     let mut still = copies_of(alloc, task.closed.as_slice())?;
-    let steps = places.last_steps(alloc, policy, &task.start)?;
+    let steps = places.last_steps(alloc, lists, &task.start)?;
     for step in &steps {
         if still.is_empty() || !spend(&mut search.left_for_one, places.size()) {
             return Ok(still);
@@ -160,7 +163,7 @@ fn by_one(
         };
         still = opens_each(
             alloc,
-            policy,
+            lists,
             places,
             &made,
             still.as_slice(),
@@ -173,8 +176,8 @@ fn by_one(
 /// Which of the books stay closed to a person after the first step and any other. The others are found.
 fn by_second(
     alloc: Global,
-    policy: &Policy,
-    places: &PolicyPlaces,
+    lists: &OfficeLists,
+    places: &OfficePlaces,
     task: &Task,
     first: &Step,
     closed: &[usize],
@@ -182,7 +185,7 @@ fn by_second(
 ) -> Result<Vec<usize>, AllocError> {
     let mut still = copies_of(alloc, closed)?;
     let between = places.after(alloc, &task.principal, &task.start, first)?;
-    let steps = places.last_steps(alloc, policy, &between)?;
+    let steps = places.last_steps(alloc, lists, &between)?;
     for step in &steps {
         if still.is_empty() || !spend(&mut search.left_for_two, places.size()) {
             return Ok(still);
@@ -196,7 +199,7 @@ fn by_second(
         };
         still = opens_each(
             alloc,
-            policy,
+            lists,
             places,
             &made,
             still.as_slice(),
@@ -209,19 +212,19 @@ fn by_second(
 /// Looks for openings by any two steps, of books that stay closed after any one.
 fn by_two(
     alloc: Global,
-    policy: &Policy,
-    places: &PolicyPlaces,
+    lists: &OfficeLists,
+    places: &OfficePlaces,
     task: &Task,
     closed: Vec<usize>,
     search: &mut Search,
 ) -> Result<(), AllocError> {
     let mut still = closed;
-    let steps = places.first_steps(alloc, policy, &task.start)?;
+    let steps = places.first_steps(alloc, lists, &task.start)?;
     for step in &steps {
         if still.is_empty() || !spend(&mut search.left_for_two, places.size()) {
             return Ok(());
         }
-        still = by_second(alloc, policy, places, task, step, still.as_slice(), search)?;
+        still = by_second(alloc, lists, places, task, step, still.as_slice(), search)?;
     }
     Ok(())
 }
@@ -229,8 +232,8 @@ fn by_two(
 /// Which books are closed to a person before any request.
 fn closed_to(
     alloc: Global,
-    policy: &Policy,
-    places: &PolicyPlaces,
+    lists: &OfficeLists,
+    places: &OfficePlaces,
     start: &State,
 ) -> Result<Vec<usize>, AllocError> {
     let mut closed = Vec::new(alloc);
@@ -238,7 +241,7 @@ fn closed_to(
     for (index, book) in places.books.iter().enumerate() {
         if !book
             .card
-            .grants(policy, &start.circle, set, start.replaced.as_slice())
+            .grants(lists, &start.circle, set, start.replaced.as_slice())
         {
             closed.push(index)?;
         }
@@ -246,16 +249,16 @@ fn closed_to(
     Ok(closed)
 }
 
-/// A person of the policy, and the books that are closed to them.
+/// A person, and the books that are closed to them.
 fn task_of(
     alloc: Global,
-    policy: &Policy,
-    places: &PolicyPlaces,
+    lists: &OfficeLists,
+    places: &OfficePlaces,
     name: &Name,
 ) -> Result<Task, AllocError> {
     let principal = Principal::person(alloc, name)?;
     let start = places.start(alloc, &principal)?;
-    let closed = closed_to(alloc, policy, places, &start)?;
+    let closed = closed_to(alloc, lists, places, &start)?;
     Ok(Task {
         person: name.clone()?,
         principal,
@@ -264,32 +267,42 @@ fn task_of(
     })
 }
 
-/// What the entries of the policy say are openings, person by person: by one request, and then by two.
-fn found_of(alloc: Global, policy: &Policy) -> Result<Vec<Opening>, AllocError> {
-    let places = PolicyPlaces::of(alloc, policy)?;
+/// What the lists of an Office say are openings, person by person: by one request, and then by two.
+fn found_of(alloc: Global, office: &Office) -> Result<Vec<Opening>, AllocError> {
+    let lists = OfficeLists::of(alloc, office)?;
+    let places = OfficePlaces::of(alloc, office)?;
     let mut search = Search {
         found: Vec::new(alloc),
         left_for_one: MOST_DECISIONS,
         left_for_two: MOST_DECISIONS,
     };
     for name in &places.persons {
-        let task = task_of(alloc, policy, &places, name)?;
-        let closed = by_one(alloc, policy, &places, &task, &mut search)?;
-        by_two(alloc, policy, &places, &task, closed, &mut search)?;
+        let task = task_of(alloc, &lists, &places, name)?;
+        let closed = by_one(alloc, &lists, &places, &task, &mut search)?;
+        by_two(alloc, &lists, &places, &task, closed, &mut search)?;
     }
     Ok(search.found)
+}
+
+/// The same of the Office that a keeper has. Nothing changes.
+fn found_in(alloc: Global, start: &mut MemoryKeeper) -> Result<Vec<Opening>, StoreFault>
+    ensures { IsSound start.old → start.new ≡ start.old }
+{
+    let office = bare_in(alloc, start)?;
+    Ok(found_of(alloc, &office)?)
 }
 
 /// Adds an opening, where it is served.
 fn add_served(
     alloc: Global,
-    policy: &Policy,
+    start: &mut MemoryKeeper,
     opening: Opening,
     told: &mut Items<Opening>,
 ) -> Result<(), StoreFault>
-    ensures { OnOk result (AddsOpenings policy.now told.old told.new) }
+    ensures added { OnOk result (IsSound start.old → AddsOpenings start.old told.old told.new) }
+    ensures kept { IsSound start.old → start.new ≡ start.old }
 {
-    let opens = is_opening(alloc, policy, &opening)?;
+    let opens = is_opening(alloc, start, &opening)?;
     if !opens {
         return Ok(());
     }
@@ -297,13 +310,30 @@ fn add_served(
     Ok(())
 }
 
-/// Openings of a policy (own profile): for each person and each book that is closed to them one, where it is found, person
-/// by person. That none is told of a person and a book is no promise.
+/// Openings in an Office in memory (own profile): for each person and each book that is closed to them one, where it is
+/// found, person by person. That none is told of a person and a book is no promise. The Office stays as it is.
 ///
 /// One request is looked for first, and then two: PROPPATCH of a group's members, to which the person adds themselves, and
 /// ACL at a book, at the home of the books, at the root, and as the first of two at a group or at their home. At most 1,000
 /// openings are looked for, and for one request and for two each at most 1,000,000 decisions are taken, so that more may be
-/// left. Each is served over the policy, adopted in memory, before it is told.
+/// left. Each is served over a copy of the Office without its cards before it is told.
+///
+/// # Errors
+///
+/// Want of memory.
+pub fn openings_in(alloc: Global, start: &mut MemoryKeeper) -> Result<Items<Opening>, StoreFault>
+    ensures told { IfOk result (λ told. IsSound start.old → All (IsOpeningIn start.old) told) }
+    ensures kept { IsSound start.old → start.new ≡ start.old }
+{
+    let found = found_in(alloc, start)?;
+    let mut told = Items::new(alloc);
+    for opening in found {
+        add_served(alloc, start, opening, &mut told)?;
+    }
+    Ok(told)
+}
+
+/// Openings of a policy (own profile): those in the Office that it makes of an empty one (`openings_in`).
 ///
 /// # Errors
 ///
@@ -311,10 +341,6 @@ fn add_served(
 pub fn openings_of(alloc: Global, policy: &Policy) -> Result<Items<Opening>, StoreFault>
     ensures { IfOk result (λ told. All (IsOpening policy.now) told) }
 {
-    let found = found_of(alloc, policy)?;
-    let mut told = Items::new(alloc);
-    for opening in found {
-        add_served(alloc, policy, opening, &mut told)?;
-    }
-    Ok(told)
+    let mut machine = adopted(alloc, policy)?;
+    openings_in(alloc, &mut machine.keeper)
 }

@@ -68,9 +68,9 @@ fn members_and(
     group: &Principal,
     person: &Principal,
 ) -> Result<Items<Principal>, StoreFault>
-    requires { IsSound keeper.old }
-    ensures members { IfOk result (AreMembersAnd keeper.old group.now person.now) }
-    ensures kept { keeper.new ≡ keeper.old }
+    ensures members { IfOk result (λ members. IsSound keeper.old
+        → AreMembersAnd keeper.old group.now person.now members) }
+    ensures kept { IsSound keeper.old → keeper.new ≡ keeper.old }
 {
     let pairs = members_in(alloc, keeper, group)?;
     Ok(listed_and(alloc, &pairs, person)?)
@@ -99,9 +99,9 @@ fn join_request(
     person: &Name,
     group: &Name,
 ) -> Result<Request, StoreFault>
-    requires { IsSound keeper.old }
-    ensures request { IfOk result (IsJoin keeper.old person.now group.now) }
-    ensures kept { keeper.new ≡ keeper.old }
+    ensures request { IfOk result (λ request. IsSound keeper.old
+        → IsJoin keeper.old person.now group.now request) }
+    ensures kept { IsSound keeper.old → keeper.new ≡ keeper.old }
 {
     let who = Principal::person(alloc, person)?;
     let to = Principal::group(alloc, group)?;
@@ -129,9 +129,9 @@ pub(crate) fn request_of(
     person: &Name,
     step: &Step,
 ) -> Result<Request, StoreFault>
-    requires { IsSound keeper.old }
-    ensures request { IfOk result (IsRequestOf keeper.old person.now step.now) }
-    ensures kept { keeper.new ≡ keeper.old }
+    ensures request { IfOk result (λ request. IsSound keeper.old
+        → IsRequestOf keeper.old person.now step.now request) }
+    ensures kept { IsSound keeper.old → keeper.new ≡ keeper.old }
 {
     match step {
         Step::Join(group) => join_request(alloc, keeper, person, group),

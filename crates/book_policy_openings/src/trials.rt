@@ -1,4 +1,4 @@
-//! Trials: a policy is adopted in memory, and requests are served over it.
+//! Trials: requests are served over a copy of an Office in memory.
 
 ghost use Rattle.std.specs.Prelude.{◌≡◌, IfOk, IfSome, IsTrue, OnOk, codes, false, true};
 ghost use Rattle.std.specs.Str.{IsUtf8};
@@ -6,9 +6,9 @@ ghost use Rattle.book_lists.specs.Names.{IsName};
 ghost use Rattle.book_office.specs.Edits.{apply};
 ghost use Rattle.book_office.specs.Resources.{count_at, node_at};
 ghost use Rattle.book_office.specs.Sound.{IsSound};
-ghost use Rattle.book_policy_openings.specs.Openings.{Acts, AnswersRead, HasRoomIn, IsDenial, IsOpening, IsOpeningFrom, Leads, MayHaveMore, Reads, read_card, trial_card, trial_office};
+ghost use Rattle.book_policy_openings.specs.Openings.{Acts, AnswersRead, HasRoomIn, IsDenial, IsOpeningFrom, IsOpeningIn, Leads, MayHaveMore, Reads, read_card, trial_card, trial_office};
 
-use crate::in_memory::{act_in, adopted, count_in, node_in, serve_in};
+use crate::in_memory::{act_in, bare_in, count_in, node_in, serve_in};
 use crate::openings::Opening;
 use crate::steps::{Step, plain, request_of};
 use book_limits::{LAST_NUMBER, MAX_CARDS};
@@ -16,7 +16,6 @@ use book_lists::Name;
 use book_machine::{Body, Content, Machine, Refusal, Reply, Request, refusals_change_nothing};
 use book_office::{Edit, MemoryKeeper, Node, StoreFault, edits_within_the_limits_fit};
 use book_office_values::{Path, Text};
-use book_policy_values::Policy;
 use book_rights::Method;
 use std::alloc::{AllocError, Global};
 
@@ -86,10 +85,9 @@ fn may_have_more(node: &Option<Node>, count: usize) -> bool
 
 /// Whether a book is at a path, and has room for one card more.
 fn room_at(alloc: Global, keeper: &mut MemoryKeeper, path: &Path) -> Result<bool, StoreFault>
-    requires { IsSound keeper.old }
-    ensures room { IfOk result (λ room. IsTrue room
+    ensures room { IfOk result (λ room. IsTrue room → IsSound keeper.old
         → MayHaveMore (node_at keeper.old path.now) (count_at keeper.old path.now)) }
-    ensures kept { keeper.new ≡ keeper.old }
+    ensures kept { IsSound keeper.old → keeper.new ≡ keeper.old }
 {
     let node = node_in(alloc, keeper, path)?;
     let count = count_in(alloc, keeper, path)?;
@@ -98,9 +96,9 @@ fn room_at(alloc: Global, keeper: &mut MemoryKeeper, path: &Path) -> Result<bool
 
 /// Whether a book is there, and has room for a card.
 fn has_room(alloc: Global, keeper: &mut MemoryKeeper, book: &Name) -> Result<bool, StoreFault>
-    requires { IsSound keeper.old }
-    ensures room { IfOk result (λ room. IsTrue room → HasRoomIn keeper.old book.now) }
-    ensures kept { keeper.new ≡ keeper.old }
+    ensures room { IfOk result (λ room. IsTrue room → IsSound keeper.old
+        → HasRoomIn keeper.old book.now) }
+    ensures kept { IsSound keeper.old → keeper.new ≡ keeper.old }
 {
     let path = Path::Book(book.clone()?);
     room_at(alloc, keeper, &path)
@@ -112,10 +110,9 @@ fn put_card(
     machine: &mut Machine<MemoryKeeper>,
     book: &Name,
 ) -> Result<(), StoreFault>
-    requires { IsSound machine.old.keeper }
-    ensures office { OnOk result (machine.new.keeper ≡ apply machine.old.keeper
-        (trial_card book.now)) }
-    ensures sound { OnOk result (IsSound machine.new.keeper) }
+    ensures office { OnOk result (IsSound machine.old.keeper
+        → machine.new.keeper ≡ apply machine.old.keeper (trial_card book.now)) }
+    ensures sound { OnOk result (IsSound machine.old.keeper → IsSound machine.new.keeper) }
 {
     let room = has_room(alloc, &mut machine.keeper, book)?;
     if !room {
@@ -126,12 +123,19 @@ fn put_card(
     act_in(alloc, &mut machine.keeper, &edit)
 }
 
-/// A machine over an Office in memory that adopted the policy, with a card in the book.
-fn trial(alloc: Global, policy: &Policy, book: &Name) -> Result<Machine<MemoryKeeper>, StoreFault>
-    ensures office { IfOk result (λ machine. machine.keeper ≡ trial_office policy.now book.now) }
-    ensures sound { IfOk result (λ machine. IsSound machine.keeper) }
+/// A machine over a copy of the Office without its cards, with a card in the book.
+fn trial(
+    alloc: Global,
+    start: &mut MemoryKeeper,
+    book: &Name,
+) -> Result<Machine<MemoryKeeper>, StoreFault>
+    ensures office { IfOk result (λ machine. IsSound start.old
+        → machine.keeper ≡ trial_office start.old book.now) }
+    ensures sound { IfOk result (λ machine. IsSound start.old → IsSound machine.keeper) }
+    ensures kept { IsSound start.old → start.new ≡ start.old }
 {
-    let mut machine = adopted(alloc, policy)?;
+    let office = bare_in(alloc, start)?;
+    let mut machine = Machine::new(MemoryKeeper::from_office(office));
     put_card(alloc, &mut machine, book)?;
     Ok(machine)
 }
@@ -193,9 +197,10 @@ fn may_read(
     person: &Name,
     book: &Name,
 ) -> Result<bool, StoreFault>
-    requires { IsSound machine.old.keeper }
-    ensures told { IfOk result (Reads machine.old.keeper person.now book.now) }
-    ensures kept { OnOk result (machine.new.keeper ≡ machine.old.keeper) }
+    ensures told { IfOk result (λ may. IsSound machine.old.keeper
+        → Reads machine.old.keeper person.now book.now may) }
+    ensures kept { OnOk result (IsSound machine.old.keeper
+        → machine.new.keeper ≡ machine.old.keeper) }
 {
     refusals_change_nothing();
     let request = read_card(alloc, book)?;
@@ -213,10 +218,9 @@ fn acts(
     person: &Name,
     step: &Step,
 ) -> Result<bool, StoreFault>
-    requires { IsSound machine.old.keeper }
-    ensures acted { IfOk result (λ acted. IsTrue acted
+    ensures acted { IfOk result (λ acted. IsTrue acted → IsSound machine.old.keeper
         → Acts machine.old.keeper person.now step.now machine.new.keeper) }
-    ensures sound { OnOk result (IsSound machine.new.keeper) }
+    ensures sound { OnOk result (IsSound machine.old.keeper → IsSound machine.new.keeper) }
 {
     let request = request_of(alloc, &mut machine.keeper, person, step)?;
     let reply = serve_in(alloc, machine, person, &request);
@@ -234,10 +238,9 @@ fn leads(
     first: &Step,
     second: &Option<Step>,
 ) -> Result<bool, StoreFault>
-    requires { IsSound machine.old.keeper }
-    ensures led { IfOk result (λ led. IsTrue led
+    ensures led { IfOk result (λ led. IsTrue led → IsSound machine.old.keeper
         → Leads machine.old.keeper person.now first.now second.now machine.new.keeper) }
-    ensures sound { OnOk result (IsSound machine.new.keeper) }
+    ensures sound { OnOk result (IsSound machine.old.keeper → IsSound machine.new.keeper) }
 {
     let acted = acts(alloc, machine, person, first)?;
     if !acted {
@@ -255,8 +258,8 @@ fn opens_from(
     machine: &mut Machine<MemoryKeeper>,
     opening: &Opening,
 ) -> Result<bool, StoreFault>
-    requires { IsSound machine.old.keeper }
-    ensures { IfOk result (λ opens. IsTrue opens → IsOpeningFrom machine.old.keeper opening.now) }
+    ensures { IfOk result (λ opens. IsTrue opens → IsSound machine.old.keeper
+        → IsOpeningFrom machine.old.keeper opening.now) }
 {
     let open = may_read(alloc, machine, &opening.person, &opening.book)?;
     if open {
@@ -275,15 +278,17 @@ fn opens_from(
     may_read(alloc, machine, &opening.person, &opening.book)
 }
 
-/// Whether an opening is one: the person may not read the card of the book, their requests are served with success, and
-/// then they may.
+/// Whether an opening is one in the Office: the person may not read the card of the book, their requests are served with
+/// success, and then they may. The Office stays as it is.
 pub(crate) fn is_opening(
     alloc: Global,
-    policy: &Policy,
+    start: &mut MemoryKeeper,
     opening: &Opening,
 ) -> Result<bool, StoreFault>
-    ensures { IfOk result (λ opens. IsTrue opens → IsOpening policy.now opening.now) }
+    ensures opens { IfOk result (λ opens. IsTrue opens → IsSound start.old
+        → IsOpeningIn start.old opening.now) }
+    ensures kept { IsSound start.old → start.new ≡ start.old }
 {
-    let mut machine = trial(alloc, policy, &opening.book)?;
+    let mut machine = trial(alloc, start, &opening.book)?;
     opens_from(alloc, &mut machine, opening)
 }

@@ -1,11 +1,12 @@
-use Rattle.std.proofs.Common.{sym, subst}
+use Rattle.std.proofs.Common.{subst}
 use Rattle.std.specs.Prelude.{All}
-use Rattle.std.proofs.lemmas.List.Elements.{All-nil}
-use Rattle.book_policy_openings.specs.Openings.{IsOpening}
+use Rattle.std.proofs.lemmas.Result.{IfOk-weaker}
+use Rattle.book_office_values.specs.declared.offices.Office.{Office}
+use Rattle.book_policy_openings.specs.Openings.{IsOpeningIn}
 use Rattle.book_policy_openings.proofs.searching.openings_of.Goals as goal
 
-pub loop-opening-init : goal.loop-opening-init
-loop-opening-init c = subst (All (IsOpening c.args.policy.now)) (sym c.new-told.ensures) (All-nil (IsOpening c.args.policy.now))
-
-pub loop-opening-preserved : goal.loop-opening-preserved
-loop-opening-preserved c = c.in_ok-add_served.ensures c.loop-opening.invariant
+pub returns : goal.returns
+returns c =
+    IfOk-weaker c.openings_in.result _ _
+    (λ told are. subst (λ (o : Office). All (IsOpeningIn o) told) c.in_ok-machine.ensures.office (are c.in_ok-machine.ensures.sound))
+    c.openings_in.ensures.told

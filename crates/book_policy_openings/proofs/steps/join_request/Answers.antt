@@ -8,11 +8,11 @@ use Rattle.book_policy_openings.specs.Steps.{AreMembersAnd, plain}
 use Rattle.book_policy_openings.proofs.steps.join_request.Goals as goal
 
 pub returns-clause-request : goal.returns-clause-request
-returns-clause-request c =
+returns-clause-request c = λ sound.
     let o = c.args.keeper.now in
     let members = c.in_ok-members.members in (
       members,
       subst (λ (g : List ℕ). AreMembersAnd o g (person_path c.args.person.now) members) c.in_ok-to.ensures
-          (subst (λ (p : List ℕ). AreMembersAnd o c.in_ok-to.to p members) c.in_ok-who.ensures c.in_ok-members.ensures.members),
+          (subst (λ (p : List ℕ). AreMembersAnd o c.in_ok-to.to p members) c.in_ok-who.ensures (c.in_ok-members.ensures.members sound)),
       c.plain.ensures ∙ ap (λ (g : List ℕ). plain method.Proppatch (path.Group g) (body.Patch (GroupMembers members))) c.in_ok-clone.ensures.cases,
     )

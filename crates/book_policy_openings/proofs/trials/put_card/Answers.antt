@@ -1,15 +1,17 @@
-use Rattle.std.proofs.Common.{sym, subst}
-use Rattle.book_office.specs.Sound.{Fits, IsSound}
-use Rattle.book_office_values.specs.declared.offices.Office.{Office}
-use Rattle.book_policy_openings.proofs.CardRooms.{card_fits}
+use Rattle.book_policy_openings.proofs.CardRooms.{card_fits, card_made, card_sound}
+use Rattle.book_policy_openings.specs.Openings.{trial_card}
 use Rattle.book_policy_openings.proofs.trials.put_card.Goals as goal
 
-pub act_in-requires-clause-fits : goal.act_in-requires-clause-fits
-act_in-requires-clause-fits c =
-    subst (λ (o : Office). Fits o c.in_ok-edit.edit) (sym c.in_ok-room.ensures.kept)
-    (subst (Fits c.args.machine.now.keeper) (sym c.in_ok-edit.ensures.edit)
-    (card_fits c.edits_within_the_limits_fit.ensures.put_card c.args.machine.now.keeper c.args.book.now c.requires
-    (c.in_ok-room.ensures.room c.if-not-room.false) c.in_ok-edit.ensures.is_name c.in_ok-edit.ensures.is_text))
+pub returns-clause-office : goal.returns-clause-office
+returns-clause-office c =
+    let o = c.args.machine.now.keeper in
+    card_made o c.has_room.new.keeper c.act_in.new.keeper c.in_ok-edit.edit (trial_card c.args.book.now) c.act_in.result c.in_ok-room.ensures.kept c.in_ok-edit.ensures.edit
+    (λ sound. card_fits c.edits_within_the_limits_fit.ensures.put_card o c.args.book.now sound (c.in_ok-room.ensures.room c.if-not-room.false sound) c.in_ok-edit.ensures.is_name c.in_ok-edit.ensures.is_text)
+    c.act_in.ensures.office
 
-pub act_in-requires-clause-sound : goal.act_in-requires-clause-sound
-act_in-requires-clause-sound c = subst IsSound (sym c.in_ok-room.ensures.kept) c.requires
+pub returns-clause-sound : goal.returns-clause-sound
+returns-clause-sound c =
+    let o = c.args.machine.now.keeper in
+    card_sound o c.has_room.new.keeper c.act_in.new.keeper c.in_ok-edit.edit (trial_card c.args.book.now) c.act_in.result c.in_ok-room.ensures.kept c.in_ok-edit.ensures.edit
+    (λ sound. card_fits c.edits_within_the_limits_fit.ensures.put_card o c.args.book.now sound (c.in_ok-room.ensures.room c.if-not-room.false sound) c.in_ok-edit.ensures.is_name c.in_ok-edit.ensures.is_text)
+    c.act_in.ensures.sound

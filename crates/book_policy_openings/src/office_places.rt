@@ -1,14 +1,14 @@
-//! What a policy has: its groups and books, with their places, and who is in which group.
+//! What an Office has: its groups and books, with their places, and who is in which group.
 
+use crate::lists::OfficeLists;
 use crate::places::{Place, Replaced};
 use crate::steps::Step;
 use book_lists::{Caller, Circle, Entry, Name, Pairs, Principal, Who, closure, reached_in};
-use book_office_values::{Items, Path, Text};
-use book_policy_values::{Policy, PolicyBook};
+use book_office_values::{Items, Office, Path, Properties, Text};
 use book_rights::{Leaf, LeafSet, Privilege};
 use std::alloc::{AllocError, Global};
 
-/// A group of the policy.
+/// A group.
 #[derive(Drop)]
 pub(crate) struct GroupPlace {
     /// Its name.
@@ -19,7 +19,7 @@ pub(crate) struct GroupPlace {
     pub(crate) place: Place,
 }
 
-/// A book of the policy.
+/// A book.
 #[derive(Drop)]
 pub(crate) struct BookPlace {
     /// Its name.
@@ -32,7 +32,7 @@ pub(crate) struct BookPlace {
 
 /// What the search looks at.
 #[derive(Drop)]
-pub(crate) struct PolicyPlaces {
+pub(crate) struct OfficePlaces {
     /// The groups and whoever chains of memberships lead to.
     reach: Pairs,
     /// The bare names of the persons.
@@ -64,26 +64,26 @@ fn bare_place(alloc: Global, path: &Path) -> Result<Place, AllocError> {
 }
 
 /// A copy of an owner, if there is one.
-fn owner_of(book: &PolicyBook) -> Result<Option<Principal>, AllocError> {
-    match &book.owner {
+fn owner_of(properties: &Properties) -> Result<Option<Principal>, AllocError> {
+    match &properties.owner {
         Some(owner) => Ok(Some(owner.clone()?)),
         None => Ok(None),
     }
 }
 
 /// A group.
-fn group_place(alloc: Global, name: &Name) -> Result<GroupPlace, AllocError> {
+fn group_place(alloc: Global, name: &Name, group: &Properties) -> Result<GroupPlace, AllocError> {
     let principal = Principal::group(alloc, name)?;
     let path = Path::Group(name.clone()?);
     Ok(GroupPlace {
         name: name.clone()?,
-        place: Place::new(alloc, &path, None, Some(principal.clone()?))?,
+        place: Place::new(alloc, &path, owner_of(group)?, Some(principal.clone()?))?,
         principal,
     })
 }
 
 /// A book.
-fn book_place(alloc: Global, name: &Name, book: &PolicyBook) -> Result<BookPlace, AllocError> {
+fn book_place(alloc: Global, name: &Name, book: &Properties) -> Result<BookPlace, AllocError> {
     let path = Path::Book(name.clone()?);
     Ok(BookPlace {
         name: name.clone()?,
@@ -92,31 +92,36 @@ fn book_place(alloc: Global, name: &Name, book: &PolicyBook) -> Result<BookPlace
     })
 }
 
-/// The bare names of the persons of the policy.
-fn persons_of(alloc: Global, policy: &Policy) -> Result<Vec<Name>, AllocError> {
+/// The bare names of the persons.
+fn persons_of(alloc: Global, office: &Office) -> Result<Vec<Name>, AllocError> {
     let mut persons = Vec::new(alloc);
-    for (name, _label) in policy.tables().persons.iter() {
+    for (name, _person) in office.persons.iter() {
         persons.push(name.clone()?)?;
     }
     Ok(persons)
 }
 
-/// The groups of the policy.
-fn group_places(alloc: Global, policy: &Policy) -> Result<Vec<GroupPlace>, AllocError> {
+/// The groups.
+fn group_places(alloc: Global, office: &Office) -> Result<Vec<GroupPlace>, AllocError> {
     let mut places = Vec::new(alloc);
-    for (name, _label) in policy.tables().groups.iter() {
-        places.push(group_place(alloc, name)?)?;
+    for (name, group) in office.groups.iter() {
+        places.push(group_place(alloc, name, group)?)?;
     }
     Ok(places)
 }
 
-/// The books of the policy.
-fn book_places(alloc: Global, policy: &Policy) -> Result<Vec<BookPlace>, AllocError> {
+/// The books.
+fn book_places(alloc: Global, office: &Office) -> Result<Vec<BookPlace>, AllocError> {
     let mut shelves = Vec::new(alloc);
-    for (name, book) in policy.tables().books.iter() {
-        shelves.push(book_place(alloc, name, book)?)?;
+    for (name, book) in office.books.iter() {
+        shelves.push(book_place(alloc, name, &book.properties)?)?;
     }
     Ok(shelves)
+}
+
+/// The root or a home, which is no principal.
+fn home_place(alloc: Global, path: &Path, home: &Properties) -> Result<Place, AllocError> {
+    Place::new(alloc, path, owner_of(home)?, None)
 }
 
 /// The leaf alone.
@@ -148,17 +153,17 @@ fn copies_of(alloc: Global, replaced: &[Replaced]) -> Result<Vec<Replaced>, Allo
     Ok(copies)
 }
 
-impl PolicyPlaces {
-    /// What the policy has. An error is want of memory.
-    pub(crate) fn of(alloc: Global, policy: &Policy) -> Result<PolicyPlaces, AllocError> {
-        Ok(PolicyPlaces {
-            reach: closure(&policy.tables().members)?,
-            persons: persons_of(alloc, policy)?,
-            groups: group_places(alloc, policy)?,
-            books: book_places(alloc, policy)?,
-            root: bare_place(alloc, &Path::Root)?,
-            groups_home: bare_place(alloc, &Path::Groups)?,
-            books_home: bare_place(alloc, &Path::Books)?,
+impl OfficePlaces {
+    /// What the Office has. An error is want of memory.
+    pub(crate) fn of(alloc: Global, office: &Office) -> Result<OfficePlaces, AllocError> {
+        Ok(OfficePlaces {
+            reach: closure(&office.pairs)?,
+            persons: persons_of(alloc, office)?,
+            groups: group_places(alloc, office)?,
+            books: book_places(alloc, office)?,
+            root: home_place(alloc, &Path::Root, &office.root)?,
+            groups_home: home_place(alloc, &Path::Groups, &office.groups_home)?,
+            books_home: home_place(alloc, &Path::Books, &office.books_home)?,
         })
     }
 
@@ -176,7 +181,7 @@ impl PolicyPlaces {
         })
     }
 
-    /// To what a person belongs who was added to a group. Each group of the policy is looked up once.
+    /// To what a person belongs who was added to a group. Each group is looked up once.
     fn joined(
         &self,
         alloc: Global,
@@ -230,14 +235,14 @@ impl PolicyPlaces {
     /// Adds the step that replaces a list, where the person may.
     fn add_grant(
         &self,
-        policy: &Policy,
+        lists: &OfficeLists,
         state: &State,
         place: &Place,
         path: Path,
         steps: &mut Vec<Step>,
     ) -> Result<(), AllocError> {
         let set = only(Leaf::WriteAcl);
-        if place.grants(policy, &state.circle, set, state.replaced.as_slice()) {
+        if place.grants(lists, &state.circle, set, state.replaced.as_slice()) {
             steps.push(Step::Grant(path))?;
         }
         Ok(())
@@ -246,36 +251,36 @@ impl PolicyPlaces {
     /// Adds the steps that replace lists at books and above them.
     fn add_book_grants(
         &self,
-        policy: &Policy,
+        lists: &OfficeLists,
         state: &State,
         steps: &mut Vec<Step>,
     ) -> Result<(), AllocError> {
         for book in &self.books {
             let path = Path::Book(book.name.clone()?);
-            self.add_grant(policy, state, &book.place, path, steps)?;
+            self.add_grant(lists, state, &book.place, path, steps)?;
         }
-        self.add_grant(policy, state, &self.books_home, Path::Books, steps)?;
-        self.add_grant(policy, state, &self.root, Path::Root, steps)
+        self.add_grant(lists, state, &self.books_home, Path::Books, steps)?;
+        self.add_grant(lists, state, &self.root, Path::Root, steps)
     }
 
     /// Adds the steps that replace lists at groups and at their home.
     fn add_group_grants(
         &self,
-        policy: &Policy,
+        lists: &OfficeLists,
         state: &State,
         steps: &mut Vec<Step>,
     ) -> Result<(), AllocError> {
         for group in &self.groups {
             let path = Path::Group(group.name.clone()?);
-            self.add_grant(policy, state, &group.place, path, steps)?;
+            self.add_grant(lists, state, &group.place, path, steps)?;
         }
-        self.add_grant(policy, state, &self.groups_home, Path::Groups, steps)
+        self.add_grant(lists, state, &self.groups_home, Path::Groups, steps)
     }
 
     /// Adds the steps that add the person to a group.
     fn add_joins(
         &self,
-        policy: &Policy,
+        lists: &OfficeLists,
         state: &State,
         steps: &mut Vec<Step>,
     ) -> Result<(), AllocError> {
@@ -283,7 +288,7 @@ impl PolicyPlaces {
         for group in &self.groups {
             let replaced = state.replaced.as_slice();
             if !state.circle.has(&group.principal)
-                && group.place.grants(policy, &state.circle, set, replaced)
+                && group.place.grants(lists, &state.circle, set, replaced)
             {
                 steps.push(Step::Join(group.name.clone()?))?;
             }
@@ -295,12 +300,12 @@ impl PolicyPlaces {
     pub(crate) fn last_steps(
         &self,
         alloc: Global,
-        policy: &Policy,
+        lists: &OfficeLists,
         state: &State,
     ) -> Result<Vec<Step>, AllocError> {
         let mut steps = Vec::new(alloc);
-        self.add_joins(policy, state, &mut steps)?;
-        self.add_book_grants(policy, state, &mut steps)?;
+        self.add_joins(lists, state, &mut steps)?;
+        self.add_book_grants(lists, state, &mut steps)?;
         Ok(steps)
     }
 
@@ -308,11 +313,11 @@ impl PolicyPlaces {
     pub(crate) fn first_steps(
         &self,
         alloc: Global,
-        policy: &Policy,
+        lists: &OfficeLists,
         state: &State,
     ) -> Result<Vec<Step>, AllocError> {
-        let mut steps = self.last_steps(alloc, policy, state)?;
-        self.add_group_grants(policy, state, &mut steps)?;
+        let mut steps = self.last_steps(alloc, lists, state)?;
+        self.add_group_grants(lists, state, &mut steps)?;
         Ok(steps)
     }
 }
