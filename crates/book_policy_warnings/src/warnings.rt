@@ -1,20 +1,20 @@
 //! Warnings, and the line that tells each.
 
-ghost use Rattle.std.specs.Prelude.{◌≡◌, ◌++◌, IfOk, OnOk, string_bytes, ◌-◌};
+ghost use Rattle.std.specs.Prelude.{◌≡◌, ◌++◌, IfErr, IfOk, OnOk, string_bytes, ◌-◌};
 ghost use Rattle.book_lists.specs.Principals.{group_path, person_path};
-ghost use Rattle.book_office.specs.Edits.{empty_office};
 ghost use Rattle.book_office.specs.Sound.{IsSound};
-ghost use Rattle.book_office_adopting.specs.Adopting.{adopt};
 ghost use Rattle.book_policy_gaps.specs.Finding.{AreGaps};
-ghost use Rattle.book_policy_warnings.specs.Warnings.{AreWarningsOf, gap_warnings, idle_warnings, opening_warnings};
+ghost use Rattle.book_policy_openings.specs.Openings.{IsRefused};
+ghost use Rattle.book_policy_warnings.specs.Warnings.{AreWarningsIn, AreWarningsOf, AreWarningsOver, gap_warnings, idle_warnings, opening_warnings};
 ghost use Rattle.book_policy_warnings.specs.Sentences.{ahead_text, granted_text, idle_line, list_text, more_line, opening_line, place_text, reason_text, second_text, step_text, warning_line, warning_lines, warnings_text, who_text};
 
 use book_lists::{Name, Who};
+use book_machine::AdoptFault;
 use book_office::{MemoryKeeper, StoreFault};
-use book_office_values::Items;
+use book_office_values::{Items, Office};
 use book_policy_gaps::{Gap, gaps_of, push_gap_line};
 use book_policy_idle::{Ahead, IdleEntry, Reason, idle_entries};
-use book_policy_openings::{Opening, Step, adopted, openings_of};
+use book_policy_openings::{Opening, Step, adopted, adopted_over, openings_in};
 use book_policy_values::Policy;
 use std::alloc::{AllocError, Global};
 
@@ -270,23 +270,34 @@ fn add_openings(openings: Items<Opening>, warnings: &mut Items<Warning>) -> Resu
 
 /// The plain facts of an Office in memory. An error is want of memory.
 fn gaps_in(alloc: Global, keeper: &mut MemoryKeeper) -> Result<Items<Gap>, StoreFault>
-    requires { IsSound keeper.old }
-    ensures { IfOk result (AreGaps keeper.old) }
+    ensures gaps { IfOk result (λ gaps. IsSound keeper.old → AreGaps keeper.old gaps) }
+    ensures kept { IsSound keeper.old → keeper.new ≡ keeper.old }
 {
     gaps_of(alloc, keeper)
 }
 
-/// The plain facts of the Office that a policy makes of an empty one. An error is want of memory.
-fn gaps_after(alloc: Global, policy: &Policy) -> Result<Items<Gap>, StoreFault>
-    ensures { IfOk result (AreGaps (adopt policy.now empty_office)) }
+/// What a policy leaves open where an Office in memory has adopted it. An error is want of memory.
+fn warnings_in(
+    alloc: Global,
+    policy: &Policy,
+    keeper: &mut MemoryKeeper,
+) -> Result<Items<Warning>, StoreFault>
+    ensures { IfOk result (λ warnings. IsSound keeper.old
+        → AreWarningsIn policy.now keeper.old warnings) }
 {
-    let mut machine = adopted(alloc, policy)?;
-    gaps_in(alloc, &mut machine.keeper)
+    let idle = idle_entries(alloc, policy)?;
+    let gaps = gaps_in(alloc, keeper)?;
+    let openings = openings_in(alloc, keeper)?;
+    let mut warnings = Items::new(alloc);
+    add_idle(idle, &mut warnings)?;
+    add_gaps(gaps, &mut warnings)?;
+    add_openings(openings, &mut warnings)?;
+    Ok(warnings)
 }
 
 /// What a policy leaves open (own profile): exactly the entries that change no decision, in order, and why
-/// (`idle_entries`); then exactly the plain facts of the Office that it makes of an empty one (`gaps_of`); and then who may open what is closed, each with its
-/// witness. That no opening is told is no promise.
+/// (`idle_entries`); then exactly the plain facts of the Office that it makes of an empty one (`gaps_of`); and then who may
+/// open what is closed, each with its witness. That no opening is told is no promise.
 ///
 /// # Errors
 ///
@@ -294,12 +305,31 @@ fn gaps_after(alloc: Global, policy: &Policy) -> Result<Items<Gap>, StoreFault>
 pub fn warnings_of(alloc: Global, policy: &Policy) -> Result<Items<Warning>, StoreFault>
     ensures { IfOk result (AreWarningsOf policy.now) }
 {
-    let idle = idle_entries(alloc, policy)?;
-    let gaps = gaps_after(alloc, policy)?;
-    let openings = openings_of(alloc, policy)?;
-    let mut warnings = Items::new(alloc);
-    add_idle(idle, &mut warnings)?;
-    add_gaps(gaps, &mut warnings)?;
-    add_openings(openings, &mut warnings)?;
-    Ok(warnings)
+    let mut machine = adopted(alloc, policy)?;
+    warnings_in(alloc, policy, &mut machine.keeper)
+}
+
+/// What a policy leaves open over another Office than the empty one (own profile): the same, of the Office that it makes of
+/// this one, so that persons, groups, members, books and lists count which the policy does not name. The entries that change
+/// no decision are those of the policy alone: where the Office has other persons or books, or own lists at places at which
+/// the policy has no entry, such an entry may decide there.
+///
+/// # Errors
+///
+/// `Full` where the Office would pass a limit or its epoch is at the last value, so that the policy would not be adopted;
+/// `Unavailable` where memory was refused.
+pub fn warnings_over(
+    alloc: Global,
+    policy: &Policy,
+    start: Office,
+) -> Result<Items<Warning>, AdoptFault>
+    ensures told { IfOk result (λ warnings. IsSound start
+        → AreWarningsOver policy.now start warnings) }
+    ensures refused { IfErr result (IsRefused policy.now start) }
+{
+    let mut machine = adopted_over(alloc, policy, start)?;
+    match warnings_in(alloc, policy, &mut machine.keeper) {
+        Ok(warnings) => Ok(warnings),
+        Err(_) => Err(AdoptFault::Unavailable),
+    }
 }

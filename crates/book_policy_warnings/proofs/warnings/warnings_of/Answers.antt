@@ -1,24 +1,11 @@
-use Rattle.std.proofs.Common.{◌++◌, ◌∙◌, List, ap, append_assoc}
-use Rattle.book_policy_warnings.specs.Warnings.{gap_warnings, idle_warnings, opening_warnings}
-use Rattle.book_policy_warnings.specs.declared.warnings.Warning.{Warning}
+use Rattle.std.proofs.Common.{subst}
+use Rattle.std.proofs.lemmas.Result.{IfOk-weaker}
+use Rattle.book_office_values.specs.declared.offices.Office.{Office}
+use Rattle.book_policy_warnings.specs.Warnings.{AreWarningsIn}
 use Rattle.book_policy_warnings.proofs.warnings.warnings_of.Goals as goal
 
 pub returns : goal.returns
 returns c =
-    let idle = c.in_ok-idle.idle in
-    let gaps = c.in_ok-gaps.gaps in
-    let openings = c.in_ok-openings.openings in
-    let first = c.in_ok-add_idle.ensures ∙ ap (λ (l : List Warning). l ++ idle_warnings idle) c.new-warnings.ensures in
-    let second = c.in_ok-add_gaps.ensures ∙ ap (λ (l : List Warning). l ++ gap_warnings gaps) first in
-    record {
-      idle = idle;
-      gaps = gaps;
-      openings = openings;
-      are_idle = c.in_ok-idle.ensures;
-      are_gaps = c.in_ok-gaps.ensures;
-      are_openings = c.in_ok-openings.ensures;
-      told =
-          c.in_ok-add_openings.ensures
-          ∙ ap (λ (l : List Warning). l ++ opening_warnings openings) second
-          ∙ append_assoc (idle_warnings idle) (gap_warnings gaps) (opening_warnings openings);
-    }
+    IfOk-weaker c.warnings_in.result _ _
+    (λ warnings are. subst (λ (o : Office). AreWarningsIn c.args.policy.now o warnings) c.in_ok-machine.ensures.office (are c.in_ok-machine.ensures.sound))
+    c.warnings_in.ensures
