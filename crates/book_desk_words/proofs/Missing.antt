@@ -7,7 +7,7 @@ use Rattle.clap.specs.Words.{Kinds, Row, Text, first_of, one_text, rows_of}
 use Rattle.clap.specs.declared.parser.matches.Found.{Found}
 use Rattle.clap.proofs.WalkLemmas.{one_text-rows}
 use Rattle.book_desk_words.specs.CommandLine.{HasCounts, HasNumber, IsRefused, MatchesNone, MayHaveNumber, ReadsAs, ReadsNone}
-use Rattle.book_desk_words.specs.declared.commands.Command.TheVariants.{Explain, Card, Init, Import, Check, Audit, Migrate, Why, Who, Rights, Ask, Dump, Show, Pipe, Serve, Help, Version}
+use Rattle.book_desk_words.specs.declared.commands.Command.TheVariants.{Explain, Card, Init, Import, Check, Audit, Migrate, Why, Who, Rights, Ask, Differs, Dump, Show, Pipe, Serve, Help, Version}
 use Rattle.book_desk_words.specs.declared.commands.WordsFault.{WordsFault}
 use Rattle.book_desk_words.specs.declared.commands.WordsFault.TheVariants.{Usage, Memory}
 use Rattle.book_desk_words.specs.WordsFaults.{IsUsage, serve_wants}
@@ -70,6 +70,9 @@ is_not_rights e = cc (e)
 is_not_ask : codes "serve" ≡ codes "ask" → ⊥
 is_not_ask e = cc (e)
 
+is_not_differs : codes "serve" ≡ codes "differs" → ⊥
+is_not_differs e = let first : slice_index (codes "serve") 0 ≡ slice_index (codes "differs") 0 = ap (λ (t : Text). slice_index t 0) e in omega arith
+
 is_not_dump : codes "serve" ≡ codes "dump" → ⊥
 is_not_dump e = cc (e)
 
@@ -84,13 +87,14 @@ module _ (rows : List Row) where
   serve_lacks none Card e = cc (e)
   serve_lacks none (Init folder) r = is_not_init r.0
   serve_lacks none (Import store policy) r = is_not_import r.0
-  serve_lacks none (Check policy strict) r = is_not_check r.0
+  serve_lacks none (Check policy strict store) r = is_not_check r.0
   serve_lacks none (Audit store existing at books labels) r = is_not_audit r.0
   serve_lacks none (Migrate store) r = is_not_migrate r.0
-  serve_lacks none (Why store caller what path destination) r = is_not_why r.0
-  serve_lacks none (Who store privilege path denied) r = is_not_who r.0
-  serve_lacks none (Rights store at caller shared) r = is_not_rights r.0
+  serve_lacks none (Why store caller what path destination json) r = is_not_why r.0
+  serve_lacks none (Who store privilege path denied json) r = is_not_who r.0
+  serve_lacks none (Rights store at caller shared json) r = is_not_rights r.0
   serve_lacks none (Ask store caller path privileges) r = is_not_ask r.0
+  serve_lacks none (Differs store policy strict) r = is_not_differs r.0
   serve_lacks none (Dump store) r = is_not_dump r.0
   serve_lacks none (Show store path) r = is_not_show r.0
   serve_lacks none (Pipe store policy) r = is_not_pipe r.0

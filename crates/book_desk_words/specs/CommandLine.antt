@@ -10,7 +10,7 @@ use Rattle.clap.specs.declared.builder.value_parser.ValueParser.TheVariants as p
 use Rattle.clap.specs.declared.error.kind.ErrorKind.{ErrorKind}
 use Rattle.clap.specs.declared.error.kind.ErrorKind.TheVariants as kind
 use Rattle.book_desk_words.specs.declared.commands.Command.{Command}
-use Rattle.book_desk_words.specs.declared.commands.Command.TheVariants.{Explain, Card, Init, Import, Check, Audit, Migrate, Why, Who, Rights, Ask, Dump, Show, Pipe, Serve, Help, Version}
+use Rattle.book_desk_words.specs.declared.commands.Command.TheVariants.{Explain, Card, Init, Import, Check, Audit, Migrate, Why, Who, Rights, Ask, Differs, Dump, Show, Pipe, Serve, Help, Version}
 use Rattle.book_desk_words.specs.declared.commands.WordsFault.{WordsFault}
 use Rattle.book_desk_words.specs.declared.commands.WordsFault.TheVariants.{Usage, Memory}
 use Rattle.book_desk_words.specs.WordsFaults.{IsUsage, serve_wants}
@@ -52,7 +52,12 @@ abbrev pub import_app : App
 import_app = with_rule (with_rule (new_app (codes "import")) (required_rule (codes "store"))) (word_rule (codes "policy"))
 
 abbrev pub check_app : App
-check_app = with_rule (with_rule (new_app (codes "check")) (word_rule (codes "policy"))) (flag_rule (codes "strict"))
+check_app =
+    with_rule (with_rule (with_rule (new_app (codes "check")) (word_rule (codes "policy"))) (flag_rule (codes "strict"))) (option_rule (codes "store"))
+
+abbrev pub differs_app : App
+differs_app =
+    with_rule (with_rule (with_rule (new_app (codes "differs")) (required_rule (codes "store"))) (word_rule (codes "policy"))) (flag_rule (codes "strict"))
 
 -- the words that say which part is printed, and what of it
 abbrev pub with_part : App → App
@@ -77,21 +82,25 @@ abbrev pub with_places : App → App
 with_places app = with_rule (with_rule app (word_rule (codes "path"))) (last_word_rule (codes "destination"))
 
 abbrev pub why_app : App
-why_app = with_places (with_question (with_rule (new_app (codes "why")) (required_rule (codes "store"))))
+why_app = with_rule (with_places (with_question (with_rule (new_app (codes "why")) (required_rule (codes "store"))))) (flag_rule (codes "json"))
 
 -- a privilege, and where
 abbrev pub with_privilege : App → App
 with_privilege app = with_rule (with_rule app (word_rule (codes "privilege"))) (word_rule (codes "path"))
 
 abbrev pub who_app : App
-who_app = with_rule (with_privilege (with_rule (new_app (codes "who")) (required_rule (codes "store")))) (flag_rule (codes "denied"))
+who_app =
+    with_rule (with_rule (with_privilege (with_rule (new_app (codes "who")) (required_rule (codes "store")))) (flag_rule (codes "denied")))
+    (flag_rule (codes "json"))
 
 -- the options that say where rights are told, and whose
 abbrev pub with_scope : App → App
 with_scope app = with_rule (with_rule app (option_rule (codes "at"))) (option_rule (codes "caller"))
 
 abbrev pub rights_app : App
-rights_app = with_rule (with_scope (with_rule (new_app (codes "rights")) (required_rule (codes "store")))) (flag_rule (codes "shared"))
+rights_app =
+    with_rule (with_rule (with_scope (with_rule (new_app (codes "rights")) (required_rule (codes "store")))) (flag_rule (codes "shared")))
+    (flag_rule (codes "json"))
 
 -- who asks, where, and for what
 abbrev pub with_decision : App → App
@@ -133,10 +142,10 @@ top_app = on_top (λ s. record s { no_binary_name = true; subcommand_required = 
 -- the whole command line
 abbrev pub program_app : App
 program_app =
-    with_subcommand (with_subcommand (with_subcommand (with_subcommand (with_subcommand (with_subcommand (with_subcommand
+    with_subcommand (with_subcommand (with_subcommand (with_subcommand (with_subcommand (with_subcommand (with_subcommand (with_subcommand
     (with_subcommand (with_subcommand (with_subcommand (with_subcommand (with_subcommand (with_subcommand (with_subcommand (with_subcommand top_app
     (new_app (codes "explain")).top) (new_app (codes "card")).top) init_app.top) import_app.top) audit_app.top) migrate_app.top) why_app.top) pipe_app.top) serve_app.top) check_app.top)
-    who_app.top) rights_app.top) dump_app.top) show_app.top) ask_app.top
+    who_app.top) rights_app.top) dump_app.top) show_app.top) ask_app.top) differs_app.top
 
 -- ---- the command that the matches give
 
@@ -190,22 +199,27 @@ ReadsAs name rows Card = name ≡ codes "card"
 ReadsAs name rows (Init folder) = (name ≡ codes "init") × NamesFile rows (codes "folder") (Some folder)
 ReadsAs name rows (Import store policy) =
     (name ≡ codes "import") × NamesFile rows (codes "store") (Some store) × NamesFile rows (codes "policy") (Some policy)
-ReadsAs name rows (Check policy strict) =
+ReadsAs name rows (Check policy strict store) =
     (name ≡ codes "check") × NamesFile rows (codes "policy") (Some policy) × (strict ≡ has_flag rows (codes "strict"))
+    × NamesFile rows (codes "store") store
+ReadsAs name rows (Differs store policy strict) =
+    (name ≡ codes "differs") × NamesFile rows (codes "store") (Some store) × NamesFile rows (codes "policy") (Some policy)
+    × (strict ≡ has_flag rows (codes "strict"))
 ReadsAs name rows (Audit store existing at books labels) =
     (name ≡ codes "audit") × NamesFile rows (codes "store") (Some store) × (existing ≡ has_flag rows (codes "existing"))
     × NamesFile rows (codes "at") at × (books ≡ has_flag rows (codes "books")) × (labels ≡ has_flag rows (codes "labels"))
 ReadsAs name rows (Migrate store) = (name ≡ codes "migrate") × NamesFile rows (codes "store") (Some store)
-ReadsAs name rows (Why store caller what path destination) =
+ReadsAs name rows (Why store caller what path destination json) =
     (name ≡ codes "why") × NamesFile rows (codes "store") (Some store) × NamesFile rows (codes "caller") (Some caller) × NamesFile rows (codes "what") (Some what)
     × NamesFile rows (codes "path") (Some path) × NamesFile rows (codes "destination") destination
-    × (leads_on (string_bytes what) ≡ true → is_some destination ≡ true)
-ReadsAs name rows (Who store privilege path denied) =
+    × (leads_on (string_bytes what) ≡ true → is_some destination ≡ true) × (json ≡ has_flag rows (codes "json"))
+ReadsAs name rows (Who store privilege path denied json) =
     (name ≡ codes "who") × NamesFile rows (codes "store") (Some store) × NamesFile rows (codes "privilege") (Some privilege)
     × NamesFile rows (codes "path") (Some path) × (denied ≡ has_flag rows (codes "denied"))
-ReadsAs name rows (Rights store at caller shared) =
+    × (json ≡ has_flag rows (codes "json"))
+ReadsAs name rows (Rights store at caller shared json) =
     (name ≡ codes "rights") × NamesFile rows (codes "store") (Some store) × NamesFile rows (codes "at") at × NamesFile rows (codes "caller") caller
-    × (shared ≡ has_flag rows (codes "shared"))
+    × (shared ≡ has_flag rows (codes "shared")) × (json ≡ has_flag rows (codes "json"))
 ReadsAs name rows (Ask store caller path privileges) =
     (name ≡ codes "ask") × NamesFile rows (codes "store") (Some store) × NamesFile rows (codes "caller") (Some caller)
     × NamesFile rows (codes "path") (Some path) × HasTexts rows (codes "privilege") (Some privileges)

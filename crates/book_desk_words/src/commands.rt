@@ -9,7 +9,7 @@ ghost use Rattle.book_desk_words.specs.WordsFaults.{IsUsage, not_text, usage_tex
 
 use crate::helps::{NOT_TEXT, SERVE_WANTS, USAGE_LINES};
 use crate::programs::program;
-use crate::questions::{ask_of, dump_of, rights_of, show_of, who_of, why_of};
+use crate::questions::{ask_of, differs_of, dump_of, rights_of, show_of, who_of, why_of};
 use clap::ArgMatches;
 use clap::error::ErrorKind;
 use std::alloc::{AllocError, Global};
@@ -54,6 +54,17 @@ pub enum Command {
         policy: String,
         /// Whether what it leaves open ends with status 1.
         strict: bool,
+        /// The file of a store over which it would be adopted; without one it is adopted in memory.
+        store: Option<String>,
+    },
+    /// Tell what adopting a policy would change in a store, and what stays.
+    Differs {
+        /// The file of the store.
+        store: String,
+        /// The file of the policy.
+        policy: String,
+        /// Whether a difference ends with status 1.
+        strict: bool,
     },
     /// Print the direct members of groups, and each resource of a store with its owner and its lists.
     Audit {
@@ -86,6 +97,8 @@ pub enum Command {
         path: String,
         /// The path of a destination. Never missing where `what` is COPY or MOVE.
         destination: Option<String>,
+        /// Whether each line is an object.
+        json: bool,
     },
     /// Tell to whom a privilege is granted in a store.
     Who {
@@ -97,6 +110,8 @@ pub enum Command {
         path: String,
         /// Whether those to whom it is denied are told.
         denied: bool,
+        /// Whether each line is an object.
+        json: bool,
     },
     /// Tell who holds which rights in a store.
     Rights {
@@ -108,6 +123,8 @@ pub enum Command {
         caller: Option<String>,
         /// Whether only cards are told whose own list gives somebody more than their book.
         shared: bool,
+        /// Whether each line is an object.
+        json: bool,
     },
     /// Print what a decision rests on as a text that `Explain` reads.
     Ask {
@@ -412,7 +429,12 @@ fn check_of(alloc: Global, found: &ArgMatches<'_>) -> Result<Option<Command>, Al
         return Ok(None);
     };
     let strict = flag_in(found, "strict");
-    Ok(Some(Command::Check { policy, strict }))
+    let store = file_in(alloc, found, "store")?;
+    Ok(Some(Command::Check {
+        policy,
+        strict,
+        store,
+    }))
 }
 
 /// The command `audit` with what the words give it; none where the file is missing.
@@ -482,6 +504,7 @@ fn command_named(
         "who" => who_of(alloc, found),
         "rights" => rights_of(alloc, found),
         "ask" => ask_of(alloc, found),
+        "differs" => differs_of(alloc, found),
         "dump" => dump_of(alloc, found),
         "show" => show_of(alloc, found),
         "pipe" => pipe_of(alloc, found),

@@ -4,7 +4,7 @@ pub(crate) const ABOUT: &str =
     "Shared contact books of an office: WebDAV access lists (RFC 3744) and vCards (RFC 6350)";
 
 /// The number of VERSION, at the top of the repository, which `tools/check-streams` compares.
-pub(crate) const VERSION: &str = "0.4.0";
+pub(crate) const VERSION: &str = "0.5.0";
 
 /// What follows a text of what is wrong with the words.
 pub(crate) const USAGE_LINES: &str =
@@ -141,9 +141,12 @@ pub(crate) const CHECK: &str =
 
 pub(crate) const STRICT: &str = "What a sound policy leaves open ends with status 1";
 
+pub(crate) const CHECKED_STORE: &str =
+    "The file of a store, which has to be there: what adopting the policy there would leave open";
+
 pub(crate) const CHECK_TEXT: &str = "\
 As in: book_desk check examples/policies/office.toml
-No store is opened, and no file is changed.
+No file is changed. With --store the policy is adopted over a copy of that store in memory, else over an empty one.
 
 Output, where the policy is sound: a line for each thing that it leaves open, with its place; at most 1,000, and then how
 many more. As in
@@ -160,6 +163,8 @@ no name of a fault is bad-key. The names are those of import, which tells the fi
 not TOML has one line, with the line and the column; one of more than 1,048,576 bytes is too-many alone.
   input: read           the policy could not be read
   input: not-utf-8      it is not UTF-8
+  store: FAULT          with --store, as audit
+  adopt: full           with --store, as import
 
 Status: 0 sound; 1 a fault, or with --strict a line on standard output; 2 usage; 3 memory, or a failed read or write.
 ";
@@ -238,7 +243,8 @@ and then for each need, and for each of its leaves
     protected|own grant|deny [not] WHO NAME ..
     by PERSON in GROUP ..
 N is the number of the entry in the list in force, from 1, and M in the list that stands at PATH. The last line has the
-fewest groups by which the caller belongs to WHO, where there are any.
+fewest groups by which the caller belongs to WHO, where there are any. With --json each line is an object; the manual has
+its keys.
 
 Told on standard error, on a line
   why: unknown-caller     the caller is no person
@@ -258,6 +264,8 @@ pub(crate) const WHO: &str = "Tells to whom a privilege is granted in a store";
 
 pub(crate) const PRIVILEGE: &str = "The privilege";
 
+pub(crate) const JSON: &str = "Each line is an object";
+
 pub(crate) const DENIED: &str = "Tells those to whom it is denied";
 
 pub(crate) const WHO_TEXT: &str = "\
@@ -266,6 +274,7 @@ It decides as serve does, and changes nothing. As in:
 A PRIVILEGE is one that explain knows, and something has to be there at PATH.
 
 Output: the path of each person, or nobody, on a line, and below it for each leaf of the privilege the lines of why.
+With --json each line is an object; the manual has its keys.
 
 Told on standard error, on a line
   who: unknown-privilege  there is no such privilege
@@ -293,7 +302,8 @@ It decides as serve does, and changes nothing. As in:
 Output, in byte order of the paths, a line for each resource and whoever holds a right there
   PATH PERSON|nobody NAME ..
   PATH of N PERSON|nobody NAME ..   of N cards of a book whose owner and own list are equal; PATH is the first
-The names are privileges of explain, as few as tell the rights.
+The names are privileges of explain, as few as tell the rights. With --json each line is an object; the manual has its
+keys.
 
 Told on standard error, on a line
   rights: unknown-caller  PERSON is no person
@@ -324,6 +334,41 @@ Told on standard error, on a line
   output: write           it could not be written
 
 Status: 0 answered, 1 the question was refused, 2 usage, 3 memory, the store, or a failed write.
+";
+
+pub(crate) const DIFFERS: &str = "Tells what adopting a policy would change in a store";
+
+pub(crate) const DIFFERS_STRICT: &str = "A difference ends with status 1";
+
+pub(crate) const DIFFERS_TEXT: &str = "\
+It adopts the policy over a copy of the store in memory, and changes nothing. As in:
+  book_desk differs --store office.db examples/policies/office.toml
+
+Output: what the policy does not name and leaves as it is; what the store has and would lose after -, what it would have
+after +, and the rights that somebody would lose or gain, in byte order of the paths; then how many lines of these there
+were, or that nothing would change
+  stays member GROUP MEMBER
+  stays PATH
+  stays PATH  own grant|deny [not] WHO NAME ..
+  - member GROUP MEMBER
+  - PATH owner OWNER
+  - PATH label TEXT
+  - PATH  protected|own grant|deny [not] WHO NAME ..
+  lost|gained PATH PERSON|nobody NAME ..
+  lost|gained PATH of N PERSON|nobody NAME ..   of N cards that are alike, as rights tells them
+  differs in N | unchanged
+TEXT is a JSON text.
+
+Told on standard error, on a line
+  input: read           the policy could not be read
+  store: FAULT          as audit
+  input: not-utf-8      the policy is not UTF-8
+  policy: FAULT         as import
+  adopt: full           the policy would not be adopted
+  output: write         it could not be written
+
+Status: 0 told; 1 the policy is refused, or with --strict there is a difference; 2 usage; 3 memory, the store, or a
+failed read or write.
 ";
 
 pub(crate) const DUMP: &str = "Prints a store as text";

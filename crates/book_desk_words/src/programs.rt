@@ -3,15 +3,16 @@
 ghost use Rattle.std.specs.Prelude.{◌≡◌, IfOk, false, codes};
 ghost use Rattle.clap.specs.Words.{app_of, new_app, rule_of};
 ghost use Rattle.clap.specs.declared.builder.command.Command.TheViews.{out-Command};
-ghost use Rattle.book_desk_words.specs.CommandLine.{program_app, top_app, ask_app, audit_app, check_app, dump_app, import_app, init_app, migrate_app, pipe_app, rights_app, serve_app, show_app, who_app, why_app, flag_rule, last_word_rule, option_rule, counted_rule, number_rule, required_rule, with_decision, with_ends, with_files, with_pace, with_part, with_places, with_privilege, with_question, with_scope, word_rule, words_rule};
+ghost use Rattle.book_desk_words.specs.CommandLine.{program_app, top_app, ask_app, audit_app, check_app, differs_app, dump_app, import_app, init_app, migrate_app, pipe_app, rights_app, serve_app, show_app, who_app, why_app, flag_rule, last_word_rule, option_rule, counted_rule, number_rule, required_rule, with_decision, with_ends, with_files, with_pace, with_part, with_places, with_privilege, with_question, with_scope, word_rule, words_rule};
 
 use crate::helps::{
     ABOUT, ASK, ASK_TEXT, ASKED_STORE, AT_ONCE, AUDIT, AUDIT_TEXT, BELOW, BOOKS, CALLER, CARD,
-    CARD_TEXT, CHECK, CHECK_TEXT, CONNECTIONS, DENIED, DESTINATION, DUMP, DUMP_TEXT, EXISTING,
-    EXPLAIN, FIRST_STORE, FOLDER, FOREVER, FOUNDED_STORE, IDLE, IMPORT, IMPORT_TEXT, INIT,
-    INIT_TEXT, KEPT_STORE, LABELS, MIGRATE, MIGRATE_TEXT, PERSON, PIPE, PIPE_TEXT, POLICY,
-    POLICY_WORD, PORT, PRIVILEGE, QUESTION, RESOURCE, RIGHTS, RIGHTS_TEXT, SERVE, SERVE_TEXT,
-    SHARED, SHOW, SHOW_TEXT, STRICT, VERSION, WHAT, WHO, WHO_TEXT, WHY, WHY_TEXT,
+    CARD_TEXT, CHECK, CHECK_TEXT, CHECKED_STORE, CONNECTIONS, DENIED, DESTINATION, DIFFERS,
+    DIFFERS_STRICT, DIFFERS_TEXT, DUMP, DUMP_TEXT, EXISTING, EXPLAIN, FIRST_STORE, FOLDER, FOREVER,
+    FOUNDED_STORE, IDLE, IMPORT, IMPORT_TEXT, INIT, INIT_TEXT, JSON, KEPT_STORE, LABELS, MIGRATE,
+    MIGRATE_TEXT, PERSON, PIPE, PIPE_TEXT, POLICY, POLICY_WORD, PORT, PRIVILEGE, QUESTION,
+    RESOURCE, RIGHTS, RIGHTS_TEXT, SERVE, SERVE_TEXT, SHARED, SHOW, SHOW_TEXT, STRICT, VERSION,
+    WHAT, WHO, WHO_TEXT, WHY, WHY_TEXT,
 };
 use clap::{Arg, ArgAction, value_parser};
 use std::alloc::{AllocError, Global};
@@ -150,7 +151,19 @@ fn check<'a>(alloc: Global) -> Result<clap::Command<'a>, AllocError>
         .about(CHECK)
         .after_help(CHECK_TEXT)
         .arg(word_needed(alloc, "policy", "POLICY", POLICY_WORD))?
-        .arg(flag_option(alloc, "strict", STRICT))
+        .arg(flag_option(alloc, "strict", STRICT))?
+        .arg(value_option(alloc, "store", "FILE", CHECKED_STORE))
+}
+
+fn differs<'a>(alloc: Global) -> Result<clap::Command<'a>, AllocError>
+    ensures { IfOk result (λ c. (app_of c ≡ differs_app) × ((out-Command c).has_globals ≡ false)) }
+{
+    clap::Command::new(alloc, "differs")
+        .about(DIFFERS)
+        .after_help(DIFFERS_TEXT)
+        .arg(file_needed(alloc, "store", ASKED_STORE))?
+        .arg(word_needed(alloc, "policy", "POLICY", POLICY_WORD))?
+        .arg(flag_option(alloc, "strict", DIFFERS_STRICT))
 }
 
 /// The command with the words that say which part is printed, and what of it.
@@ -221,7 +234,7 @@ fn why<'a>(alloc: Global) -> Result<clap::Command<'a>, AllocError>
         .after_help(WHY_TEXT)
         .arg(file_needed(alloc, "store", ASKED_STORE))?;
     let command = with_question(alloc, command)?;
-    with_places(alloc, command)
+    with_places(alloc, command)?.arg(flag_option(alloc, "json", JSON))
 }
 
 /// The command with the words that name a privilege, and where.
@@ -245,7 +258,9 @@ fn who<'a>(alloc: Global) -> Result<clap::Command<'a>, AllocError>
         .about(WHO)
         .after_help(WHO_TEXT)
         .arg(file_needed(alloc, "store", ASKED_STORE))?;
-    with_privilege(alloc, command)?.arg(flag_option(alloc, "denied", DENIED))
+    with_privilege(alloc, command)?
+        .arg(flag_option(alloc, "denied", DENIED))?
+        .arg(flag_option(alloc, "json", JSON))
 }
 
 /// The command with the options that say where rights are told, and whose.
@@ -269,7 +284,9 @@ fn rights<'a>(alloc: Global) -> Result<clap::Command<'a>, AllocError>
         .about(RIGHTS)
         .after_help(RIGHTS_TEXT)
         .arg(file_needed(alloc, "store", ASKED_STORE))?;
-    with_scope(alloc, command)?.arg(flag_option(alloc, "shared", SHARED))
+    with_scope(alloc, command)?
+        .arg(flag_option(alloc, "shared", SHARED))?
+        .arg(flag_option(alloc, "json", JSON))
 }
 
 /// The command with the words that say who asks, where, and for what.
@@ -404,5 +421,6 @@ pub(crate) fn program<'a>(alloc: Global) -> Result<clap::Command<'a>, AllocError
         .subcommand(rights(alloc)?)?
         .subcommand(dump(alloc)?)?
         .subcommand(show(alloc)?)?
-        .subcommand(ask(alloc)?)
+        .subcommand(ask(alloc)?)?
+        .subcommand(differs(alloc)?)
 }

@@ -39,12 +39,14 @@ pub(crate) fn why_of(alloc: Global, found: &ArgMatches<'_>) -> Result<Option<Com
     if leads_on(what.as_str()) && destination.is_none() {
         return Ok(None);
     }
+    let json = flag_in(found, "json");
     Ok(Some(Command::Why {
         store,
         caller,
         what,
         path,
         destination,
+        json,
     }))
 }
 
@@ -65,11 +67,13 @@ pub(crate) fn who_of(alloc: Global, found: &ArgMatches<'_>) -> Result<Option<Com
         return Ok(None);
     };
     let denied = flag_in(found, "denied");
+    let json = flag_in(found, "json");
     Ok(Some(Command::Who {
         store,
         privilege,
         path,
         denied,
+        json,
     }))
 }
 
@@ -89,11 +93,13 @@ pub(crate) fn rights_of(
     let at = file_in(alloc, found, "at")?;
     let caller = file_in(alloc, found, "caller")?;
     let shared = flag_in(found, "shared");
+    let json = flag_in(found, "json");
     Ok(Some(Command::Rights {
         store,
         at,
         caller,
         shared,
+        json,
     }))
 }
 
@@ -121,6 +127,30 @@ pub(crate) fn ask_of(alloc: Global, found: &ArgMatches<'_>) -> Result<Option<Com
         caller,
         path,
         privileges,
+    }))
+}
+
+/// The command `differs` with what the words give it; none where a file is missing.
+pub(crate) fn differs_of(
+    alloc: Global,
+    found: &ArgMatches<'_>,
+) -> Result<Option<Command>, AllocError>
+    ensures read { IfOk result (λ command. IfSome command
+        (ReadsAs (codes "differs") (rows_of (found_of found.now)))) }
+    ensures none { IfOk result (λ command. IfNone command
+        (ReadsNone (codes "differs") (rows_of (found_of found.now)))) }
+{
+    let Some(store) = file_in(alloc, found, "store")? else {
+        return Ok(None);
+    };
+    let Some(policy) = file_in(alloc, found, "policy")? else {
+        return Ok(None);
+    };
+    let strict = flag_in(found, "strict");
+    Ok(Some(Command::Differs {
+        store,
+        policy,
+        strict,
     }))
 }
 

@@ -19,11 +19,15 @@ const COMMANDS: &[(&str, &str)] = &[
     ),
     (
         "check office.toml",
-        "Check { policy: \"office.toml\", strict: false }",
+        "Check { policy: \"office.toml\", strict: false, store: None }",
+    ),
+    (
+        "check office.toml --store office.db",
+        "Check { policy: \"office.toml\", strict: false, store: Some(\"office.db\") }",
     ),
     (
         "check --strict office.toml",
-        "Check { policy: \"office.toml\", strict: true }",
+        "Check { policy: \"office.toml\", strict: true, store: None }",
     ),
     (
         "audit --store office.db",
@@ -36,6 +40,14 @@ const COMMANDS: &[(&str, &str)] = &[
     (
         "audit --labels --store office.db --at /books --books",
         "Audit { store: \"office.db\", existing: false, at: Some(\"/books\"), books: true, labels: true }",
+    ),
+    (
+        "differs --store office.db office.toml",
+        "Differs { store: \"office.db\", policy: \"office.toml\", strict: false }",
+    ),
+    (
+        "differs office.toml --strict --store office.db",
+        "Differs { store: \"office.db\", policy: \"office.toml\", strict: true }",
     ),
     (
         "ask --store office.db - /books read",
@@ -51,28 +63,40 @@ const COMMANDS: &[(&str, &str)] = &[
     ),
     (
         "why --store office.db - GET /books",
-        "Why { store: \"office.db\", caller: \"-\", what: \"GET\", path: \"/books\", destination: None }",
+        "Why { store: \"office.db\", caller: \"-\", what: \"GET\", path: \"/books\", destination: None, json: false }",
     ),
     (
         "why bob COPY /books/a/b.vcf /books/c/d.vcf --store office.db",
-        "Why { store: \"office.db\", caller: \"bob\", what: \"COPY\", path: \"/books/a/b.vcf\", destination: Some(\"/books/c/d.vcf\") }",
+        "Why { store: \"office.db\", caller: \"bob\", what: \"COPY\", path: \"/books/a/b.vcf\", destination: Some(\"/books/c/d.vcf\"), json: false }",
     ),
     ("why --store office.db bob MOVE /books/a/b.vcf", SERVE_WANTS),
     (
         "who --store office.db read /books",
-        "Who { store: \"office.db\", privilege: \"read\", path: \"/books\", denied: false }",
+        "Who { store: \"office.db\", privilege: \"read\", path: \"/books\", denied: false, json: false }",
     ),
     (
         "who read --denied /books --store office.db",
-        "Who { store: \"office.db\", privilege: \"read\", path: \"/books\", denied: true }",
+        "Who { store: \"office.db\", privilege: \"read\", path: \"/books\", denied: true, json: false }",
+    ),
+    (
+        "why --json --store office.db bob read /books",
+        "Why { store: \"office.db\", caller: \"bob\", what: \"read\", path: \"/books\", destination: None, json: true }",
+    ),
+    (
+        "who read /books --store office.db --json",
+        "Who { store: \"office.db\", privilege: \"read\", path: \"/books\", denied: false, json: true }",
+    ),
+    (
+        "rights --store office.db --json",
+        "Rights { store: \"office.db\", at: None, caller: None, shared: false, json: true }",
     ),
     (
         "rights --store office.db",
-        "Rights { store: \"office.db\", at: None, caller: None, shared: false }",
+        "Rights { store: \"office.db\", at: None, caller: None, shared: false, json: false }",
     ),
     (
         "rights --shared --caller bob --at /books --store office.db",
-        "Rights { store: \"office.db\", at: Some(\"/books\"), caller: Some(\"bob\"), shared: true }",
+        "Rights { store: \"office.db\", at: Some(\"/books\"), caller: Some(\"bob\"), shared: true, json: false }",
     ),
     ("dump --store office.db", "Dump { store: \"office.db\" }"),
     (
@@ -146,6 +170,10 @@ const REFUSED: &[(&str, &str)] = &[
     ),
     (
         "ask --store office.db bob /books",
+        "2 error: the following required arguments were not provided:",
+    ),
+    (
+        "differs --store office.db",
         "2 error: the following required arguments were not provided:",
     ),
     (

@@ -23,5 +23,6 @@ returns c =
     let twelve = c.in_ok-subcommand-12.ensures.shape c.in_ok-rights.ensures.1 ∙ ap₂ with_subcommand eleven (ap top_of c.in_ok-rights.ensures.0) in
     let thirteen = c.in_ok-subcommand-13.ensures.shape c.in_ok-dump.ensures.1 ∙ ap₂ with_subcommand twelve (ap top_of c.in_ok-dump.ensures.0) in
     let fourteen = c.in_ok-subcommand-14.ensures.shape c.in_ok-show.ensures.1 ∙ ap₂ with_subcommand thirteen (ap top_of c.in_ok-show.ensures.0) in
-    IfOk-weaker c.subcommand-15.result _ _
-    (λ r h. h.shape c.in_ok-ask.ensures.1 ∙ ap₂ with_subcommand fourteen (ap top_of c.in_ok-ask.ensures.0)) c.subcommand-15.ensures
+    let fifteen = c.in_ok-subcommand-15.ensures.shape c.in_ok-ask.ensures.1 ∙ ap₂ with_subcommand fourteen (ap top_of c.in_ok-ask.ensures.0) in
+    IfOk-weaker c.subcommand-16.result _ _
+    (λ r h. h.shape c.in_ok-differs.ensures.1 ∙ ap₂ with_subcommand fifteen (ap top_of c.in_ok-differs.ensures.0)) c.subcommand-16.ensures
