@@ -4,7 +4,6 @@ ghost use Rattle.std.specs.Prelude.{◌≡◌, ◌≢◌, ◌++◌, ℕ, List, [
 ghost use Rattle.std.specs.FinMap.{get};
 ghost use Rattle.std.specs.Option.{option_copied};
 ghost use Rattle.book_office_adopting.specs.Adopting.{is_group_of};
-ghost use Rattle.book_policy_values.specs.Policies.{entries_at};
 ghost use Rattle.book_questions_stays.specs.Stays.{has_entries, is_given, is_named};
 
 use book_lists::{Entry, Name, Principal};

@@ -1,0 +1,11 @@
+pub mod Common
+pub mod Printed
+pub mod Signed
+pub mod Texts
+pub mod MembersTold
+pub mod Same
+pub mod FactsTold
+pub mod RightsTold
+pub mod Equal
+pub mod Unchanged
+pub mod Adopted

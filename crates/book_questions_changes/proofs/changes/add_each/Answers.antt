@@ -1,0 +1,56 @@
+use Rattle.book_questions_changes.proofs.Common.{◌≡◌, ◌++◌, ◌∷◌, [], take, Ok, refl, sym, ap, ◌∙◌, gathered, map, Block, Standing, Office}
+use Rattle.std.proofs.Common.{◌+◌, arith}
+use Rattle.std.specs.FinMap as maps
+use Rattle.std.proofs.lemmas.List.{map-append, take_more, take_all}
+use Rattle.book_office_audit.proofs.Gathering.{gathered_both}
+use Rattle.book_office_values.specs.declared.paths.Path.{Path}
+use Rattle.book_questions_changes.specs.Changes.{spot_at}
+use Rattle.book_questions_changes.specs.Facts.{spot_block}
+use Rattle.book_questions_differs.proofs.ReadsOfTwo.{nothing_read, compared_then, compared_as, compared_failed}
+use Rattle.book_questions_changes.proofs.changes.add_each.Goals as goal
+
+abbrev block_at : Office → Office → Path → Block
+block_at o p at = spot_block (spot_at o p at)
+
+pub loop-path-init : goal.loop-path-init
+loop-path-init g c = nothing_read (g.K.Keeper.standing c.args.before.now) (g.L.Keeper.standing c.args.after.now) tt
+    (λ (o p : Office) (done : Unit {0}). c.args.blocks.now ≡ gathered c.args.blocks.now (map (block_at o p) [])) (λ h k o p so tp. refl)
+
+pub loop-path-preserved : goal.loop-path-preserved
+loop-path-preserved g c =
+    let S0 : Standing = g.K.Keeper.standing c.args.before.now in
+    let S1 : Standing = g.K.Keeper.standing c.loop-path.before in
+    let S2 : Standing = g.K.Keeper.standing c.add_at.new.before in
+    let T0 : Standing = g.L.Keeper.standing c.args.after.now in
+    let T1 : Standing = g.L.Keeper.standing c.loop-path.after in
+    let T2 : Standing = g.L.Keeper.standing c.add_at.new.after in
+    let i = c.loop-path.path-index in
+    let xs = c.args.paths.now in
+    let path = c.path-item.result in
+    let m = c.args.blocks.now in
+    let more : take (i + 1) xs ≡ take i xs ++ path ∷ [] = take_more xs i path (omega arith) ∙ ap (λ x. take i xs ++ x ∷ []) (sym c.path-item.is) in
+    let T : Office → Office → Unit {0} → Type 0 = λ o p done. c.loop-path.blocks ≡ gathered m (map (block_at o p) (take i xs)) in
+    let U : Office → Office → Unit {0} → Type 0 = λ o p done. c.add_at.new.blocks ≡ maps.insert c.loop-path.blocks (block_at o p path).0 (block_at o p path).1 in
+    let V : Office → Office → Unit {0} → Type 0 = λ o p done. c.add_at.new.blocks ≡ gathered m (map (block_at o p) (take (i + 1) xs)) in
+    compared_then S0 S1 S2 T0 T1 T2 tt (Ok tt) T U V c.loop-path.invariant c.in-Ok.ensures
+    (λ o p so tp t y u. u ∙ ap (λ b. maps.insert b (block_at o p path).0 (block_at o p path).1) t
+    ∙ gathered_both m (map (block_at o p) (take i xs)) (block_at o p path ∷ [])
+    ∙ ap (gathered m) (sym (ap (map (block_at o p)) more ∙ map-append (block_at o p) (take i xs) (path ∷ []))))
+
+pub returns-in-Err : goal.returns-in-Err
+returns-in-Err g c =
+    compared_failed (g.K.Keeper.standing c.args.before.now) (g.K.Keeper.standing c.loop-path.before) (g.K.Keeper.standing c.add_at.new.before)
+    (g.L.Keeper.standing c.args.after.now) (g.L.Keeper.standing c.loop-path.after) (g.L.Keeper.standing c.add_at.new.after)
+    (tt {0}) c.in-Err.fault _ _ _ _ refl c.loop-path.invariant c.in-Err.ensures
+
+pub returns : goal.returns
+returns g c =
+    let n = c.loop-path.path-index in
+    let xs = c.args.paths.now in
+    let m = c.args.blocks.now in
+    let whole : take n xs ≡ xs = take_all n xs c.loop-path-test.false in
+    compared_as (g.K.Keeper.standing c.args.before.now) (g.K.Keeper.standing c.loop-path.before) (g.L.Keeper.standing c.args.after.now) (g.L.Keeper.standing c.loop-path.after)
+    (tt {0}) (tt {0})
+    (λ (o p : Office) (done : Unit {0}). c.loop-path.blocks ≡ gathered m (map (block_at o p) (take n xs)))
+    (λ (o p : Office) (done : Unit {0}). c.loop-path.blocks ≡ gathered m (map (block_at o p) xs))
+    c.loop-path.invariant (λ o p so tp t. t ∙ ap (λ zs. gathered m (map (block_at o p) zs)) whole)

@@ -1,0 +1,5 @@
+use Rattle.book_questions_changes.proofs.Unchanged.{unchanged_is_equal}
+use Rattle.book_questions_changes.proofs.laws.unchanged_is_equal.Goals as goal
+
+pub returns : goal.returns
+returns c = unchanged_is_equal

@@ -1,0 +1,4 @@
+pub mod Facts
+pub mod Members
+pub mod Changes
+pub mod Laws
