@@ -1,5 +1,5 @@
 -- What the program does where it answers a question about a store (own profile).
-use Rattle.std.specs.Prelude.{◌≡◌, ◌⊎◌, ℕ, List, Option, Some, None, Result, Ok, Err, option_map}
+use Rattle.std.specs.Prelude.{◌≡◌, ◌⊎◌, ℕ, Bool, true, false, List, Option, Some, None, Result, Ok, Err, option_map}
 use Rattle.std.specs.Io.KnownBytes.{Appends, Keeps}
 use Rattle.sqlite.specs.State.{State}
 use Rattle.book_office.specs.Keeping.{Standing}
@@ -15,6 +15,9 @@ use Rattle.book_questions_audit.specs.Telling.{TellsPart}
 use Rattle.book_questions_rights.specs.Rights.{TellsRights}
 use Rattle.book_questions.specs.Questions.{TellsWhy}
 use Rattle.book_questions.specs.Who.{TellsWho}
+use Rattle.book_questions.specs.declared.questions.Question.{Question}
+use Rattle.book_questions_json.specs.HeldBlocks.{TellsRightsObjects}
+use Rattle.book_questions_json.specs.Telling.{TellsWhoObjects, TellsWhyObjects}
 use Rattle.book_desk_app.specs.Failures.{store_text}
 use Rattle.book_desk_app.specs.Runs.{AreTablesOf, standing_in}
 use Rattle.book_desk_app.specs.declared.failures.StoreFailure.{StoreFailure}
@@ -22,6 +25,8 @@ use Rattle.book_desk_questions.specs.Asked.{AsksFor, AsksForNothing, asking_of, 
 use Rattle.book_desk_questions.specs.Failures.{unanswered_status, unanswered_text}
 use Rattle.book_desk_questions.specs.declared.asked.Asked.{Asked}
 use Rattle.book_desk_questions.specs.declared.asked.Asked.TheVariants as asked
+use Rattle.book_desk_questions.specs.declared.asked.AskedRights.{AskedRights}
+use Rattle.book_desk_questions.specs.declared.asked.AskedWho.{AskedWho}
 use Rattle.book_desk_questions.specs.declared.asked.Asking.{Asking}
 use Rattle.book_desk_questions.specs.declared.asked.Words.{Words}
 use Rattle.book_desk_questions.specs.declared.failures.Unanswered.{Unanswered}
@@ -47,11 +52,26 @@ Always Tells (Ok None) = ⊥
 Always Tells (Ok (Some text)) = Tells (Ok text)
 Always Tells (Err refusal) = Tells (Err refusal)
 
+-- why something is granted to a caller, or denied, as objects or as a text
+abbrev pub TellsWhyAs : Bool → Office → Option (List ℕ) → Question → Result (List ℕ) Refusal → Type 0
+TellsWhyAs true o name question r = TellsWhyObjects o name question r
+TellsWhyAs false o name question r = TellsWhy o name question r
+
+-- to whom a privilege is granted, or denied
+abbrev pub TellsWhoAs : Bool → Office → AskedWho → Result (List ℕ) Refusal → Type 0
+TellsWhoAs true o a r = TellsWhoObjects o a.denied a.privilege a.path r
+TellsWhoAs false o a r = TellsWho o a.denied a.privilege a.path r
+
+-- who holds which rights
+abbrev pub TellsRightsAs : Bool → Office → AskedRights → Result (List ℕ) Refusal → Type 0
+TellsRightsAs true o a r = TellsRightsObjects o a.name a.path a.shared r
+TellsRightsAs false o a r = TellsRights o a.name a.path a.shared r
+
 -- the answer; none where there is too much to tell
 abbrev pub TellsAsked : Office → Asked → Result (Option (List ℕ)) Refusal → Type 0
-TellsAsked o (asked.Why caller question) r = Always (TellsWhy o (caller_in caller) question) r
-TellsAsked o (asked.Who privilege p denied) r = Always (TellsWho o denied privilege p) r
-TellsAsked o (asked.Rights name p shared) r = Always (TellsRights o name p shared) r
+TellsAsked o (asked.Why caller question json) r = Always (TellsWhyAs json o (caller_in caller) question) r
+TellsAsked o (asked.Who a json) r = Always (TellsWhoAs json o a) r
+TellsAsked o (asked.Rights a json) r = Always (TellsRightsAs json o a) r
 TellsAsked o (asked.Decision caller p set) r = TellsAsk o (caller_in caller) p set r
 TellsAsked o (asked.Part p wanted) r = Always (TellsPart o p wanted) r
 TellsAsked o (asked.Show p) r = Always (λ told. Meets told (shown_at o p)) r

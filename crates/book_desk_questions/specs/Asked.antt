@@ -47,7 +47,7 @@ asking_of (words.Show path) = asking.Show
 -- ---- why something is granted to a caller, or denied
 -- the words ask this of a caller
 abbrev pub AsksWhy : WhyWords → Asked → Type 0
-AsksWhy w a = (question : Question) × (a ≡ asked.Why w.caller.now question) × ReadsQuestion w.what.now w.path.now (option_copied w.destination) (Some question)
+AsksWhy w a = (question : Question) × (a ≡ asked.Why w.caller.now question w.json) × ReadsQuestion w.what.now w.path.now (option_copied w.destination) (Some question)
 
 -- they name neither a method nor a privilege; or memory was refused
 abbrev pub AsksWhyNothing : WhyWords → Unanswered → Type 0
@@ -57,7 +57,9 @@ AsksWhyNothing w failure =
 -- ---- to whom a privilege is granted, or denied
 -- the words ask this of everybody
 abbrev pub AsksWho : WhoWords → Asked → Type 0
-AsksWho w a = (privilege : Privilege) × (p : Option Path) × (a ≡ asked.Who privilege p w.denied) × (w.privilege.now ≡ name_of privilege) × ReadsPath w.path.now p
+AsksWho w a =
+    (privilege : Privilege) × (p : Option Path) × (a ≡ asked.Who (record { privilege = privilege; path = p; denied = w.denied }) w.json)
+    × (w.privilege.now ≡ name_of privilege) × ReadsPath w.path.now p
 
 -- they name no privilege; or memory was refused
 abbrev pub AsksWhoNothing : WhoWords → Unanswered → Type 0
@@ -72,7 +74,9 @@ at_or_root (Some path) = path
 
 -- the words ask this of all rights
 abbrev pub AsksRights : RightsWords → Asked → Type 0
-AsksRights w a = (p : Option Path) × (a ≡ asked.Rights (option_copied w.caller) p w.shared) × ReadsPath (at_or_root (option_copied w.at)) p
+AsksRights w a =
+    (p : Option Path) × (a ≡ asked.Rights (record { name = option_copied w.caller; path = p; shared = w.shared }) w.json)
+    × ReadsPath (at_or_root (option_copied w.at)) p
 
 -- ---- a decision
 -- the words ask this of a decision

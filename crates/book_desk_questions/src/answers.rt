@@ -1,7 +1,6 @@
 //! The answer to a question, over any keeper, over the tables of a store, and over a store.
 
 ghost use Rattle.std.specs.Prelude.{◌≡◌, IfErr, OnOk};
-ghost use Rattle.std.specs.Option.{option_copied};
 ghost use Rattle.std.specs.Io.KnownBytes.{Keeps};
 ghost use Rattle.sqlite.specs.Held.{state};
 ghost use Rattle.book_machine.specs.Asking.{Meets, StageAsks};
@@ -13,15 +12,14 @@ ghost use Rattle.book_tables.specs.declared.tables.Tables.{Tables};
 
 use crate::asked::{Asked, Asking, Words, asked_of, asking_of, caller_in};
 use crate::failures::{Unanswered, tell_unanswered};
+use crate::forms::{rights_told, who_told, why_told};
 use book_desk_app::{DONE, Failure, Lines, open_store, tell_line};
 use book_dumps::show;
 use book_machine::{Machine, Refusal};
 use book_office::Keeper;
 use book_office_values::{Path, Text};
-use book_questions::{who, why};
 use book_questions_asked::ask;
 use book_questions_audit::audit_part;
-use book_questions_rights::rights;
 use book_tables::Tables;
 use sqlite::{Alter, Connection};
 use std::alloc::Global;
@@ -45,16 +43,6 @@ fn shown<K: Keeper>(
     }
 }
 
-/// The bare name of a person, if there is one.
-fn named(name: &Option<Text>) -> Option<&str>
-    ensures { option_copied result ≡ name.now }
-{
-    match name {
-        Some(name) => Some(name.as_str()),
-        None => None,
-    }
-}
-
 /// What is told of a question that always has an answer.
 fn always(told: Result<Text, Refusal>) -> Result<Option<Text>, Refusal>
     ensures { result ≡ always told }
@@ -75,15 +63,15 @@ fn answer_of<K: Keeper>(
         (λ o r. TellsAsked o asked.now r) }
 {
     match asked {
-        Asked::Why(caller, question) => {
-            always(why(alloc, machine, caller_in(caller.as_str()), question))
-        }
-        Asked::Who(privilege, path, denied) => {
-            always(who(alloc, machine, *privilege, path, *denied))
-        }
-        Asked::Rights(name, path, shared) => {
-            always(rights(alloc, machine, named(name), path, *shared))
-        }
+        Asked::Why(caller, question, json) => always(why_told(
+            alloc,
+            machine,
+            caller_in(caller.as_str()),
+            question,
+            *json,
+        )),
+        Asked::Who(asked, json) => always(who_told(alloc, machine, asked, *json)),
+        Asked::Rights(asked, json) => always(rights_told(alloc, machine, asked, *json)),
         Asked::Decision(caller, path, set) => {
             ask(alloc, machine, caller_in(caller.as_str()), path, *set)
         }

@@ -29,6 +29,8 @@ pub struct WhyWords<'a> {
     pub path: &'a str,
     /// The path of a destination.
     pub destination: Option<&'a str>,
+    /// Whether the answer is told as objects.
+    pub json: bool,
 }
 
 /// The words of a question about everybody.
@@ -40,6 +42,8 @@ pub struct WhoWords<'a> {
     pub path: &'a str,
     /// Whether those to whom it is denied are told.
     pub denied: bool,
+    /// Whether the answer is told as objects.
+    pub json: bool,
 }
 
 /// The words of a question about all rights.
@@ -51,6 +55,8 @@ pub struct RightsWords<'a> {
     pub caller: Option<&'a str>,
     /// Whether only cards are told whose own list gives more than their book.
     pub shared: bool,
+    /// Whether the answer is told as objects.
+    pub json: bool,
 }
 
 /// The words of a decision.
@@ -107,16 +113,37 @@ pub enum Asking {
     Show,
 }
 
-/// A question about a store.
+/// To whom a privilege is granted at a path, or denied.
+#[derive(Debug, Drop)]
+pub struct AskedWho {
+    /// The privilege.
+    pub privilege: Privilege,
+    /// The path; none where its text was none.
+    pub path: Option<Path>,
+    /// Whether those to whom it is denied are told.
+    pub denied: bool,
+}
+
+/// Who holds which rights at a path and below it.
+#[derive(Debug, Drop)]
+pub struct AskedRights {
+    /// The bare name of the person whose rights are told; without one, everybody's.
+    pub name: Option<Text>,
+    /// The path; none where its text was none.
+    pub path: Option<Path>,
+    /// Whether only cards are told whose own list gives more than their book.
+    pub shared: bool,
+}
+
+/// A question about a store. Where there is a flag, it says whether the answer is told as objects.
 #[derive(Debug, Drop)]
 pub enum Asked {
     /// Why something is granted to a caller, by the word that names the caller, or denied.
-    Why(Text, Question),
-    /// To whom a privilege is granted at a path, or with the flag to whom it is denied; no path where its text was none.
-    Who(Privilege, Option<Path>, bool),
-    /// Who holds which rights at a path and below it, by the word that names a person where one does, or with the flag only
-    /// those that cards' own lists give; no path where its text was none.
-    Rights(Option<Text>, Option<Path>, bool),
+    Why(Text, Question, bool),
+    /// To whom a privilege is granted at a path, or denied.
+    Who(AskedWho, bool),
+    /// Who holds which rights at a path and below it.
+    Rights(AskedRights, bool),
     /// What the decision on leaves at a path rests on, by the word that names the caller; no path where its text was none.
     Decision(Text, Option<Path>, LeafSet),
     /// The owners and lists at a path and below it; no path where its text was none.
@@ -169,7 +196,7 @@ fn asked_of_caller(alloc: Global, words: &WhyWords<'_>) -> Result<Asked, Unanswe
         return Err(Unanswered::Refused(Refusal::Unavailable));
     };
     match question_of(alloc, words.what, words.path, words.destination) {
-        Ok(Some(question)) => Ok(Asked::Why(Text::from_string(caller), question)),
+        Ok(Some(question)) => Ok(Asked::Why(Text::from_string(caller), question, words.json)),
         Ok(None) => Err(Unanswered::UnknownPrivilege),
         Err(_) => Err(Unanswered::Refused(Refusal::Unavailable)),
     }
@@ -196,7 +223,14 @@ fn asked_of_all(alloc: Global, words: &WhoWords<'_>) -> Result<Asked, Unanswered
         return Err(Unanswered::UnknownPrivilege);
     };
     match path_of(alloc, words.path) {
-        Ok(path) => Ok(Asked::Who(privilege, path, words.denied)),
+        Ok(path) => Ok(Asked::Who(
+            AskedWho {
+                privilege,
+                path,
+                denied: words.denied,
+            },
+            words.json,
+        )),
         Err(failure) => Err(failure),
     }
 }
@@ -225,7 +259,14 @@ fn asked_of_rights(alloc: Global, words: &RightsWords<'_>) -> Result<Asked, Unan
         Err(failure) => return Err(failure),
     };
     match path_of(alloc, words.at.unwrap_or("/")) {
-        Ok(path) => Ok(Asked::Rights(name, path, words.shared)),
+        Ok(path) => Ok(Asked::Rights(
+            AskedRights {
+                name,
+                path,
+                shared: words.shared,
+            },
+            words.json,
+        )),
         Err(failure) => Err(failure),
     }
 }

@@ -2,19 +2,23 @@
 //! writes the answer for its Office, or tells why there is none (`RunsAsked`); `run_dump` writes the Office itself
 //! (`DumpsIn`).
 //!
-//! It stands on `book_questions`, `book_questions_rights`, `book_questions_asked`, `book_questions_audit` and `book_dumps`,
-//! which answer over any keeper, and on `book_desk_app`, which opens a store and tells failures. The program calls it for
-//! `why`, `who`, `rights`, `ask`, `show`, `dump`, and the `audit` of a part.
+//! It stands on `book_questions`, `book_questions_rights`, `book_questions_json`, `book_questions_asked`,
+//! `book_questions_audit` and `book_dumps`, which answer over any keeper, and on `book_desk_app`, which opens a store and
+//! tells failures. The program calls it for `why`, `who`, `rights`, `ask`, `show`, `dump`, and the `audit` of a part.
 //!
-//! Read `asked` first, then `failures` and `answers`; and `dumping`.
+//! Read `asked` first, then `failures`, `forms` and `answers`; and `dumping`.
 #![tactic(auto)]
 
 mod answers;
 mod asked;
 mod dumping;
 mod failures;
+mod forms;
 
 pub use answers::run_question;
-pub use asked::{Asked, Asking, DecisionWords, PartWords, RightsWords, WhoWords, WhyWords, Words};
+pub use asked::{
+    Asked, AskedRights, AskedWho, Asking, DecisionWords, PartWords, RightsWords, WhoWords,
+    WhyWords, Words,
+};
 pub use dumping::run_dump;
 pub use failures::Unanswered;
