@@ -1,11 +1,11 @@
 //! How two Offices differ, over any two keepers.
 
-ghost use Rattle.std.specs.Prelude.{◌≡◌, ◌==◌, ◌++◌, count_by, map, IfOk, OnOk, string_bytes};
+ghost use Rattle.std.specs.Prelude.{◌≡◌, ◌++◌, map, IfOk, OnOk, string_bytes};
 ghost use Rattle.std.specs.FinMap as maps;
 ghost use Rattle.book_office_audit.specs.Audits.{gathered};
 ghost use Rattle.book_office_values.specs.declared.paths.Path.{Path as PathOf};
 ghost use Rattle.book_questions_differs.specs.Comparing.{Compares};
-ghost use Rattle.book_questions_changes.specs.Changes.{IsChanges, facts_at, facts_text, last_line, line_count, spot_at, with_last};
+ghost use Rattle.book_questions_changes.specs.Changes.{IsChanges, facts_text, last_line, line_count, spot_at, with_last};
 ghost use Rattle.book_questions_changes.specs.Facts.{spot_block};
 ghost use Rattle.book_questions_changes.specs.Members.{IsMembersText};
 
