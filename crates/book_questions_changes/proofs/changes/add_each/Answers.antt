@@ -18,12 +18,12 @@ loop-path-init g c = nothing_read (g.K.Keeper.standing c.args.before.now) (g.L.K
 
 pub loop-path-preserved : goal.loop-path-preserved
 loop-path-preserved g c =
-    let S0 : Standing = g.K.Keeper.standing c.args.before.now in
-    let S1 : Standing = g.K.Keeper.standing c.loop-path.before in
-    let S2 : Standing = g.K.Keeper.standing c.add_at.new.before in
-    let T0 : Standing = g.L.Keeper.standing c.args.after.now in
-    let T1 : Standing = g.L.Keeper.standing c.loop-path.after in
-    let T2 : Standing = g.L.Keeper.standing c.add_at.new.after in
+    let Before0 : Standing = g.K.Keeper.standing c.args.before.now in
+    let Before1 : Standing = g.K.Keeper.standing c.loop-path.before in
+    let Before2 : Standing = g.K.Keeper.standing c.add_at.new.before in
+    let After0 : Standing = g.L.Keeper.standing c.args.after.now in
+    let After1 : Standing = g.L.Keeper.standing c.loop-path.after in
+    let After2 : Standing = g.L.Keeper.standing c.add_at.new.after in
     let i = c.loop-path.path-index in
     let xs = c.args.paths.now in
     let path = c.path-item.result in
@@ -32,7 +32,7 @@ loop-path-preserved g c =
     let T : Office → Office → Unit {0} → Type 0 = λ o p done. c.loop-path.blocks ≡ gathered m (map (block_at o p) (take i xs)) in
     let U : Office → Office → Unit {0} → Type 0 = λ o p done. c.add_at.new.blocks ≡ maps.insert c.loop-path.blocks (block_at o p path).0 (block_at o p path).1 in
     let V : Office → Office → Unit {0} → Type 0 = λ o p done. c.add_at.new.blocks ≡ gathered m (map (block_at o p) (take (i + 1) xs)) in
-    compared_then S0 S1 S2 T0 T1 T2 tt (Ok tt) T U V c.loop-path.invariant c.in-Ok.ensures
+    compared_then Before0 Before1 Before2 After0 After1 After2 tt (Ok tt) T U V c.loop-path.invariant c.in-Ok.ensures
     (λ o p so tp t y u. u ∙ ap (λ b. maps.insert b (block_at o p path).0 (block_at o p path).1) t
     ∙ gathered_both m (map (block_at o p) (take i xs)) (block_at o p path ∷ [])
     ∙ ap (gathered m) (sym (ap (map (block_at o p)) more ∙ map-append (block_at o p) (take i xs) (path ∷ []))))

@@ -15,12 +15,12 @@ loop-name-init g c = nothing_read (g.K.Keeper.standing c.args.before.now) (g.L.K
 
 pub loop-name-preserved : goal.loop-name-preserved
 loop-name-preserved g c =
-    let S0 : Standing = g.K.Keeper.standing c.args.before.now in
-    let S1 : Standing = g.K.Keeper.standing c.loop-name.before in
-    let S2 : Standing = g.K.Keeper.standing c.party_of.new.before in
-    let T0 : Standing = g.L.Keeper.standing c.args.after.now in
-    let T1 : Standing = g.L.Keeper.standing c.loop-name.after in
-    let T2 : Standing = g.L.Keeper.standing c.party_of.new.after in
+    let Before0 : Standing = g.K.Keeper.standing c.args.before.now in
+    let Before1 : Standing = g.K.Keeper.standing c.loop-name.before in
+    let Before2 : Standing = g.K.Keeper.standing c.party_of.new.before in
+    let After0 : Standing = g.L.Keeper.standing c.args.after.now in
+    let After1 : Standing = g.L.Keeper.standing c.loop-name.after in
+    let After2 : Standing = g.L.Keeper.standing c.party_of.new.after in
     let i = c.loop-name.name-index in
     let xs = c.args.names.now in
     let name = c.name-item.result in
@@ -30,11 +30,11 @@ loop-name-preserved g c =
     let U : Office → Office → Party → Type 0 = λ o p party. IsParty o p name party in
     let V : Office → Office → Party → Type 0 = λ o p party. AreParties o p (take (i + 1) xs) (old ++ party ∷ []) in
     let W : Office → Office → List Party → Type 0 = λ o p parties. AreParties o p (take (i + 1) xs) parties in
-    let both : Compares S0 S2 T0 T2 (Ok c.in-Ok.party) V = compared_then S0 S1 S2 T0 T1 T2 old (Ok c.in-Ok.party) T U V c.loop-name.invariant c.in-Ok.ensures
+    let both : Compares Before0 Before2 After0 After2 (Ok c.in-Ok.party) V = compared_then Before0 Before1 Before2 After0 After1 After2 old (Ok c.in-Ok.party) T U V c.loop-name.invariant c.in-Ok.ensures
     (λ o p so tp t y u. subst (λ zs. AreParties o p zs (old ++ y ∷ [])) (sym more) (zip_more (IsParty o p) (take i xs) old name y t u)) in
     let ok : is_ok c.push.result ≡ true = c.if-is_err.ensures.negation in
     let pushed : c.push.new.self.items ≡ old ++ c.in-Ok.party ∷ [] = c.push.ensures.items ∙ ap (λ b. if b then old ++ c.in-Ok.party ∷ [] else old) ok in
-    compared_as S0 S2 T0 T2 c.in-Ok.party c.push.new.self.items V W both (λ o p so tp v. subst (AreParties o p (take (i + 1) xs)) (sym pushed) v)
+    compared_as Before0 Before2 After0 After2 c.in-Ok.party c.push.new.self.items V W both (λ o p so tp v. subst (AreParties o p (take (i + 1) xs)) (sym pushed) v)
 
 pub returns-in-Err : goal.returns-in-Err
 returns-in-Err g c =
@@ -44,15 +44,15 @@ returns-in-Err g c =
 
 pub returns-then-is_err : goal.returns-then-is_err
 returns-then-is_err g c =
-    let S0 : Standing = g.K.Keeper.standing c.args.before.now in
-    let S1 : Standing = g.K.Keeper.standing c.loop-name.before in
-    let S2 : Standing = g.K.Keeper.standing c.party_of.new.before in
-    let T0 : Standing = g.L.Keeper.standing c.args.after.now in
-    let T1 : Standing = g.L.Keeper.standing c.loop-name.after in
-    let T2 : Standing = g.L.Keeper.standing c.party_of.new.after in
+    let Before0 : Standing = g.K.Keeper.standing c.args.before.now in
+    let Before1 : Standing = g.K.Keeper.standing c.loop-name.before in
+    let Before2 : Standing = g.K.Keeper.standing c.party_of.new.before in
+    let After0 : Standing = g.L.Keeper.standing c.args.after.now in
+    let After1 : Standing = g.L.Keeper.standing c.loop-name.after in
+    let After2 : Standing = g.L.Keeper.standing c.party_of.new.after in
     let V : Office → Office → Party → Type 0 = λ o p party. Unit {0} in
-    let both : Compares S0 S2 T0 T2 (Ok c.in-Ok.party) V = compared_then S0 S1 S2 T0 T1 T2 c.loop-name.parties.items (Ok c.in-Ok.party) _ _ V c.loop-name.invariant c.in-Ok.ensures (λ o p so tp t y u. tt) in
-    compared_refused S0 S2 T0 T2 c.in-Ok.party _ V _ refl both
+    let both : Compares Before0 Before2 After0 After2 (Ok c.in-Ok.party) V = compared_then Before0 Before1 Before2 After0 After1 After2 c.loop-name.parties.items (Ok c.in-Ok.party) _ _ V c.loop-name.invariant c.in-Ok.ensures (λ o p so tp t y u. tt) in
+    compared_refused Before0 Before2 After0 After2 c.in-Ok.party _ V _ refl both
 
 pub returns : goal.returns
 returns g c =
