@@ -25,7 +25,7 @@ fn end_checked<E: Lines>(checked: Checked, errors: &mut E) -> u8
 }
 
 /// Ends a check, and gives the status of the program.
-fn end_told<E: Lines>(told: Told, strict: bool, errors: &mut E) -> u8
+pub(crate) fn end_told<E: Lines>(told: Told, strict: bool, errors: &mut E) -> u8
     ensures status { result ≡ told_status strict told }
     ensures told { EndsTold (E.is_whole errors.new) (E.Write.contents errors.old)
         (E.Write.contents errors.new) told }

@@ -1,10 +1,15 @@
 //! The check of a policy's file, as a command: `check` tells each fault on standard error, and of a sound policy what it
-//! leaves open on standard output (`Checks`).
+//! leaves open on standard output (`Checks`); `check_over` tells the same of a policy that a store would adopt
+//! (`ChecksOver`).
 //!
-//! It stands on `book_policy_warnings`, which tells, and on `book_desk_app`, which has the statuses and the failures. The
-//! program calls it for `check`.
+//! It stands on `book_policy_warnings`, which tells, on `book_office_copies`, which copies the Office of a store, and on
+//! `book_desk_app`, which opens a store and has the statuses and the failures. The program calls it for `check`.
+//!
+//! Read `checking` first, then `over`.
 #![tactic(auto)]
 
 mod checking;
+mod over;
 
 pub use checking::check;
+pub use over::check_over;
