@@ -1,16 +1,18 @@
 //! What is asked of a store, as commands: `run_question` reads the words of a question, opens the tables of the store, and
 //! writes the answer for its Office, or tells why there is none (`RunsAsked`); `run_dump` writes the Office itself
-//! (`DumpsIn`).
+//! (`DumpsIn`); `run_differs` reads a policy, and writes what adopting it would leave and change (`RunsDiffers`).
 //!
 //! It stands on `book_questions`, `book_questions_rights`, `book_questions_json`, `book_questions_asked`,
-//! `book_questions_audit` and `book_dumps`, which answer over any keeper, and on `book_desk_app`, which opens a store and
-//! tells failures. The program calls it for `why`, `who`, `rights`, `ask`, `show`, `dump`, and the `audit` of a part.
+//! `book_questions_audit`, `book_questions_plans` and `book_dumps`, which answer over any keeper, and on `book_desk_app`,
+//! which opens a store, reads a policy and tells failures. The program calls it for `why`, `who`, `rights`, `ask`, `show`,
+//! `dump`, `differs`, and the `audit` of a part.
 //!
-//! Read `asked` first, then `failures`, `forms` and `answers`; and `dumping`.
+//! Read `asked` first, then `failures`, `forms` and `answers`; then `dumping` and `differing`.
 #![tactic(auto)]
 
 mod answers;
 mod asked;
+mod differing;
 mod dumping;
 mod failures;
 mod forms;
@@ -20,5 +22,6 @@ pub use asked::{
     Asked, AskedRights, AskedWho, Asking, DecisionWords, PartWords, RightsWords, WhoWords,
     WhyWords, Words,
 };
+pub use differing::{Unplanned, run_differs};
 pub use dumping::run_dump;
 pub use failures::Unanswered;
