@@ -86,7 +86,7 @@ fn read_file(rt: &(impl Files + AllocGlobal), name: &str) -> Result<Vec<u8>, Inp
 /// # Errors
 ///
 /// `Input` where it can't be read.
-pub fn open_policy(rt: &HostRuntime, name: &str) -> Result<Vec<u8>, Failure> {
+fn open_policy(rt: &HostRuntime, name: &str) -> Result<Vec<u8>, Failure> {
     tell_stage(rt, Stage::Reading(name));
     match read_file(rt, name) {
         Ok(bytes) => Ok(bytes),

@@ -2,10 +2,11 @@
 //! the rest, over any store, reader and writers: `run_text` what `explain`, `card` and help do, `run` what `import`,
 //! `audit` and `pipe` do, `run_migration` and `serve` what the commands of their names do, and `prepare` what `serve`
 //! does before it listens, and `begin` what `init` does in a folder. `run_question` of `book_desk_questions` does what
-//! `why`, `who`, `rights`, `ask`, `show` and the `audit` of a part do, and `run_dump` what `dump` does; `check` of
-//! `book_desk_checks` does what the command of its name does. Their contracts say what is written where these tell their
-//! bytes. Nothing stands above it: `main` joins them to the process, to the files (`files`, `folders`) and to the port,
-//! and tells each stage before it calls it, where standard error is a terminal (`progress`).
+//! `why`, `who`, `rights`, `ask`, `show` and the `audit` of a part do, `run_dump` what `dump` does, and `run_differs` what
+//! `differs` does; `check` and `check_over` of `book_desk_checks` do what `check` does. Their contracts say what is
+//! written where these tell their bytes. Nothing stands above it: `main` joins them to the process, to the files
+//! (`files`, `folders`) and to the port, and tells each stage before it calls it, where standard error is a terminal
+//! (`progress`).
 #![tactic(auto)]
 
 ghost use Rattle.std.specs.Prelude.{◌≡◌};
@@ -22,10 +23,11 @@ use book_desk_app::{
     Failure, InputFault, Lines, Noting, Prepared, StoreFailure, TextCommand, Work, begin, prepare,
     run, run_migration, run_text, serve, serve_many, tell, tell_line,
 };
-use book_desk_checks::check;
+use book_desk_checks::{check, check_over};
 use book_desk_loop::{Limits, Polled};
 use book_desk_questions::{
-    DecisionWords, PartWords, RightsWords, WhoWords, WhyWords, Words, run_dump, run_question,
+    DecisionWords, PartWords, RightsWords, WhoWords, WhyWords, Words, run_differs, run_dump,
+    run_question,
 };
 use book_desk_words::{Command, WordsFault, command_of, words_not_text};
 use book_machine::Machine;
@@ -33,7 +35,7 @@ use book_office::Keeper;
 use book_questions_audit::Wanted;
 use book_tables_schema::Unopened;
 use builds::BUILD;
-use files::{Opened, close, open_former, open_inputs, open_policy};
+use files::{FileConnection, Opened, close, open_former, open_inputs};
 use folders::{DiskFolder, make_folder, remove_folder};
 use progress::{Stage, tell_stage};
 use sqlite::{Alter, Connection};
@@ -145,17 +147,29 @@ fn work<W: Write, E: Lines>(
     status
 }
 
-/// The command `check`: the policy's file is read, and each fault of it is told, or what it leaves open.
-fn check_file<W: Write, E: Lines>(
+/// The command `check`: the policy's file is read, and each fault of it is told, or what it leaves open; over a store,
+/// which has to be there, where one is named.
+fn check_files<W: Write, E: Lines>(
     rt: &HostRuntime,
-    policy: &str,
+    named: &Named,
     strict: bool,
     writer: &mut W,
     errors: &mut E,
 ) -> u8 {
-    match open_policy(rt, policy) {
-        Ok(bytes) => check(rt.alloc(), bytes, strict, writer, errors),
-        Err(failure) => tell_line(errors, &failure),
+    let Opened { store, policy } = match open_inputs(rt, &named.store, &named.policy, true) {
+        Ok(opened) => opened,
+        Err(failure) => return tell_line(errors, &failure),
+    };
+    let Some(bytes) = policy else {
+        return tell_line(errors, &Failure::Input(InputFault::Read));
+    };
+    match store {
+        Some(store) => {
+            let (status, left) = check_over(rt.alloc(), bytes, strict, store, writer, errors);
+            close(left);
+            status
+        }
+        None => check(rt.alloc(), bytes, strict, writer, errors),
     }
 }
 
@@ -193,27 +207,40 @@ fn words_of_why<'a>(
     what: &'a str,
     path: &'a str,
     destination: Option<&'a str>,
+    json: bool,
 ) -> Words<'a> {
     Words::Why(WhyWords {
         caller,
         what,
         path,
         destination,
+        json,
     })
 }
 
 /// The words of `who`.
-fn words_of_who<'a>(privilege: &'a str, path: &'a str, denied: bool) -> Words<'a> {
+fn words_of_who<'a>(privilege: &'a str, path: &'a str, denied: bool, json: bool) -> Words<'a> {
     Words::Who(WhoWords {
         privilege,
         path,
         denied,
+        json,
     })
 }
 
 /// The words of `rights`.
-fn words_of_rights<'a>(at: Option<&'a str>, caller: Option<&'a str>, shared: bool) -> Words<'a> {
-    Words::Rights(RightsWords { at, caller, shared })
+fn words_of_rights<'a>(
+    at: Option<&'a str>,
+    caller: Option<&'a str>,
+    shared: bool,
+    json: bool,
+) -> Words<'a> {
+    Words::Rights(RightsWords {
+        at,
+        caller,
+        shared,
+        json,
+    })
 }
 
 /// The words of `ask`.
@@ -235,6 +262,27 @@ fn words_of_show<'a>(path: &'a str) -> Words<'a> {
     Words::Show(path)
 }
 
+/// Opens what is named for a command that looks at a store: the store's file has to be there.
+fn open_viewed(
+    rt: &HostRuntime,
+    named: &Named,
+) -> Result<(FileConnection, Option<Vec<u8>>), Failure> {
+    let Opened { store, policy } = open_inputs(rt, &named.store, &named.policy, true)?;
+    match store {
+        Some(store) => Ok((store, policy)),
+        None => Err(Failure::Store(StoreFailure::NoStore)),
+    }
+}
+
+/// A store that is looked at.
+fn viewed(store: String, policy: Option<String>) -> Named {
+    Named {
+        store: Some(store),
+        policy,
+        existing: true,
+    }
+}
+
 /// The commands that ask: the store's file, which has to be there, is opened, and the question answered.
 fn ask<W: Write, E: Lines>(
     rt: &HostRuntime,
@@ -243,13 +291,9 @@ fn ask<W: Write, E: Lines>(
     writer: &mut W,
     errors: &mut E,
 ) -> u8 {
-    let Opened { store, policy } = match open_inputs(rt, &Some(store), &None, true) {
-        Ok(opened) => opened,
+    let store = match open_viewed(rt, &viewed(store, None)) {
+        Ok((store, _)) => store,
         Err(failure) => return tell(errors, &failure),
-    };
-    drop(policy);
-    let Some(store) = store else {
-        return tell(errors, &Failure::Store(StoreFailure::NoStore));
     };
     let (status, left) = run_question(rt.alloc(), words, store, writer, errors);
     close(left);
@@ -258,15 +302,32 @@ fn ask<W: Write, E: Lines>(
 
 /// The command `dump`: the store's file, which has to be there, is opened, and its Office written.
 fn dump<W: Write, E: Lines>(rt: &HostRuntime, store: String, writer: &mut W, errors: &mut E) -> u8 {
-    let Opened { store, policy } = match open_inputs(rt, &Some(store), &None, true) {
-        Ok(opened) => opened,
+    let store = match open_viewed(rt, &viewed(store, None)) {
+        Ok((store, _)) => store,
         Err(failure) => return tell(errors, &failure),
     };
-    drop(policy);
-    let Some(store) = store else {
-        return tell(errors, &Failure::Store(StoreFailure::NoStore));
-    };
     let (status, left) = run_dump(rt.alloc(), store, writer, errors);
+    close(left);
+    status
+}
+
+/// The command `differs`: the policy's file is read, the store's file, which has to be there, is opened, and what would
+/// change is told.
+fn tell_differences<W: Write, E: Lines>(
+    rt: &HostRuntime,
+    named: &Named,
+    strict: bool,
+    writer: &mut W,
+    errors: &mut E,
+) -> u8 {
+    let (store, policy) = match open_viewed(rt, named) {
+        Ok(opened) => opened,
+        Err(failure) => return tell_line(errors, &failure),
+    };
+    let Some(bytes) = policy else {
+        return tell_line(errors, &Failure::Input(InputFault::Read));
+    };
+    let (status, left) = run_differs(rt.alloc(), bytes, strict, store, writer, errors);
     close(left);
     status
 }
@@ -452,13 +513,18 @@ fn perform<W: Write, E: Lines>(
             };
             work(rt, Work::Import, &named, writer, errors)
         }
-        Command::Check { policy, strict } => check_file(
-            rt,
-            policy.as_str(),
+        Command::Check {
+            policy,
             strict,
-            writer,
-            errors,
-        ),
+            store,
+        } => {
+            let named = Named {
+                store,
+                policy: Some(policy),
+                existing: true,
+            };
+            check_files(rt, &named, strict, writer, errors)
+        }
         Command::Audit {
             store,
             existing,
@@ -502,12 +568,14 @@ fn perform<W: Write, E: Lines>(
             what,
             path,
             destination,
+            json,
         } => {
             let words = words_of_why(
                 caller.as_str(),
                 what.as_str(),
                 path.as_str(),
                 destination.as_deref(),
+                json,
             );
             ask(rt, store, &words, writer, errors)
         }
@@ -516,8 +584,9 @@ fn perform<W: Write, E: Lines>(
             privilege,
             path,
             denied,
+            json,
         } => {
-            let words = words_of_who(privilege.as_str(), path.as_str(), denied);
+            let words = words_of_who(privilege.as_str(), path.as_str(), denied, json);
             ask(rt, store, &words, writer, errors)
         }
         Command::Rights {
@@ -525,8 +594,9 @@ fn perform<W: Write, E: Lines>(
             at,
             caller,
             shared,
+            json,
         } => {
-            let words = words_of_rights(at.as_deref(), caller.as_deref(), shared);
+            let words = words_of_rights(at.as_deref(), caller.as_deref(), shared, json);
             ask(rt, store, &words, writer, errors)
         }
         Command::Ask {
@@ -543,6 +613,14 @@ fn perform<W: Write, E: Lines>(
             ask(rt, store, &words, writer, errors)
         }
         Command::Dump { store } => dump(rt, store, writer, errors),
+        Command::Differs {
+            store,
+            policy,
+            strict,
+        } => {
+            let named = viewed(store, Some(policy));
+            tell_differences(rt, &named, strict, writer, errors)
+        }
         Command::Serve {
             port,
             connections,
