@@ -1,4 +1,4 @@
-use Rattle.book_desk_questions.proofs.Common.{inl, inr}
+use Rattle.book_desk_questions.proofs.Common.{inr}
 use Rattle.book_desk_questions.proofs.differing.differs_of.Goals as goal
 
 pub returns-in-Err : goal.returns-in-Err
