@@ -1,5 +1,5 @@
 """An Office as a dump tells it, by rules of its own: who may do what (RFC 3744, section 6, and the order of the lists that this project
-has), what adopting a policy makes of it, and the lines that `audit` and `rights` print of it. Nothing here asks the program.
+has), what adopting a policy makes of it, and the lines that `audit`, `differs` and `ask` print of it. Nothing here asks the program.
 What imports this is run by `python3 -B`, so that nothing is left in tools/."""
 
 import dataclasses
@@ -238,3 +238,54 @@ def rights(office, at="/", caller=(), shared=False):
                 leaves = office.granted(one, paths[0])
                 if leaves:
                     yield f"{head} {one or 'nobody'} {' '.join(short(leaves))}"
+
+
+def decisions(before, after, path, head):
+    """The lines of the leaves that a caller has before and not after, and after and not before."""
+    for caller in ordered({caller or "" for caller in before.callers() + after.callers()}):
+        was, is_now = (office.granted(caller or None, path) for office in (before, after))
+        for word, leaves in (("lost", was - is_now), ("gained", is_now - was)):
+            if leaves:
+                yield f"{word} {head} {caller or 'nobody'} {' '.join(short(leaves))}"
+
+
+def facts(before, after, path):
+    """The lines of what a resource had and has, in the words of `audit`."""
+    was, is_now = (office.resources.get(path) for office in (before, after))
+    if was is None or is_now is None:
+        sign, told = ("+", is_now) if was is None else ("-", was)
+        yield f"{sign} {path} owner {told.owner or '-'}"
+        yield f"{sign} {path} label {quoted(told.label)}"
+        yield from (f"{sign} {path}{line}" for line in entry_lines(told))
+        return
+    if was.owner != is_now.owner:
+        yield from (f"{sign} {path} owner {told.owner or '-'}" for sign, told in (("-", was), ("+", is_now)))
+    if was.label != is_now.label:
+        yield from (f"{sign} {path} label {quoted(told.label)}" for sign, told in (("-", was), ("+", is_now)))
+    for which in ("protected", "own"):
+        if getattr(was, which) != getattr(is_now, which):
+            yield from (f"{sign} {path}{line}" for sign, told in (("-", was), ("+", is_now)) for line in entry_lines(told, [which]))
+
+
+def differs(before, after):
+    """The lines that `differs` prints of two Offices: memberships, what resources but cards have, and rights."""
+    was, is_now = set(before.members()), set(after.members())
+    told = [f"{'-' if line in was else '+'} {line}" for line in ordered(was ^ is_now)]
+    for path in ordered(path for path in {*before.resources, *after.resources} if not is_card(path)):
+        told += facts(before, after, path)
+    for paths, head in heads(before, after):
+        told += decisions(before, after, paths[0], head)
+    return [*told, f"differs in {len(told)}" if told else "unchanged"]
+
+
+def stays(office, policy):
+    """The lines of what a policy does not name and leaves in an Office: memberships, and then by path."""
+    known = named(policy)
+    places = {entry["at"] for entry in policy.get("entry", []) if not entry.get("protected", False)}
+    told = [f"stays {line}" for line in ordered(office.members()) if line.split(" ")[1] not in known]
+    for path in ordered(office.resources):
+        if path not in known and path not in HOMES and not is_card(path):
+            told.append(f"stays {path}")
+        if path not in places:
+            told += [f"stays {path}{line}" for line in entry_lines(office.resources[path], ["own"])]
+    return told
