@@ -23,12 +23,12 @@ const POLICY: &str = "version = 1\n\
     [[entry]]\nat = \"/books\"\nwho = \"/people/bob\"\ndeny = [\"read\"]\n\
     [[entry]]\nat = \"/books/sales\"\nwho = \"/groups/crew\"\ngrant = [\"bind\"]\n";
 
-fn name(rt: &impl Abort, alloc: Global, word: &str) -> Name {
+pub(crate) fn name(rt: &impl Abort, alloc: Global, word: &str) -> Name {
     let name = Name::parse(alloc, word).expect(rt, "memory");
     name.expect(rt, "a name")
 }
 
-fn principal(rt: &impl Abort, alloc: Global, word: &str) -> Principal {
+pub(crate) fn principal(rt: &impl Abort, alloc: Global, word: &str) -> Principal {
     let principal = Principal::parse(alloc, word).expect(rt, "memory");
     principal.expect(rt, "a principal")
 }
