@@ -284,8 +284,8 @@ fn move_contents(books: &mut NameMap<Book>, old: NameMap<Book>)
     }
 }
 
-/// Whether the principal is a group of the policy.
-fn is_group(alloc: Global, policy: &Policy, principal: &Principal) -> Result<bool, AllocError>
+/// Whether the principal is a group of the policy. An error is want of memory.
+pub fn is_group(alloc: Global, policy: &Policy, principal: &Principal) -> Result<bool, AllocError>
     ensures { IfOk result (λ is. is ≡ is_group_of policy.now principal.now) }
 {
     policy.known();

@@ -12,6 +12,6 @@ mod adopting;
 mod comparing;
 mod laws;
 
-pub use adopting::{Adoption, adopt_policy, adoption_of, office_under};
+pub use adopting::{Adoption, adopt_policy, adoption_of, is_group, office_under};
 pub use comparing::{same_lists, same_place};
 pub use laws::{adopting_needs_no_cards, adopting_twice_is_adopting_once};

@@ -95,8 +95,8 @@ fn push_entries(
     Ok(())
 }
 
-/// The text of an owner.
-fn owner_text(owner: &Option<Principal>) -> &str
+/// The text of an owner; `-` where there is none.
+pub fn owner_text(owner: &Option<Principal>) -> &str
     ensures { result.now ≡ owner_text owner.now }
 {
     match owner {

@@ -17,5 +17,5 @@ mod laws;
 mod reading;
 
 pub use audits::audit_text;
-pub use entry_lines::push_entry;
+pub use entry_lines::{owner_text, push_entry};
 pub use laws::audits_tell_every_resource;

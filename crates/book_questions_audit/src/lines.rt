@@ -8,7 +8,7 @@ ghost use Rattle.book_office_audit.specs.EntryLines.{entry_line, owner_text};
 ghost use Rattle.book_questions_audit.specs.Lines.{label_text, told_lines};
 
 use book_lists::{Entry, Principal};
-use book_office_audit::push_entry;
+use book_office_audit::{owner_text, push_entry};
 use book_office_values::Text;
 use json::Writer;
 use std::alloc::{AllocError, Global};
@@ -48,16 +48,6 @@ fn push_label(
     let json = quoted(alloc, label.as_str())?;
     text.push_str(" label ")?;
     text.push_str(json.as_str())
-}
-
-/// The text of an owner.
-fn owner_text(owner: &Option<Principal>) -> &str
-    ensures { result.now ≡ owner_text owner.now }
-{
-    match owner {
-        Some(owner) => owner.text(),
-        None => "-",
-    }
 }
 
 /// Adds the lines of entries.

@@ -11,21 +11,11 @@ ghost use Rattle.book_questions_changes.specs.Facts.{both_alike, first_list, lab
 
 use book_lists::{Entry, Principal};
 use book_office::Level;
-use book_office_audit::push_entry;
+use book_office_audit::{owner_text, push_entry};
 use book_office_values::Text;
 use book_questions_differs::{Found, Spot, same_list, same_owner};
 use json::Writer;
 use std::alloc::{AllocError, Global};
-
-/// The text of an owner.
-fn owner_text(owner: &Option<Principal>) -> &str
-    ensures { result.now ≡ owner_text owner.now }
-{
-    match owner {
-        Some(owner) => owner.text(),
-        None => "-",
-    }
-}
 
 /// Adds the line of an owner after a sign.
 fn push_owner_line(

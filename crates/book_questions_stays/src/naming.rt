@@ -1,15 +1,13 @@
 //! What a policy names.
 
-ghost use Rattle.std.specs.Prelude.{◌≡◌, ◌≢◌, ◌++◌, ℕ, List, [], codes, is_some, unwrap_or, IfOk, IfNone, IfSome};
+ghost use Rattle.std.specs.Prelude.{◌≡◌, [], is_some, unwrap_or};
 ghost use Rattle.std.specs.FinMap.{get};
 ghost use Rattle.std.specs.Option.{option_copied};
-ghost use Rattle.book_office_adopting.specs.Adopting.{is_group_of};
 ghost use Rattle.book_questions_stays.specs.Stays.{has_entries, is_given, is_named};
 
-use book_lists::{Entry, Name, Principal};
+use book_lists::{Entry, Name};
 use book_office_values::{Items, Path, Text};
 use book_policy_values::Policy;
-use std::alloc::{AllocError, Global};
 
 /// Whether the policy has a person of this name.
 fn has_person(policy: &Policy, name: &Name) -> bool
@@ -60,30 +58,4 @@ pub(crate) fn is_given(policy: &Policy, at: &Text) -> bool
     ensures { result ≡ is_given policy.now at.now }
 {
     has_entries(policy.own_at(at))
-}
-
-/// What follows the home of the groups, if the text begins with it.
-fn after_groups(text: &str) -> Option<&str>
-    ensures some { IfSome result (λ rest. text.now ≡ codes "/groups/" ++ rest.now) }
-    ensures none { IfNone result ((rest : List ℕ) → text.now ≢ codes "/groups/" ++ rest) }
-{
-    text.strip_prefix("/groups/")
-}
-
-/// Whether the principal is a group of the policy.
-pub(crate) fn is_group(
-    alloc: Global,
-    policy: &Policy,
-    principal: &Principal,
-) -> Result<bool, AllocError>
-    ensures { IfOk result (λ is. is ≡ is_group_of policy.now principal.now) }
-{
-    policy.known();
-    let Some(rest) = after_groups(principal.text()) else {
-        return Ok(false);
-    };
-    let Some(name) = Name::parse(alloc, rest)? else {
-        return Ok(false);
-    };
-    Ok(has_group(policy, &name))
 }

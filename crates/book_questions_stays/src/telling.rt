@@ -8,9 +8,10 @@ ghost use Rattle.book_office_values.specs.Paths.{path_text};
 ghost use Rattle.book_questions_stays.specs.Stays.{IsMembersText, card_block, member_block, member_stays, place_block, place_blocks};
 
 use crate::lines::{card_key, member_line, own_lines, place_lines, stays};
-use crate::naming::{is_given, is_group, is_named};
+use crate::naming::{is_given, is_named};
 use book_lists::{Entry, Membership, Pairs};
 use book_office::Listed;
+use book_office_adopting::is_group;
 use book_office_values::{Path, Text};
 use book_policy_values::Policy;
 use book_questions_rights::Blocks;

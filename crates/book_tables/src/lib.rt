@@ -46,5 +46,6 @@ mod tables;
 pub use laws::tables_stand_for_one_office;
 pub use opening::OpenFault;
 pub use reaching::reached;
+pub use settings::rows_of;
 pub use settling::settle_reach;
 pub use tables::Tables;

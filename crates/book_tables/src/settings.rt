@@ -64,8 +64,8 @@ fn row_of(alloc: Global, entry: &Entry) -> Result<EntryRow, AllocError>
     })
 }
 
-/// A list as its rows say it, in its order.
-pub(crate) fn rows_of(alloc: Global, list: &[Entry]) -> Result<Vec<EntryRow>, AllocError>
+/// A list as its rows say it, in its order. An error is want of memory.
+pub fn rows_of(alloc: Global, list: &[Entry]) -> Result<Vec<EntryRow>, AllocError>
     ensures { IfOk result (λ rows. map said rows.items ≡ map entry_said list.now) }
 {
     let mut rows = Vec::new(alloc);
