@@ -1,0 +1,3 @@
+pub mod Dumped
+pub mod Faults
+pub mod Reading
