@@ -1,0 +1,3 @@
+mod Common
+mod Comparisons
+mod ReadingBack
