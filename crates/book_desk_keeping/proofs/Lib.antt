@@ -1,0 +1,5 @@
+mod Common
+mod Names
+mod Leaving
+mod SameOffices
+mod LoadedTexts

@@ -1,0 +1,3 @@
+pub mod Failures
+pub mod Changes
+pub mod Keeping
