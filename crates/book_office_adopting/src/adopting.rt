@@ -91,6 +91,23 @@ fn label_of(properties: &Properties, label: Option<&Text>) -> Result<Text, Alloc
     }
 }
 
+/// A person or a group that the policy names, as a new one.
+fn new_principal(
+    alloc: Global,
+    policy: &Policy,
+    home: &str,
+    name: &Name,
+    label: &Text,
+) -> Result<Properties, AllocError>
+    ensures { IfOk result (λ properties. properties ≡ new_properties policy.now home.now name.now
+        label.now) }
+{
+    let at = member_text(alloc, home, name)?;
+    let label = label.clone()?;
+    let new = Properties::empty(alloc, None);
+    listed_principal(alloc, policy, &at, None, label, &new)
+}
+
 /// The persons or groups that the policy names, as new ones.
 fn new_principals(
     alloc: Global,
@@ -102,11 +119,10 @@ fn new_principals(
         (new_properties policy.now home.now) empty (entries labels.now)) }
 {
     let mut principals = NameMap::new(alloc);
-    let new = Properties::empty(alloc, None);
     for (name, label) in labels.iter() {
-        let at = member_text(alloc, home, name)?;
-        let properties = listed_principal(alloc, policy, &at, None, label.clone()?, &new)?;
-        principals.insert(name.clone()?, properties)?;
+        let key = name.clone()?;
+        let properties = new_principal(alloc, policy, home, name, label)?;
+        principals.insert(key, properties)?;
     }
     Ok(principals)
 }
@@ -192,8 +208,9 @@ fn new_books(
 {
     let mut books = NameMap::new(alloc);
     for (name, book) in named.iter() {
+        let key = name.clone()?;
         let book = fresh_book_of(alloc, policy, name, book)?;
-        books.insert(name.clone()?, book)?;
+        books.insert(key, book)?;
     }
     Ok(books)
 }
@@ -254,8 +271,9 @@ fn put_books(
         (entries old.now)) }
 {
     for (name, book) in old.iter() {
+        let key = name.clone()?;
         let book = bare_book_of(alloc, policy, named, name, book)?;
-        books.insert(name.clone()?, book)?;
+        books.insert(key, book)?;
     }
     Ok(())
 }
@@ -429,6 +447,10 @@ fn books_under(alloc: Global, policy: &Policy, office: &Office) -> Result<NameMa
 pub fn office_under(alloc: Global, policy: &Policy, office: &Office) -> Result<Office, AllocError>
     ensures { IfOk result (λ new. new ≡ bare (taken_over policy.now office.now)) }
 {
+    let pairs = pairs_under(alloc, policy, &office.pairs)?;
+    let persons = persons_under(alloc, policy, office)?;
+    let groups = groups_under(alloc, policy, office)?;
+    let books = books_under(alloc, policy, office)?;
     let Homes {
         root,
         people,
@@ -440,10 +462,10 @@ pub fn office_under(alloc: Global, policy: &Policy, office: &Office) -> Result<O
         people,
         groups_home,
         books_home,
-        persons: persons_under(alloc, policy, office)?,
-        groups: groups_under(alloc, policy, office)?,
-        books: books_under(alloc, policy, office)?,
-        pairs: pairs_under(alloc, policy, &office.pairs)?,
+        persons,
+        groups,
+        books,
+        pairs,
         epoch: office.epoch,
     })
 }
@@ -456,10 +478,13 @@ pub fn adoption_of(alloc: Global, office: &Office, policy: &Policy) -> Result<Ad
     ensures { IfOk result (λ told. told ≡ adoption_of policy.now office.now) }
 {
     let new = office_under(alloc, policy, office)?;
-    let same = same_but_cards(office, &new)?;
+    let told = same_but_cards(office, &new);
+    let books = new.books.len();
+    drop(new);
+    let same = told?;
     Ok(Adoption {
         changed: !same,
-        books: new.books.len(),
+        books,
     })
 }
 
@@ -487,10 +512,19 @@ pub fn adopt_policy(alloc: Global, office: &mut Office, policy: &Policy) -> Resu
     ensures err { OnErr result (office.new ≡ office.old) }
 {
     let new = office_under(alloc, policy, office)?;
-    if same_but_cards(office, &new)? {
-        return Ok(());
+    match same_but_cards(office, &new) {
+        Ok(false) => {
+            let epoch = office.epoch + 1;
+            replace(office, new, epoch);
+            Ok(())
+        }
+        Ok(true) => {
+            drop(new);
+            Ok(())
+        }
+        Err(refused) => {
+            drop(new);
+            Err(refused)
+        }
     }
-    let epoch = office.epoch + 1;
-    replace(office, new, epoch);
-    Ok(())
 }

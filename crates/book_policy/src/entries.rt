@@ -1,7 +1,8 @@
 //! The entries of a policy's text as parts of a policy: their principals and their privileges are read.
 
-ghost use Rattle.std.specs.Prelude.{◌≡◌, map, IfOk, IfSome, IfNone};
+ghost use Rattle.std.specs.Prelude.{◌≡◌, false, map, IfOk, IfSome, IfNone};
 ghost use Rattle.std.specs.List.{AllByRecursion};
+ghost use Rattle.book_policy_faults.specs.Values.{is_word};
 ghost use Rattle.book_policy.specs.Passes.{HasPrivileges, IsReadable, SpellsWho};
 ghost use Rattle.book_policy.specs.Rules.{IsPrivilegeName, entry_part, leaves_of, who_of};
 
@@ -12,25 +13,33 @@ use book_policy_values::EntryPart;
 use book_rights::{LeafSet, Privilege};
 use std::alloc::{AllocError, Global};
 
+/// The form that the text is a word for, if it is one.
+fn form_of(text: &str) -> Option<Who>
+    ensures some { IfSome result (λ who. who ≡ who_of text.now) }
+    ensures none { IfNone result (is_word text.now ≡ false) }
+{
+    if text == "all" {
+        Some(Who::Everyone)
+    } else if text == "authenticated" {
+        Some(Who::Authenticated)
+    } else if text == "unauthenticated" {
+        Some(Who::Unauthenticated)
+    } else if text == "owner" {
+        Some(Who::Owner)
+    } else if text == "self" {
+        Some(Who::Own)
+    } else {
+        None
+    }
+}
+
 /// The form that the text is a word for, or else the principal whose path it spells.
 fn who_of(alloc: Global, text: &str) -> Result<Option<Who>, AllocError>
     ensures some { IfOk result (λ found. IfSome found (λ who. who ≡ who_of text.now)) }
     ensures none { IfOk result (λ found. IfNone found (SpellsWho text.now → ⊥)) }
 {
-    if text == "all" {
-        return Ok(Some(Who::Everyone));
-    }
-    if text == "authenticated" {
-        return Ok(Some(Who::Authenticated));
-    }
-    if text == "unauthenticated" {
-        return Ok(Some(Who::Unauthenticated));
-    }
-    if text == "owner" {
-        return Ok(Some(Who::Owner));
-    }
-    if text == "self" {
-        return Ok(Some(Who::Own));
+    if let Some(who) = form_of(text) {
+        return Ok(Some(who));
     }
     match Principal::parse(alloc, text)? {
         Some(principal) => Ok(Some(Who::Href(principal))),
@@ -60,10 +69,10 @@ fn entry_part(alloc: Global, entry: EntryText) -> Result<Option<EntryPart>, Allo
         (part ≡ entry_part entry) × HasPrivileges entry)) }
     ensures none { IfOk result (λ found. IfNone found (IsReadable entry → ⊥)) }
 {
-    let Some(who) = who_of(alloc, entry.who.as_str())? else {
+    let Some(set) = leaves_of(entry.names.as_slice()) else {
         return Ok(None);
     };
-    let Some(set) = leaves_of(entry.names.as_slice()) else {
+    let Some(who) = who_of(alloc, entry.who.as_str())? else {
         return Ok(None);
     };
     Ok(Some(EntryPart {

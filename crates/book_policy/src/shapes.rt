@@ -301,16 +301,18 @@ fn entry_in(alloc: Global, table: &Table) -> Result<Option<EntryText>, AllocErro
     let Some(invert) = mark_of(member(table, "invert")) else {
         return Ok(None);
     };
+    let Some(protected) = mark_of(member(table, "protected")) else {
+        return Ok(None);
+    };
+    let at = Text::copy_of(alloc, at)?;
+    let who = Text::copy_of(alloc, who)?;
     let action = action_of(alloc, member(table, "grant"), member(table, "deny"))?;
     let Some((deny, names)) = action else {
         return Ok(None);
     };
-    let Some(protected) = mark_of(member(table, "protected")) else {
-        return Ok(None);
-    };
     Ok(Some(EntryText {
-        at: Text::copy_of(alloc, at)?,
-        who: Text::copy_of(alloc, who)?,
+        at,
+        who,
         invert,
         deny,
         names,

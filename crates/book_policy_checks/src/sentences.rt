@@ -384,23 +384,41 @@ fn push_unknown(
     push_shown(alloc, line, text)
 }
 
+/// That the version is another one.
+fn version_text(alloc: Global, value: Option<&Value>) -> Result<String, AllocError> {
+    let given = version_word(alloc, value)?;
+    format!(in alloc; "other-version: is {given}, and 1 is wanted")
+}
+
+/// What the value is, and what the key wants.
+fn kind_text(
+    alloc: Global,
+    value: Option<&Value>,
+    fault: &PlacedFault,
+) -> Result<String, AllocError> {
+    let given = given_word(value);
+    let wanted = wanted_word(fault.key, fault.item);
+    format!(in alloc; "is {given}, and {wanted} is wanted")
+}
+
+/// How many members or tables there may be.
+fn most_text(alloc: Global, key: Key, length: usize) -> Result<String, AllocError> {
+    if key == Key::Members {
+        return format!(in alloc; "too-many: at most {MAX_MEMBERS} different ones are wanted");
+    }
+    format!(in alloc; "too-many: has {length}, and at most {MAX_NAMED} are wanted")
+}
+
 /// What the value is, and what is wanted.
 fn wanted_text(alloc: Global, top: &Table, fault: &PlacedFault) -> Result<String, AllocError> {
     let value = value_at(top, fault);
     let length = length_of(value);
     match fault.problem {
-        Problem::OtherVersion => {
-            let given = version_word(alloc, value)?;
-            format!(in alloc; "other-version: is {given}, and 1 is wanted")
-        }
+        Problem::OtherVersion => version_text(alloc, value),
         Problem::Missing if fault.key == Key::Grant => {
             String::from_str(alloc, "is missing, and one of grant and deny is wanted")
         }
-        Problem::Missing | Problem::OtherKind => {
-            let given = given_word(value);
-            let wanted = wanted_word(fault.key, fault.item);
-            format!(in alloc; "is {given}, and {wanted} is wanted")
-        }
+        Problem::Missing | Problem::OtherKind => kind_text(alloc, value, fault),
         Problem::LongLabel => {
             format!(in alloc; "has {length} bytes, and at most {MAX_LABEL_BYTES} are wanted")
         }
@@ -411,12 +429,7 @@ fn wanted_text(alloc: Global, top: &Table, fault: &PlacedFault) -> Result<String
             alloc,
             "stands beside deny, and one of grant and deny is wanted",
         ),
-        Problem::TooMany if fault.key == Key::Members => {
-            format!(in alloc; "too-many: at most {MAX_MEMBERS} different ones are wanted")
-        }
-        Problem::TooMany => {
-            format!(in alloc; "too-many: has {length}, and at most {MAX_NAMED} are wanted")
-        }
+        Problem::TooMany => most_text(alloc, fault.key, length),
         Problem::LongList => {
             String::from_str(alloc, "too-many: its list has more than 64 entries")
         }

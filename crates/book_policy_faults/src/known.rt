@@ -1,9 +1,10 @@
 //! What a policy's text names: the paths of its persons, groups and books, and those of the root and of the homes.
 
-ghost use Rattle.std.specs.Prelude.{◌≡◌, ◌++◌, option_map, IfOk, OnOk};
+ghost use Rattle.std.specs.Prelude.{◌≡◌, ◌++◌, codes, option_map, IfOk, OnOk};
 ghost use Rattle.toml.specs.Data.{get_member};
 ghost use Rattle.toml.specs.View.{items_view, table_view, view};
 ghost use Rattle.book_policy_faults.specs.Keys.{key_text};
+ghost use Rattle.book_policy_faults.specs.declared.places.TableKind.TheVariants.{Top};
 ghost use Rattle.book_policy_faults.specs.Known.{homes, is_name, is_principal, known_at, name_in, paths_of, prefix_of, rows_of, with_both, with_named, with_path, with_paths};
 
 use crate::places::{Key, TableKind};
@@ -172,19 +173,32 @@ fn add_all(
     Ok(())
 }
 
+/// Adds the path of the root.
+fn add_root(alloc: Global, paths: &mut Paths) -> Result<(), AllocError>
+    ensures { OnOk result (paths.new ≡ with_path paths.old Top 0 (codes "/") (codes "/")) }
+{
+    let root = Text::copy_of(alloc, "/")?;
+    let spelled = root.clone()?;
+    add_path(alloc, paths, TableKind::Top, 0, spelled, &root)
+}
+
+/// Adds the path of a home.
+fn add_home(alloc: Global, paths: &mut Paths, home: &str) -> Result<(), AllocError>
+    ensures { OnOk result (paths.new ≡ with_both paths.old Top 0 home.now) }
+{
+    let path = Text::copy_of(alloc, home)?;
+    add_both(alloc, paths, TableKind::Top, 0, &path)
+}
+
 /// The root and the homes.
 fn homes(alloc: Global) -> Result<Paths, AllocError>
     ensures { IfOk result (λ paths. paths ≡ homes) }
 {
     let mut paths = TextMap::new(alloc);
-    let root = Text::copy_of(alloc, "/")?;
-    add_path(alloc, &mut paths, TableKind::Top, 0, root.clone()?, &root)?;
-    let people = Text::copy_of(alloc, "/people")?;
-    add_both(alloc, &mut paths, TableKind::Top, 0, &people)?;
-    let groups = Text::copy_of(alloc, "/groups")?;
-    add_both(alloc, &mut paths, TableKind::Top, 0, &groups)?;
-    let books = Text::copy_of(alloc, "/books")?;
-    add_both(alloc, &mut paths, TableKind::Top, 0, &books)?;
+    add_root(alloc, &mut paths)?;
+    add_home(alloc, &mut paths, "/people")?;
+    add_home(alloc, &mut paths, "/groups")?;
+    add_home(alloc, &mut paths, "/books")?;
     Ok(paths)
 }
 

@@ -3,6 +3,7 @@
 ghost use Rattle.std.specs.Prelude.{◌≡◌, OnOk};
 ghost use Rattle.book_policy_faults.specs.Keys.{key_text};
 ghost use Rattle.book_policy_faults.specs.Values.{is_among, keys_of};
+ghost use Rattle.book_policy_faults.specs.declared.places.TableKind.TheVariants.{Entry, Top};
 ghost use Rattle.book_policy_faults.specs.Placing.{has_none, least, no_faults, noted, order, placed, pushed};
 
 use book_office_values::Items;
@@ -138,30 +139,36 @@ impl Key {
     }
 }
 
+/// Whether the whole text may have the key.
+fn is_key_of_text(key: &str) -> bool
+    ensures { result ≡ is_among key.now (keys_of Top) }
+{
+    key == "version" || key == "person" || key == "group" || key == "book" || key == "entry"
+}
+
+/// Whether an entry may have the key.
+fn is_key_of_entry(key: &str) -> bool
+    ensures { result ≡ is_among key.now (keys_of Entry) }
+{
+    key == "at"
+        || key == "who"
+        || key == "invert"
+        || key == "grant"
+        || key == "deny"
+        || key == "protected"
+}
+
 impl TableKind {
     /// Whether a table of this kind may have the key.
     pub fn has_key(self, key: &str) -> bool
         ensures { result ≡ is_among key.now (keys_of self) }
     {
         match self {
-            TableKind::Top => {
-                key == "version"
-                    || key == "person"
-                    || key == "group"
-                    || key == "book"
-                    || key == "entry"
-            }
+            TableKind::Top => is_key_of_text(key),
             TableKind::Person => key == "name" || key == "label",
             TableKind::Group => key == "name" || key == "label" || key == "members",
             TableKind::Book => key == "name" || key == "label" || key == "owner",
-            TableKind::Entry => {
-                key == "at"
-                    || key == "who"
-                    || key == "invert"
-                    || key == "grant"
-                    || key == "deny"
-                    || key == "protected"
-            }
+            TableKind::Entry => is_key_of_entry(key),
         }
     }
 }

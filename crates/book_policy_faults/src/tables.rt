@@ -1,6 +1,6 @@
 //! Goes over all tables of a policy's text, and adds each fault behind those before it.
 
-ghost use Rattle.std.specs.Prelude.{◌≡◌, nat_le, option_map, IfOk, OnOk};
+ghost use Rattle.std.specs.Prelude.{◌≡◌, ◌++◌, nat_le, option_map, IfOk, OnOk};
 ghost use Rattle.std.specs.FinMap.{insert};
 ghost use Rattle.book_limits.specs.declared.TheConstants.{MAX_MEMBERS};
 ghost use Rattle.toml.specs.View.{items_view, table_view, view};
@@ -8,7 +8,9 @@ ghost use Rattle.book_policy_faults.specs.Values.{is_among, keys_of};
 ghost use Rattle.book_policy_faults.specs.Placing.{next, no_faults, noted};
 ghost use Rattle.book_policy_faults.specs.Problems.{unless};
 ghost use Rattle.book_policy_faults.specs.declared.places.Problem.TheVariants.{TooMany, UnknownKey};
-ghost use Rattle.book_policy_faults.specs.Tables.{action_faults, action_problem, array_faults, body_faults, count_in, counted_entry, distinct, entry_faults, entry_place, faults_in, full_lists, is_protected, items_faults, list_problem, members_faults, named_faults, named_of, names_faults, noted_full, path_in, rows_faults, seen_after, spot_at, table_faults, top_faults, unknown_keys};
+ghost use Rattle.book_policy_faults.specs.declared.places.Key.TheVariants.{Persons, Groups, Books, Entries};
+ghost use Rattle.book_policy_faults.specs.declared.places.TableKind.TheVariants.{Person, Group, Book, Entry};
+ghost use Rattle.book_policy_faults.specs.Tables.{action_faults, action_problem, array_faults, body_faults, count_in, counted_entry, distinct, entry_faults, entry_place, faults_in, full_lists, is_protected, items_faults, list_problem, members_faults, named_faults, named_of, names_faults, noted_full, path_in, rows_at, rows_faults, seen_after, spot_at, table_faults, top_faults, unknown_keys};
 
 use crate::known::{Paths, known_at, member, paths_of, rows_of};
 use crate::places::{Key, PlacedFaults, Problem, Spot, TableKind, note};
@@ -516,21 +518,50 @@ fn top_faults(table: &Table, faults: &mut PlacedFaults) -> Result<(), AllocError
     array_faults(Key::Entries, None, table, faults)
 }
 
+/// Adds what is wrong with the tables of a kind, which are at a key of the text.
+fn rows_at(
+    alloc: Global,
+    named: &Named,
+    kind: TableKind,
+    key: Key,
+    table: &Table,
+    faults: &mut PlacedFaults,
+) -> Result<(), AllocError>
+    ensures { OnOk result (faults.new
+        ≡ noted faults.old (rows_at named.now kind key (table_view table.now))) }
+{
+    let values = rows_of(member(table, key));
+    rows_faults(alloc, named, kind, values, faults)
+}
+
+/// Adds what is wrong with the persons, groups, books and entries.
+#[tactic(auto, using(crate::proofs::Noting::noted_append))]
+fn all_rows(
+    alloc: Global,
+    named: &Named,
+    table: &Table,
+    faults: &mut PlacedFaults,
+) -> Result<(), AllocError>
+    ensures { OnOk result (faults.new ≡ noted faults.old
+        (rows_at named.now Person Persons (table_view table.now)
+        ++ (rows_at named.now Group Groups (table_view table.now)
+        ++ (rows_at named.now Book Books (table_view table.now)
+        ++ rows_at named.now Entry Entries (table_view table.now))))) }
+{
+    rows_at(alloc, named, TableKind::Person, Key::Persons, table, faults)?;
+    rows_at(alloc, named, TableKind::Group, Key::Groups, table, faults)?;
+    rows_at(alloc, named, TableKind::Book, Key::Books, table, faults)?;
+    rows_at(alloc, named, TableKind::Entry, Key::Entries, table, faults)
+}
+
 /// All faults of the table of a text, in the order of their places. An error is want of memory.
 #[tactic(auto, using(crate::proofs::Noting::noted_append))]
 pub fn faults_of(alloc: Global, table: &Table) -> Result<PlacedFaults, AllocError>
     ensures { IfOk result (λ faults. faults ≡ noted no_faults (faults_in (table_view table.now))) }
 {
-    let named = named_of(alloc, table)?;
     let mut faults = PlacedFaults::new(alloc);
     top_faults(table, &mut faults)?;
-    let persons = rows_of(member(table, Key::Persons));
-    rows_faults(alloc, &named, TableKind::Person, persons, &mut faults)?;
-    let groups = rows_of(member(table, Key::Groups));
-    rows_faults(alloc, &named, TableKind::Group, groups, &mut faults)?;
-    let books = rows_of(member(table, Key::Books));
-    rows_faults(alloc, &named, TableKind::Book, books, &mut faults)?;
-    let entries = rows_of(member(table, Key::Entries));
-    rows_faults(alloc, &named, TableKind::Entry, entries, &mut faults)?;
+    let named = named_of(alloc, table)?;
+    all_rows(alloc, &named, table, &mut faults)?;
     Ok(faults)
 }

@@ -172,9 +172,6 @@ module _ (persons : List PersonPart) (groups : List GroupPart) (books : List Boo
     pub not_books : (CanAdd (BookFits ps gs) named_book empty books → ⊥) → IsFaultless persons groups books entries → ⊥
     not_books none f = none (rw (p, g) (books_fit f))
 
-    pub not_members : (AllByRecursion (MembersFit ps gs) given → ⊥) → IsFaultless persons groups books entries → ⊥
-    not_members none f = none (rw (p, g, r) (members_fit f))
-
     module _ (b : bs ≡ t.books) where
       pub not_entries : (EntriesFit (EntryFits ps gs bs) empty empty entries → ⊥) → IsFaultless persons groups books entries → ⊥
       not_entries none f = none (rw (p, g, b) (all_entries_fit f))

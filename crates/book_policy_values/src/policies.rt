@@ -5,9 +5,7 @@ ghost use Rattle.std.specs.Option.{option_copied};
 ghost use Rattle.book_policy_values.specs.Policies.{IsFaultless, IsPolicy, entries_at, policy_of};
 
 use crate::parts::{BookPart, EntryPart, GroupPart, PersonPart, PolicyTables};
-use crate::reading::{
-    ReadEntries, read_books, read_entries, read_groups, read_members, read_persons,
-};
+use crate::reading::{ReadEntries, ReadPrincipals, read_books, read_entries, read_principals};
 use book_limits::MAX_NAMED;
 use book_lists::Entry;
 use book_office_values::{Items, Text, TextMap};
@@ -77,21 +75,21 @@ impl Policy {
         if persons.len() > MAX_NAMED || groups.len() > MAX_NAMED || books.len() > MAX_NAMED {
             return Ok(None);
         }
-        let Some(persons) = read_persons(alloc, persons)? else {
+        let Some(principals) = read_principals(alloc, persons, groups)? else {
             return Ok(None);
         };
-        let Some((groups, given)) = read_groups(alloc, groups)? else {
+        let (persons, groups) = (&principals.persons, &principals.groups);
+        let Some(books) = read_books(alloc, persons, groups, books)? else {
             return Ok(None);
         };
-        let Some(books) = read_books(alloc, &persons, &groups, books)? else {
+        let Some(read) = read_entries(alloc, persons, groups, &books, entries)? else {
             return Ok(None);
         };
-        let Some(members) = read_members(alloc, &persons, &groups, given)? else {
-            return Ok(None);
-        };
-        let Some(read) = read_entries(alloc, &persons, &groups, &books, entries)? else {
-            return Ok(None);
-        };
+        let ReadPrincipals {
+            persons,
+            groups,
+            members,
+        } = principals;
         let ReadEntries {
             entries,
             protected,

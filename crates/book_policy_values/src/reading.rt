@@ -1,7 +1,7 @@
 //! The reading of a policy's parts, one after the other. Where a part has a fault, the answer is none.
 
-ghost use Rattle.std.specs.Prelude.{◌≡◌, ◌↔◌, ◌<◌, true, false, length, map, option_map, IsTrue, IfOk, IfSome, IfNone};
-ghost use Rattle.std.specs.FinMap.{empty};
+ghost use Rattle.std.specs.Prelude.{◌≡◌, ◌↔◌, ◌<◌, ◌++◌, ◌∷◌, [], true, false, length, map, option_map, IsTrue, IfOk, OnOk, IfSome, IfNone};
+ghost use Rattle.std.specs.FinMap.{empty, insert};
 ghost use Rattle.std.specs.FinSet as set;
 ghost use Rattle.std.specs.List.{AllByRecursion};
 ghost use Rattle.book_office_values.specs.Paths.{IsPath, SpellsPath, SpellsNone, path_text};
@@ -39,8 +39,26 @@ fn new_name<V>(
     Ok(Some(name))
 }
 
+/// Adds a person with its label, if its name and its label fit.
+fn add_person(
+    alloc: Global,
+    persons: &mut NameMap<Text>,
+    part: PersonPart,
+) -> Result<bool, AllocError>
+    ensures fit { IfOk result (λ fine. IsTrue fine ↔ IsNew persons.old part.name part.label) }
+    ensures added { IfOk result (λ fine. IsTrue fine
+        → persons.new ≡ insert persons.old part.name part.label) }
+{
+    let Some(name) = new_name(alloc, persons, &part.name, &part.label)? else {
+        return Ok(false);
+    };
+    let PersonPart { label, .. } = part;
+    drop(persons.insert(name, label)?);
+    Ok(true)
+}
+
 /// The persons, with their labels.
-pub(crate) fn read_persons(
+fn read_persons(
     alloc: Global,
     parts: Items<PersonPart>,
 ) -> Result<Option<NameMap<Text>>, AllocError>
@@ -50,17 +68,42 @@ pub(crate) fn read_persons(
 {
     let mut persons = NameMap::new(alloc);
     for part in parts.into_vec() {
-        let PersonPart { name, label } = part;
-        let Some(name) = new_name(alloc, &persons, &name, &label)? else {
+        if !add_person(alloc, &mut persons, part)? {
             return Ok(None);
-        };
-        persons.insert(name, label)?;
+        }
     }
     Ok(Some(persons))
 }
 
+/// Adds a group with its label, and its members as they were given, if its name and its label fit.
+fn add_group(
+    alloc: Global,
+    groups: &mut NameMap<Text>,
+    members: &mut Vec<(Principal, Items<Text>)>,
+    part: GroupPart,
+) -> Result<bool, AllocError>
+    ensures fit { IfOk result (λ fine. IsTrue fine ↔ IsNew groups.old part.name part.label) }
+    ensures added { IfOk result (λ fine. IsTrue fine
+        → groups.new ≡ insert groups.old part.name part.label) }
+    ensures given { IfOk result (λ fine. IsTrue fine
+        → members.new.items ≡ members.old.items ++ given_members part ∷ []) }
+{
+    let Some(name) = new_name(alloc, groups, &part.name, &part.label)? else {
+        return Ok(false);
+    };
+    let group = Principal::group(alloc, &name)?;
+    let GroupPart {
+        label,
+        members: listed,
+        ..
+    } = part;
+    drop(groups.insert(name, label)?);
+    members.push((group, listed))?;
+    Ok(true)
+}
+
 /// The groups with their labels, and their members as they were given.
-pub(crate) fn read_groups(
+fn read_groups(
     alloc: Global,
     parts: Items<GroupPart>,
 ) -> Result<Option<(NameMap<Text>, Items<(Principal, Items<Text>)>)>, AllocError>
@@ -71,16 +114,9 @@ pub(crate) fn read_groups(
     let mut groups = NameMap::new(alloc);
     let mut members = Vec::new(alloc);
     for part in parts.into_vec() {
-        let GroupPart {
-            name,
-            label,
-            members: listed,
-        } = part;
-        let Some(name) = new_name(alloc, &groups, &name, &label)? else {
+        if !add_group(alloc, &mut groups, &mut members, part)? {
             return Ok(None);
-        };
-        members.push((Principal::group(alloc, &name)?, listed))?;
-        groups.insert(name, label)?;
+        }
     }
     Ok(Some((groups, Items::from_vec(members))))
 }
@@ -173,6 +209,30 @@ fn book_of(
     }))
 }
 
+/// Adds a book with its label and owner, if its name and its label fit, and its owner is there.
+fn add_book(
+    alloc: Global,
+    persons: &NameMap<Text>,
+    groups: &NameMap<Text>,
+    books: &mut NameMap<PolicyBook>,
+    part: BookPart,
+) -> Result<bool, AllocError>
+    ensures fit { IfOk result (λ fine. IsTrue fine ↔ IsNew books.old part.name part.label
+        × NamesOwner persons.now groups.now part.owner) }
+    ensures added { IfOk result (λ fine. IsTrue fine
+        → books.new ≡ insert books.old part.name (named_book part).1) }
+{
+    let Some(name) = new_name(alloc, books, &part.name, &part.label)? else {
+        return Ok(false);
+    };
+    let BookPart { label, owner, .. } = part;
+    let Some(book) = book_of(alloc, persons, groups, label, owner)? else {
+        return Ok(false);
+    };
+    drop(books.insert(name, book)?);
+    Ok(true)
+}
+
 /// The books, with their labels and owners.
 pub(crate) fn read_books(
     alloc: Global,
@@ -188,16 +248,21 @@ pub(crate) fn read_books(
 {
     let mut books = NameMap::new(alloc);
     for part in parts.into_vec() {
-        let BookPart { name, label, owner } = part;
-        let Some(name) = new_name(alloc, &books, &name, &label)? else {
+        if !add_book(alloc, persons, groups, &mut books, part)? {
             return Ok(None);
-        };
-        let Some(book) = book_of(alloc, persons, groups, label, owner)? else {
-            return Ok(None);
-        };
-        books.insert(name, book)?;
+        }
     }
     Ok(Some(books))
+}
+
+/// Adds a pair of a group and a member.
+fn add_pair(pairs: &mut Pairs, group: &Principal, member: &Principal) -> Result<(), AllocError>
+    ensures { OnOk result (pairs.new ≡ set.insert pairs.old
+        record { group = group.now; member = member.now }) }
+{
+    let group = group.clone()?;
+    let member = member.clone()?;
+    pairs.add(group, member)
 }
 
 /// Adds the members of one group, if each of them is there and there are not too many.
@@ -219,14 +284,14 @@ fn add_members(
         let Some(member) = principal_at(alloc, persons, groups, text.as_str())? else {
             return Ok(false);
         };
-        alone.add(group.clone()?, member.clone()?)?;
-        pairs.add(group.clone()?, member)?;
+        add_pair(&mut alone, group, &member)?;
+        add_pair(pairs, group, &member)?;
     }
     Ok(alone.len() <= MAX_MEMBERS)
 }
 
 /// The direct members of all groups.
-pub(crate) fn read_members(
+fn read_members(
     alloc: Global,
     persons: &NameMap<Text>,
     groups: &NameMap<Text>,
@@ -245,6 +310,47 @@ pub(crate) fn read_members(
         }
     }
     Ok(Some(pairs))
+}
+
+/// Persons and groups with their labels, by name, and the direct members of the groups.
+#[derive(Drop)]
+pub(crate) struct ReadPrincipals {
+    pub(crate) persons: NameMap<Text>,
+    pub(crate) groups: NameMap<Text>,
+    pub(crate) members: Pairs,
+}
+
+/// The persons, the groups and their direct members.
+pub(crate) fn read_principals(
+    alloc: Global,
+    persons: Items<PersonPart>,
+    groups: Items<GroupPart>,
+) -> Result<Option<ReadPrincipals>, AllocError>
+    ensures some { IfOk result (λ found. IfSome found
+        (λ read. PersonsFit empty persons × GroupsFit empty groups
+        × AllByRecursion (MembersFit read.persons read.groups) (map given_members groups)
+        × (read.persons ≡ added empty (map named_person persons))
+        × (read.groups ≡ added empty (map named_group groups))
+        × (read.members ≡ paired_all set.empty (map given_members groups)))) }
+    ensures none { IfOk result (λ found. IfNone found
+        (PersonsFit empty persons → GroupsFit empty groups
+        → AllByRecursion (MembersFit (added empty (map named_person persons))
+        (added empty (map named_group groups))) (map given_members groups) → ⊥)) }
+{
+    let Some(persons) = read_persons(alloc, persons)? else {
+        return Ok(None);
+    };
+    let Some((groups, given)) = read_groups(alloc, groups)? else {
+        return Ok(None);
+    };
+    let Some(members) = read_members(alloc, &persons, &groups, given)? else {
+        return Ok(None);
+    };
+    Ok(Some(ReadPrincipals {
+        persons,
+        groups,
+        members,
+    }))
 }
 
 /// Whether the principal is a person or a group that is there.
@@ -412,6 +518,35 @@ pub(crate) struct ReadEntries {
     pub(crate) own: TextMap<Items<Entry>>,
 }
 
+/// Adds an entry, if it fits and its list has room.
+fn add_entry(
+    alloc: Global,
+    persons: &NameMap<Text>,
+    groups: &NameMap<Text>,
+    books: &NameMap<PolicyBook>,
+    read: &mut ReadEntries,
+    part: EntryPart,
+) -> Result<bool, AllocError>
+    ensures fit { IfOk result (λ fine. IsTrue fine
+        ↔ EntryFits persons.now groups.now books.now part
+        × HasRoom read.old.protected read.old.own (entry_of part)) }
+    ensures entries { IfOk result (λ fine. IsTrue fine
+        → read.new.entries ≡ read.old.entries ++ entry_of part ∷ []) }
+    ensures protected { IfOk result (λ fine. IsTrue fine
+        → read.new.protected ≡ with_entry true read.old.protected (entry_of part)) }
+    ensures own { IfOk result (λ fine. IsTrue fine
+        → read.new.own ≡ with_entry false read.old.own (entry_of part)) }
+{
+    let Some(entry) = read_entry(alloc, persons, groups, books, part)? else {
+        return Ok(false);
+    };
+    if !list_entry(alloc, &mut read.protected, &mut read.own, &entry)? {
+        return Ok(false);
+    }
+    read.entries.push(entry)?;
+    Ok(true)
+}
+
 /// The entries.
 pub(crate) fn read_entries(
     alloc: Global,
@@ -428,22 +563,15 @@ pub(crate) fn read_entries(
     ensures none { IfOk result (λ found. IfNone found
         (EntriesFit (EntryFits persons.now groups.now books.now) empty empty parts → ⊥)) }
 {
-    let mut entries = Vec::new(alloc);
-    let mut protected = TextMap::new(alloc);
-    let mut own = TextMap::new(alloc);
+    let mut read = ReadEntries {
+        entries: Items::new(alloc),
+        protected: TextMap::new(alloc),
+        own: TextMap::new(alloc),
+    };
     for part in parts.into_vec() {
-        let Some(entry) = read_entry(alloc, persons, groups, books, part)? else {
-            return Ok(None);
-        };
-        if !list_entry(alloc, &mut protected, &mut own, &entry)? {
+        if !add_entry(alloc, persons, groups, books, &mut read, part)? {
             return Ok(None);
         }
-        entries.push(entry)?;
     }
-    let entries = Items::from_vec(entries);
-    Ok(Some(ReadEntries {
-        entries,
-        protected,
-        own,
-    }))
+    Ok(Some(read))
 }

@@ -2,18 +2,18 @@ use Rattle.book_office_adopting.proofs.Common.{◌≡◌, ◌+◌, rules, sym, a
 use Rattle.book_office_adopting.proofs.TakenOver.{stays, stays_bare, adopted_nothing, adopted}
 use Rattle.book_office_adopting.proofs.adopting.adopt_policy.Goals as goal
 
-pub returns-then-branch-clause-ok : goal.returns-then-branch-clause-ok
-returns-then-branch-clause-ok c =
+pub returns-in-Ok-true-clause-ok : goal.returns-in-Ok-true-clause-ok
+returns-in-Ok-true-clause-ok c =
     let t = c.args.policy.now in
     let o = c.args.office.now in
     let is : c.in_ok-new.new ≡ bare (taken_over t o) = search rules in
-    adopted_nothing t o (stays t o (c.in_ok-same_but_cards.ensures.0 c.if-branch.true ∙ ap bare is))
+    adopted_nothing t o (stays t o (c.in-Ok-true.ensures.0 c.in-Ok-true.field-0-test ∙ ap bare is))
 
-pub returns-clause-ok : goal.returns-clause-ok
-returns-clause-ok c =
+pub returns-in-Ok-false-clause-ok : goal.returns-in-Ok-false-clause-ok
+returns-in-Ok-false-clause-ok c =
     let t = c.args.policy.now in
     let o = c.args.office.now in
     let is : c.in_ok-new.new ≡ bare (taken_over t o) = search rules in
     c.replace.ensures
     ∙ (λ i. record (is i) { books = moved (is i).books (entries o.books); epoch = o.epoch + 1 })
-    ∙ adopted t o (λ stay. false≢true (sym c.if-branch.false ∙ c.in_ok-same_but_cards.ensures.1 (stays_bare t o stay ∙ ap bare (sym is))))
+    ∙ adopted t o (λ stay. false≢true (sym c.in-Ok-false.field-0-test ∙ c.in-Ok-false.ensures.1 (stays_bare t o stay ∙ ap bare (sym is))))

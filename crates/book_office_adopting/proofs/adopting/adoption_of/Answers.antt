@@ -10,5 +10,5 @@ returns c =
     let same : c.in_ok-same.same ≡ same_office o (taken_over t o) = told t o c.in_ok-same.same
     (λ e. stays t o (c.in_ok-same.ensures.0 e ∙ ap bare is))
     (λ e. c.in_ok-same.ensures.1 (stays_bare t o e ∙ ap bare (sym is))) in
-    let books : c.len.result ≡ len (taken_over t o).books = c.len.ensures ∙ ap (λ (p : Office). len p.books) is ∙ len_bare t o in
+    let books : c.len-books.result ≡ len (taken_over t o).books = c.len-books.ensures ∙ ap (λ (p : Office). len p.books) is ∙ len_bare t o in
     λ i. record { changed = not (same i); books = books i }
