@@ -58,9 +58,9 @@ pub(crate) fn add_card(book: &mut Book, name: &Name, card: StoredCard) -> Result
     ensures err { OnErr result (book.new ≡ book.old) }
 {
     let key = name.clone()?;
-    book.cards.insert(key, card)?;
+    drop(book.cards.insert(key, card)?);
     if let Err(error) = book.changes.touch(name) {
-        book.cards.remove(name);
+        drop(book.cards.remove(name));
         return Err(error);
     }
     Ok(())
@@ -94,7 +94,7 @@ fn add_book(
         cards: NameMap::new(alloc),
         changes: Changes::new(alloc),
     };
-    office.books.insert(key, book)?;
+    drop(office.books.insert(key, book)?);
     Ok(())
 }
 

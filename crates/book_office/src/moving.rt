@@ -114,13 +114,14 @@ fn make_room(
     if cards.get(name).is_some() {
         return Ok(false);
     }
+    let key = name.clone()?;
     let card = StoredCard {
         owner: None,
         label: Text::from_string(String::new(alloc)),
         own: Items::new(alloc),
         text: Text::from_string(String::new(alloc)),
     };
-    cards.insert(name.clone()?, card)?;
+    cards.insert(key, card)?;
     Ok(true)
 }
 

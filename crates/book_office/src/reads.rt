@@ -1,6 +1,6 @@
 //! What an Office in memory has.
 
-ghost use Rattle.std.specs.Prelude.{◌≡◌, [], filter, IfOk, is_some, option_map, unwrap_or};
+ghost use Rattle.std.specs.Prelude.{◌≡◌, [], filter, IfOk, is_some, option_map, unwrap_or, Some};
 ghost use Rattle.std.specs.FinMap.{entries, get};
 ghost use Rattle.std.specs.Option.{option_copied};
 ghost use Rattle.book_lists.specs.Names.{IsName};
@@ -96,14 +96,19 @@ fn listed_properties(
     ensures { IfOk result (λ child. child ≡ as_listed name.now
         (properties_resource kind number properties.now)) }
 {
+    let name = name.clone()?;
+    let label = properties.label.clone()?;
+    let protected = properties.protected.clone()?;
+    let own = properties.own.clone()?;
+    let owner = properties.owner.clone()?;
     Ok(Listed {
-        name: name.clone()?,
+        name,
         kind,
-        owner: properties.owner.clone()?,
-        label: properties.label.clone()?,
+        owner,
+        label,
         number,
-        protected: properties.protected.clone()?,
-        own: properties.own.clone()?,
+        protected,
+        own,
     })
 }
 
@@ -216,21 +221,37 @@ fn card_of<'a>(office: &'a Office, book: &Name, name: &Name) -> Option<&'a Store
     }
 }
 
+/// The node of the root or of a home.
+fn find_home(properties: &Properties, kind: Kind) -> Result<Option<Node>, AllocError>
+    ensures { IfOk result (λ node. node ≡ Some (node_of
+        (properties_resource kind 0 properties.now))) }
+{
+    Ok(Some(properties_node(properties, kind, 0)?))
+}
+
+/// The node of the book of a name, if there is one.
+fn find_book(books: &NameMap<Book>, name: &Name) -> Result<Option<Node>, AllocError>
+    ensures { IfOk result (λ node. node ≡ option_map (λ book. node_of (book_resource book))
+        (get books.now name.now)) }
+{
+    match books.get(name) {
+        Some(book) => Ok(Some(book_node(book)?)),
+        None => Ok(None),
+    }
+}
+
 /// The resource at a path.
 pub(crate) fn find(office: &Office, path: &Path) -> Result<Option<Node>, AllocError>
     ensures { IfOk result (λ node. node ≡ node_at office.now path.now) }
 {
     match path {
-        Path::Root => Ok(Some(properties_node(&office.root, Kind::Root, 0)?)),
-        Path::People => Ok(Some(properties_node(&office.people, Kind::Home, 0)?)),
-        Path::Groups => Ok(Some(properties_node(&office.groups_home, Kind::Home, 0)?)),
-        Path::Books => Ok(Some(properties_node(&office.books_home, Kind::Home, 0)?)),
+        Path::Root => find_home(&office.root, Kind::Root),
+        Path::People => find_home(&office.people, Kind::Home),
+        Path::Groups => find_home(&office.groups_home, Kind::Home),
+        Path::Books => find_home(&office.books_home, Kind::Home),
         Path::Person(name) => find_principal(&office.persons, name, Kind::Person),
         Path::Group(name) => find_principal(&office.groups, name, Kind::Group),
-        Path::Book(name) => match office.books.get(name) {
-            Some(book) => Ok(Some(book_node(book)?)),
-            None => Ok(None),
-        },
+        Path::Book(name) => find_book(&office.books, name),
         Path::Card(book, name) => match office.books.get(book) {
             Some(book) => find_card(book, name),
             None => Ok(None),

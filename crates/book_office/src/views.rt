@@ -1,6 +1,6 @@
 //! What the keepers' answers together tell.
 
-ghost use Rattle.std.specs.Prelude.{◌≡◌, ◌++◌, map, IfOk, OnOk};
+ghost use Rattle.std.specs.Prelude.{◌≡◌, ◌++◌, false, map, true, IfOk, OnOk};
 ghost use Rattle.book_office.specs.Keeping.{Reads};
 ghost use Rattle.book_office.specs.Levels.{effective_at, effective_of, standing_at};
 
@@ -31,6 +31,26 @@ fn push_entries(
     Ok(())
 }
 
+/// Adds the protected entries of a level to the ones, and its own entries to the others.
+fn push_level(
+    entries: &mut Vec<EffectiveEntry>,
+    own_entries: &mut Vec<EffectiveEntry>,
+    level: Level,
+) -> Result<(), AllocError>
+    ensures protected { OnOk result (entries.new.items ≡ entries.old.items
+        ++ map (standing_at level.path true) level.protected) }
+    ensures own { OnOk result (own_entries.new.items ≡ own_entries.old.items
+        ++ map (standing_at level.path false) level.own) }
+{
+    let Level {
+        path,
+        protected,
+        own,
+    } = level;
+    push_entries(entries, &path, true, protected)?;
+    push_entries(own_entries, &path, false, own)
+}
+
 /// The protected entries of all levels, and then the own entries of all levels.
 fn effective_entries(alloc: Global, lists: Lists) -> Result<Items<EffectiveEntry>, AllocError>
     ensures { IfOk result (λ entries. entries ≡ effective_of lists.levels) }
@@ -38,13 +58,7 @@ fn effective_entries(alloc: Global, lists: Lists) -> Result<Items<EffectiveEntry
     let mut entries = Vec::new(alloc);
     let mut own_entries = Vec::new(alloc);
     for level in lists.levels.into_vec() {
-        let Level {
-            path,
-            protected,
-            own,
-        } = level;
-        push_entries(&mut entries, &path, true, protected)?;
-        push_entries(&mut own_entries, &path, false, own)?;
+        push_level(&mut entries, &mut own_entries, level)?;
     }
     entries.append(&mut own_entries)?;
     Ok(Items::from_vec(entries))

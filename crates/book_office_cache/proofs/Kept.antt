@@ -84,19 +84,19 @@ module _ (r : Remembered) (o : Office) (remembers : Remembers r o) where
     counts = remembers.counts;
   }
 
-  -- with other places, where the pairs stay
-  pub circles_remembered : (persons : NamesTo Node) (books : NamesTo Level) (nodes : NamesTo Node) (bare : NamesTo (NamesTo (Unit {0}))) (counts : NamesTo ℕ)
-      → persons ≡ empty → books ≡ empty → nodes ≡ empty → bare ≡ empty → counts ≡ empty → (after : Office) → after.pairs ≡ o.pairs
-      → Remembers (record { circles = r.circles; persons = persons; root = None; home = None; books = books; book_nodes = nodes; bare = bare; bare_count = 0; counts = counts }) after
-  circles_remembered persons books nodes bare counts no_persons no_books no_nodes none_bare no_counts after same = record {
-    circles = λ n. subst (λ (pairs : Memberships). IfSome (get r.circles n) (IsCircle pairs (Known (person_path n)))) (sym same) (remembers.circles n);
-    persons = λ n. none_in (λ node. node_at after (path.Person n) ≡ Some node) persons no_persons n;
-    root = tt;
-    home = tt;
-    books = λ n. none_in (λ level. level ≡ level_at after (path.Book n)) books no_books n;
-    book_nodes = λ n. none_in (λ node. node_at after (path.Book n) ≡ Some node) nodes no_nodes n;
-    bare = λ n. none_in (AreBare after n) bare none_bare n;
-    counts = λ n. none_in (λ count. count_at after (path.Book n) ≤ count) counts no_counts n;
+  -- the circles alone, where the pairs stay
+  pub circles_remembered : (rest : Remembered) (circles : NamesTo CircleOf) → circles ≡ r.circles → (after : Office) → after.pairs ≡ o.pairs
+      → Remembers rest after → Remembers (record rest { circles = circles }) after
+  circles_remembered rest circles is after same others = record {
+    circles = λ n. subst (λ (m : NamesTo CircleOf). IfSome (get m n) (IsCircle after.pairs (Known (person_path n)))) (sym is)
+        (subst (λ (pairs : Memberships). IfSome (get r.circles n) (IsCircle pairs (Known (person_path n)))) (sym same) (remembers.circles n));
+    persons = others.persons;
+    root = others.root;
+    home = others.home;
+    books = others.books;
+    book_nodes = others.book_nodes;
+    bare = others.bare;
+    counts = others.counts;
   }
 
   pub no_bare_remembered : (bare : NamesTo (NamesTo (Unit {0}))) (count : ℕ) → bare ≡ empty → Remembers (record r { bare = bare; bare_count = count }) o

@@ -1,6 +1,6 @@
 //! A keeper that remembers.
 
-ghost use Rattle.std.specs.Prelude.{◌≡◌, ◌∷◌, ◌++◌, [], IfOk, IfSome, codes, nat_lt};
+ghost use Rattle.std.specs.Prelude.{◌≡◌, ◌∷◌, ◌++◌, [], IfOk, IfSome, OnOk, codes, nat_lt};
 ghost use Rattle.book_office_adopting.specs.Adopting.{adoption_of};
 ghost use Rattle.book_office_cache.specs.Remembering.{EditsBehind, ReadsBehind, Remembers, remembering};
 ghost use Rattle.book_lists.specs.Callers.{IsCircle};
@@ -32,9 +32,6 @@ pub struct Cached<K> {
     pub(crate) remembered: Remembered,
 }
 
-/// The lists of the books' home and of the root.
-type Top = (Level, Level);
-
 /// What follows the home of the persons, if the text begins with it.
 fn after_people(text: &str) -> Option<&str>
     ensures { IfSome result (λ rest. text.now ≡ codes "/people/" ++ rest.now) }
@@ -52,26 +49,12 @@ fn person_name(alloc: Global, person: &Principal) -> Result<Option<Name>, AllocE
     Name::parse(alloc, rest)
 }
 
-/// The lists of a book and of what stands above it.
-fn book_levels(alloc: Global, book: Level, top: Top) -> Result<Items<Level>, AllocError>
-    ensures { IfOk result (λ levels. levels ≡ book ∷ top.0 ∷ top.1 ∷ []) }
+/// Adds lists behind others.
+fn push_level(levels: &mut Vec<Level>, level: Level) -> Result<(), AllocError>
+    ensures { OnOk result (levels.new.items ≡ levels.old.items ++ level ∷ []) }
 {
-    let (home, root) = top;
-    let mut levels = Vec::with_capacity(alloc, 3)?;
-    levels.push(book)?;
-    levels.push(home)?;
-    levels.push(root)?;
-    Ok(Items::from_vec(levels))
-}
-
-/// The lists of a card and of what stands above it.
-fn card_levels(alloc: Global, card: Level, above: Items<Level>) -> Result<Items<Level>, AllocError>
-    ensures { IfOk result (λ levels. levels ≡ card ∷ above) }
-{
-    let mut levels = Vec::with_capacity(alloc, 4)?;
-    levels.push(card)?;
-    levels.append(&mut above.into_vec())?;
-    Ok(Items::from_vec(levels))
+    levels.push(level)?;
+    Ok(())
 }
 
 impl<K> Cached<K> {
@@ -90,7 +73,8 @@ impl<K> Cached<K> {
     pub fn into_inner(self) -> K
         ensures { result ≡ self.keeper }
     {
-        let Cached { keeper, .. } = self;
+        let Cached { keeper, remembered } = self;
+        drop(remembered);
         keeper
     }
 }
@@ -141,7 +125,9 @@ impl<K: Keeper> Cached<K> {
             return Ok(Some(node));
         }
         let path = Path::Person(name.clone()?);
-        let node = self.keeper.find(alloc, &path)?;
+        let found = self.keeper.find(alloc, &path);
+        drop(path);
+        let node = found?;
         self.remembered.keep_person(name, &node);
         Ok(node)
     }
@@ -155,7 +141,9 @@ impl<K: Keeper> Cached<K> {
             return Ok(Some(node));
         }
         let path = Path::Book(name.clone()?);
-        let node = self.keeper.find(alloc, &path)?;
+        let found = self.keeper.find(alloc, &path);
+        drop(path);
+        let node = found?;
         self.remembered.keep_book_node(name, &node);
         Ok(node)
     }
@@ -169,7 +157,9 @@ impl<K: Keeper> Cached<K> {
             return Ok(true);
         }
         let path = Path::Book(name.clone()?);
-        let count = self.keeper.count(alloc, &path)?;
+        let counted = self.keeper.count(alloc, &path);
+        drop(path);
+        let count = counted?;
         self.remembered.keep_count(name, count);
         Ok(count < most)
     }
@@ -209,19 +199,30 @@ impl<K: Keeper> Cached<K> {
             return Ok(level);
         }
         let path = Path::Book(name.clone()?);
-        let level = self.keeper.level(alloc, &path)?;
+        let found = self.keeper.level(alloc, &path);
+        drop(path);
+        let level = found?;
         self.remembered.keep_book(alloc, name, &level);
         Ok(level)
     }
 
-    /// The lists of the books' home and of the root.
-    fn top(&mut self, alloc: Global) -> Result<Top, StoreFault>
+    /// Adds the lists of the book of a name and of what stands above it.
+    fn push_levels(
+        &mut self,
+        alloc: Global,
+        name: &Name,
+        levels: &mut Vec<Level>,
+    ) -> Result<(), StoreFault>
         ensures { ReadsBehind K.standing self.old self.new result
-            (λ o top. top ≡ (level_at o paths.Books, level_at o paths.Root)) }
+            (λ o _. levels.new.items ≡ levels.old.items
+            ++ (lists_at o (paths.Book name.now)).levels) }
     {
+        let book = self.book(alloc, name)?;
+        push_level(levels, book)?;
         let home = self.home(alloc)?;
+        push_level(levels, home)?;
         let root = self.root(alloc)?;
-        Ok((home, root))
+        Ok(push_level(levels, root)?)
     }
 
     /// The lists of the book of a name and of what stands above it.
@@ -229,10 +230,11 @@ impl<K: Keeper> Cached<K> {
         ensures { ReadsBehind K.standing self.old self.new result
             (λ o lists. lists ≡ lists_at o (paths.Book name.now)) }
     {
-        let book = self.book(alloc, name)?;
-        let top = self.top(alloc)?;
-        let levels = book_levels(alloc, book, top)?;
-        Ok(Lists { levels })
+        let mut levels = Vec::with_capacity(alloc, 3)?;
+        self.push_levels(alloc, name, &mut levels)?;
+        Ok(Lists {
+            levels: Items::from_vec(levels),
+        })
     }
 
     /// The lists of the card of a book at a path.
@@ -267,10 +269,13 @@ impl<K: Keeper> Cached<K> {
         ensures { ReadsBehind K.standing self.old self.new result
             (λ o lists. lists ≡ lists_at o path.now) }
     {
+        let mut levels = Vec::with_capacity(alloc, 4)?;
         let card = self.card(alloc, book, name, path)?;
-        let above = self.book_lists(alloc, book)?;
-        let levels = card_levels(alloc, card, above.levels)?;
-        Ok(Lists { levels })
+        push_level(&mut levels, card)?;
+        self.push_levels(alloc, book, &mut levels)?;
+        Ok(Lists {
+            levels: Items::from_vec(levels),
+        })
     }
 }
 

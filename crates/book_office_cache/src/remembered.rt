@@ -17,6 +17,7 @@ use book_limits::{MAX_BOOKS, MAX_CARDS};
 use book_lists::{Circle, Name};
 use book_office::{Edit, Items, Level, NameMap, Node, Path};
 use std::alloc::{AllocError, Global};
+use std::mem;
 
 /// What is remembered of an Office. It is no more than the Office has without its cards, 10,000 names of cards, and the
 /// circles of 1,000 persons.
@@ -94,7 +95,7 @@ fn count_change(nodes: &mut NameMap<Node>, name: &Name)
         ⊎ (nodes.new ≡ remove nodes.old name.now) }
 {
     if is_at_last(nodes, name) {
-        nodes.remove(name);
+        drop(nodes.remove(name));
     } else {
         raise(nodes, name);
     }
@@ -205,7 +206,7 @@ impl Remembered {
     {
         let name = name.clone()?;
         let circle = circle.clone()?;
-        self.circles.insert(name, circle)?;
+        drop(self.circles.insert(name, circle)?);
         Ok(())
     }
 
@@ -233,7 +234,7 @@ impl Remembered {
         if let Some(node) = node {
             let name = name.clone()?;
             let node = copy_of_node(node)?;
-            self.persons.insert(name, node)?;
+            drop(self.persons.insert(name, node)?);
         }
         Ok(())
     }
@@ -261,7 +262,7 @@ impl Remembered {
         if let Some(node) = node {
             let name = name.clone()?;
             let node = copy_of_node(node)?;
-            self.book_nodes.insert(name, node)?;
+            drop(self.book_nodes.insert(name, node)?);
         }
         Ok(())
     }
@@ -340,7 +341,7 @@ impl Remembered {
     {
         let name = name.clone()?;
         let level = copy_of_level(level)?;
-        self.books.insert(name, level)?;
+        drop(self.books.insert(name, level)?);
         Ok(())
     }
 
@@ -399,9 +400,10 @@ impl Remembered {
             → Remembers self.new o }
     {
         let name = book.clone()?;
+        let key = card.clone()?;
         let mut cards = self.take_bare(alloc, book);
-        cards.insert(card.clone()?, ())?;
-        self.bare.insert(name, cards)?;
+        cards.insert(key, ())?;
+        drop(self.bare.insert(name, cards)?);
         self.bare_count = self.bare_count.saturating_add(1);
         Ok(())
     }
@@ -461,21 +463,16 @@ impl Remembered {
         ensures { (o after : OfficeOf) → Remembers self.old o → after.pairs ≡ o.pairs
             → Remembers self.new after }
     {
-        self.persons = NameMap::new(alloc);
-        self.root = None;
-        self.home = None;
-        self.books = NameMap::new(alloc);
-        self.book_nodes = NameMap::new(alloc);
-        self.bare = NameMap::new(alloc);
-        self.bare_count = 0;
-        self.counts = NameMap::new(alloc);
+        let circles = mem::replace(&mut self.circles, NameMap::new(alloc));
+        self.forget(alloc);
+        drop(mem::replace(&mut self.circles, circles));
     }
 
     /// Forgets all. Takes no memory.
     pub(crate) fn forget(&mut self, alloc: Global)
         ensures { (o : OfficeOf) → Remembers self.new o }
     {
-        *self = Remembered::new(alloc);
+        drop(mem::replace(self, Remembered::new(alloc)));
     }
 
     /// Forgets all but the circles of persons after an edit, and these too where it may change direct members. Takes no
@@ -504,7 +501,7 @@ impl Remembered {
             }
             Edit::RemoveCard { book, .. } => count_change(&mut self.book_nodes, book),
             Edit::CopyCard { to_book, .. } => {
-                self.book_nodes.remove(to_book);
+                drop(self.book_nodes.remove(to_book));
                 count_card(&mut self.counts, to_book);
             }
             Edit::MoveCard { to_book, .. } => {

@@ -1,7 +1,7 @@
 //! The books, with their cards and the numbers of their changes.
 
 ghost use Rattle.std.specs.Prelude.{◌≡◌, IfOk, OnOk, map};
-ghost use Rattle.std.specs.FinMap.{empty};
+ghost use Rattle.std.specs.FinMap.{empty, insert};
 ghost use Rattle.book_office.specs.Keeping.{Reads};
 ghost use Rattle.book_office_adopting.specs.TakingOver.{all_inserted};
 ghost use Rattle.book_office_copies.specs.Copies.{as_it_is, book_told, books_told, cards_in, bare_books_told, bare_entry, bare_listed, named_book, named_entry, with_card};
@@ -29,7 +29,7 @@ fn add_card(
     ensures { OnOk result (cards.new ≡ with_card cards.old name card) }
 {
     if let Some(card) = card {
-        cards.insert(name, card)?;
+        drop(cards.insert(name, card)?);
     }
     Ok(())
 }
@@ -123,7 +123,7 @@ fn books_of(alloc: Global, named: Vec<NamedBook>) -> Result<NameMap<Book>, Alloc
     let mut books = NameMap::new(alloc);
     for one in named {
         let NamedBook { name, book } = one;
-        books.insert(name, book)?;
+        drop(books.insert(name, book)?);
     }
     Ok(books)
 }
@@ -153,6 +153,20 @@ fn bare_listed(alloc: Global, listed: &Listed) -> Result<Book, AllocError>
     })
 }
 
+/// Adds a book that is listed, without its cards and their changes. An error is want of memory.
+fn add_bare_book(
+    alloc: Global,
+    books: &mut NameMap<Book>,
+    listed: &Listed,
+) -> Result<(), AllocError>
+    ensures { OnOk result (books.new ≡ insert books.old listed.now.name (bare_listed listed.now)) }
+{
+    let name = listed.name.clone()?;
+    let book = bare_listed(alloc, listed)?;
+    drop(books.insert(name, book)?);
+    Ok(())
+}
+
 /// The books of a listing, without their cards and changes. An error is want of memory.
 fn bare_books_of(alloc: Global, listed: Items<Listed>) -> Result<NameMap<Book>, AllocError>
     ensures { IfOk result (λ books. books ≡ all_inserted as_it_is empty
@@ -160,8 +174,9 @@ fn bare_books_of(alloc: Global, listed: Items<Listed>) -> Result<NameMap<Book>, 
 {
     let mut books = NameMap::new(alloc);
     for one in listed.into_vec() {
-        let book = bare_listed(alloc, &one)?;
-        books.insert(one.name.clone()?, book)?;
+        let added = add_bare_book(alloc, &mut books, &one);
+        drop(one);
+        added?;
     }
     Ok(books)
 }

@@ -1,7 +1,7 @@
 //! The resources other than cards, as a keeper tells them.
 
-ghost use Rattle.std.specs.Prelude.{◌≡◌, IfOk, map};
-ghost use Rattle.std.specs.FinMap.{empty};
+ghost use Rattle.std.specs.Prelude.{◌≡◌, IfOk, OnOk, map};
+ghost use Rattle.std.specs.FinMap.{empty, insert};
 ghost use Rattle.book_office.specs.Keeping.{Reads};
 ghost use Rattle.book_office_adopting.specs.TakingOver.{all_inserted};
 ghost use Rattle.book_office_copies.specs.Copies.{as_it_is, listed_place, place_told, place_with, principals_told, properties_listed};
@@ -51,6 +51,17 @@ pub(crate) fn properties_listed(listed: &Listed) -> Result<Properties, AllocErro
     })
 }
 
+/// Adds a person or a group that is listed. An error is want of memory.
+fn add_principal(principals: &mut NameMap<Properties>, listed: &Listed) -> Result<(), AllocError>
+    ensures { OnOk result (principals.new
+        ≡ insert principals.old listed.now.name (properties_listed listed.now)) }
+{
+    let name = listed.name.clone()?;
+    let properties = properties_listed(listed)?;
+    drop(principals.insert(name, properties)?);
+    Ok(())
+}
+
 /// The persons or the groups of a listing. An error is want of memory.
 fn principals_of(alloc: Global, listed: Items<Listed>) -> Result<NameMap<Properties>, AllocError>
     ensures { IfOk result (λ principals. principals ≡ all_inserted as_it_is empty
@@ -58,8 +69,9 @@ fn principals_of(alloc: Global, listed: Items<Listed>) -> Result<NameMap<Propert
 {
     let mut principals = NameMap::new(alloc);
     for one in listed.into_vec() {
-        let properties = properties_listed(&one)?;
-        principals.insert(one.name.clone()?, properties)?;
+        let added = add_principal(&mut principals, &one);
+        drop(one);
+        added?;
     }
     Ok(principals)
 }

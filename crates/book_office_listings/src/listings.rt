@@ -9,7 +9,7 @@ ghost use Rattle.book_office.specs.Levels.{effective_of};
 ghost use Rattle.book_office.specs.Resources.{node_at};
 ghost use Rattle.book_office_listings.specs.Listings.{AreResponses, IsResponseTo, child_path, home_path};
 ghost use Rattle.book_office_listings.specs.Listings.{asks_members, asks_token};
-ghost use Rattle.book_office_listings.specs.Reading.{AreRead, IsChildResponse};
+ghost use Rattle.book_office_listings.specs.Reading.{AreRead, IsChildResponse, IsWholeRead};
 ghost use Rattle.book_office_listings.specs.Reading.{child_level, child_subject, children_for, groups_told, node_subject, pairs_about};
 ghost use Rattle.book_office_listings.specs.Scanning.{IsVerdict};
 ghost use Rattle.book_office_listings.specs.Sifting.{IsSifted};
@@ -191,6 +191,30 @@ fn child_response(
     )
 }
 
+/// The responses for the children below these levels, of which what may apply to the caller is sifted, in their order.
+fn responses_below(
+    alloc: Global,
+    find: &Find,
+    circle: &Circle,
+    whole: &Whole,
+    path: &Path,
+    levels: &[Level],
+    sifted: &Sifted,
+    children: Items<Listed>,
+) -> Result<Vec<Response>, AllocError>
+    requires { IsSifted circle.now levels.now sifted.now }
+    ensures { IfOk result (λ responses. AllZip
+        (IsChildResponse find.now circle.now whole.now path.now levels.now) children
+        responses.items) }
+{
+    let mut responses = Vec::with_capacity(alloc, children.len().saturating_add(1))?;
+    for child in children.into_vec() {
+        let told = child_response(alloc, find, circle, whole, path, levels, sifted, child)?;
+        responses.push(told)?;
+    }
+    Ok(responses)
+}
+
 /// The responses for the children below these levels, in their order. What may apply to the caller is sifted once.
 fn child_responses(
     alloc: Global,
@@ -206,12 +230,33 @@ fn child_responses(
         responses.items) }
 {
     let sifted = sift(alloc, levels, circle)?;
-    let children = children.into_vec();
-    let mut responses = Vec::with_capacity(alloc, children.len())?;
-    for child in children {
-        responses.push(child_response(alloc, find, circle, whole, path, levels, &sifted, child)?)?;
-    }
-    Ok(responses)
+    responses_below(alloc, find, circle, whole, path, levels, &sifted, children)
+}
+
+/// The response for the resource that was asked for, by its own level and those above it.
+fn node_response(
+    alloc: Global,
+    find: &Find,
+    circle: &Circle,
+    whole: &Whole,
+    own: &Level,
+    above: &[Level],
+    node: &Node,
+) -> Result<Response, AllocError>
+    ensures { IfOk result (IsResponseTo find.now circle.now whole.now own.now.path
+        (node_subject own.now.path node.now) (effective_of (own.now ∷ above.now))) }
+{
+    let subject = node_subject(alloc, &own.path, node)?;
+    response(alloc, find, circle, whole, own, above, &subject)
+}
+
+/// A response, and others after it. An error is want of memory.
+fn in_front(first: Response, rest: Vec<Response>) -> Result<Items<Response>, AllocError>
+    ensures { IfOk result (λ responses. responses ≡ first ∷ rest.items) }
+{
+    let mut responses = rest;
+    responses.insert(0, first)?;
+    Ok(Items::from_vec(responses))
 }
 
 /// The responses for a resource, by its levels, and for its children.
@@ -229,13 +274,9 @@ fn responses(
     let Some((own, above)) = levels.split_first() else {
         return Ok(Items::new(alloc));
     };
-    let subject = node_subject(alloc, &own.path, node)?;
-    let first = response(alloc, find, circle, whole, own, above, &subject)?;
-    let mut rest = child_responses(alloc, find, circle, whole, &own.path, levels, children)?;
-    let mut responses = Vec::with_capacity(alloc, rest.len().saturating_add(1))?;
-    responses.push(first)?;
-    responses.append(&mut rest)?;
-    Ok(Items::from_vec(responses))
+    let rest = child_responses(alloc, find, circle, whole, &own.path, levels, children)?;
+    let first = node_response(alloc, find, circle, whole, own, above, node)?;
+    in_front(first, rest)
 }
 
 /// Whether the memberships have to be read.
@@ -344,6 +385,22 @@ fn epoch_for<K: Keeper>(keeper: &mut K, asked: bool) -> Result<u64, StoreFault>
     if asked { keeper.epoch() } else { Ok(0) }
 }
 
+/// What properties ask of the whole Office, as far as it is asked for.
+fn whole_for<K: Keeper>(
+    alloc: Global,
+    keeper: &mut K,
+    path: &Path,
+    extent: Extent,
+    asked: &[Property],
+) -> Result<Whole, StoreFault>
+    ensures { Reads (K.standing keeper.old) (K.standing keeper.new) result
+        (λ o whole. IsWholeRead o path.now extent asked.now whole) }
+{
+    let memberships = memberships_for(alloc, keeper, path, extent, asks_members(asked))?;
+    let epoch = epoch_for(keeper, asks_token(asked))?;
+    Ok(Whole { memberships, epoch })
+}
+
 /// What PROPFIND tells (RFC 4918, section 9.1): a response for the resource, and at depth 1 for each of its children,
 /// in byte order of their names. Each is decided by itself: where the needed leaves are granted its properties are
 /// told, in the order in which they are asked, and else the denial alone (own profile). `node` is the resource at the
@@ -368,9 +425,7 @@ pub fn listing<K: Keeper>(
     let lists = keeper.lists(alloc, path)?;
     let children = children_for(alloc, keeper, path, find.extent)?;
     let asked = find.properties.as_slice();
-    let memberships = memberships_for(alloc, keeper, path, find.extent, asks_members(asked))?;
-    let epoch = epoch_for(keeper, asks_token(asked))?;
-    let whole = Whole { memberships, epoch };
+    let whole = whole_for(alloc, keeper, path, find.extent, asked)?;
     Ok(responses(
         alloc,
         find,

@@ -128,8 +128,8 @@ fn search(
     requires { IsOrdered path_cmp groups.now }
     ensures { IfOk result (IsReachable (pairs_in groups.now.entries) starts.now) }
 {
-    let mut found = TextSet::new(alloc);
     let mut work = work_of(alloc, starts)?;
+    let mut found = TextSet::new(alloc);
     while let Some(member) = work.pop() {
         if found.has(member) {
             continue;

@@ -1,7 +1,7 @@
 //! The cards that items tell, each with its UID and its members.
 
 ghost use Rattle.std.specs.Prelude.{◌≡◌, ℕ, List, IfOk, OnOk, map};
-ghost use Rattle.std.specs.FinMap.{entries};
+ghost use Rattle.std.specs.FinMap.{entries, insert};
 ghost use Rattle.book_cards.specs.CardText.{members_in, uid_in};
 ghost use Rattle.book_office_values.specs.Names.{NamesTo};
 ghost use Rattle.book_office_sync.specs.Copies.{patch, patched};
@@ -36,16 +36,29 @@ fn members_of(alloc: Global, card: &Card) -> Result<Vec<Text>, AllocError>
     Ok(members)
 }
 
+/// A card with its name, its UID and its members.
+fn card_read(alloc: Global, name: Name, card: &Card) -> Result<CardRef, AllocError>
+    ensures { IfOk result (λ told. told ≡ record {
+      name = name;
+      uid = uid_in card.now;
+      members = members_in card.now;
+    }) }
+{
+    let uid = uid_of(alloc, card)?;
+    let members = members_of(alloc, card)?;
+    Ok(CardRef {
+        name,
+        uid,
+        members: Items::from_vec(members),
+    })
+}
+
 /// The card with this name and text. A text that is no card has no UID and no members.
 fn card_of(alloc: Global, name: Name, text: &str) -> Result<CardRef, AllocError>
     ensures { IfOk result (λ card. card ≡ card_of name text.now) }
 {
     match read_card(alloc, text) {
-        Ok(card) => Ok(CardRef {
-            name,
-            uid: uid_of(alloc, &card)?,
-            members: Items::from_vec(members_of(alloc, &card)?),
-        }),
+        Ok(card) => card_read(alloc, name, &card),
         Err(fault) => {
             if fault.kind == CardFaultKind::Memory {
                 return Err(AllocError);
@@ -59,6 +72,21 @@ fn card_of(alloc: Global, name: Name, text: &str) -> Result<CardRef, AllocError>
     }
 }
 
+/// Puts in the card with this name and text.
+fn put_card(
+    alloc: Global,
+    cards: &mut NameMap<CardRef>,
+    name: Name,
+    text: &str,
+) -> Result<(), AllocError>
+    ensures { OnOk result (cards.new ≡ insert cards.old name (card_of name text.now)) }
+{
+    let key = name.clone()?;
+    let card = card_of(alloc, name, text)?;
+    let _before = cards.insert(key, card)?;
+    Ok(())
+}
+
 /// Takes over what an item tells.
 fn apply_item(alloc: Global, cards: &mut NameMap<CardRef>, item: Item) -> Result<(), AllocError>
     ensures { OnOk result ((copy : NamesTo Seen) → AreCardsOf copy cards.old
@@ -66,15 +94,12 @@ fn apply_item(alloc: Global, cards: &mut NameMap<CardRef>, item: Item) -> Result
 {
     let Item { name, found, .. } = item;
     match found {
-        Some(found) => {
-            let card = card_of(alloc, name.clone()?, found.text.as_str())?;
-            let _before = cards.insert(name, card)?;
-        }
+        Some(found) => put_card(alloc, cards, name, found.text.as_str()),
         None => {
             let _before = cards.remove(&name);
+            Ok(())
         }
     }
-    Ok(())
 }
 
 /// Takes over what items tell. Each text is read once, and then let go.

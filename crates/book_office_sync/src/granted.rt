@@ -6,9 +6,9 @@ ghost use Rattle.book_office.specs.Keeping.{Reads};
 ghost use Rattle.book_office_sync.specs.Granted.{text_at, text_of, put_text, put_texts};
 
 use crate::pages::{PAGE, Page, read_page};
-use crate::reports::{Above, is_granted, join_levels};
+use crate::reports::{Above, above_cards, is_granted};
 use book_lists::{Circle, Here, Name};
-use book_office::{Changed, Items, Keeper, Path, StoreFault};
+use book_office::{Changed, Items, Keeper, StoreFault};
 use book_office_values::{NameMap, StoredCard, Text};
 use book_rights::Leaf;
 use std::alloc::{AllocError, Global};
@@ -96,9 +96,7 @@ pub fn texts_granted<K: Keeper, T: FromText>(
         (λ o told. (c : List ℕ) → get told c ≡ option_map T.FromText.from_text_gives
         (text_at o circle.now book.now leaf c)) }
 {
-    let path = Path::Book(book.clone()?);
-    let lists = keeper.lists(alloc, &path)?;
-    let above = join_levels(alloc, lists, circle)?;
+    let above = above_cards(alloc, keeper, circle, book)?;
     let mut told = NameMap::new(alloc);
     let mut after = 0;
     'pages: for _page in 0..u64::MAX {

@@ -6,12 +6,14 @@ ghost use Rattle.std.specs.Option.{option_copied};
 ghost use Rattle.book_lists.specs.Deciders.{IsDeciders};
 ghost use Rattle.book_lists.specs.Readings.{read_by};
 ghost use Rattle.book_office_values.specs.declared.offices.Book.{Book};
+ghost use Rattle.book_office_values.specs.declared.paths.Path.TheVariants as path;
 ghost use Rattle.book_office.specs.Keeping.{Reads};
+ghost use Rattle.book_office.specs.Levels.{lists_at};
 ghost use Rattle.book_office_sync.specs.Copies.{is_cut, item_of, reported, start_of, sync, BringsCopies, IsLimit};
 ghost use Rattle.book_office_sync.specs.Limits.{AreEnough, last_told, told_items, told_report};
 ghost use Rattle.book_office_sync.specs.Reading.{entries_under, found_in, is_granted, is_readable, item_in};
 ghost use Rattle.book_office_sync.specs.Reading.{names_place};
-ghost use Rattle.book_office_sync.specs.Sifting.{IsAboveOf};
+ghost use Rattle.book_office_sync.specs.Sifting.{AppliesAs, IsAboveOf};
 
 use crate::messages::{Found, Item, Report, Token};
 use crate::pages::{PAGE, Page, read_page};
@@ -35,25 +37,51 @@ pub struct Above {
     pub own: Items<Entry>,
 }
 
+/// Adds the entries of a level that may apply to the caller. None is copied.
+fn keep_level(
+    protected: &mut Vec<Entry>,
+    own: &mut Vec<Entry>,
+    level: Level,
+    circle: &Circle,
+) -> Result<(), AllocError>
+    ensures protected { OnOk result (AppliesAs circle.now
+        (protected.old.items ++ level.protected) protected.new.items) }
+    ensures own { OnOk result (AppliesAs circle.now (own.old.items ++ level.own) own.new.items) }
+{
+    keep(protected, level.protected, circle)?;
+    keep(own, level.own, circle)
+}
+
 /// The entries of all levels that may apply to the caller. None is copied.
-pub(crate) fn join_levels(alloc: Global, lists: Lists, circle: &Circle) -> Result<Above, AllocError>
+fn join_levels(alloc: Global, lists: Lists, circle: &Circle) -> Result<Above, AllocError>
     ensures { IfOk result (λ above. IsAboveOf circle.now lists.levels above) }
 {
     let mut protected = Vec::new(alloc);
     let mut own = Vec::new(alloc);
     for level in lists.levels.into_vec() {
-        let Level {
-            protected: protected_here,
-            own: own_here,
-            ..
-        } = level;
-        keep(&mut protected, protected_here, circle)?;
-        keep(&mut own, own_here, circle)?;
+        keep_level(&mut protected, &mut own, level, circle)?;
     }
     Ok(Above {
         protected: Items::from_vec(protected),
         own: Items::from_vec(own),
     })
+}
+
+/// The lists above the cards of a book, without the entries that can't apply to the caller. An error is want of memory or
+/// a failure of the store.
+pub(crate) fn above_cards<K: Keeper>(
+    alloc: Global,
+    keeper: &mut K,
+    circle: &Circle,
+    book: &Name,
+) -> Result<Above, StoreFault>
+    ensures { Reads (K.standing keeper.old) (K.standing keeper.new) result
+        (λ o above. IsAboveOf circle.now (lists_at o (path.Book book.now)).levels above) }
+{
+    let path = Path::Book(book.clone()?);
+    let lists = keeper.lists(alloc, &path);
+    drop(path);
+    Ok(join_levels(alloc, lists?, circle)?)
 }
 
 /// Which entry decides each leaf of a set at a card with this own list, by the entries in force there.
@@ -195,10 +223,9 @@ fn number_of_book<K: Keeper>(
         (λ o number. number ≡ option_map (λ (x : Book). x.changes.number) (get o.books book.now)) }
 {
     let path = Path::Book(book.clone()?);
-    match keeper.find(alloc, &path)? {
-        Some(node) => Ok(Some(node.number)),
-        None => Ok(None),
-    }
+    let found = keeper.find(alloc, &path);
+    drop(path);
+    Ok(found?.map(|node| node.number))
 }
 
 /// Whether a token, if there is one, names this book, this epoch, and a number that the book has reached.
@@ -237,9 +264,7 @@ fn report_items<K: Keeper>(
         → AreEnough limit (map (item_of o circle.now book.now)
         (reported o circle.now book.now x (option_copied token.entry))) items) }
 {
-    let path = Path::Book(book.clone()?);
-    let lists = keeper.lists(alloc, &path)?;
-    let above = join_levels(alloc, lists, circle)?;
+    let above = above_cards(alloc, keeper, circle, book)?;
     let size = page_size(token, limit);
     let mut items = Vec::new(alloc);
     let mut after = start_of(token);

@@ -5,9 +5,9 @@ ghost use Rattle.book_office_sync.specs.Views.{IsViewPage};
 
 use crate::messages::Item;
 use crate::pages::{PAGE, Page, read_page};
-use crate::reports::{join_levels, push_told};
+use crate::reports::{above_cards, push_told};
 use book_lists::{Circle, Name};
-use book_office::{Items, Keeper, Path, StoreFault};
+use book_office::{Items, Keeper, StoreFault};
 use std::alloc::Global;
 
 /// A page of a caller's view of a book.
@@ -35,10 +35,8 @@ pub fn view_page<K: Keeper>(
     ensures { Reads (K.standing keeper.old) (K.standing keeper.new) result
         (λ o page. IsViewPage o circle.now book.now after page.items page.next) }
 {
-    let path = Path::Book(book.clone()?);
-    let lists = keeper.lists(alloc, &path)?;
+    let above = above_cards(alloc, keeper, circle, book)?;
     let Page { changes, next } = read_page(alloc, keeper, book, None, after, PAGE)?;
-    let above = join_levels(alloc, lists, circle)?;
     let mut items = Vec::new(alloc);
     push_told(&mut items, &above, circle, None, changes)?;
     Ok(ViewPage {

@@ -5,40 +5,22 @@ use Rattle.book_office_sync.specs.Sifting.{AppliesAs}
 use Rattle.book_office_sync.proofs.AppliedEntries.{kept_more}
 use Rattle.book_office_sync.proofs.reports.join_levels.Goals as goal
 
-pub loop-level-preserved-in_ok-keep-2-4 : goal.loop-level-preserved-in_ok-keep-2-4
-loop-level-preserved-in_ok-keep-2-4 c =
-    let circle = c.args.circle.now in
-    let level = c.in-Some.level in
-    let rest = into_iter_items c.next.new.self in
-    let so_far = c.loop-level.invariant in
-    let next : into_iter_items c.loop-level.level-iterator ≡ level ∷ rest = search rules in
-    record {
-      protected = kept_more circle (flat_map (λ (k : Level). k.protected) (into_iter_items c.into_iter-level-iterator.result)) c.loop-level.protected.items level.protected
-          (flat_map (λ (k : Level). k.protected) rest) c.keep.new.kept.items
-          (subst (λ ls. AppliesAs circle (flat_map (λ (k : Level). k.protected) (into_iter_items c.into_iter-level-iterator.result)) (c.loop-level.protected.items ++ flat_map (λ (k : Level). k.protected) ls)) next so_far.protected)
-          c.in_ok-keep.ensures;
-      own = kept_more circle (flat_map (λ (k : Level). k.own) (into_iter_items c.into_iter-level-iterator.result)) c.loop-level.own.items level.own
-          (flat_map (λ (k : Level). k.own) rest) c.keep-in-loop-level.new.kept.items
-          (subst (λ ls. AppliesAs circle (flat_map (λ (k : Level). k.own) (into_iter_items c.into_iter-level-iterator.result)) (c.loop-level.own.items ++ flat_map (λ (k : Level). k.own) ls)) next so_far.own)
-          c.in_ok-keep-2.ensures;
-      count = search rules;
-    }
-
 pub loop-level-preserved : goal.loop-level-preserved
 loop-level-preserved c =
     let circle = c.args.circle.now in
     let level = c.in-Some.level in
+    let all = into_iter_items c.into_iter-level-iterator.result in
     let rest = into_iter_items c.next.new.self in
     let so_far = c.loop-level.invariant in
     let next : into_iter_items c.loop-level.level-iterator ≡ level ∷ rest = search rules in
     record {
-      protected = kept_more circle (flat_map (λ (k : Level). k.protected) (into_iter_items c.into_iter-level-iterator.result)) c.loop-level.protected.items level.protected
-          (flat_map (λ (k : Level). k.protected) rest) c.keep.new.kept.items
-          (subst (λ ls. AppliesAs circle (flat_map (λ (k : Level). k.protected) (into_iter_items c.into_iter-level-iterator.result)) (c.loop-level.protected.items ++ flat_map (λ (k : Level). k.protected) ls)) next so_far.protected)
-          c.in_ok-keep.ensures;
-      own = kept_more circle (flat_map (λ (k : Level). k.own) (into_iter_items c.into_iter-level-iterator.result)) c.loop-level.own.items level.own
-          (flat_map (λ (k : Level). k.own) rest) c.keep-in-loop-level.new.kept.items
-          (subst (λ ls. AppliesAs circle (flat_map (λ (k : Level). k.own) (into_iter_items c.into_iter-level-iterator.result)) (c.loop-level.own.items ++ flat_map (λ (k : Level). k.own) ls)) next so_far.own)
-          c.in_ok-keep-2.ensures;
+      protected = kept_more circle (flat_map (λ (k : Level). k.protected) all) c.loop-level.protected.items level.protected
+          (flat_map (λ (k : Level). k.protected) rest) c.keep_level.new.protected.items
+          (subst (λ ls. AppliesAs circle (flat_map (λ (k : Level). k.protected) all) (c.loop-level.protected.items ++ flat_map (λ (k : Level). k.protected) ls)) next so_far.protected)
+          c.in_ok-keep_level.ensures.protected;
+      own = kept_more circle (flat_map (λ (k : Level). k.own) all) c.loop-level.own.items level.own
+          (flat_map (λ (k : Level). k.own) rest) c.keep_level.new.own.items
+          (subst (λ ls. AppliesAs circle (flat_map (λ (k : Level). k.own) all) (c.loop-level.own.items ++ flat_map (λ (k : Level). k.own) ls)) next so_far.own)
+          c.in_ok-keep_level.ensures.own;
       count = search rules;
     }

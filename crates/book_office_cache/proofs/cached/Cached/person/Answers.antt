@@ -6,7 +6,7 @@ use Rattle.book_office_cache.proofs.cached.Cached.person.Goals as goal
 pub returns : goal.returns
 returns g c =
     let old : Standing = g.K.Keeper.standing c.args.self.now.keeper in
-    let new : Standing = g.K.Keeper.standing c.find.new.self in
+    let new : Standing = g.K.Keeper.standing c.find-found.new.self in
     let name : c.in_ok-clone.field-0 ≡ c.args.name.now = search rules in
     let read : Reads old new (Ok c.in_ok-node-2.node) (λ (o : Office) (node : Option Node). node ≡ node_at o (paths.Person c.args.name.now)) = rw name at c.in_ok-node-2.ensures in
     read_kept old new c.args.self.now.remembered c.keep_person.new.self c.in_ok-node-2.node (λ (o : Office) (node : Option Node). node ≡ node_at o (paths.Person c.args.name.now)) read c.keep_person.ensures

@@ -1,6 +1,6 @@
 use Rattle.book_office_listings.proofs.Common.{◌≡◌, ◌++◌, List, length, AllZip, IsChildResponse, Response}
 use Rattle.std.specs.Vec.Iter.{into_iter_items, into_iter_len}
-use Rattle.book_office_listings.proofs.listings.child_responses.Given as goal
+use Rattle.book_office_listings.proofs.listings.responses_below.Given as goal
 
 -- the responses so far, and responses for the children to come, are those of all children
 abbrev pub invariant-loop-child : goal.invariant-loop-child
