@@ -1,6 +1,6 @@
 //! The machine: it serves one request after the other.
 
-ghost use Rattle.std.specs.Prelude.{◌≡◌, [], Ok, IfOk, OnOk, OnErr, None, is_some, nat_lt};
+ghost use Rattle.std.specs.Prelude.{◌≡◌, [], Ok, IfOk, OnOk, OnErr, None, Some, is_some, nat_lt};
 ghost use Rattle.std.specs.FinMap.{get};
 ghost use Rattle.std.specs.Option.{option_copied};
 ghost use Rattle.book_rights.specs.Needs.{need_list, listed_others, listed_too};
@@ -70,8 +70,19 @@ impl<K: Keeper> Machine<K> {
         let Some(name) = Name::parse(alloc, text)? else {
             return Err(Refusal::UnknownCaller);
         };
+        self.person(alloc, name)
+    }
+
+    /// The caller of a name: the person of that name.
+    fn person(&mut self, alloc: Global, name: Name) -> Result<Caller, Refusal>
+        ensures { StageAsks K.standing self.old self.new result
+            (λ o r. Meets r (caller_of o (Some name))) }
+    {
         let person = Principal::person(alloc, &name)?;
-        match self.keeper.has(alloc, &Path::Person(name))? {
+        let path = Path::Person(name);
+        let told = self.keeper.has(alloc, &path);
+        drop(path);
+        match told? {
             true => Ok(Caller::Known(person)),
             false => Err(Refusal::UnknownCaller),
         }
@@ -202,14 +213,25 @@ impl<K: Keeper> Machine<K> {
     {
         let caller = self.caller(alloc, name)?;
         let asked = asked_of(alloc, request.method, request)?;
-        let target = self.target(alloc, request)?;
-        check_suits(&asked, &target)?;
-        let replaces = self.replaces(alloc, &asked)?;
-        Ok(Ready {
+        let target = match self.target(alloc, request) {
+            Ok(target) => target,
+            Err(refusal) => return refuse((caller, asked), refusal),
+        };
+        let mut ready = Ready {
             caller,
             asked,
-            target: Target { replaces, ..target },
-        })
+            target,
+        };
+        if let Err(refusal) = check_suits(&ready.asked, &ready.target) {
+            return refuse(ready, refusal);
+        }
+        match self.replaces(alloc, &ready.asked) {
+            Ok(replaces) => {
+                ready.target.replaces = replaces;
+                Ok(ready)
+            }
+            Err(refusal) => refuse(ready, refusal),
+        }
     }
 
     /// The owner of the resource at a path.
@@ -242,6 +264,22 @@ impl<K: Keeper> Machine<K> {
         }
     }
 
+    /// The verdict on one need at a path of which nothing is known yet.
+    fn check_at(
+        &mut self,
+        alloc: Global,
+        circle: &Circle,
+        path: &Path,
+        set: LeafSet,
+    ) -> Result<(), Refusal>
+        ensures { StageAsks K.standing self.old self.new result
+            (λ o r. JudgesNeed o circle.now path.now set r) }
+    {
+        let principal = principal_of(alloc, path)?;
+        let owner = self.owner(alloc, path)?;
+        self.check_here(alloc, circle, path, &Here { owner, principal }, set)
+    }
+
     /// The verdict on one need. What entries ask of the target is known, and its path is not copied.
     fn check_need(
         &mut self,
@@ -260,9 +298,9 @@ impl<K: Keeper> Machine<K> {
             return self.check_here(alloc, circle, ready.target.path, target, need.set);
         }
         let path = place_path(ready, need.place)?;
-        let principal = principal_of(alloc, &path)?;
-        let owner = self.owner(alloc, &path)?;
-        self.check_here(alloc, circle, &path, &Here { owner, principal }, need.set)
+        let verdict = self.check_at(alloc, circle, &path, need.set);
+        drop(path);
+        verdict
     }
 
     /// The verdict on a need, if there is one.
@@ -372,7 +410,10 @@ impl<K: Keeper> Machine<K> {
             (λ o r. Meets r (Ok (nat_lt (count_at o (path.Book book.now)) MAX_CARDS))) }
     {
         let path = Path::Book(book.clone()?);
-        if is_young(&self.keeper.find(alloc, &path)?) {
+        let node = self.keeper.find(alloc, &path)?;
+        let young = is_young(&node);
+        drop(node);
+        if young {
             return Ok(true);
         }
         self.has_room(alloc, &path, MAX_CARDS)

@@ -105,8 +105,14 @@ fn one_need(alloc: Global, resource: Path, set: LeafSet) -> Result<Items<PlacedN
 fn needed_of(alloc: Global, ready: Ready<'_>) -> Result<Needed, AllocError>
     ensures { IfOk result (λ needed. needed ≡ needed_of (ready_seen ready.entry)) }
 {
-    let needs = placed_needs(alloc, &ready)?;
-    let Ready { caller, .. } = ready;
+    let told = placed_needs(alloc, &ready);
+    let Ready {
+        caller,
+        asked,
+        target,
+    } = ready;
+    drop((asked, target));
+    let needs = told?;
     Ok(Needed { caller, needs })
 }
 

@@ -4,7 +4,8 @@ ghost use Rattle.std.specs.Prelude.{◌≡◌, ◌∷◌, map, IfOk, string_byte
 ghost use Rattle.book_lists.specs.declared.circles.Caller.TheVariants.{Nobody};
 ghost use Rattle.book_lists.specs.Memberships.{set_of};
 ghost use Rattle.book_office.specs.Keeping.{Reads};
-ghost use Rattle.book_office.specs.Levels.{effective_of};
+ghost use Rattle.book_office.specs.Levels.{effective_at, effective_of};
+ghost use Rattle.book_office_listings.specs.Verdicts.{here_of};
 ghost use Rattle.book_questions.specs.Who.{AreAsked, AreHolders, IsHolder, IsWhoText, callers_of, known_caller};
 
 use crate::rulings::{here_at, in_force, listed_pairs};
@@ -100,6 +101,34 @@ fn holder_each<K: Keeper>(
     Ok(holders)
 }
 
+/// Each caller with the rulings at a path, whose levels are read once.
+fn holders_among<K: Keeper>(
+    alloc: Global,
+    keeper: &mut K,
+    path: &Path,
+    callers: &[Caller],
+) -> Result<Vec<Holder>, StoreFault>
+    ensures { Reads (K.standing keeper.old) (K.standing keeper.new) result
+        (λ o holders. AreHolders o.pairs o.pairs (effective_at o path.now)
+        (here_of o path.now) callers.now holders.items) }
+{
+    let here = here_at(alloc, keeper, path)?;
+    let lists = keeper.lists(alloc, path)?;
+    let pairs = listed_pairs(alloc, keeper)?;
+    let holders = holder_each(
+        alloc,
+        keeper,
+        pairs.as_slice(),
+        lists.levels.as_slice(),
+        &here,
+        callers,
+    );
+    drop(pairs);
+    drop(lists);
+    drop(here);
+    holders
+}
+
 /// Everybody with the rulings at a path, whose levels are read once: nobody, and each person in byte order of the names. An
 /// error is want of memory or a failure of the store.
 pub fn holders_at<K: Keeper>(
@@ -111,18 +140,9 @@ pub fn holders_at<K: Keeper>(
         (λ o holders. AreAsked o path.now holders) }
 {
     let callers = callers_of(alloc, keeper)?;
-    let here = here_at(alloc, keeper, path)?;
-    let lists = keeper.lists(alloc, path)?;
-    let pairs = listed_pairs(alloc, keeper)?;
-    let holders = holder_each(
-        alloc,
-        keeper,
-        pairs.as_slice(),
-        lists.levels.as_slice(),
-        &here,
-        callers.as_slice(),
-    )?;
-    Ok(Items::from_vec(holders))
+    let holders = holders_among(alloc, keeper, path, callers.as_slice());
+    drop(callers);
+    Ok(Items::from_vec(holders?))
 }
 
 /// The lines of everybody to whom a set is granted at a path, or of everybody else.

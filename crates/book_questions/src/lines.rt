@@ -251,7 +251,9 @@ pub(crate) fn why_text(alloc: Global, why: &Why) -> Result<String, AllocError>
 {
     let denial = first_denial(why.needs.as_slice())?;
     let mut text = String::new(alloc);
-    push_verdict(alloc, &mut text, &denial)?;
+    let told = push_verdict(alloc, &mut text, &denial);
+    drop(denial);
+    told?;
     push_needs(
         alloc,
         &mut text,

@@ -137,6 +137,20 @@ fn destination_of(alloc: Global, text: Option<&str>) -> Result<Option<Path>, All
     }
 }
 
+/// The path of a request, and that of its destination.
+fn paths_of(
+    alloc: Global,
+    path: &str,
+    destination: Option<&str>,
+) -> Result<(Option<Path>, Option<Path>), AllocError>
+    ensures { IfOk result (λ paths. ReadsPath path.now paths.0
+        × ReadsDestination (option_copied destination.entry) paths.1) }
+{
+    let path = path_of(alloc, path)?;
+    let destination = destination_of(alloc, destination)?;
+    Ok((path, destination))
+}
+
 /// The request of a method.
 fn request_of(
     alloc: Global,
@@ -146,8 +160,10 @@ fn request_of(
 ) -> Result<Request, AllocError>
     ensures { IfOk result (IsRequestOf asking path.now (option_copied destination.entry)) }
 {
-    let path = path_of(alloc, path)?;
-    let destination = destination_of(alloc, destination)?;
+    let Ok((path, destination)) = paths_of(alloc, path, destination) else {
+        drop(asking);
+        return Err(AllocError);
+    };
     let Asking { method, body } = asking;
     Ok(Request {
         method,

@@ -1,6 +1,5 @@
-use Rattle.book_machine.proofs.Common.{rules, ◌≡◌, inl, inr, sym, ap, subst, destination_in, JudgesNeed, place_path}
+use Rattle.book_machine.proofs.Common.{rules, ◌≡◌, sym, ap, subst, destination_in, JudgesNeed, place_path}
 use Rattle.book_rights.specs.declared.places.Place.TheVariants as at
-use Rattle.book_machine.proofs.StagesInTurn.{asks_refused}
 use Rattle.book_machine.proofs.machine.Machine.check_need.Goals as goal
 
 pub returns-then-eq : goal.returns-then-eq
@@ -19,7 +18,3 @@ returns-then-eq g c =
       left = asked.left;
       counted = asked.counted;
     }
-
-pub returns-in_err-owner : goal.returns-in_err-owner
-returns-in_err-owner g c = asks_refused _ _ c.in_err-owner.field-0.0 c.from_residual-in_err-owner.result _ _ c.in_err-owner.ensures c.from_residual-in_err-owner.ensures.1
-    (λ o stands told there. elim told [ inl unavailable ↦ inl unavailable | inr refused ↦ absurd cc ])
