@@ -1,7 +1,6 @@
 -- The rows of `reach` that are settled: what was read of them, and what was written.
-use Rattle.book_tables.proofs.Common.{◌≡◌, ℕ, Bool, true, false, not, ◌&&◌, ◌||◌, List, [], ◌∷◌, is_some, refl, sym, ap, subst, ◌∙◌, list_any, Row, State, delete_where, memberships_total, memberships_exact, Memberships, Membership, rows_of, IsBook}
+use Rattle.book_tables.proofs.Common.{◌≡◌, Bool, true, false, not, ◌&&◌, ◌||◌, List, [], ◌∷◌, is_some, refl, sym, ap, subst, ◌∙◌, list_any, Row, State, delete_where, memberships_total, memberships_exact, Memberships, Membership, rows_of, IsBook}
 use mathlib.Core.Bool.{or-false}
-use Rattle.std.specs.Prelude.{⊤}
 use Rattle.std.specs.FinSet as set
 use Rattle.std.specs.FinSet.{same_set}
 use Rattle.std.proofs.lemmas.List.Sorted.{list_any-IsPermutation}
@@ -9,7 +8,7 @@ use Rattle.book_lists.specs.Memberships.{IsReachOf}
 use Rattle.book_tables_rows.specs.Columns.{reach_group, reach_member}
 use Rattle.book_tables_rows.specs.Lists.{ShowsRows, pairs_of}
 use Rattle.book_tables_rows.specs.Reach.{reach_shown}
-use Rattle.book_tables_rows.specs.Steps.{Looks, Becomes, Leads}
+use Rattle.book_tables_rows.specs.Steps.{Looks, Becomes}
 use Rattle.book_tables_rows.specs.Writes as writes
 use Rattle.book_tables_rows.specs.Writes.{Pair, is_pair}
 use Rattle.book_tables.specs.Listing.{tells_member}
@@ -71,25 +70,24 @@ module _ (old first : State) (members : List Row) (pairs wanted : Memberships) (
   all_cleared : (reach : List Row) (m : Membership) → has_pair (delete_where (λ _. true) reach) m ≡ false
   all_cleared reach m = ap is_some (find-deleted (is_pair m.group m.member) (λ _. true) reach (all_of_all _ reach (λ row passes. refl)))
 
-  pub is_written : (second third fourth : State) (come : List Pair) → Looks first second → Becomes second third writes.clear_reach → Leads third fourth (λ _. ⊤) (writes.renew_reach [] come)
+  pub is_written : (second fourth : State) (come : List Pair) → Looks first second → Becomes second fourth (λ rows. writes.renew_reach [] come (writes.clear_reach rows))
       → ((m : Membership) → is_among come m ≡ set.contains wanted m) → Settles old fourth
-  is_written second third fourth come again cleared renewed come_are = record {
-    inside = renewed.inside;
+  is_written second fourth come again wrote come_are = record {
+    inside = wrote.inside;
     was_open = shows.0;
-    is_open = renewed.still_open cleared.is_open;
+    is_open = wrote.is_open;
     made = λ book.
         let is = looks.same book in
         let book_first = subst IsBook (sym is) book in
         let now = again.same book_first in
         let book_second = subst IsBook (sym now) book_first in
         let all : second.now ≡ old.now = now ∙ is in
-        let clear = cleared.rows book_second in
-        let renew = renewed.rows clear.0 in
+        let made = wrote.rows book_second in
         let before = rows_of old.now.trees in
         let reach = (writes.renew_reach [] come (writes.clear_reach before)).reach in
         let rows_are : rows_of fourth.now.trees ≡ writes.renew_reach [] come (writes.clear_reach before) =
-        renew.1 ∙ ap (writes.renew_reach [] come) (clear.1 ∙ ap (λ db. writes.clear_reach (rows_of db.trees)) all) in (
-          renew.0,
+        made.1 ∙ ap (λ db. writes.renew_reach [] come (writes.clear_reach (rows_of db.trees))) all in (
+          made.0,
           reach,
           rows_are ∙ reach_alone [] come (writes.clear_reach before),
           λ direct are. held reach (λ m. more_pairs come (writes.clear_reach before) m ∙ ap (λ b. is_among come m || b) (all_cleared before.reach m) ∙ or-false (is_among come m) ∙ come_are m) book direct are,

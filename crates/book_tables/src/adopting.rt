@@ -61,7 +61,9 @@ fn differences_under(
         return Ok(None);
     }
     let new = office_under(alloc, policy, office)?;
-    Ok(Some(compare_offices(alloc, office, &new)?))
+    let told = compare_offices(alloc, office, &new);
+    drop(new);
+    Ok(Some(told?))
 }
 
 impl<S: Alter> Tables<S> {
@@ -124,7 +126,9 @@ impl<S: Alter> Tables<S> {
             (Adopt policy.now) }
     {
         let office = self.bare_office(alloc)?;
-        match differences_under(alloc, policy, &office)? {
+        let told = differences_under(alloc, policy, &office);
+        drop(office);
+        match told? {
             Some(written) => self.write(&written),
             None => self.stay(),
         }

@@ -44,9 +44,11 @@ fn cards_at<S: Alter>(
     let Some(book) = look_up(transaction, path)? else {
         return Ok(Vec::new(alloc));
     };
+    let id = book.id;
+    drop(book);
     let front = format!(in alloc; "{path}/")?;
-    let cards = changed_rows(transaction, book.id, number, at_most)?;
-    cards_of(alloc, transaction, book.id, number, front.as_str(), &cards)
+    let cards = changed_rows(transaction, id, number, at_most)?;
+    cards_of(alloc, transaction, id, number, front.as_str(), &cards)
 }
 
 /// The same, in a transaction of its own.

@@ -188,10 +188,14 @@ fn changes_at<S: Alter>(
     let Some(book) = look_up(transaction, path)? else {
         return Ok(Vec::new(alloc));
     };
+    let id = book.id;
+    drop(book);
     let front = format!(in alloc; "{path}/")?;
-    let cards = changed_rows(transaction, book.id, number, at_most)?;
-    let names = gone_rows(transaction, book.id, number, at_most)?;
-    let mut changes = cards_of(alloc, transaction, book.id, number, front.as_str(), &cards)?;
+    let cards = changed_rows(transaction, id, number, at_most)?;
+    let names = gone_rows(transaction, id, number, at_most)?;
+    let mut changes = cards_of(alloc, transaction, id, number, front.as_str(), &cards)?;
+    drop(cards);
+    drop(front);
     push_removed(alloc, &mut changes, &names)?;
     Ok(changes)
 }

@@ -1,14 +1,16 @@
 //! What differs between an Office and what it becomes, as the rows that are to be written say it.
 
-ghost use Rattle.std.specs.Prelude.{◌≡◌, ◌↔◌, [], map, option_map, string_bytes, IfOk, IsTrue, OnOk};
+ghost use Rattle.std.specs.Prelude.{◌≡◌, ◌↔◌, List, [], map, option_map, string_bytes, IfOk, IsTrue, MatchOption, OnOk};
 ghost use Rattle.std.specs.FinMap.{entries};
 ghost use Rattle.std.specs.Option.{option_copied};
+ghost use Rattle.book_lists.specs.Memberships.{set_of};
 ghost use Rattle.book_lists.specs.Principals.{group_path};
+ghost use Rattle.book_lists.specs.declared.memberships.Membership.{Membership as MembershipOf};
 ghost use Rattle.book_tables_rows.specs.Adopting.{joined, listed_row, placed_row};
 ghost use Rattle.book_tables_rows.specs.Reach.{pair_said};
 ghost use Rattle.book_office_values.specs.Paths.{kind_code, parent_of};
 ghost use Rattle.book_office_values.specs.declared.paths.Path.TheVariants as path;
-ghost use Rattle.book_tables.specs.Adopting.{Adds, AddsGroups, AddsLists, AddsPlaces, AreDifferences, HasLists, HasPlace, compared_books, compared_homes, compared_in, group_said, lists_said, members_in, place_said, properties_of, text_or_empty};
+ghost use Rattle.book_tables.specs.Adopting.{Adds, AddsGroups, AddsLists, AddsPlaces, AreDifferences, HasLists, HasPlace, compared, compared_books, compared_homes, compared_in, group_said, lists_said, members_in, place_said, properties_of, text_or_empty};
 ghost use Rattle.book_tables.specs.Reach.{Renews};
 
 use crate::renewals::{Renewal, renewal_of};
@@ -210,8 +212,27 @@ fn compare_homes(
         &Path::Books,
         Some(&old.books_home),
         &new.books_home,
-    )?;
-    Ok(())
+    )
+}
+
+/// Adds what differs at a person.
+fn compare_person(
+    alloc: Global,
+    places: &mut Vec<PlaceRow>,
+    lists: &mut Vec<ListsRow>,
+    name: &Name,
+    old: Option<&Properties>,
+    new: &Properties,
+) -> Result<(), AllocError>
+    ensures places { OnOk result (Adds (place_said (path.Person name.now) new.now)
+        (HasPlace (option_copied old.entry) new.now) (map placed_row places.old.items)
+        (map placed_row places.new.items)) }
+    ensures lists { OnOk result (Adds (lists_said (path.Person name.now) new.now)
+        (HasLists (option_copied old.entry) new.now) (map listed_row lists.old.items)
+        (map listed_row lists.new.items)) }
+{
+    let path = Path::Person(name.clone()?);
+    compare(alloc, places, lists, &path, old, new)
 }
 
 /// Adds what differs at the persons.
@@ -228,10 +249,29 @@ fn compare_persons(
         (map listed_row lists.old.items) (map listed_row lists.new.items)) }
 {
     for (name, properties) in new.iter() {
-        let path = Path::Person(name.clone()?);
-        compare(alloc, places, lists, &path, old.get(name), properties)?;
+        compare_person(alloc, places, lists, name, old.get(name), properties)?;
     }
     Ok(())
+}
+
+/// Adds what differs at a group.
+fn compare_group(
+    alloc: Global,
+    places: &mut Vec<PlaceRow>,
+    lists: &mut Vec<ListsRow>,
+    name: &Name,
+    old: Option<&Properties>,
+    new: &Properties,
+) -> Result<(), AllocError>
+    ensures places { OnOk result (Adds (place_said (path.Group name.now) new.now)
+        (HasPlace (option_copied old.entry) new.now) (map placed_row places.old.items)
+        (map placed_row places.new.items)) }
+    ensures lists { OnOk result (Adds (lists_said (path.Group name.now) new.now)
+        (HasLists (option_copied old.entry) new.now) (map listed_row lists.old.items)
+        (map listed_row lists.new.items)) }
+{
+    let path = Path::Group(name.clone()?);
+    compare(alloc, places, lists, &path, old, new)
 }
 
 /// Adds what differs at the groups.
@@ -248,10 +288,19 @@ fn compare_groups(
         (map listed_row lists.old.items) (map listed_row lists.new.items)) }
 {
     for (name, properties) in new.iter() {
-        let path = Path::Group(name.clone()?);
-        compare(alloc, places, lists, &path, old.get(name), properties)?;
+        compare_group(alloc, places, lists, name, old.get(name), properties)?;
     }
     Ok(())
+}
+
+/// What a book has beside cards and changes, if there is a book.
+fn properties_in(book: Option<&Book>) -> Option<&Properties>
+    ensures { option_copied result ≡ option_map properties_of (option_copied book.entry) }
+{
+    match book {
+        Some(book) => Some(&book.properties),
+        None => None,
+    }
 }
 
 /// Adds what differs at a book, but for its cards.
@@ -271,17 +320,14 @@ fn compare_book(
         (map listed_row lists.old.items) (map listed_row lists.new.items)) }
 {
     let path = Path::Book(name.clone()?);
-    match old {
-        Some(old) => compare(
-            alloc,
-            places,
-            lists,
-            &path,
-            Some(&old.properties),
-            &new.properties,
-        ),
-        None => compare(alloc, places, lists, &path, None, &new.properties),
-    }
+    compare(
+        alloc,
+        places,
+        lists,
+        &path,
+        properties_in(old),
+        &new.properties,
+    )
 }
 
 /// Adds what differs at the books, but for their cards.
@@ -339,6 +385,33 @@ fn same_texts(texts: &[String], others: &[String]) -> bool
     true
 }
 
+/// The text of the path of a group.
+fn group_text(alloc: Global, name: &Name) -> Result<String, AllocError>
+    ensures { IfOk result (λ text. string_bytes text ≡ group_path name.now) }
+{
+    let group = Path::Group(name.clone()?);
+    group.text(alloc)
+}
+
+/// The direct members that a group gets; none where they are those that it has.
+fn members_changed(
+    alloc: Global,
+    group: &str,
+    before: &[Membership],
+    after: &[Membership],
+) -> Result<Option<Vec<String>>, AllocError>
+    ensures { IfOk result (λ changed. MatchOption changed
+        (members_in group.now before.now ≡ members_in group.now after.now)
+        (λ members. map string_bytes members.items ≡ members_in group.now after.now)) }
+{
+    let old = members_of(alloc, group, before)?;
+    let new = members_of(alloc, group, after)?;
+    if same_texts(old.as_slice(), new.as_slice()) {
+        return Ok(None);
+    }
+    Ok(Some(new))
+}
+
 /// Adds the row of a group, unless it has the members.
 fn add_group(
     alloc: Global,
@@ -351,12 +424,11 @@ fn add_group(
         (members_in (group_path name.now) before.now ≡ members_in (group_path name.now) after.now)
         (map joined groups.old.items) (map joined groups.new.items)) }
 {
-    let group = Path::Group(name.clone()?).text(alloc)?;
-    let members = members_of(alloc, group.as_str(), after)?;
-    let old = members_of(alloc, group.as_str(), before)?;
-    if !same_texts(old.as_slice(), members.as_slice()) {
-        groups.push(GroupRow { group, members })?;
-    }
+    let group = group_text(alloc, name)?;
+    let Some(members) = members_changed(alloc, group.as_str(), before, after)? else {
+        return Ok(());
+    };
+    groups.push(GroupRow { group, members })?;
     Ok(())
 }
 
@@ -377,6 +449,38 @@ fn compare_members(
     Ok(groups)
 }
 
+/// The groups of an Office that have other direct members than in another.
+fn changed_groups(alloc: Global, old: &Office, new: &Office) -> Result<Vec<GroupRow>, AllocError>
+    ensures { IfOk result (λ groups. (before : List MembershipOf) × (set_of before ≡ old.now.pairs)
+        × (after : List MembershipOf) × (set_of after ≡ new.now.pairs)
+        × AddsGroups before after (map (λ e. e.0) (entries new.now.groups)) []
+        (map joined groups.items)) }
+{
+    let before = old.pairs.list()?;
+    let after = new.pairs.list()?;
+    compare_members(alloc, &new.groups, before.as_slice(), after.as_slice())
+}
+
+/// Adds what differs at the places of an Office, but for its cards.
+fn compare_places(
+    alloc: Global,
+    places: &mut Vec<PlaceRow>,
+    lists: &mut Vec<ListsRow>,
+    old: &Office,
+    new: &Office,
+) -> Result<(), AllocError>
+    ensures places { OnOk result (AddsPlaces (compared old.now new.now)
+        (map placed_row places.old.items) (map placed_row places.new.items)) }
+    ensures lists { OnOk result (AddsLists (compared old.now new.now)
+        (map listed_row lists.old.items) (map listed_row lists.new.items)) }
+{
+    compare_homes(alloc, places, lists, old, new)?;
+    compare_persons(alloc, places, lists, &old.persons, &new.persons)?;
+    compare_groups(alloc, places, lists, &old.groups, &new.groups)?;
+    compare_books(alloc, places, lists, &old.books, &new.books)?;
+    Ok(())
+}
+
 /// What differs between an Office and what it becomes, but for cards and changes. The steps grow with the resources
 /// other than cards, and with groups times pairs. An error is want of memory.
 pub(crate) fn compare_offices(
@@ -390,18 +494,15 @@ pub(crate) fn compare_offices(
     ensures renews { IfOk result (λ d. Renews old.now.pairs new.now.pairs
         (map pair_said d.renewal.gone.items) (map pair_said d.renewal.come.items)) }
 {
+    let renewal = renewal_of(alloc, &old.pairs, &new.pairs)?;
+    let groups = changed_groups(alloc, old, new)?;
     let mut places = Vec::new(alloc);
     let mut lists = Vec::new(alloc);
-    compare_homes(alloc, &mut places, &mut lists, old, new)?;
-    compare_persons(alloc, &mut places, &mut lists, &old.persons, &new.persons)?;
-    compare_groups(alloc, &mut places, &mut lists, &old.groups, &new.groups)?;
-    compare_books(alloc, &mut places, &mut lists, &old.books, &new.books)?;
-    let before = old.pairs.list()?;
-    let after = new.pairs.list()?;
+    compare_places(alloc, &mut places, &mut lists, old, new)?;
     Ok(Differences {
         places,
         lists,
-        groups: compare_members(alloc, &new.groups, before.as_slice(), after.as_slice())?,
-        renewal: renewal_of(alloc, &old.pairs, &new.pairs)?,
+        groups,
+        renewal,
     })
 }

@@ -1,7 +1,8 @@
 //! The entries that rows of `ace` spell.
 
-ghost use Rattle.std.specs.Prelude.{◌≡◌, ◌<◌, ◌^◌, IfOk, option_map, pos, string_bytes};
+ghost use Rattle.std.specs.Prelude.{◌≡◌, ◌+◌, ◌<◌, ◌^◌, IfOk, option_map, pos, string_bytes};
 ghost use Rattle.sqlite.specs.declared.types.Value.TheVariants.{Int};
+ghost use Rattle.sqlite.specs.Order.{column};
 ghost use Rattle.book_rights.specs.Leaves.{mask_of};
 ghost use Rattle.book_tables_rows.specs.Writes.{flag, or_null};
 ghost use Rattle.book_tables.specs.Listing.{entry_columns_at, entry_shown};
@@ -52,6 +53,21 @@ fn set_of(mask: u32) -> Result<LeafSet, Error>
     LeafSet::from_mask(mask).ok_or(Error::SqliteFailure(ErrorCode::DatabaseCorrupt))
 }
 
+/// Whether an entry of a row inverts and denies, and its set of leaves: invert, deny and mask stand behind form and
+/// principal. An error where they are the codes of none.
+fn effect_at(row: &Row, place: usize) -> Result<(bool, bool, LeafSet), Error>
+    requires { place < 2 ^ 32 }
+    ensures invert { IfOk result (λ effect. column row.now (place + 2) ≡ flag effect.0) }
+    ensures deny { IfOk result (λ effect. column row.now (place + 3) ≡ flag effect.1) }
+    ensures mask { IfOk result (λ effect. column row.now (place + 4)
+        ≡ Int (pos (mask_of effect.2))) }
+{
+    let invert = row.get(place + 2)?;
+    let deny = row.get(place + 3)?;
+    let mask = row.get(place + 4)?;
+    Ok((flag_of(invert)?, flag_of(deny)?, set_of(mask)?))
+}
+
 /// The entry that five columns of a row spell, from a place on: form, principal, invert, deny and mask; an error where
 /// they spell none.
 pub(crate) fn entry_at(alloc: Global, row: &Row, place: usize) -> Result<Entry, Error>
@@ -61,13 +77,12 @@ pub(crate) fn entry_at(alloc: Global, row: &Row, place: usize) -> Result<Entry, 
 {
     let form = row.get(place)?;
     let path = row.get(place + 1)?;
-    let invert = row.get(place + 2)?;
-    let deny = row.get(place + 3)?;
-    let mask = row.get(place + 4)?;
+    let (invert, deny, set) = effect_at(row, place)?;
+    let who = who_of(alloc, form, path)?;
     Ok(Entry {
-        who: who_of(alloc, form, path)?,
-        invert: flag_of(invert)?,
-        deny: flag_of(deny)?,
-        set: set_of(mask)?,
+        who,
+        invert,
+        deny,
+        set,
     })
 }

@@ -1,10 +1,11 @@
 //! The lists of a resource and of each of its ancestors.
 
-ghost use Rattle.std.specs.Prelude.{◌≡◌, IfOk};
+ghost use Rattle.std.specs.Prelude.{◌≡◌, ◌++◌, [], ◌∷◌, IfOk, OnOk};
 ghost use Rattle.sqlite.specs.Held.{state};
 ghost use Rattle.sqlite.specs.State.{HasCleanDisk, Survives};
 ghost use Rattle.book_office.specs.Keeping.{Reads};
 ghost use Rattle.book_office.specs.Levels.{level_at, lists_at};
+ghost use Rattle.book_office.specs.declared.nodes.Level.{Level as LevelTold};
 ghost use Rattle.book_tables_rows.specs.Steps.{Keeps, Spares, Stays};
 ghost use Rattle.book_tables.specs.Keeps.{standing_of};
 ghost use Rattle.book_tables.specs.Levels.{ShowsLevel, ShowsLists};
@@ -12,11 +13,37 @@ ghost use Rattle.book_tables.specs.Levels.{ShowsLevel, ShowsLists};
 use crate::faults::fault_of;
 use crate::shares::list_told;
 use crate::tables::Tables;
+use book_lists::Entry;
 use book_office::{Level, Lists, StoreFault};
 use book_office_values::{Items, Path};
 use book_tables_rows::entry_rows_at;
 use sqlite::{Alter, Connection, Error, ErrorCode, Transaction};
 use std::alloc::{AllocError, Global};
+
+/// The protected and the own list at a path, empty where no row has it.
+fn both_lists<S: Alter>(
+    alloc: Global,
+    transaction: &mut Transaction<'_, S>,
+    path: &Path,
+) -> Result<(Items<Entry>, Items<Entry>), Error>
+    ensures same_reference { transaction.new.conn.ghost_name ≡ transaction.old.conn.ghost_name }
+    ensures survives { Survives (state S.Store transaction.old.conn.now)
+        (state S.Store transaction.new.conn.now) (λ _. ⊥) }
+    ensures kept { Keeps (state S.Store transaction.old.conn.now)
+        (state S.Store transaction.new.conn.now) }
+    ensures stays { Spares (state S.Store transaction.old.conn.now)
+        (state S.Store transaction.new.conn.now) result }
+    ensures shown { HasCleanDisk (state S.Store transaction.new.conn.now)
+        → IfOk result (λ both. ShowsLevel (state S.Store transaction.old.conn.now) path.now
+        (record { path = path.now; protected = both.0; own = both.1 })) }
+{
+    let text = path.text(alloc)?;
+    let rows = entry_rows_at(transaction, text.as_str())?;
+    drop(text);
+    let protected = list_told(alloc, &rows, true)?;
+    let own = list_told(alloc, &rows, false)?;
+    Ok((protected, own))
+}
 
 /// Both lists at a path, empty where no row has it.
 fn level_of<S: Alter>(
@@ -34,15 +61,36 @@ fn level_of<S: Alter>(
     ensures shown { HasCleanDisk (state S.Store transaction.new.conn.now)
         → IfOk result (λ level. ShowsLevel (state S.Store transaction.old.conn.now) path level) }
 {
-    let text = path.text(alloc)?;
-    let rows = entry_rows_at(transaction, text.as_str())?;
-    let protected = list_told(alloc, &rows, true)?;
-    let own = list_told(alloc, &rows, false)?;
+    let (protected, own) = both_lists(alloc, transaction, &path)?;
     Ok(Level {
         path,
         protected,
         own,
     })
+}
+
+/// Adds both lists at a path, empty where no row has it.
+fn push_level<S: Alter>(
+    alloc: Global,
+    transaction: &mut Transaction<'_, S>,
+    levels: &mut Vec<Level>,
+    path: Path,
+) -> Result<(), Error>
+    ensures same_reference { transaction.new.conn.ghost_name ≡ transaction.old.conn.ghost_name }
+    ensures survives { Survives (state S.Store transaction.old.conn.now)
+        (state S.Store transaction.new.conn.now) (λ _. ⊥) }
+    ensures kept { Keeps (state S.Store transaction.old.conn.now)
+        (state S.Store transaction.new.conn.now) }
+    ensures stays { Spares (state S.Store transaction.old.conn.now)
+        (state S.Store transaction.new.conn.now) result }
+    ensures shown { HasCleanDisk (state S.Store transaction.new.conn.now)
+        → OnOk result ((level : LevelTold)
+        × (levels.new.items ≡ levels.old.items ++ level ∷ [])
+        × ShowsLevel (state S.Store transaction.old.conn.now) path level) }
+{
+    let level = level_of(alloc, transaction, path)?;
+    levels.push(level)?;
+    Ok(())
 }
 
 /// The lists at a path and at each path above it.
@@ -65,7 +113,7 @@ fn levels_of<S: Alter>(
     let paths = path.levels(alloc)?.into_vec();
     let mut levels = Vec::with_capacity(alloc, paths.len())?;
     for path in paths {
-        levels.push(level_of(alloc, transaction, path)?)?;
+        push_level(alloc, transaction, &mut levels, path)?;
     }
     Ok(Lists {
         levels: Items::from_vec(levels),

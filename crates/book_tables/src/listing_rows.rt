@@ -1,8 +1,9 @@
 //! The children of a resource, and how many there are.
 
-ghost use Rattle.std.specs.Prelude.{◌≡◌, IfOk, map};
+ghost use Rattle.std.specs.Prelude.{◌≡◌, List, IfOk, map};
 ghost use Rattle.sqlite.specs.Held.{state};
 ghost use Rattle.sqlite.specs.State.{HasCleanDisk, Survives};
+ghost use Rattle.book_lists.specs.declared.entries.Entry.{Entry as EntryTold};
 ghost use Rattle.book_office.specs.Keeping.{Reads};
 ghost use Rattle.book_office.specs.Resources.{children_at, count_at};
 ghost use Rattle.book_office_values.specs.Paths.{path_text};
@@ -17,9 +18,9 @@ use crate::faults::fault_of;
 use crate::reading::{kind_of, owner_of};
 use crate::shares::{entries_of_node, list_told};
 use crate::tables::{Tables, text_of};
-use book_lists::Entry;
+use book_lists::{Entry, Name, Principal};
 use book_office::{Listed, StoreFault};
-use book_office_values::{Items, Path, Text};
+use book_office_values::{Items, Kind, Path, Text};
 use book_tables_rows::{child_entry_rows, child_rows, count_children, look_up};
 use sqlite::{Alter, Connection, Error, ErrorCode, Row, Transaction};
 use std::alloc::{AllocError, Global};
@@ -75,7 +76,47 @@ fn text_before(alloc: Global, path: &Path) -> Result<Text, AllocError>
     }
 }
 
-/// The child that has these lists: number of its row, path, kind, owner, label and change number are read.
+/// A child without its lists.
+#[derive(Drop)]
+struct Head {
+    name: Name,
+    kind: Kind,
+    owner: Option<Principal>,
+    label: Text,
+    number: u64,
+}
+
+/// The child of a row without its lists: number of its row, path, kind, owner, label and change number are read.
+fn head_of(alloc: Global, front: &str, row: &Row) -> Result<Head, Error>
+    ensures { IfOk result (λ head. (protected own : List EntryTold)
+        → listed_shown front.now protected own row.now ≡ record {
+          name = head.name;
+          kind = head.kind;
+          owner = head.owner;
+          label = head.label;
+          number = head.number;
+          protected = protected;
+          own = own;
+        }) }
+{
+    let path: String = row.get(1)?;
+    let kind = row.get(2)?;
+    let owner = row.get(3)?;
+    let label = row.get(4)?;
+    let number = row.get(5)?;
+    let kind = kind_of(kind)?;
+    let owner = owner_of(alloc, owner)?;
+    let name = name_behind(alloc, front, path.as_str())?;
+    Ok(Head {
+        name,
+        kind,
+        owner,
+        label: Text::from_string(label),
+        number,
+    })
+}
+
+/// The child that has these lists.
 fn listed_of(
     alloc: Global,
     front: &str,
@@ -85,17 +126,13 @@ fn listed_of(
 ) -> Result<Listed, Error>
     ensures { IfOk result (λ listed. listed ≡ listed_shown front.now protected own row.now) }
 {
-    let path: String = row.get(1)?;
-    let kind = row.get(2)?;
-    let owner = row.get(3)?;
-    let label = row.get(4)?;
-    let number = row.get(5)?;
+    let head = head_of(alloc, front, row)?;
     Ok(Listed {
-        name: name_behind(alloc, front, path.as_str())?,
-        kind: kind_of(kind)?,
-        owner: owner_of(alloc, owner)?,
-        label: Text::from_string(label),
-        number,
+        name: head.name,
+        kind: head.kind,
+        owner: head.owner,
+        label: head.label,
+        number: head.number,
         protected,
         own,
     })
@@ -150,8 +187,10 @@ fn listing_at<S: Alter>(
     let Some(node) = look_up(transaction, path)? else {
         return Ok(Vec::new(alloc));
     };
-    let rows = child_rows(transaction, node.id)?;
-    let entries = child_entry_rows(transaction, node.id)?;
+    let id = node.id;
+    drop(node);
+    let rows = child_rows(transaction, id)?;
+    let entries = child_entry_rows(transaction, id)?;
     children_listed(alloc, front, &rows, &entries)
 }
 

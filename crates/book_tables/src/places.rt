@@ -62,7 +62,7 @@ pub(crate) fn principals_of(
     let mut principals = NameMap::new(alloc);
     for child in listed.into_vec() {
         let (name, place) = place_of(child);
-        principals.insert(name, place)?;
+        drop(principals.insert(name, place)?);
     }
     Ok(principals)
 }
@@ -84,6 +84,13 @@ pub(crate) fn books_of(alloc: Global, listed: Items<Listed>) -> Result<NameMap<B
     Ok(books)
 }
 
+/// The place of a home.
+fn home_of(child: Listed) -> Properties
+    ensures { result ≡ (place_told child).1 }
+{
+    place_of(child).1
+}
+
 /// The homes of the root's listing.
 pub(crate) fn homes_of(listed: Items<Listed>) -> Option<Homes>
     ensures { IfSome result (λ homes. (o : OfficeValue) → listed ≡ listed_homes o
@@ -94,9 +101,9 @@ pub(crate) fn homes_of(listed: Items<Listed>) -> Option<Homes>
     let groups = homes.pop()?;
     let books = homes.pop()?;
     Some(Homes {
-        people: place_of(people).1,
-        groups: place_of(groups).1,
-        books: place_of(books).1,
+        people: home_of(people),
+        groups: home_of(groups),
+        books: home_of(books),
     })
 }
 

@@ -1,16 +1,19 @@
 //! `reach` becomes what chains of the direct members lead to, where it is not.
 
-ghost use Rattle.std.specs.Prelude.{◌≡◌, IfOk, IfSome, IsTrue};
+ghost use Rattle.std.specs.Prelude.{◌≡◌, List, [], IfOk, IfSome, IsTrue, OnOk};
 ghost use Rattle.std.specs.FinSet as set;
 ghost use Rattle.std.specs.List.{list_any};
 ghost use Rattle.sqlite.specs.declared.types.Value.TheVariants.{Text};
 ghost use Rattle.sqlite.specs.Held.{state};
 ghost use Rattle.sqlite.specs.State.{HasCleanDisk, Survives};
+ghost use Rattle.book_lists.specs.Memberships.{IsReachOf, Memberships};
 ghost use Rattle.book_lists.specs.declared.memberships.Membership.{Membership as MembershipOf};
 ghost use Rattle.book_tables_rows.specs.Lists.{pair_group, pair_member};
-ghost use Rattle.book_tables_rows.specs.Steps.{Keeps};
+ghost use Rattle.book_tables_rows.specs.Steps.{Becomes, Keeps};
+ghost use Rattle.book_tables_rows.specs.Writes as writes;
+ghost use Rattle.book_tables_rows.specs.Writes.{Pair};
 ghost use Rattle.book_tables.specs.Listing.{tells_member};
-ghost use Rattle.book_tables.specs.Reach.{TellsSettled};
+ghost use Rattle.book_tables.specs.Reach.{TellsSettled, is_among};
 
 use crate::members::pairs_of;
 use crate::renewals::{all_pairs, without};
@@ -87,6 +90,41 @@ fn tell_all(alloc: Global, rows: &[Row], wanted: &Pairs) -> Result<bool, Error>
     Ok(are_same(alloc, &told, wanted)?)
 }
 
+/// The pairs that chains of the direct members, which rows tell, lead to.
+fn wanted_of(alloc: Global, members: &[Row]) -> Result<Pairs, Error>
+    ensures { IfOk result (λ wanted. (pairs : Memberships)
+        × ((m : MembershipOf) → set.contains pairs m ≡ list_any (tells_member m) members.now)
+        × IsReachOf pairs wanted) }
+{
+    let pairs = pairs_of(alloc, members)?;
+    Ok(closure(&pairs)?)
+}
+
+/// Takes out all rows of `reach`, and adds those of pairs.
+fn write_reach<S: Alter>(
+    alloc: Global,
+    transaction: &mut Transaction<'_, S>,
+    wanted: &Pairs,
+) -> Result<(), Error>
+    ensures same_reference { transaction.new.conn.ghost_name ≡ transaction.old.conn.ghost_name }
+    ensures survives { Survives (state S.Store transaction.old.conn.now)
+        (state S.Store transaction.new.conn.now) (λ _. ⊥) }
+    ensures kept { Keeps (state S.Store transaction.old.conn.now)
+        (state S.Store transaction.new.conn.now) }
+    ensures done { HasCleanDisk (state S.Store transaction.new.conn.now)
+        → IsTrue (state S.Store transaction.old.conn.now).in_transaction
+        → OnOk result ((come : List Pair)
+        × ((m : MembershipOf) → is_among come m ≡ set.contains wanted.now m)
+        × Becomes (state S.Store transaction.old.conn.now)
+        (state S.Store transaction.new.conn.now)
+        (λ rows. writes.renew_reach [] come (writes.clear_reach rows))) }
+{
+    let all = all_pairs(alloc, wanted)?;
+    clear_reach(transaction)?;
+    renew_reach(transaction, &[], all.as_slice())?;
+    Ok(())
+}
+
 /// Makes `reach` what chains of the direct members lead to, in any transaction, and tells whether it was something
 /// else: its rows are then taken out, whatever they are, and written anew. All rows of `member` and `reach` are read.
 pub fn settle_reach<S: Alter>(
@@ -104,14 +142,13 @@ pub fn settle_reach<S: Alter>(
         (state S.Store transaction.new.conn.now)) }
 {
     let members = member_rows(transaction)?;
-    let pairs = pairs_of(alloc, &members)?;
-    let wanted = closure(&pairs)?;
+    let wanted = wanted_of(alloc, &members)?;
+    drop(members);
     let rows = reach_rows(transaction)?;
     if tell_all(alloc, &rows, &wanted)? {
         return Ok(false);
     }
-    let all = all_pairs(alloc, &wanted)?;
-    clear_reach(transaction)?;
-    renew_reach(transaction, &[], all.as_slice())?;
+    drop(rows);
+    write_reach(alloc, transaction, &wanted)?;
     Ok(true)
 }

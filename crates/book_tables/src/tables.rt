@@ -44,15 +44,17 @@ pub(crate) fn book_text(alloc: Global, book: &Name) -> Result<Text, AllocError>
     ensures { IfOk result (λ text. text ≡ book_path book.now) }
 {
     let path = Path::Book(book.clone()?);
-    Ok(Text::from_string(path.text(alloc)?))
+    text_of(alloc, &path)
 }
 
 /// The text of the path of a card.
 fn card_text(alloc: Global, book: &Name, card: &Name) -> Result<Text, AllocError>
     ensures { IfOk result (λ text. text ≡ card_path book.now card.now) }
 {
-    let path = Path::Card(book.clone()?, card.clone()?);
-    Ok(Text::from_string(path.text(alloc)?))
+    let book = book.clone()?;
+    let card = card.clone()?;
+    let path = Path::Card(book, card);
+    text_of(alloc, &path)
 }
 
 /// The text of a path.

@@ -139,10 +139,11 @@ fn write_lists<S: Alter>(
         (state S.Store transaction.new.conn.now) result nothing
         (turns CanList policy.write_lists (listed_row lists.now ∷ [])) }
 {
-    let Some(node) = look_up(transaction, lists.path.as_str())? else {
+    let Some(found) = look_up(transaction, lists.path.as_str())? else {
         return Err(Error::QueryReturnedNoRows);
     };
-    let node = node.id;
+    let node = found.id;
+    drop(found);
     run_all(
         transaction,
         &[

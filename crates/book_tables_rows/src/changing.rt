@@ -31,19 +31,23 @@ fn find_and_remove_card<'x, S: Alter>(
     let Some(book) = look_up(transaction, book_path)? else {
         return Err(Error::QueryReturnedNoRows);
     };
-    if book.number >= LAST_NUMBER {
+    let (id, last) = (book.id, book.number);
+    drop(book);
+    if last >= LAST_NUMBER {
         return Err(Error::QueryReturnedNoRows);
     }
     let Some(card) = look_up(transaction, card_path)? else {
         return Err(Error::QueryReturnedNoRows);
     };
-    let number = book.number + 1;
+    let node = card.id;
+    drop(card);
+    let number = last + 1;
     run_all(
         transaction,
         &[
-            Statement::DeleteEntries(card.id),
-            Statement::DeleteNode(card.id),
-            Statement::InsertGone(book.id, name, number),
+            Statement::DeleteEntries(node),
+            Statement::DeleteNode(node),
+            Statement::InsertGone(id, name, number),
             Statement::SetNumber(book_path, number),
         ],
     )
@@ -94,11 +98,13 @@ fn find_and_add_book<'x, S: Alter>(
     let Some(home) = look_up(transaction, home_path)? else {
         return Err(Error::QueryReturnedNoRows);
     };
+    let parent = home.id;
+    drop(home);
     run_all(
         transaction,
         &[Statement::InsertNode {
             path,
-            parent: home.id,
+            parent,
             kind: BOOK,
             owner,
             label: "",

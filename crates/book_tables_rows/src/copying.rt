@@ -40,15 +40,17 @@ fn find_and_copy<'x, S: Alter>(
     let Some(book) = look_up(transaction, book_path)? else {
         return Err(Error::QueryReturnedNoRows);
     };
-    if book.number >= LAST_NUMBER {
+    let (id, last) = (book.id, book.number);
+    drop(book);
+    if last >= LAST_NUMBER {
         return Err(Error::QueryReturnedNoRows);
     }
-    let number = book.number + 1;
+    let number = last + 1;
     run_all(
         transaction,
         &[
             Statement::WriteCopy {
-                book: book.id,
+                book: id,
                 path: card_path,
                 name,
                 owner,

@@ -30,10 +30,12 @@ fn find_and_label_card<'x, S: Alter>(
     let Some(book) = look_up(transaction, book_path)? else {
         return Err(Error::QueryReturnedNoRows);
     };
-    if book.number >= LAST_NUMBER {
+    let last = book.number;
+    drop(book);
+    if last >= LAST_NUMBER {
         return Err(Error::QueryReturnedNoRows);
     }
-    let number = book.number + 1;
+    let number = last + 1;
     run_all(
         transaction,
         &[
@@ -86,13 +88,12 @@ fn find_and_label_node<'x, S: Alter>(
     let Some(node) = look_up(transaction, path)? else {
         return Err(Error::QueryReturnedNoRows);
     };
-    if node.number > LAST_NUMBER {
+    let number = node.number;
+    drop(node);
+    if number > LAST_NUMBER {
         return Err(Error::QueryReturnedNoRows);
     }
-    run_all(
-        transaction,
-        &[Statement::SetLabel(path, label, node.number)],
-    )
+    run_all(transaction, &[Statement::SetLabel(path, label, number)])
 }
 
 /// The label of a node that is no card: its change number stays. Where no row has the path, nothing is changed and

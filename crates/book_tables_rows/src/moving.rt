@@ -76,18 +76,20 @@ fn arrive_in<'x, S: Alter>(
     let Some(book) = look_up(transaction, book_path)? else {
         return Err(Error::QueryReturnedNoRows);
     };
-    if book.number >= LAST_NUMBER {
+    let (id, last) = (book.id, book.number);
+    drop(book);
+    if last >= LAST_NUMBER {
         return Err(Error::QueryReturnedNoRows);
     }
-    let number = book.number + 1;
+    let number = last + 1;
     run_all(
         transaction,
         &[
-            Statement::DeleteGoneName(book.id, name),
+            Statement::DeleteGoneName(id, name),
             Statement::MoveNode {
                 path: card_path,
                 destination,
-                parent: book.id,
+                parent: id,
                 number,
             },
             Statement::SetNumber(book_path, number),

@@ -28,19 +28,21 @@ fn find_and_remove<S: Alter>(transaction: &mut Transaction<'_, S>, path: &str) -
     let Some(book) = look_up(transaction, path)? else {
         return Err(Error::QueryReturnedNoRows);
     };
+    let id = book.id;
+    drop(book);
     let epoch = read_epoch(transaction)?;
     if epoch >= LAST_NUMBER {
         return Err(Error::QueryReturnedNoRows);
     }
-    let entries = child_entry_rows(transaction, book.id)?;
+    let entries = child_entry_rows(transaction, id)?;
     run_all(
         transaction,
         &[
             Statement::Each(Items::EntriesOf(&entries)),
-            Statement::DeleteGone(book.id),
-            Statement::DeleteChildren(book.id),
-            Statement::DeleteEntries(book.id),
-            Statement::DeleteNode(book.id),
+            Statement::DeleteGone(id),
+            Statement::DeleteChildren(id),
+            Statement::DeleteEntries(id),
+            Statement::DeleteNode(id),
             Statement::SetEpoch(epoch + 1),
         ],
     )

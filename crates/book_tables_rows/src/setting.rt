@@ -50,6 +50,8 @@ fn find_and_set_list<S: Alter>(
     let Some(node) = look_up(transaction, path)? else {
         return Err(Error::QueryReturnedNoRows);
     };
+    let id = node.id;
+    drop(node);
     let epoch = read_epoch(transaction)?;
     if epoch >= LAST_NUMBER {
         return Err(Error::QueryReturnedNoRows);
@@ -57,9 +59,9 @@ fn find_and_set_list<S: Alter>(
     run_all(
         transaction,
         &[
-            Statement::DeleteOwn(node.id),
+            Statement::DeleteOwn(id),
             Statement::Each(Items::Entries {
-                node: node.id,
+                node: id,
                 protected: false,
                 list,
             }),

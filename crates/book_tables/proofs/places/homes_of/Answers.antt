@@ -15,7 +15,7 @@ returns c = λ o e.
     let first = same_from_push (books ∷ groups ∷ []) c.pop.new.self.items people c.in_ok-people.people (sym items ∙ c.in_ok-people.ensures.items) in
     let second = same_from_push (books ∷ []) c.pop-2.new.self.items groups c.in_ok-groups.groups (first.0 ∙ c.in_ok-groups.ensures.items) in
     let third = same_from_push [] c.pop-3.new.self.items books c.in_ok-books.books (second.0 ∙ c.in_ok-books.ensures.items) in
-    let people_is : c.place_of.result.1 ≡ o.people = ap place_in c.place_of.ensures ∙ ap (λ (l : Listed). place_in (place_told l)) (sym first.1) in
-    let groups_is : c.place_of-2.result.1 ≡ o.groups_home = ap place_in c.place_of-2.ensures ∙ ap (λ (l : Listed). place_in (place_told l)) (sym second.1) in
-    let books_is : c.place_of-3.result.1 ≡ o.books_home = ap place_in c.place_of-3.ensures ∙ ap (λ (l : Listed). place_in (place_told l)) (sym third.1) in
+    let people_is : c.home_of.result ≡ o.people = c.home_of.ensures ∙ ap (λ (l : Listed). place_in (place_told l)) (sym first.1) in
+    let groups_is : c.home_of-2.result ≡ o.groups_home = c.home_of-2.ensures ∙ ap (λ (l : Listed). place_in (place_told l)) (sym second.1) in
+    let books_is : c.home_of-3.result ≡ o.books_home = c.home_of-3.ensures ∙ ap (λ (l : Listed). place_in (place_told l)) (sym third.1) in
     λ i. record { people = people_is i; groups = groups_is i; books = books_is i }

@@ -45,8 +45,8 @@ returns-in-Some g c =
     old c.bare_office.new.self.failures office Told c.in_ok-office.ensures known
     c.write.new.self.failures c.write.result c.write.ensures.counted c.write.ensures.made c.write.ensures.kept
 
-pub returns : goal.returns
-returns g c =
+pub returns-in-None : goal.returns-in-None
+returns-in-None g c =
     let old : Standing = standing_of (state g.S.Store c.args.self.now.connection) c.args.self.now.failures in
     let mid : State = state g.S.Store c.bare_office.new.self.connection in
     let new : State = state g.S.Store c.stay.new.self.connection in

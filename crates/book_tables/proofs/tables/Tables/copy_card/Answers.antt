@@ -1,4 +1,4 @@
-use Rattle.book_tables.proofs.Common.{rules, ◌≡◌, state, HasCleanDisk, Survives, Commits, MayLeave, book_path, card_path, option_copied}
+use Rattle.book_tables.proofs.Common.{rules, ◌≡◌, ◌∙◌, state, HasCleanDisk, Survives, Commits, MayLeave, book_path, card_path, option_copied}
 use Rattle.book_office.specs.declared.edits.Edit.TheVariants.{CopyCard}
 use Rattle.book_tables_rows.specs.Nodes.{copying_card}
 use Rattle.book_tables.proofs.Acting.{edit_made, edit_failed}
@@ -13,10 +13,10 @@ returns-in-Ok g c =
     let from_card = c.args.from_card.now in
     let b = c.args.to_book.now in
     let name = c.args.to_card.now in
-    let source_text : c.as_str.result.now ≡ card_path from_book from_card = search rules in
-    let book_text : c.as_str-2.result.now ≡ book_path b = search rules in
-    let card_text : c.as_str-3.result.now ≡ card_path b name = search rules in
-    let name_text : c.text.result.now ≡ name = search rules in
+    let source_text : c.as_str.result.now ≡ card_path from_book from_card = c.as_str.ensures ∙ c.in_ok-source.ensures in
+    let book_text : c.as_str-2.result.now ≡ book_path b = c.as_str-2.ensures ∙ c.in_ok-book_path.ensures in
+    let card_text : c.as_str-3.result.now ≡ card_path b name = c.as_str-3.ensures ∙ c.in_ok-card_path.ensures in
+    let name_text : c.text.result.now ≡ name = c.text.ensures in
     let owner : option_copied c.map-owner.result ≡ c.args.owner.now = search rules in
     let edit = CopyCard from_book from_card b name c.args.owner.now in
     let change = copying_card (card_path from_book from_card) (book_path b) (card_path b name) name c.args.owner.now in
@@ -32,10 +32,10 @@ returns g c =
     let from_card = c.args.from_card.now in
     let b = c.args.to_book.now in
     let name = c.args.to_card.now in
-    let source_text : c.as_str.result.now ≡ card_path from_book from_card = search rules in
-    let book_text : c.as_str-2.result.now ≡ book_path b = search rules in
-    let card_text : c.as_str-3.result.now ≡ card_path b name = search rules in
-    let name_text : c.text.result.now ≡ name = search rules in
+    let source_text : c.as_str.result.now ≡ card_path from_book from_card = c.as_str.ensures ∙ c.in_ok-source.ensures in
+    let book_text : c.as_str-2.result.now ≡ book_path b = c.as_str-2.ensures ∙ c.in_ok-book_path.ensures in
+    let card_text : c.as_str-3.result.now ≡ card_path b name = c.as_str-3.ensures ∙ c.in_ok-card_path.ensures in
+    let name_text : c.text.result.now ≡ name = c.text.ensures in
     let owner : option_copied c.map-owner.result ≡ c.args.owner.now = search rules in
     let edit = CopyCard from_book from_card b name c.args.owner.now in
     let change = copying_card (card_path from_book from_card) (book_path b) (card_path b name) name c.args.owner.now in

@@ -1,4 +1,4 @@
-use Rattle.book_tables.proofs.Common.{rules, ◌≡◌, state, HasCleanDisk, Survives, SetLabel, Commits, MayLeave, book_path, card_path}
+use Rattle.book_tables.proofs.Common.{◌≡◌, ◌∙◌, state, HasCleanDisk, Survives, SetLabel, Commits, MayLeave, book_path, card_path}
 use Rattle.book_tables_rows.specs.Nodes.{labelling_card}
 use Rattle.book_tables.proofs.Acting.{edit_made, edit_failed}
 use Rattle.book_tables.proofs.CardEdits.{labels_card}
@@ -11,9 +11,9 @@ returns-in-Ok g c =
     let new = state g.S.Store c.label_card.new.connection in
     let b = c.args.book.now in
     let name = c.args.card.now in
-    let book_text : c.as_str.result.now ≡ book_path b = search rules in
-    let card_text : c.as_str-2.result.now ≡ card_path b name = search rules in
-    let label : c.as_str-3.result.now ≡ c.args.label.now = search rules in
+    let book_text : c.as_str.result.now ≡ book_path b = c.as_str.ensures ∙ c.in_ok-book_path.ensures in
+    let card_text : c.as_str-2.result.now ≡ card_path b name = c.as_str-2.ensures ∙ c.in_ok-card_path.ensures in
+    let label : c.as_str-3.result.now ≡ c.args.label.now = c.as_str-3.ensures in
     let edit = SetLabel (path.Card b name) c.args.label.now in
     let change = labelling_card (book_path b) (card_path b name) c.args.label.now in
     let survives : Survives old new (MayLeave old change) = rw (book_text, card_text, label) at c.label_card.ensures.left in
@@ -26,9 +26,9 @@ returns g c =
     let new = state g.S.Store c.label_card.new.connection in
     let b = c.args.book.now in
     let name = c.args.card.now in
-    let book_text : c.as_str.result.now ≡ book_path b = search rules in
-    let card_text : c.as_str-2.result.now ≡ card_path b name = search rules in
-    let label : c.as_str-3.result.now ≡ c.args.label.now = search rules in
+    let book_text : c.as_str.result.now ≡ book_path b = c.as_str.ensures ∙ c.in_ok-book_path.ensures in
+    let card_text : c.as_str-2.result.now ≡ card_path b name = c.as_str-2.ensures ∙ c.in_ok-card_path.ensures in
+    let label : c.as_str-3.result.now ≡ c.args.label.now = c.as_str-3.ensures in
     let edit = SetLabel (path.Card b name) c.args.label.now in
     let change = labelling_card (book_path b) (card_path b name) c.args.label.now in
     let survives : Survives old new (MayLeave old change) = rw (book_text, card_text, label) at c.label_card.ensures.left in

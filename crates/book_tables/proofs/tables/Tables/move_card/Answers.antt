@@ -1,4 +1,4 @@
-use Rattle.book_tables.proofs.Common.{rules, ◌≡◌, state, HasCleanDisk, Survives, book_path, card_path, Commits, MayLeave}
+use Rattle.book_tables.proofs.Common.{◌≡◌, ◌∙◌, state, HasCleanDisk, Survives, book_path, card_path, Commits, MayLeave}
 use Rattle.book_office.specs.declared.edits.Edit.TheVariants.{MoveCard}
 use Rattle.book_tables_rows.specs.Nodes.{moving_card}
 use Rattle.book_tables.proofs.Acting.{edit_made, edit_failed}
@@ -13,12 +13,12 @@ returns-in-Ok g c =
     let sc = c.args.from_card.now in
     let tb = c.args.to_book.now in
     let tc = c.args.to_card.now in
-    let source_book : c.as_str.result.now ≡ book_path sb = search rules in
-    let source : c.as_str-2.result.now ≡ card_path sb sc = search rules in
-    let source_name : c.text.result.now ≡ sc = search rules in
-    let target_book : c.as_str-3.result.now ≡ book_path tb = search rules in
-    let target : c.as_str-4.result.now ≡ card_path tb tc = search rules in
-    let target_name : c.text-2.result.now ≡ tc = search rules in
+    let source_book : c.as_str.result.now ≡ book_path sb = c.as_str.ensures ∙ c.in_ok-source_book.ensures in
+    let source : c.as_str-2.result.now ≡ card_path sb sc = c.as_str-2.ensures ∙ c.in_ok-source.ensures in
+    let source_name : c.text.result.now ≡ sc = c.text.ensures in
+    let target_book : c.as_str-3.result.now ≡ book_path tb = c.as_str-3.ensures ∙ c.in_ok-target_book.ensures in
+    let target : c.as_str-4.result.now ≡ card_path tb tc = c.as_str-4.ensures ∙ c.in_ok-target.ensures in
+    let target_name : c.text-2.result.now ≡ tc = c.text-2.ensures in
     let edit = MoveCard sb sc tb tc in
     let change = moving_card (book_path sb) (card_path sb sc) sc (book_path tb) (card_path tb tc) tc in
     let survives : Survives old new (MayLeave old change) = rw (source_book, source, source_name, target_book, target, target_name) at c.move_card.ensures.left in
@@ -33,12 +33,12 @@ returns g c =
     let sc = c.args.from_card.now in
     let tb = c.args.to_book.now in
     let tc = c.args.to_card.now in
-    let source_book : c.as_str.result.now ≡ book_path sb = search rules in
-    let source : c.as_str-2.result.now ≡ card_path sb sc = search rules in
-    let source_name : c.text.result.now ≡ sc = search rules in
-    let target_book : c.as_str-3.result.now ≡ book_path tb = search rules in
-    let target : c.as_str-4.result.now ≡ card_path tb tc = search rules in
-    let target_name : c.text-2.result.now ≡ tc = search rules in
+    let source_book : c.as_str.result.now ≡ book_path sb = c.as_str.ensures ∙ c.in_ok-source_book.ensures in
+    let source : c.as_str-2.result.now ≡ card_path sb sc = c.as_str-2.ensures ∙ c.in_ok-source.ensures in
+    let source_name : c.text.result.now ≡ sc = c.text.ensures in
+    let target_book : c.as_str-3.result.now ≡ book_path tb = c.as_str-3.ensures ∙ c.in_ok-target_book.ensures in
+    let target : c.as_str-4.result.now ≡ card_path tb tc = c.as_str-4.ensures ∙ c.in_ok-target.ensures in
+    let target_name : c.text-2.result.now ≡ tc = c.text-2.ensures in
     let edit = MoveCard sb sc tb tc in
     let change = moving_card (book_path sb) (card_path sb sc) sc (book_path tb) (card_path tb tc) tc in
     let survives : Survives old new (MayLeave old change) = rw (source_book, source, source_name, target_book, target, target_name) at c.move_card.ensures.left in

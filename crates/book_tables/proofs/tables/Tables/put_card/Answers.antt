@@ -1,4 +1,4 @@
-use Rattle.book_tables.proofs.Common.{rules, ◌≡◌, state, HasCleanDisk, Survives, Commits, MayLeave, book_path, card_path, option_copied}
+use Rattle.book_tables.proofs.Common.{rules, ◌≡◌, ◌∙◌, state, HasCleanDisk, Survives, Commits, MayLeave, book_path, card_path, option_copied}
 use Rattle.book_office.specs.declared.edits.Edit.TheVariants.{PutCard}
 use Rattle.book_tables_rows.specs.Nodes.{putting_card}
 use Rattle.book_tables.proofs.Acting.{edit_made, edit_failed}
@@ -11,10 +11,10 @@ returns-in-Ok g c =
     let new = state g.S.Store c.put_card.new.connection in
     let b = c.args.book.now in
     let name = c.args.card.now in
-    let book_text : c.as_str.result.now ≡ book_path b = search rules in
-    let card_text : c.as_str-2.result.now ≡ card_path b name = search rules in
-    let name_text : c.text.result.now ≡ name = search rules in
-    let text : c.as_str-3.result.now ≡ c.args.text.now = search rules in
+    let book_text : c.as_str.result.now ≡ book_path b = c.as_str.ensures ∙ c.in_ok-book_path.ensures in
+    let card_text : c.as_str-2.result.now ≡ card_path b name = c.as_str-2.ensures ∙ c.in_ok-card_path.ensures in
+    let name_text : c.text.result.now ≡ name = c.text.ensures in
+    let text : c.as_str-3.result.now ≡ c.args.text.now = c.as_str-3.ensures in
     let owner : option_copied c.map-owner.result ≡ c.args.owner.now = search rules in
     let edit = PutCard b name c.args.owner.now c.args.text.now in
     let change = putting_card (book_path b) (card_path b name) name c.args.owner.now c.args.text.now in
@@ -28,10 +28,10 @@ returns g c =
     let new = state g.S.Store c.put_card.new.connection in
     let b = c.args.book.now in
     let name = c.args.card.now in
-    let book_text : c.as_str.result.now ≡ book_path b = search rules in
-    let card_text : c.as_str-2.result.now ≡ card_path b name = search rules in
-    let name_text : c.text.result.now ≡ name = search rules in
-    let text : c.as_str-3.result.now ≡ c.args.text.now = search rules in
+    let book_text : c.as_str.result.now ≡ book_path b = c.as_str.ensures ∙ c.in_ok-book_path.ensures in
+    let card_text : c.as_str-2.result.now ≡ card_path b name = c.as_str-2.ensures ∙ c.in_ok-card_path.ensures in
+    let name_text : c.text.result.now ≡ name = c.text.ensures in
+    let text : c.as_str-3.result.now ≡ c.args.text.now = c.as_str-3.ensures in
     let owner : option_copied c.map-owner.result ≡ c.args.owner.now = search rules in
     let edit = PutCard b name c.args.owner.now c.args.text.now in
     let change = putting_card (book_path b) (card_path b name) name c.args.owner.now c.args.text.now in

@@ -1,4 +1,4 @@
-use Rattle.book_tables.proofs.Common.{rules, ◌≡◌, state, HasCleanDisk, Survives, Commits, MayLeave, book_path, card_path}
+use Rattle.book_tables.proofs.Common.{◌≡◌, ◌∙◌, state, HasCleanDisk, Survives, Commits, MayLeave, book_path, card_path}
 use Rattle.book_office.specs.declared.edits.Edit.TheVariants.{RemoveCard}
 use Rattle.book_tables_rows.specs.Nodes.{removing_card}
 use Rattle.book_tables.proofs.Acting.{edit_made, edit_failed}
@@ -11,9 +11,9 @@ returns-in-Ok g c =
     let new = state g.S.Store c.remove_card.new.connection in
     let b = c.args.book.now in
     let name = c.args.card.now in
-    let book_text : c.as_str.result.now ≡ book_path b = search rules in
-    let card_text : c.as_str-2.result.now ≡ card_path b name = search rules in
-    let name_text : c.text.result.now ≡ name = search rules in
+    let book_text : c.as_str.result.now ≡ book_path b = c.as_str.ensures ∙ c.in_ok-book_path.ensures in
+    let card_text : c.as_str-2.result.now ≡ card_path b name = c.as_str-2.ensures ∙ c.in_ok-card_path.ensures in
+    let name_text : c.text.result.now ≡ name = c.text.ensures in
     let edit = RemoveCard b name in
     let change = removing_card (book_path b) (card_path b name) name in
     let survives : Survives old new (MayLeave old change) = rw (book_text, card_text, name_text) at c.remove_card.ensures.left in
@@ -26,9 +26,9 @@ returns g c =
     let new = state g.S.Store c.remove_card.new.connection in
     let b = c.args.book.now in
     let name = c.args.card.now in
-    let book_text : c.as_str.result.now ≡ book_path b = search rules in
-    let card_text : c.as_str-2.result.now ≡ card_path b name = search rules in
-    let name_text : c.text.result.now ≡ name = search rules in
+    let book_text : c.as_str.result.now ≡ book_path b = c.as_str.ensures ∙ c.in_ok-book_path.ensures in
+    let card_text : c.as_str-2.result.now ≡ card_path b name = c.as_str-2.ensures ∙ c.in_ok-card_path.ensures in
+    let name_text : c.text.result.now ≡ name = c.text.ensures in
     let edit = RemoveCard b name in
     let change = removing_card (book_path b) (card_path b name) name in
     let survives : Survives old new (MayLeave old change) = rw (book_text, card_text, name_text) at c.remove_card.ensures.left in
