@@ -37,7 +37,9 @@ fn write_at<K: Keeper, W: Write>(
         (W.contents writer.new) count.old count.new result (λ o. texts_at o path.now) }
 {
     let line = read_line(alloc, keeper, path)?;
-    put_told(alloc, writer, count, &line)
+    let put = put_told(alloc, writer, count, &line);
+    drop(line);
+    put
 }
 
 /// Writes the lines of the resources at paths.
@@ -127,7 +129,9 @@ fn read_card_paths<K: Keeper>(
         (λ o paths. paths ≡ map (path.Card book.now) (names_at o (path.Book book.now))) }
 {
     let at = Path::Book(book.clone()?);
-    let names = read_names(alloc, keeper, &at)?;
+    let names = read_names(alloc, keeper, &at);
+    drop(at);
+    let names = names?;
     Ok(card_paths(alloc, book, names.as_slice())?)
 }
 
@@ -439,5 +443,7 @@ pub fn show<K: Keeper>(
         (λ o text. text ≡ option_map line_text (line_at o path.now)) }
 {
     let line = read_line(alloc, keeper, path)?;
-    Ok(shown(alloc, &line)?)
+    let told = shown(alloc, &line);
+    drop(line);
+    Ok(told?)
 }

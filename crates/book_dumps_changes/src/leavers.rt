@@ -270,6 +270,7 @@ fn release(
         string_bytes told.old ++ told_line person.now heir.now line) }
 {
     if is_line_of(alloc, &line, person)? {
+        drop(line);
         tell_person(told, person)?;
         return Ok(None);
     }

@@ -11,6 +11,7 @@ use book_dumps_reading::Dumped;
 use book_lists::{Name, Principal};
 use book_office_values::{Items, Path, Text};
 use std::alloc::{AllocError, Global};
+use std::mem;
 
 /// Whether a book is the one that is given, if one is.
 fn in_book(at: &Option<Name>, book: &Name) -> bool
@@ -70,6 +71,21 @@ fn push_owner(
     told.push_str("\n")
 }
 
+/// Tells that a resource passes, and copies its owner after that. An error is want of memory.
+fn told_owner(
+    told: &mut String,
+    path: &Path,
+    from: &Principal,
+    to: &Principal,
+) -> Result<Principal, AllocError>
+    ensures owner { IfOk result (λ owner. owner ≡ to.now) }
+    ensures told { OnOk result (string_bytes told.new ≡
+        string_bytes told.old ++ owner_line path.now from.now to.now) }
+{
+    push_owner(told, path, from, to)?;
+    to.clone()
+}
+
 /// What becomes of a resource. An error is want of memory.
 fn pass(
     told: &mut String,
@@ -85,9 +101,9 @@ fn pass(
     if !passes(from, at, &line) {
         return Ok(line);
     }
-    push_owner(told, &line.path, from, to)?;
+    let owner = told_owner(told, &line.path, from, to)?;
     let mut line = line;
-    line.owner = Some(to.clone()?);
+    drop(mem::replace(&mut line.owner, Some(owner)));
     Ok(line)
 }
 

@@ -206,6 +206,117 @@ fn text_told(
     Ok(None)
 }
 
+/// The owner of a resource.
+fn owner_told(
+    alloc: Global,
+    members: &mut Members<'_, '_>,
+) -> Result<Option<Principal>, ReadFault> {
+    let value = members.take(Key::Owner)?;
+    owner_of(alloc, value, members.spot(Key::Owner))
+}
+
+/// The label of a resource.
+fn label_told(alloc: Global, members: &mut Members<'_, '_>) -> Result<Text, ReadFault> {
+    let value = members.take(Key::Label)?;
+    label_of(alloc, value, members.spot(Key::Label))
+}
+
+/// The own list of a resource.
+fn own_told(alloc: Global, members: &mut Members<'_, '_>) -> Result<Items<Entry>, ReadFault> {
+    let value = members.take(Key::Own)?;
+    entries_of(alloc, value, members.spot(Key::Own))
+}
+
+/// The lists of a resource.
+#[derive(Drop)]
+struct Lists {
+    protected: Items<Entry>,
+    own: Items<Entry>,
+    members: Items<Principal>,
+}
+
+/// The lists of a resource, key by key.
+fn lists_told(
+    alloc: Global,
+    members: &mut Members<'_, '_>,
+    path: &Path,
+) -> Result<Lists, ReadFault> {
+    let protected = protected_of(alloc, members, path)?;
+    let own = own_told(alloc, members)?;
+    let principals = group_members_of(alloc, members, path)?;
+    Ok(Lists {
+        protected,
+        own,
+        members: principals,
+    })
+}
+
+/// What the keys between the path and the number tell of a resource.
+#[derive(Drop)]
+struct Described {
+    owner: Option<Principal>,
+    label: Text,
+    lists: Lists,
+}
+
+/// The owner, the label and the lists of a resource, key by key.
+fn described_told(
+    alloc: Global,
+    members: &mut Members<'_, '_>,
+    path: &Path,
+) -> Result<Described, ReadFault> {
+    let owner = owner_told(alloc, members)?;
+    let label = label_told(alloc, members)?;
+    let lists = lists_told(alloc, members, path)?;
+    Ok(Described {
+        owner,
+        label,
+        lists,
+    })
+}
+
+/// What the last keys of a resource tell.
+#[derive(Drop)]
+struct Contents {
+    number: Option<u64>,
+    removed: Items<Removed>,
+    text: Option<Text>,
+}
+
+/// The number, the removed names and the text of a resource, key by key; no member follows them.
+fn contents_told(
+    alloc: Global,
+    members: &mut Members<'_, '_>,
+    seen: &mut Seen,
+    path: &Path,
+) -> Result<Contents, ReadFault> {
+    let number = number_told(members, seen, path)?;
+    let removed = removed_told(alloc, members, seen, path, number)?;
+    let text = text_told(alloc, members, path)?;
+    members.end()?;
+    Ok(Contents {
+        number,
+        removed,
+        text,
+    })
+}
+
+/// A resource, as its keys tell it.
+fn line_of(path: Path, described: Described, contents: Contents) -> Line {
+    let lists = described.lists;
+    Line {
+        path,
+        owner: described.owner,
+        label: described.label,
+        protected: lists.protected,
+        own: lists.own,
+        members: lists.members,
+        number: contents.number,
+        removed: contents.removed,
+        text: contents.text,
+    }
+}
+
 /// The resource that members tell, key by key.
 fn resource_of(
     alloc: Global,
@@ -213,27 +324,7 @@ fn resource_of(
     seen: &mut Seen,
 ) -> Result<Line, ReadFault> {
     let path = path_of(alloc, members, seen)?;
-    let value = members.take(Key::Owner)?;
-    let owner = owner_of(alloc, value, members.spot(Key::Owner))?;
-    let value = members.take(Key::Label)?;
-    let label = label_of(alloc, value, members.spot(Key::Label))?;
-    let protected = protected_of(alloc, members, &path)?;
-    let value = members.take(Key::Own)?;
-    let own = entries_of(alloc, value, members.spot(Key::Own))?;
-    let principals = group_members_of(alloc, members, &path)?;
-    let number = number_told(members, seen, &path)?;
-    let removed = removed_told(alloc, members, seen, &path, number)?;
-    let text = text_told(alloc, members, &path)?;
-    members.end()?;
-    Ok(Line {
-        path,
-        owner,
-        label,
-        protected,
-        own,
-        members: principals,
-        number,
-        removed,
-        text,
-    })
+    let described = described_told(alloc, members, &path)?;
+    let contents = contents_told(alloc, members, seen, &path)?;
+    Ok(line_of(path, described, contents))
 }

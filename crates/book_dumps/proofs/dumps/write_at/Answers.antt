@@ -7,4 +7,4 @@ pub returns-in_err-line : goal.returns-in_err-line
 returns-in_err-line g c = read_given _ _ _ _ _ c.from_residual.result _ _ c.from_residual.ensures.1 c.in_err-line.ensures
 
 pub returns : goal.returns
-returns g c = reads_puts _ _ _ _ _ _ _ _ _ _ _ c.in_ok-line.ensures c.put_told.ensures (λ o stands told. ap texts_of told)
+returns g c = reads_puts _ _ _ _ _ _ _ _ _ _ _ c.in_ok-line.ensures c.put_told-put.ensures (λ o stands told. ap texts_of told)
