@@ -1,3 +1,4 @@
 pub mod Common
 pub mod InTurn
 pub mod Granted
+pub mod BareGaps

@@ -1,5 +1,5 @@
 -- Resources, with what decides there (RFC 3744, section 6).
-use Rattle.std.specs.Prelude.{Bool, ◌&&◌, not, Option, Some, None, if◌then◌else◌}
+use Rattle.std.specs.Prelude.{◌≡◌, Bool, ◌&&◌, not, Option, Some, None, if◌then◌else◌}
 use Rattle.std.specs.List.{find}
 use Rattle.book_rights.specs.Leaves.{no_leaf, same_leaves}
 use Rattle.book_rights.specs.declared.privileges.Leaf.{Leaf}
@@ -32,6 +32,10 @@ may_read place circle = may place ReadTexts circle && may place ReadNames circle
 -- whether any leaf is
 abbrev pub may_anything : Place → CircleOf → Bool
 may_anything place circle = not (same_leaves (granted_by place.list circle place.here) no_leaf)
+
+-- the leaves are exactly those that are granted to a circle at a resource
+abbrev pub AreHeld : Office → CircleOf → Path → (Leaf → Bool) → Type 0
+AreHeld o circle p set = (leaf : Leaf) → set leaf ≡ granted_by (effective_at o p) circle (here_of o p) leaf
 
 -- ---- at a book, an entry stands at it or above it
 -- the entry that decides a leaf: the first that applies and holds it

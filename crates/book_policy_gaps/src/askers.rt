@@ -38,10 +38,10 @@ fn asker_of<K: Keeper>(alloc: Global, keeper: &mut K, person: &Listed) -> Result
     ensures { Reads (K.standing keeper.old) (K.standing keeper.new) result
         (λ o asker. IsAsker o.pairs person.now asker) }
 {
-    let caller = Caller::Known(Principal::person(alloc, &person.name)?);
-    let circle = keeper.circle(alloc, &caller)?;
     let name = person.name.clone()?;
     let principal = Principal::person(alloc, &person.name)?;
+    let caller = Caller::Known(principal.clone()?);
+    let circle = keeper.circle(alloc, &caller)?;
     Ok(Asker {
         name,
         principal,

@@ -311,7 +311,10 @@ pub fn gaps_of<K: Keeper>(alloc: Global, keeper: &mut K) -> Result<Items<Gap>, S
 {
     let homes = homes_of(alloc, keeper)?;
     let found = found_of(alloc, keeper, &homes)?;
-    match gaps_in(alloc, &homes, &found) {
+    let gaps = gaps_in(alloc, &homes, &found);
+    drop(found);
+    drop(homes);
+    match gaps {
         Ok(gaps) => Ok(gaps),
         Err(_) => Err(StoreFault::Memory),
     }

@@ -4,7 +4,7 @@
 //!
 //! It stands on `book_office`, on `book_office_listings` and on `book_lists`. The program above uses that `gaps_of` tells,
 //! over any keeper, exactly the facts that hold of its Office, in one order (`AreGaps`), and that `gap_line` is the sentence
-//! of each.
+//! of each; and that `held_at` tells what a circle holds at a resource (`AreHeld`).
 //!
 //! Read `askers` and `places` first, which are what is looked at; then `gaps` and `far`, which have each fact; then
 //! `finding`, which reads a keeper, and `lines`.
@@ -20,3 +20,4 @@ mod places;
 pub use finding::gaps_of;
 pub use gaps::Gap;
 pub use lines::{gap_line, push_gap_line};
+pub use places::held_at;

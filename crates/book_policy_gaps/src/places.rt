@@ -7,7 +7,7 @@ ghost use Rattle.book_office.specs.Keeping.{Reads};
 ghost use Rattle.book_office_listings.specs.Scanning.{IsWalk};
 ghost use Rattle.book_office_listings.specs.Values.{granted_by};
 ghost use Rattle.book_office_listings.specs.Verdicts.{here_of, owner_at, principal_of};
-ghost use Rattle.book_policy_gaps.specs.Places.{decider_at, is_bearing, may, may_anything, may_read, path_above, place_at, reads_from_above, stands_at_book};
+ghost use Rattle.book_policy_gaps.specs.Places.{AreHeld, decider_at, is_bearing, may, may_anything, may_read, path_above, place_at, reads_from_above, stands_at_book};
 
 use book_lists::{Circle, Deciders, Here, Principal, applies};
 use book_office::{EffectiveEntry, Keeper, StoreFault, effective};
@@ -115,6 +115,25 @@ fn granted_of(place: &Place, circle: &Circle, set: LeafSet) -> LeafSet
         ≡ (set leaf && granted_by place.now.list circle.now place.now.here leaf) }
 {
     walk(place.list.as_slice(), circle, &place.here, set).granted()
+}
+
+/// The leaves that are granted to the principals of a circle at the resource at a path (RFC 3744, section 6); none where no
+/// entry in force grants one. The keeper stays as it is.
+///
+/// # Errors
+///
+/// `Memory` where memory was refused, `Store` where the store failed.
+pub fn held_at<K: Keeper>(
+    alloc: Global,
+    keeper: &mut K,
+    circle: &Circle,
+    path: &Path,
+) -> Result<LeafSet, StoreFault>
+    ensures { Reads (K.standing keeper.old) (K.standing keeper.new) result
+        (λ o set. AreHeld o circle.now path.now set) }
+{
+    let place = place_at(alloc, keeper, path)?;
+    Ok(granted_of(&place, circle, LeafSet::all()))
 }
 
 /// Whether a leaf is granted at a place (RFC 3744, section 6).

@@ -8,4 +8,6 @@ mod books;
 #[cfg(test)]
 mod facts;
 #[cfg(test)]
+mod held;
+#[cfg(test)]
 mod telling;

@@ -7,7 +7,7 @@ use std::alloc::Global;
 use std::process::Abort;
 
 /// A keeper of the Office that adopted the policy.
-fn keeper(rt: &impl Abort, alloc: Global, policy: &str) -> MemoryKeeper {
+pub(crate) fn keeper(rt: &impl Abort, alloc: Global, policy: &str) -> MemoryKeeper {
     let mut keeper = MemoryKeeper::new(alloc);
     let policy = read_policy(alloc, policy).expect(rt, "a policy");
     let edit = Edit::Adopt { policy };
