@@ -2,21 +2,27 @@
 //! as it is and a request is served.
 
 ghost use Rattle.std.specs.Prelude.{◌≡◌, IfErr, IfOk, OnOk, Some};
+ghost use Rattle.book_lists.specs.Callers.{IsCircle};
 ghost use Rattle.book_lists.specs.Memberships.{members_of};
+ghost use Rattle.book_lists.specs.Principals.{person_path};
+ghost use Rattle.book_lists.specs.declared.circles.Caller.TheVariants.{Known};
 ghost use Rattle.book_office.specs.Edits.{apply, empty_office};
 ghost use Rattle.book_office.specs.Resources.{count_at, node_at};
 ghost use Rattle.book_office.specs.Sound.{Fits, IsSound};
 ghost use Rattle.book_office_adopting.specs.Adopting.{adopt};
 ghost use Rattle.book_office_adopting.specs.TakingOver.{bare};
 ghost use Rattle.book_machine.specs.Steps.{Serves};
+ghost use Rattle.book_policy_gaps.specs.Places.{AreHeld};
 ghost use Rattle.book_policy_openings.specs.Openings.{IsRefused};
 
-use book_lists::{Name, Pairs, Principal};
+use book_lists::{Caller, Circle, Name, Pairs, Principal};
 use book_machine::{AdoptFault, Adopted, Machine, Reply, Request};
 use book_office::{Edit, Keeper, MemoryKeeper, Node, StoreFault};
 use book_office_copies::copy_without_cards;
 use book_office_values::{Office, Path};
+use book_policy_gaps::held_at;
 use book_policy_values::Policy;
+use book_rights::LeafSet;
 use std::alloc::Global;
 
 /// The direct members of a group, each as a pair.
@@ -63,6 +69,35 @@ pub(crate) fn bare_in(alloc: Global, keeper: &mut MemoryKeeper) -> Result<Office
     ensures kept { IsSound keeper.old → keeper.new ≡ keeper.old }
 {
     copy_without_cards(alloc, keeper)
+}
+
+/// The principals to which a person belongs.
+pub(crate) fn circle_in(
+    alloc: Global,
+    keeper: &mut MemoryKeeper,
+    person: &Name,
+) -> Result<Circle, StoreFault>
+    ensures circle { IfOk result (λ circle. IsSound keeper.old
+        → IsCircle keeper.old.pairs (Known (person_path person.now)) circle) }
+    ensures kept { IsSound keeper.old → keeper.new ≡ keeper.old }
+{
+    let principal = Principal::person(alloc, person)?;
+    let caller = Caller::Known(principal);
+    keeper.circle(alloc, &caller)
+}
+
+/// The leaves that the principals of a circle hold at a resource.
+pub(crate) fn held_in(
+    alloc: Global,
+    keeper: &mut MemoryKeeper,
+    circle: &Circle,
+    path: &Path,
+) -> Result<LeafSet, StoreFault>
+    ensures held { IfOk result (λ set. IsSound keeper.old
+        → AreHeld keeper.old circle.now path.now set) }
+    ensures kept { IsSound keeper.old → keeper.new ≡ keeper.old }
+{
+    held_at(alloc, keeper, circle, path)
 }
 
 /// Makes an edit that fits.
@@ -125,7 +160,10 @@ pub fn adopted_over(
     let mut machine = Machine::new(MemoryKeeper::from_office(start));
     match adopt_in(alloc, &mut machine, policy) {
         Ok(_) => Ok(machine),
-        Err(fault) => Err(fault),
+        Err(fault) => {
+            drop(machine);
+            Err(fault)
+        }
     }
 }
 
@@ -137,6 +175,9 @@ pub fn adopted(alloc: Global, policy: &Policy) -> Result<Machine<MemoryKeeper>, 
     let mut machine = Machine::new(MemoryKeeper::new(alloc));
     match adopt_in(alloc, &mut machine, policy) {
         Ok(_) => Ok(machine),
-        Err(_) => Err(StoreFault::Memory),
+        Err(_) => {
+            drop(machine);
+            Err(StoreFault::Memory)
+        }
     }
 }

@@ -10,15 +10,21 @@
 //! look for openings.
 #![tactic(auto)]
 
+mod gain_search;
+mod gaining;
+mod gains;
 mod in_memory;
 mod lists;
 mod office_places;
 mod openings;
 mod places;
 mod searching;
+mod spots;
 mod steps;
 mod trials;
 
+pub use gain_search::gains_in;
+pub use gains::Gain;
 pub use in_memory::{adopted, adopted_over};
 pub use openings::Opening;
 pub use searching::{openings_in, openings_of};

@@ -5,7 +5,7 @@ use book_lists::Entry;
 use book_office_values::{Book, Items, NameMap, Office, Path, Properties, Text, TextMap};
 use std::alloc::{AllocError, Global};
 
-/// The lists of the root, of the homes of the groups and of the books, of each group and of each book.
+/// The lists of the root, of the homes, of each person, of each group and of each book.
 #[derive(Drop)]
 pub(crate) struct OfficeLists {
     protected: TextMap<Items<Entry>>,
@@ -20,8 +20,10 @@ impl OfficeLists {
             own: TextMap::new(alloc),
         };
         lists.add(alloc, &Path::Root, &office.root)?;
+        lists.add(alloc, &Path::People, &office.people)?;
         lists.add(alloc, &Path::Groups, &office.groups_home)?;
         lists.add(alloc, &Path::Books, &office.books_home)?;
+        lists.add_persons(alloc, &office.persons)?;
         lists.add_groups(alloc, &office.groups)?;
         lists.add_books(alloc, &office.books)?;
         Ok(lists)
@@ -35,9 +37,24 @@ impl OfficeLists {
         properties: &Properties,
     ) -> Result<(), AllocError> {
         let at = Text::from_string(path.text(alloc)?);
-        self.protected
-            .insert(at.clone()?, properties.protected.clone()?)?;
-        self.own.insert(at, properties.own.clone()?)?;
+        let key = at.clone()?;
+        let protected = properties.protected.clone()?;
+        drop(self.protected.insert(key, protected)?);
+        let own = properties.own.clone()?;
+        drop(self.own.insert(at, own)?);
+        Ok(())
+    }
+
+    /// Adds the lists of each person.
+    fn add_persons(
+        &mut self,
+        alloc: Global,
+        persons: &NameMap<Properties>,
+    ) -> Result<(), AllocError> {
+        for (name, person) in persons.iter() {
+            let path = Path::Person(name.clone()?);
+            self.add(alloc, &path, person)?;
+        }
         Ok(())
     }
 

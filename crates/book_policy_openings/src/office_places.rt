@@ -71,25 +71,44 @@ fn owner_of(properties: &Properties) -> Result<Option<Principal>, AllocError> {
     }
 }
 
+/// The place of a group.
+fn place_of_group(
+    alloc: Global,
+    name: &Name,
+    group: &Properties,
+    principal: &Principal,
+) -> Result<Place, AllocError> {
+    let path = Path::Group(name.clone()?);
+    let principal = principal.clone()?;
+    let owner = owner_of(group)?;
+    Place::new(alloc, &path, owner, Some(principal))
+}
+
+/// The place of the root, a home or a book, which is no principal.
+fn owned_place(alloc: Global, path: &Path, properties: &Properties) -> Result<Place, AllocError> {
+    let owner = owner_of(properties)?;
+    Place::new(alloc, path, owner, None)
+}
+
 /// A group.
 fn group_place(alloc: Global, name: &Name, group: &Properties) -> Result<GroupPlace, AllocError> {
     let principal = Principal::group(alloc, name)?;
-    let path = Path::Group(name.clone()?);
+    let place = place_of_group(alloc, name, group, &principal)?;
+    let name = name.clone()?;
     Ok(GroupPlace {
-        name: name.clone()?,
-        place: Place::new(alloc, &path, owner_of(group)?, Some(principal.clone()?))?,
+        name,
         principal,
+        place,
     })
 }
 
 /// A book.
 fn book_place(alloc: Global, name: &Name, book: &Properties) -> Result<BookPlace, AllocError> {
     let path = Path::Book(name.clone()?);
-    Ok(BookPlace {
-        name: name.clone()?,
-        place: Place::new(alloc, &path, owner_of(book)?, None)?,
-        card: bare_place(alloc, &path)?,
-    })
+    let name = name.clone()?;
+    let card = bare_place(alloc, &path)?;
+    let place = owned_place(alloc, &path, book)?;
+    Ok(BookPlace { name, place, card })
 }
 
 /// The bare names of the persons.
@@ -119,11 +138,6 @@ fn book_places(alloc: Global, office: &Office) -> Result<Vec<BookPlace>, AllocEr
     Ok(shelves)
 }
 
-/// The root or a home, which is no principal.
-fn home_place(alloc: Global, path: &Path, home: &Properties) -> Result<Place, AllocError> {
-    Place::new(alloc, path, owner_of(home)?, None)
-}
-
 /// The leaf alone.
 fn only(leaf: Leaf) -> LeafSet {
     LeafSet::empty().with(leaf)
@@ -145,10 +159,9 @@ fn granting_list(alloc: Global, person: &Principal) -> Result<Items<Entry>, Allo
 fn copies_of(alloc: Global, replaced: &[Replaced]) -> Result<Vec<Replaced>, AllocError> {
     let mut copies = Vec::new(alloc);
     for one in replaced {
-        copies.push(Replaced {
-            at: one.at.clone()?,
-            list: one.list.clone()?,
-        })?;
+        let at = one.at.clone()?;
+        let list = one.list.clone()?;
+        copies.push(Replaced { at, list })?;
     }
     Ok(copies)
 }
@@ -156,14 +169,21 @@ fn copies_of(alloc: Global, replaced: &[Replaced]) -> Result<Vec<Replaced>, Allo
 impl OfficePlaces {
     /// What the Office has. An error is want of memory.
     pub(crate) fn of(alloc: Global, office: &Office) -> Result<OfficePlaces, AllocError> {
+        let root = owned_place(alloc, &Path::Root, &office.root)?;
+        let groups_home = owned_place(alloc, &Path::Groups, &office.groups_home)?;
+        let books_home = owned_place(alloc, &Path::Books, &office.books_home)?;
+        let persons = persons_of(alloc, office)?;
+        let groups = group_places(alloc, office)?;
+        let books = book_places(alloc, office)?;
+        let reach = closure(&office.pairs)?;
         Ok(OfficePlaces {
-            reach: closure(&office.pairs)?,
-            persons: persons_of(alloc, office)?,
-            groups: group_places(alloc, office)?,
-            books: book_places(alloc, office)?,
-            root: home_place(alloc, &Path::Root, &office.root)?,
-            groups_home: home_place(alloc, &Path::Groups, &office.groups_home)?,
-            books_home: home_place(alloc, &Path::Books, &office.books_home)?,
+            reach,
+            persons,
+            groups,
+            books,
+            root,
+            groups_home,
+            books_home,
         })
     }
 
@@ -278,7 +298,7 @@ impl OfficePlaces {
     }
 
     /// Adds the steps that add the person to a group.
-    fn add_joins(
+    pub(crate) fn add_joins(
         &self,
         lists: &OfficeLists,
         state: &State,

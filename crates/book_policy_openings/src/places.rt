@@ -94,4 +94,42 @@ impl Place {
         self.judge_own(lists, circle, replaced, &mut scan);
         matches!(scan.outcome(), Outcome::Allowed)
     }
+
+    /// Goes over each protected entry.
+    fn read_protected(&self, lists: &OfficeLists, circle: &Circle, scan: &mut Deciders) {
+        for level in &self.levels {
+            if let Some(list) = lists.protected_at(level) {
+                scan.over(list.as_slice(), circle, &self.here);
+            }
+        }
+    }
+
+    /// Goes over each other entry, where these lists stand in place of own lists.
+    fn read_own(
+        &self,
+        lists: &OfficeLists,
+        circle: &Circle,
+        replaced: &[Replaced],
+        scan: &mut Deciders,
+    ) {
+        for level in &self.levels {
+            if let Some(list) = own_at(lists, level, replaced) {
+                scan.over(list.as_slice(), circle, &self.here);
+            }
+        }
+    }
+
+    /// The leaves that the entries in force grant to who belongs to the circle, where these lists stand in place of own
+    /// lists. It looks at each entry once.
+    pub(crate) fn leaves(
+        &self,
+        lists: &OfficeLists,
+        circle: &Circle,
+        replaced: &[Replaced],
+    ) -> LeafSet {
+        let mut scan = Deciders::start(LeafSet::all());
+        self.read_protected(lists, circle, &mut scan);
+        self.read_own(lists, circle, replaced, &mut scan);
+        scan.granted()
+    }
 }

@@ -45,16 +45,16 @@ struct Search {
 }
 
 /// Requests of a person, and the person after them.
-#[derive(Drop)]
-struct Made {
-    person: Name,
-    first: Step,
-    second: Option<Step>,
-    after: State,
+#[derive(Clone, Copy)]
+struct Made<'a> {
+    person: &'a Name,
+    first: &'a Step,
+    second: Option<&'a Step>,
+    after: &'a State,
 }
 
 /// A copy of a step, if there is one.
-fn copy_of(step: &Option<Step>) -> Result<Option<Step>, AllocError> {
+fn copy_of(step: Option<&Step>) -> Result<Option<Step>, AllocError> {
     match step {
         Some(step) => Ok(Some(step.clone()?)),
         None => Ok(None),
@@ -83,13 +83,13 @@ fn spend(left: &mut usize, count: usize) -> bool {
 fn opening_by(
     lists: &OfficeLists,
     places: &OfficePlaces,
-    made: &Made,
+    made: Made<'_>,
     index: usize,
 ) -> Result<Option<Opening>, AllocError> {
     let Some(book) = places.books.get(index) else {
         return Ok(None);
     };
-    let after = &made.after;
+    let after = made.after;
     let set = Privilege::Read.leaves();
     if !book
         .card
@@ -100,7 +100,7 @@ fn opening_by(
     Ok(Some(Opening {
         person: made.person.clone()?,
         first: made.first.clone()?,
-        second: copy_of(&made.second)?,
+        second: copy_of(made.second)?,
         book: book.name.clone()?,
     }))
 }
@@ -128,7 +128,7 @@ fn opens_each(
     alloc: Global,
     lists: &OfficeLists,
     places: &OfficePlaces,
-    made: &Made,
+    made: Made<'_>,
     closed: &[usize],
     found: &mut Vec<Opening>,
 ) -> Result<Vec<usize>, AllocError> {
@@ -138,6 +138,31 @@ fn opens_each(
         keep(opening, *index, &mut still, found)?;
     }
     Ok(still)
+}
+
+/// Which of the books stay closed to a person after the last of the steps, which is made from a state. The others are found.
+fn opens_after(
+    alloc: Global,
+    lists: &OfficeLists,
+    places: &OfficePlaces,
+    task: &Task,
+    from: &State,
+    first: &Step,
+    second: Option<&Step>,
+    closed: &[usize],
+    found: &mut Vec<Opening>,
+) -> Result<Vec<usize>, AllocError> {
+    let last = second.unwrap_or(first);
+    let after = places.after(alloc, &task.principal, from, last)?;
+    let made = Made {
+        person: &task.person,
+        first,
+        second,
+        after: &after,
+    };
+    let still = opens_each(alloc, lists, places, made, closed, found);
+    drop(after);
+    still
 }
 
 /// Which of the books stay closed to a person after any one step. The others are found.
@@ -152,20 +177,49 @@ fn by_one(
     let steps = places.last_steps(alloc, lists, &task.start)?;
     for step in &steps {
         if still.is_empty() || !spend(&mut search.left_for_one, places.size()) {
-            return Ok(still);
+            break;
         }
-        let after = places.after(alloc, &task.principal, &task.start, step)?;
-        let made = Made {
-            person: task.person.clone()?,
-            first: step.clone()?,
-            second: None,
-            after,
-        };
-        still = opens_each(
+        still = opens_after(
             alloc,
             lists,
             places,
-            &made,
+            task,
+            &task.start,
+            step,
+            None,
+            still.as_slice(),
+            &mut search.found,
+        )?;
+    }
+    Ok(still)
+}
+
+/// Which of the books stay closed to a person after the first step, which led to a state, and any other. The others are
+/// found.
+fn by_last(
+    alloc: Global,
+    lists: &OfficeLists,
+    places: &OfficePlaces,
+    task: &Task,
+    first: &Step,
+    between: &State,
+    closed: &[usize],
+    search: &mut Search,
+) -> Result<Vec<usize>, AllocError> {
+    let mut still = copies_of(alloc, closed)?;
+    let steps = places.last_steps(alloc, lists, between)?;
+    for step in &steps {
+        if still.is_empty() || !spend(&mut search.left_for_two, places.size()) {
+            break;
+        }
+        still = opens_after(
+            alloc,
+            lists,
+            places,
+            task,
+            between,
+            first,
+            Some(step),
             still.as_slice(),
             &mut search.found,
         )?;
@@ -183,30 +237,10 @@ fn by_second(
     closed: &[usize],
     search: &mut Search,
 ) -> Result<Vec<usize>, AllocError> {
-    let mut still = copies_of(alloc, closed)?;
     let between = places.after(alloc, &task.principal, &task.start, first)?;
-    let steps = places.last_steps(alloc, lists, &between)?;
-    for step in &steps {
-        if still.is_empty() || !spend(&mut search.left_for_two, places.size()) {
-            return Ok(still);
-        }
-        let after = places.after(alloc, &task.principal, &between, step)?;
-        let made = Made {
-            person: task.person.clone()?,
-            first: first.clone()?,
-            second: Some(step.clone()?),
-            after,
-        };
-        still = opens_each(
-            alloc,
-            lists,
-            places,
-            &made,
-            still.as_slice(),
-            &mut search.found,
-        )?;
-    }
-    Ok(still)
+    let still = by_last(alloc, lists, places, task, first, &between, closed, search);
+    drop(between);
+    still
 }
 
 /// Looks for openings by any two steps, of books that stay closed after any one.
@@ -256,32 +290,69 @@ fn task_of(
     places: &OfficePlaces,
     name: &Name,
 ) -> Result<Task, AllocError> {
+    let person = name.clone()?;
     let principal = Principal::person(alloc, name)?;
     let start = places.start(alloc, &principal)?;
     let closed = closed_to(alloc, lists, places, &start)?;
     Ok(Task {
-        person: name.clone()?,
+        person,
         principal,
         start,
         closed,
     })
 }
 
-/// What the lists of an Office say are openings, person by person: by one request, and then by two.
-fn found_of(alloc: Global, office: &Office) -> Result<Vec<Opening>, AllocError> {
-    let lists = OfficeLists::of(alloc, office)?;
-    let places = OfficePlaces::of(alloc, office)?;
+/// Looks for openings by one step, and then by two.
+fn by_one_or_two(
+    alloc: Global,
+    lists: &OfficeLists,
+    places: &OfficePlaces,
+    task: &Task,
+    search: &mut Search,
+) -> Result<(), AllocError> {
+    let closed = by_one(alloc, lists, places, task, search)?;
+    by_two(alloc, lists, places, task, closed, search)
+}
+
+/// Looks for the openings of a person.
+fn seek(
+    alloc: Global,
+    lists: &OfficeLists,
+    places: &OfficePlaces,
+    name: &Name,
+    search: &mut Search,
+) -> Result<(), AllocError> {
+    let task = task_of(alloc, lists, places, name)?;
+    let sought = by_one_or_two(alloc, lists, places, &task, search);
+    drop(task);
+    sought
+}
+
+/// What lists say are openings, person by person: by one request, and then by two.
+fn found_at(
+    alloc: Global,
+    lists: &OfficeLists,
+    places: &OfficePlaces,
+) -> Result<Vec<Opening>, AllocError> {
     let mut search = Search {
         found: Vec::new(alloc),
         left_for_one: MOST_DECISIONS,
         left_for_two: MOST_DECISIONS,
     };
     for name in &places.persons {
-        let task = task_of(alloc, &lists, &places, name)?;
-        let closed = by_one(alloc, &lists, &places, &task, &mut search)?;
-        by_two(alloc, &lists, &places, &task, closed, &mut search)?;
+        seek(alloc, lists, places, name, &mut search)?;
     }
     Ok(search.found)
+}
+
+/// What the lists of an Office say are openings.
+fn found_of(alloc: Global, office: &Office) -> Result<Vec<Opening>, AllocError> {
+    let lists = OfficeLists::of(alloc, office)?;
+    let places = OfficePlaces::of(alloc, office)?;
+    let found = found_at(alloc, &lists, &places);
+    drop(places);
+    drop(lists);
+    found
 }
 
 /// The same of the Office that a keeper has. Nothing changes.
@@ -289,7 +360,9 @@ fn found_in(alloc: Global, start: &mut MemoryKeeper) -> Result<Vec<Opening>, Sto
     ensures { IsSound start.old → start.new ≡ start.old }
 {
     let office = bare_in(alloc, start)?;
-    Ok(found_of(alloc, &office)?)
+    let found = found_of(alloc, &office);
+    drop(office);
+    Ok(found?)
 }
 
 /// Adds an opening, where it is served.
@@ -302,12 +375,17 @@ fn add_served(
     ensures added { OnOk result (IsSound start.old → AddsOpenings start.old told.old told.new) }
     ensures kept { IsSound start.old → start.new ≡ start.old }
 {
-    let opens = is_opening(alloc, start, &opening)?;
-    if !opens {
-        return Ok(());
+    match is_opening(alloc, start, &opening) {
+        Ok(true) => Ok(told.push(opening)?),
+        Ok(false) => {
+            drop(opening);
+            Ok(())
+        }
+        Err(fault) => {
+            drop(opening);
+            Err(fault)
+        }
     }
-    told.push(opening)?;
-    Ok(())
 }
 
 /// Openings in an Office in memory (own profile): for each person and each book that is closed to them one, where it is

@@ -120,7 +120,9 @@ fn put_card(
     }
     edits_within_the_limits_fit();
     let edit = trial_card(alloc, book)?;
-    act_in(alloc, &mut machine.keeper, &edit)
+    let done = act_in(alloc, &mut machine.keeper, &edit);
+    drop(edit);
+    done
 }
 
 /// A machine over a copy of the Office without its cards, with a card in the book.
@@ -136,8 +138,13 @@ fn trial(
 {
     let office = bare_in(alloc, start)?;
     let mut machine = Machine::new(MemoryKeeper::from_office(office));
-    put_card(alloc, &mut machine, book)?;
-    Ok(machine)
+    match put_card(alloc, &mut machine, book) {
+        Ok(()) => Ok(machine),
+        Err(fault) => {
+            drop(machine);
+            Err(fault)
+        }
+    }
 }
 
 /// Whether a reply has the text of a card.
@@ -205,7 +212,10 @@ fn may_read(
     refusals_change_nothing();
     let request = read_card(alloc, book)?;
     let reply = serve_in(alloc, machine, person, &request);
-    match reading(&reply) {
+    drop(request);
+    let told = reading(&reply);
+    drop(reply);
+    match told {
         Some(may) => Ok(may),
         None => Err(StoreFault::Memory),
     }
@@ -224,14 +234,17 @@ fn acts(
 {
     let request = request_of(alloc, &mut machine.keeper, person, step)?;
     let reply = serve_in(alloc, machine, person, &request);
-    if reply.status >= 300 {
+    drop(request);
+    let status = reply.status;
+    drop(reply);
+    if status >= 300 {
         return Ok(false);
     }
     Ok(true)
 }
 
 /// Serves the requests of one step, or of two, and tells whether each was a success.
-fn leads(
+pub(crate) fn leads(
     alloc: Global,
     machine: &mut Machine<MemoryKeeper>,
     person: &Name,
@@ -290,5 +303,7 @@ pub(crate) fn is_opening(
     ensures kept { IsSound start.old → start.new ≡ start.old }
 {
     let mut machine = trial(alloc, start, &opening.book)?;
-    opens_from(alloc, &mut machine, opening)
+    let opens = opens_from(alloc, &mut machine, opening);
+    drop(machine);
+    opens
 }

@@ -1,9 +1,9 @@
 use Rattle.book_policy_openings.proofs.Finding.{adds_none, adds_one}
 use Rattle.book_policy_openings.proofs.searching.add_served.Goals as goal
 
-pub returns-then-not-opens-clause-added : goal.returns-then-not-opens-clause-added
-returns-then-not-opens-clause-added c = λ sound. adds_none c.args.start.now c.args.told.now
+pub returns-in-Ok-false-clause-added : goal.returns-in-Ok-false-clause-added
+returns-in-Ok-false-clause-added c = λ sound. adds_none c.args.start.now c.args.told.now
 
-pub returns-clause-added : goal.returns-clause-added
-returns-clause-added c = λ sound.
-    adds_one c.args.start.now c.args.told.now c.push.new.self c.args.opening (c.in_ok-opens.ensures.opens c.if-not-opens.false sound) c.in_ok-push.ensures.ok
+pub returns-in_ok-push-in-Ok-true-clause-added : goal.returns-in_ok-push-in-Ok-true-clause-added
+returns-in_ok-push-in-Ok-true-clause-added c = λ sound.
+    adds_one c.args.start.now c.args.told.now c.push.new.self c.args.opening (c.in-Ok-true.ensures.opens c.in-Ok-true.field-0-test sound) c.in_ok-push-in-Ok-true.ensures.ok

@@ -10,7 +10,7 @@ returns-clause-acted c = λ agreed sound.
       c.in_ok-request.request,
       c.serve_in-reply.result,
       c.in_ok-request.ensures.request sound,
-      c.if-reply-ge300.false,
+      c.if-status-ge300.false,
       subst (λ (o : Office). Serves o (Some c.args.person.now) c.in_ok-request.request c.serve_in-reply.result c.serve_in-reply.new.machine.keeper) same
           (c.serve_in-reply.ensures.served (subst IsSound (sym same) sound)),
     )

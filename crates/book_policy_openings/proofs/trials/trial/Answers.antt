@@ -7,13 +7,13 @@ use Rattle.book_office_values.specs.declared.offices.Office.{Office}
 use Rattle.book_policy_openings.specs.Openings.{trial_card}
 use Rattle.book_policy_openings.proofs.trials.trial.Goals as goal
 
-pub returns-clause-office : goal.returns-clause-office
-returns-clause-office c = λ sound.
+pub returns-in-Ok-clause-office : goal.returns-in-Ok-clause-office
+returns-in-Ok-clause-office c = λ sound.
     let start : c.new-machine.result.keeper ≡ bare c.args.start.now = c.new-machine.ensures ∙ c.from_office.ensures ∙ c.in_ok-office.ensures.bare sound in
     let still = subst IsSound (sym start) (bare_sound c.args.start.now sound) in
-    c.in_ok-put_card.ensures.office still ∙ ap (λ (o : Office). apply o (trial_card c.args.book.now)) start
+    c.in-Ok.ensures.office still ∙ ap (λ (o : Office). apply o (trial_card c.args.book.now)) start
 
-pub returns-clause-sound : goal.returns-clause-sound
-returns-clause-sound c = λ sound.
+pub returns-in-Ok-clause-sound : goal.returns-in-Ok-clause-sound
+returns-in-Ok-clause-sound c = λ sound.
     let start : c.new-machine.result.keeper ≡ bare c.args.start.now = c.new-machine.ensures ∙ c.from_office.ensures ∙ c.in_ok-office.ensures.bare sound in
-    c.in_ok-put_card.ensures.sound (subst IsSound (sym start) (bare_sound c.args.start.now sound))
+    c.in-Ok.ensures.sound (subst IsSound (sym start) (bare_sound c.args.start.now sound))
