@@ -1,3 +1,4 @@
 pub mod Warnings
 pub mod Sentences
 pub mod Telling
+pub mod Laws

@@ -1,20 +1,25 @@
 -- The lines that tell warnings (own profile).
 use Rattle.std.specs.Prelude.{ℕ, zero, suc, Bool, true, false, ◌++◌, ◌-◌, List, [], length, take, codes, decimal, Option, Some, None}
 use Rattle.std.specs.List.{flat_map}
+use Rattle.book_rights.specs.declared.privileges.Leaf.{Leaf}
 use Rattle.book_lists.specs.Principals.{group_path, person_path}
 use Rattle.book_lists.specs.declared.entries.Who.{Who}
 use Rattle.book_lists.specs.declared.entries.Who.TheVariants.{Href, Everyone, Authenticated, Unauthenticated, Owner, Own}
+use Rattle.book_lists_explain.specs.Answers.{spaced}
+use Rattle.book_lists_explain.specs.ShortNames.{short_list}
 use Rattle.book_office_values.specs.Paths.{path_text}
+use Rattle.book_office_values.specs.declared.paths.Path.{Path}
 use Rattle.book_policy_gaps.specs.Lines.{gap_line}
 use Rattle.book_policy_idle.specs.declared.idle.IdleEntry.{IdleEntry}
 use Rattle.book_policy_idle.specs.declared.reasons.Ahead.{Ahead}
 use Rattle.book_policy_idle.specs.declared.reasons.Reason.{Reason}
 use Rattle.book_policy_idle.specs.declared.reasons.Reason.TheVariants.{ForNobody, BehindOne, BehindSeveral, DecidedAlike}
+use Rattle.book_policy_openings.specs.declared.gains.Gain.{Gain}
 use Rattle.book_policy_openings.specs.declared.openings.Opening.{Opening}
 use Rattle.book_policy_openings.specs.declared.steps.Step.{Step}
 use Rattle.book_policy_openings.specs.declared.steps.Step.TheVariants.{Join, Grant}
 use Rattle.book_policy_warnings.specs.declared.warnings.Warning.{Warning}
-use Rattle.book_policy_warnings.specs.declared.warnings.Warning.TheVariants.{NeverDecides, LeavesOpen, Opens}
+use Rattle.book_policy_warnings.specs.declared.warnings.Warning.TheVariants.{NeverDecides, LeavesOpen, Opens, Gets}
 
 -- the request of a step: whom it adds to a group, or what it grants
 abbrev pub step_text : List ℕ → Step → List ℕ
@@ -33,6 +38,24 @@ abbrev pub opening_line : Opening → List ℕ
 opening_line opening =
     opening.person ++ (codes ": " ++ (step_text opening.person opening.first ++ (second_text opening.person opening.second
     ++ granted_text opening.book)))
+
+-- leaves by their short names, to the end of the line
+abbrev pub leaves_text : (Leaf → Bool) → List ℕ
+leaves_text leaves = flat_map spaced (short_list leaves) ++ codes "\n"
+
+-- where they are granted then
+abbrev pub then_text : Path → List ℕ
+then_text p = codes "; then at " ++ (path_text p ++ codes " is granted:")
+
+-- where leaves are granted then, and which
+abbrev pub gained_text : Path → (Leaf → Bool) → List ℕ
+gained_text p leaves = then_text p ++ leaves_text leaves
+
+-- who, by which requests, and what is granted then
+abbrev pub gain_line : Gain → List ℕ
+gain_line gain =
+    gain.person ++ (codes ": " ++ (step_text gain.person gain.first ++ (second_text gain.person gain.second
+    ++ gained_text gain.at gain.leaves)))
 
 -- the text of a principal form
 abbrev pub who_text : Who → List ℕ
@@ -71,6 +94,7 @@ abbrev pub warning_line : Warning → List ℕ
 warning_line (NeverDecides idle) = idle_line idle
 warning_line (LeavesOpen gap) = gap_line gap
 warning_line (Opens opening) = opening_line opening
+warning_line (Gets gain) = gain_line gain
 
 abbrev pub warning_lines : List Warning → List ℕ
 warning_lines warnings = flat_map warning_line warnings

@@ -3,19 +3,23 @@
 ghost use Rattle.std.specs.Prelude.{◌≡◌, ◌++◌, IfErr, IfOk, OnOk, string_bytes, ◌-◌};
 ghost use Rattle.book_lists.specs.Principals.{group_path, person_path};
 ghost use Rattle.book_office.specs.Sound.{IsSound};
+ghost use Rattle.book_office_values.specs.Paths.{path_text};
 ghost use Rattle.book_policy_gaps.specs.Finding.{AreGaps};
 ghost use Rattle.book_policy_openings.specs.Openings.{IsRefused};
-ghost use Rattle.book_policy_warnings.specs.Warnings.{AreWarningsIn, AreWarningsOf, AreWarningsOver, gap_warnings, idle_warnings, opening_warnings};
-ghost use Rattle.book_policy_warnings.specs.Sentences.{ahead_text, granted_text, idle_line, list_text, more_line, opening_line, place_text, reason_text, second_text, step_text, warning_line, warning_lines, warnings_text, who_text};
+ghost use Rattle.book_policy_warnings.specs.Warnings.{AreWarningsIn, AreWarningsOf, AreWarningsOver, gain_warnings, gap_warnings, idle_warnings, opening_warnings};
+ghost use Rattle.book_policy_warnings.specs.Sentences.{ahead_text, gain_line, gained_text, granted_text, idle_line, leaves_text, list_text, more_line, opening_line, place_text, reason_text, second_text, step_text, then_text, warning_line, warning_lines, warnings_text, who_text};
 
 use book_lists::{Name, Who};
+use book_lists_explain::short_privileges;
 use book_machine::AdoptFault;
 use book_office::{MemoryKeeper, StoreFault};
-use book_office_values::{Items, Office};
+use book_office_values::{Items, Office, Path};
 use book_policy_gaps::{Gap, gaps_of, push_gap_line};
 use book_policy_idle::{Ahead, IdleEntry, Reason, idle_entries};
-use book_policy_openings::{Opening, Step, adopted, adopted_over, openings_in};
+use book_policy_openings::{Gain, Opening, Step, adopted, adopted_over, gains_in, openings_in};
 use book_policy_values::Policy;
+use book_questions::push_names;
+use book_rights::LeafSet;
 use std::alloc::{AllocError, Global};
 
 /// The most warnings that are told, each by a line.
@@ -30,6 +34,8 @@ pub enum Warning {
     LeavesOpen(Gap),
     /// A person may open a book that is closed to them.
     Opens(Opening),
+    /// A person may get leaves at a resource.
+    Gets(Gain),
 }
 
 /// Adds two texts.
@@ -112,6 +118,57 @@ fn push_opening(text: &mut String, opening: &Opening) -> Result<(), AllocError>
     push_step(text, &opening.person, &opening.first)?;
     push_second(text, &opening.person, &opening.second)?;
     push_granted(text, &opening.book)
+}
+
+/// Adds the short names of leaves, and ends the line.
+fn push_leaves(alloc: Global, text: &mut String, leaves: LeafSet) -> Result<(), AllocError>
+    ensures { OnOk result (string_bytes text.new ≡ string_bytes text.old ++ leaves_text leaves) }
+{
+    let names = short_privileges(alloc, leaves)?;
+    push_names(text, names.as_slice())?;
+    text.push_str("\n")
+}
+
+/// Adds the text of a path, and what is said of it.
+fn push_at(text: &mut String, at: &Path, said: &str) -> Result<(), AllocError>
+    ensures { OnOk result (string_bytes text.new ≡
+        string_bytes text.old ++ (path_text at.now ++ said.now)) }
+{
+    at.push_text(text)?;
+    text.push_str(said)
+}
+
+/// Adds where leaves are granted then.
+fn push_then(text: &mut String, at: &Path) -> Result<(), AllocError>
+    ensures { OnOk result (string_bytes text.new ≡ string_bytes text.old ++ then_text at.now) }
+{
+    text.push_str("; then at ")?;
+    push_at(text, at, " is granted:")
+}
+
+/// Adds where leaves are granted then, and which.
+fn push_gained(
+    alloc: Global,
+    text: &mut String,
+    at: &Path,
+    leaves: LeafSet,
+) -> Result<(), AllocError>
+    ensures { OnOk result (string_bytes text.new ≡
+        string_bytes text.old ++ gained_text at.now leaves) }
+{
+    push_then(text, at)?;
+    push_leaves(alloc, text, leaves)
+}
+
+/// Adds the line of a gain.
+fn push_gain(alloc: Global, text: &mut String, gain: &Gain) -> Result<(), AllocError>
+    ensures { OnOk result (string_bytes text.new ≡ string_bytes text.old ++ gain_line gain.now) }
+{
+    text.push_str(gain.person.text())?;
+    text.push_str(": ")?;
+    push_step(text, &gain.person, &gain.first)?;
+    push_second(text, &gain.person, &gain.second)?;
+    push_gained(alloc, text, &gain.at, gain.leaves)
 }
 
 /// The text of a principal form.
@@ -201,6 +258,7 @@ impl Warning {
             Warning::NeverDecides(idle) => push_idle(alloc, text, idle),
             Warning::LeavesOpen(gap) => push_gap_line(text, gap),
             Warning::Opens(opening) => push_opening(text, opening),
+            Warning::Gets(gain) => push_gain(alloc, text, gain),
         }
     }
 }
@@ -268,6 +326,16 @@ fn add_openings(openings: Items<Opening>, warnings: &mut Items<Warning>) -> Resu
     Ok(())
 }
 
+/// Adds gains.
+fn add_gains(gains: Items<Gain>, warnings: &mut Items<Warning>) -> Result<(), AllocError>
+    ensures { OnOk result (warnings.new ≡ warnings.old ++ gain_warnings gains) }
+{
+    for gain in gains.into_vec() {
+        warnings.push(Warning::Gets(gain))?;
+    }
+    Ok(())
+}
+
 /// The plain facts of an Office in memory. An error is want of memory.
 fn gaps_in(alloc: Global, keeper: &mut MemoryKeeper) -> Result<Items<Gap>, StoreFault>
     ensures gaps { IfOk result (λ gaps. IsSound keeper.old → AreGaps keeper.old gaps) }
@@ -288,16 +356,18 @@ fn warnings_in(
     let idle = idle_entries(alloc, policy)?;
     let gaps = gaps_in(alloc, keeper)?;
     let openings = openings_in(alloc, keeper)?;
+    let gains = gains_in(alloc, keeper)?;
     let mut warnings = Items::new(alloc);
     add_idle(idle, &mut warnings)?;
     add_gaps(gaps, &mut warnings)?;
     add_openings(openings, &mut warnings)?;
+    add_gains(gains, &mut warnings)?;
     Ok(warnings)
 }
 
 /// What a policy leaves open (own profile): exactly the entries that change no decision, in order, and why
 /// (`idle_entries`); then exactly the plain facts of the Office that it makes of an empty one (`gaps_of`); and then who may
-/// open what is closed, each with its witness. That no opening is told is no promise.
+/// open what is closed, and who may get leaves at a resource, each with its witness. That none is told is no promise.
 ///
 /// # Errors
 ///

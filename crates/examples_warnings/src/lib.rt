@@ -8,6 +8,8 @@ mod comparing;
 #[cfg(test)]
 mod copies;
 #[cfg(test)]
+mod gains;
+#[cfg(test)]
 mod idle_entries;
 #[cfg(test)]
 mod openings;
