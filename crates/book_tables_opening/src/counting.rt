@@ -8,11 +8,7 @@ use std::collections::BTreeMap;
 
 /// Whether no key is there more often than so many times. It takes a number of comparisons that grows as the number of
 /// keys times its logarithm. An error is want of memory.
-pub(crate) fn are_at_most(
-    alloc: Global,
-    limit: usize,
-    keys: &[(i64, i64)],
-) -> Result<bool, AllocError>
+pub fn are_at_most(alloc: Global, limit: usize, keys: &[(i64, i64)]) -> Result<bool, AllocError>
     ensures { IfOk result (λ are. IsTrue are ↔ AreAtMost limit keys.now) }
 {
     let mut counts: BTreeMap<(i64, i64), usize> = BTreeMap::new(alloc);

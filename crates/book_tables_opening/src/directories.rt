@@ -13,7 +13,7 @@ use std::collections::BTreeMap;
 use std::marker::Model;
 
 /// The text in a column, if it has one.
-pub(crate) fn text_at(row: &Row, at: usize) -> Option<&[u8]>
+pub fn text_at(row: &Row, at: usize) -> Option<&[u8]>
     ensures { option_copied result ≡ text_in (column row.now at) }
 {
     match row.get_ref(at) {
@@ -55,7 +55,7 @@ fn places_by_number(alloc: Global, rows: &[Row]) -> Result<BTreeMap<i64, usize>,
 /// The rows of all nodes, as a whole read shows them, with their places by path and by number. A contract sees the
 /// rows.
 #[derive(Drop)]
-pub(crate) struct Directory {
+pub struct Directory {
     rows: Vec<Row>,
     by_path: BTreeMap<Vec<u8>, usize>,
     by_number: BTreeMap<i64, usize>,
@@ -75,7 +75,7 @@ impl Model for Directory {
 
 impl Directory {
     /// The directory of rows. An error is want of memory.
-    pub(crate) fn new(alloc: Global, rows: Vec<Row>) -> Result<Directory, AllocError>
+    pub fn new(alloc: Global, rows: Vec<Row>) -> Result<Directory, AllocError>
         ensures { IfOk result (λ directory. directory ≡ rows.items) }
     {
         let by_path = places_by_path(alloc, &rows)?;
@@ -88,28 +88,28 @@ impl Directory {
     }
 
     /// All rows.
-    pub(crate) fn rows(&self) -> &[Row]
+    pub fn rows(&self) -> &[Row]
         ensures { result.now ≡ self.now }
     {
         &self.rows
     }
 
     /// The first row with a path. Takes no memory.
-    pub(crate) fn at(&self, path: &[u8]) -> Option<&Row>
+    pub fn at(&self, path: &[u8]) -> Option<&Row>
         ensures { option_copied result ≡ first_shown_at self.now path.now }
     {
         self.rows.get(*self.by_path.get(path)?)
     }
 
     /// The first row with a number. Takes no memory.
-    pub(crate) fn numbered(&self, id: &i64) -> Option<&Row>
+    pub fn numbered(&self, id: &i64) -> Option<&Row>
         ensures { option_copied result ≡ node_numbered self.now id.now }
     {
         self.rows.get(*self.by_number.get(id)?)
     }
 
     /// The row whose number stands in a column. Takes no memory.
-    pub(crate) fn of(&self, row: &Row, at: usize) -> Option<&Row>
+    pub fn of(&self, row: &Row, at: usize) -> Option<&Row>
         ensures { option_copied result ≡ shown_with self.now (column row.now at) }
     {
         match row.get_ref(at) {

@@ -14,7 +14,7 @@ use sqlite::Row;
 use sqlite::types::ValueRef;
 
 /// Whether the entry is in the protected list.
-fn is_protected(row: &Row) -> bool
+pub fn is_protected(row: &Row) -> bool
     ensures { result ≡ flag_in (shown_protected row.now) }
 {
     matches!(row.get_ref(1), Ok(ValueRef::Int(1)))
@@ -32,7 +32,7 @@ fn is_placed(directory: &Directory, row: &Row) -> bool
 
 /// Whether the entry is in one of the two lists of its node, and is spelled in the one way.
 #[tactic(auto, using(crate::proofs::OneSpelling::entry_is, crate::proofs::OneSpelling::entry_passes))]
-fn is_spelled_entry(row: &Row) -> bool
+pub fn is_spelled_entry(row: &Row) -> bool
     ensures { IsTrue result ↔ IsSpelledEntry row.now }
 {
     is_entry(row)

@@ -15,7 +15,7 @@ use std::alloc::{AllocError, Global};
 
 /// Whether the bytes are a name. An error is want of memory.
 #[tactic(auto, using(crate::proofs::AsciiPaths::name_is_utf8))]
-fn is_name(alloc: Global, bytes: &[u8]) -> Result<bool, AllocError>
+pub fn is_name(alloc: Global, bytes: &[u8]) -> Result<bool, AllocError>
     ensures { IfOk result (λ is. IsTrue is ↔ IsName bytes.now) }
 {
     let Ok(text) = std::str::from_utf8(bytes) else {
@@ -25,7 +25,7 @@ fn is_name(alloc: Global, bytes: &[u8]) -> Result<bool, AllocError>
 }
 
 /// Whether no row has the path of a card with a name in the book at a path. An error is want of memory.
-fn is_free(
+pub fn is_free(
     alloc: Global,
     directory: &Directory,
     book: &[u8],

@@ -1,6 +1,6 @@
 //! What is counted together: the keys of entries, members, cards and changes.
 
-ghost use Rattle.std.specs.Prelude.{◌≡◌, ◌↔◌, ◌≤◌, IsTrue, IfOk, length, filter};
+ghost use Rattle.std.specs.Prelude.{◌≡◌, ◌↔◌, pos, ◌≤◌, IsTrue, IfOk, length, filter};
 ghost use Rattle.std.specs.List.{AllByRecursion};
 ghost use Rattle.sqlite.specs.Edit.{id_in};
 ghost use Rattle.sqlite.specs.Order.{column};
@@ -8,6 +8,7 @@ ghost use Rattle.book_limits.specs.declared.TheConstants.{MAX_BOOKS};
 ghost use Rattle.book_tables_opening.specs.Directories as nodes;
 ghost use Rattle.book_tables_opening.specs.Opening as keys;
 ghost use Rattle.book_tables_opening.specs.Opening.{IsWithinBook};
+ghost use Rattle.book_tables_opening.specs.Shown.{shown_node, shown_parent, shown_protected};
 
 use crate::directories::Directory;
 use crate::principal_tests::is_of_kind;
@@ -17,7 +18,7 @@ use sqlite::types::ValueRef;
 use std::alloc::{AllocError, Global};
 
 /// The whole number in a column; 0 where there is none.
-pub(crate) fn int_at(row: &Row, at: usize) -> i64
+pub fn int_at(row: &Row, at: usize) -> i64
     ensures { result ≡ id_in (column row.now at) }
 {
     match row.get_ref(at) {
@@ -26,13 +27,20 @@ pub(crate) fn int_at(row: &Row, at: usize) -> i64
     }
 }
 
+/// The node of an entry, and whether it is protected.
+fn list_key(row: &Row) -> (i64, i64)
+    ensures { result ≡ (id_in (shown_node row.now), id_in (shown_protected row.now)) }
+{
+    (int_at(row, 0), int_at(row, 1))
+}
+
 /// Of each entry, its node and whether it is protected. An error is want of memory.
 pub(crate) fn list_keys(alloc: Global, entries: &[Row]) -> Result<Vec<(i64, i64)>, AllocError>
     ensures { IfOk result (λ found. found.items ≡ keys.list_keys entries.now) }
 {
     let mut found = Vec::with_capacity(alloc, entries.len())?;
     for row in entries {
-        found.push((int_at(row, 0), int_at(row, 1)))?;
+        found.push(list_key(row))?;
     }
     Ok(found)
 }
@@ -51,6 +59,13 @@ fn group_of(directory: &Directory, row: &Row) -> i64
     }
 }
 
+/// The group of a member, and 0.
+fn group_key(directory: &Directory, row: &Row) -> (i64, i64)
+    ensures { result ≡ (keys.group_key directory.now row.now, pos 0) }
+{
+    (group_of(directory, row), 0)
+}
+
 /// Of each member, its group. An error is want of memory.
 pub(crate) fn group_keys(
     alloc: Global,
@@ -61,9 +76,16 @@ pub(crate) fn group_keys(
 {
     let mut found = Vec::with_capacity(alloc, members.len())?;
     for row in members {
-        found.push((group_of(directory, row), 0))?;
+        found.push(group_key(directory, row))?;
     }
     Ok(found)
+}
+
+/// The book of a card, and 0.
+fn card_key(row: &Row) -> (i64, i64)
+    ensures { result ≡ (id_in (shown_parent row.now), pos 0) }
+{
+    (int_at(row, 2), 0)
 }
 
 /// Of each card, its book. An error is want of memory.
@@ -74,7 +96,7 @@ pub(crate) fn card_keys(alloc: Global, directory: &Directory) -> Result<Vec<(i64
     let mut found = Vec::new(alloc);
     for row in rows {
         if is_of_kind(row, 5) {
-            found.push((int_at(row, 2), 0))?;
+            found.push(card_key(row))?;
         }
     }
     Ok(found)
@@ -101,19 +123,26 @@ fn card_changes(alloc: Global, directory: &Directory) -> Result<Vec<(i64, i64)>,
     Ok(found)
 }
 
+/// The book of a removed name and its change number.
+fn gone_change(row: &Row) -> (i64, i64)
+    ensures { result ≡ keys.gone_change row.now }
+{
+    (int_at(row, 0), int_at(row, 2))
+}
+
 /// Of each removed name, its book and its change number. An error is want of memory.
 fn gone_changes(alloc: Global, gone: &[Row]) -> Result<Vec<(i64, i64)>, AllocError>
     ensures { IfOk result (λ found. found.items ≡ keys.gone_changes gone.now) }
 {
     let mut found = Vec::with_capacity(alloc, gone.len())?;
     for row in gone {
-        found.push((int_at(row, 0), int_at(row, 2)))?;
+        found.push(gone_change(row))?;
     }
     Ok(found)
 }
 
 /// Of each card and of each removed name, its book and its change number. An error is want of memory.
-pub(crate) fn change_keys(
+pub fn change_keys(
     alloc: Global,
     directory: &Directory,
     gone: &[Row],
@@ -137,7 +166,7 @@ fn is_within(directory: &Directory, key: &(i64, i64)) -> bool
 }
 
 /// Whether the number of each key is from 1 to that of its book, which is there.
-pub(crate) fn are_within(directory: &Directory, found: &[(i64, i64)]) -> bool
+pub fn are_within(directory: &Directory, found: &[(i64, i64)]) -> bool
     ensures { IsTrue result ↔ AllByRecursion (IsWithinBook directory.now) found.now }
 {
     for key in found {
@@ -149,7 +178,7 @@ pub(crate) fn are_within(directory: &Directory, found: &[(i64, i64)]) -> bool
 }
 
 /// Whether there are no more books than may be.
-pub(crate) fn are_few_books(directory: &Directory) -> bool
+pub fn are_few_books(directory: &Directory) -> bool
     ensures { IsTrue result ↔ (length (filter (nodes.is_of_kind 4) directory.now) ≤ MAX_BOOKS) }
 {
     let rows = directory.rows();

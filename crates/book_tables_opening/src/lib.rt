@@ -6,7 +6,8 @@
 //! is open and stands for that Office, a stop just after leaves it alone, and what it shows is what the last commit left,
 //! but for `reach`, which holds what chains of the direct members lead to; where it answers `OtherVersion` or `NoStore`,
 //! what the last commit left stands for no Office. For the migration of an older store it has the parts of `open` that are asked of one: `settle_office` in a
-//! transaction, `tells_other` and `open_fault_of`.
+//! transaction, `tells_other` and `open_fault_of`; and for the crate that tells which row is at fault it has the tests of
+//! one row, or of one limit, each of which tells exactly whether a condition of `AreOfficeRows` is met.
 //!
 //! Read `specs/Opening` first: `AreOfficeRows`, the conditions that the rows of the five tables have to meet, as whole
 //! reads show them. They are met exactly where the rows give an Office that is sound. Then `specs/Directories`, how
@@ -33,4 +34,16 @@ mod spelling_tests;
 mod text_tests;
 mod whole_nodes;
 
-pub use opening::{is_office, open, open_fault_of, settle_office, tells_other};
+pub use counting::are_at_most;
+pub use directories::{Directory, text_at};
+pub use entry_tests::{is_protected, is_spelled_entry};
+pub use gone_tests::{is_free, is_name};
+pub use keys::{are_few_books, are_within, change_keys, int_at};
+pub use limit_tests::{are_short_lists, are_small_books, are_small_groups};
+pub use meta_tests::are_meta;
+pub use node_tests::{has_change_number, has_kind, has_label, has_natural, is_below, path_at};
+pub use opening::{is_office, make_anew, open, open_fault_of, settle_office, tells_other};
+pub use principal_tests::{has_group, has_principal, is_of_kind, knows};
+pub use reading::{StoreRows, read_tables};
+pub use spelling_tests::is_natural;
+pub use text_tests::has_own_text;

@@ -13,7 +13,7 @@ use sqlite::Row;
 use std::alloc::{AllocError, Global};
 
 /// Whether no list has more entries than may be. An error is want of memory.
-fn are_short_lists(alloc: Global, entries: &[Row]) -> Result<bool, AllocError>
+pub fn are_short_lists(alloc: Global, entries: &[Row]) -> Result<bool, AllocError>
     ensures { IfOk result (λ are. IsTrue are ↔ AreAtMost MAX_ENTRIES (keys.list_keys entries.now)) }
 {
     let found = list_keys(alloc, entries)?;
@@ -21,7 +21,7 @@ fn are_short_lists(alloc: Global, entries: &[Row]) -> Result<bool, AllocError>
 }
 
 /// Whether no group has more direct members than may be. An error is want of memory.
-fn are_small_groups(
+pub fn are_small_groups(
     alloc: Global,
     directory: &Directory,
     members: &[Row],
@@ -34,7 +34,7 @@ fn are_small_groups(
 }
 
 /// Whether no book has more cards than may be. An error is want of memory.
-fn are_small_books(alloc: Global, directory: &Directory) -> Result<bool, AllocError>
+pub fn are_small_books(alloc: Global, directory: &Directory) -> Result<bool, AllocError>
     ensures { IfOk result (λ are. IsTrue are ↔ AreAtMost MAX_CARDS (keys.card_keys directory.now)) }
 {
     let found = card_keys(alloc, directory)?;

@@ -18,7 +18,7 @@ fn is_meta(row: &Row) -> bool
 }
 
 /// Whether there is one row, with version 2 and an epoch up to the last one.
-pub(crate) fn are_meta(rows: &[Row]) -> bool
+pub fn are_meta(rows: &[Row]) -> bool
     ensures { IsTrue result ↔ IsMetaRows rows.now }
 {
     match rows {

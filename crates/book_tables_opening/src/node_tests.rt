@@ -42,7 +42,7 @@ fn is_text(alloc: Global, path: &Path, bytes: &[u8]) -> Result<bool, AllocError>
 
 #[tactic(auto, using(crate::proofs::PathRows::not_utf8, crate::proofs::PathRows::slashed))]
 /// The path whose text stands in a row, if it is one's. An error is want of memory.
-fn path_at(alloc: Global, row: &Row) -> Result<Option<Path>, AllocError>
+pub fn path_at(alloc: Global, row: &Row) -> Result<Option<Path>, AllocError>
     ensures found { IfOk result (λ found. IfSome found
         (λ p. IsPath p × (shown_path row.now ≡ Text (path_text p)))) }
     ensures none { IfOk result (λ found. IfNone found (HasNoPath (shown_path row.now))) }
@@ -83,7 +83,7 @@ fn has_number_of(directory: &Directory, path: &[u8], row: &Row, at: usize) -> bo
 }
 
 /// Whether the row stands under the row of the path above; the root under none. An error is want of memory.
-fn is_below(
+pub fn is_below(
     alloc: Global,
     directory: &Directory,
     path: &Path,
@@ -116,7 +116,7 @@ fn code_of(kind: Kind) -> u8
 }
 
 /// Whether the row has the code of a kind.
-fn has_kind(kind: Kind, row: &Row) -> bool
+pub fn has_kind(kind: Kind, row: &Row) -> bool
     ensures { IsTrue result ↔ (shown_kind row.now ≡ Int (pos (kind_code kind))) }
 {
     let code = i64::from(code_of(kind));
@@ -146,7 +146,7 @@ fn is_label(label: &[u8]) -> bool
 }
 
 /// Whether the row's label is one; without a text it is empty.
-fn has_label(row: &Row) -> bool
+pub fn has_label(row: &Row) -> bool
     ensures { IsTrue result ↔ IsLabel (unwrap_or (text_in (shown_label row.now)) []) }
 {
     match text_at(row, 5) {
@@ -166,7 +166,7 @@ fn number_of(row: &Row) -> u64
 }
 
 /// Whether the change number is one of the kind.
-fn has_change_number(kind: Kind, row: &Row) -> bool
+pub fn has_change_number(kind: Kind, row: &Row) -> bool
     ensures { IsTrue result ↔ IsChangeNumber kind (number_in (shown_number row.now)) }
 {
     match kind {
@@ -177,7 +177,7 @@ fn has_change_number(kind: Kind, row: &Row) -> bool
 }
 
 /// Whether the change number is a natural number.
-fn has_natural(row: &Row) -> bool
+pub fn has_natural(row: &Row) -> bool
     ensures { IsTrue result ↔ (shown_number row.now ≡ Int
         (pos (number_in (shown_number row.now)))) }
 {

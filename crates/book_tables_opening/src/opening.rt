@@ -112,7 +112,7 @@ pub fn settle_office<S: Alter>(
 }
 
 /// Makes `reach`, without rows, where there is none, or one of other columns, which is taken away.
-fn make_anew<S: Alter>(transaction: &mut Transaction<'_, S>) -> Result<(), Error>
+pub fn make_anew<S: Alter>(transaction: &mut Transaction<'_, S>) -> Result<(), Error>
     ensures same_reference { transaction.new.conn.ghost_name ≡ transaction.old.conn.ghost_name }
     ensures survives { Survives (state S.Store transaction.old.conn.now)
         (state S.Store transaction.new.conn.now) (λ _. ⊥) }

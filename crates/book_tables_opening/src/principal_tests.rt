@@ -11,7 +11,7 @@ use sqlite::Row;
 use sqlite::types::ValueRef;
 
 /// Whether the row of a node has the kind with a code.
-pub(crate) fn is_of_kind(row: &Row, code: u8) -> bool
+pub fn is_of_kind(row: &Row, code: u8) -> bool
     requires { 0 < code }
     ensures { result ≡ nodes.is_of_kind code row.now }
 {
@@ -19,7 +19,7 @@ pub(crate) fn is_of_kind(row: &Row, code: u8) -> bool
 }
 
 /// Whether a person or a group has the path.
-pub(crate) fn has_principal(directory: &Directory, path: &[u8]) -> bool
+pub fn has_principal(directory: &Directory, path: &[u8]) -> bool
     ensures { IsTrue result ↔ HasPrincipal directory.now path.now }
 {
     match directory.at(path) {
@@ -29,7 +29,7 @@ pub(crate) fn has_principal(directory: &Directory, path: &[u8]) -> bool
 }
 
 /// Whether a group has the path.
-pub(crate) fn has_group(directory: &Directory, path: &[u8]) -> bool
+pub fn has_group(directory: &Directory, path: &[u8]) -> bool
     ensures { IsTrue result ↔ HasGroup directory.now path.now }
 {
     match directory.at(path) {
@@ -39,7 +39,7 @@ pub(crate) fn has_group(directory: &Directory, path: &[u8]) -> bool
 }
 
 /// Whether the principal that a column names is there, if it names one.
-pub(crate) fn knows(directory: &Directory, row: &Row, at: usize) -> bool
+pub fn knows(directory: &Directory, row: &Row, at: usize) -> bool
     ensures { IsTrue result ↔ IsKnown directory.now (text_in (column row.now at)) }
 {
     match row.get_ref(at) {

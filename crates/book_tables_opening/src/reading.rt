@@ -13,10 +13,10 @@ use sqlite::{Alter, Error, Row, Transaction};
 
 /// The rows of all five tables, those of nodes without their texts.
 #[derive(Drop)]
-pub(crate) struct StoreRows {
-    pub(crate) nodes: Vec<Row>,
-    pub(crate) lists: (Vec<Row>, Vec<Row>),
-    pub(crate) rest: (Vec<Row>, Vec<Row>),
+pub struct StoreRows {
+    pub nodes: Vec<Row>,
+    pub lists: (Vec<Row>, Vec<Row>),
+    pub rest: (Vec<Row>, Vec<Row>),
 }
 
 /// The rows of entries and of members.
@@ -56,9 +56,7 @@ fn read_rest<S: Alter>(transaction: &mut Transaction<'_, S>) -> Result<(Vec<Row>
 }
 
 /// The rows of all five tables: of nodes, without their texts, in order of the numbers of their rows, of the others in some order.
-pub(crate) fn read_tables<S: Alter>(
-    transaction: &mut Transaction<'_, S>,
-) -> Result<StoreRows, Error>
+pub fn read_tables<S: Alter>(transaction: &mut Transaction<'_, S>) -> Result<StoreRows, Error>
     ensures same_reference { transaction.new.conn.ghost_name ≡ transaction.old.conn.ghost_name }
     ensures survives { Survives (state S.Store transaction.old.conn.now)
         (state S.Store transaction.new.conn.now) (λ _. ⊥) }

@@ -8,7 +8,8 @@ ghost use Rattle.book_tables_opening.specs.Shown.{shown_form, shown_principal};
 use sqlite::Row;
 use sqlite::types::ValueRef;
 
-pub(crate) fn is_natural(row: &Row, at: usize) -> bool
+/// Whether the column is a natural number.
+pub fn is_natural(row: &Row, at: usize) -> bool
     ensures { result ≡ tests.is_natural (column row.now at) }
 {
     matches!(row.get_ref(at), Ok(ValueRef::Int(number)) if number >= 0)

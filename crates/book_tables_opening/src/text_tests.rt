@@ -56,7 +56,10 @@ fn shows_own_text(node: &Row, found: &[Row]) -> bool
 
 /// Whether the node with a row's number has the text of the row's kind: a card UTF-8 of no more bytes than a text may
 /// have, another node none.
-fn has_own_text<S: Alter>(transaction: &mut Transaction<'_, S>, node: &Row) -> Result<bool, Error>
+pub fn has_own_text<S: Alter>(
+    transaction: &mut Transaction<'_, S>,
+    node: &Row,
+) -> Result<bool, Error>
     ensures same_reference { transaction.new.conn.ghost_name ≡ transaction.old.conn.ghost_name }
     ensures survives { Survives (state S.Store transaction.old.conn.now)
         (state S.Store transaction.new.conn.now) (λ _. ⊥) }

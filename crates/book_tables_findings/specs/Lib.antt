@@ -1,0 +1,4 @@
+pub mod Names
+pub mod Findings
+pub mod Lines
+pub mod Examining
