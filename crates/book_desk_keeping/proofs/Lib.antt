@@ -3,3 +3,4 @@ mod Names
 mod Leaving
 mod SameOffices
 mod LoadedTexts
+mod RestoredDumps

@@ -3,7 +3,7 @@ use Rattle.std.specs.Prelude.{ℕ, List, codes}
 use Rattle.book_desk_app.specs.Failures.{store_text}
 use Rattle.book_desk_app.specs.declared.failures.StoreFailure.TheVariants as stores
 use Rattle.book_desk_keeping.specs.declared.failures.KeepingFault.{KeepingFault}
-use Rattle.book_desk_keeping.specs.declared.failures.KeepingFault.TheVariants.{Line, LoadExists, LoadRefused, LoadUnknownPrincipal, LoadLastNumber, BackupExists, BackupDiffers, CopyExists, CopyRefused, CopyLastNumber, Store, Output}
+use Rattle.book_desk_keeping.specs.declared.failures.KeepingFault.TheVariants.{Line, LoadExists, LoadRefused, LoadUnknownPrincipal, LoadLastNumber, BackupExists, BackupDiffers, CopyExists, CopyRefused, CopyLastNumber, RestoreNotFound, RestoreNoParent, RestoreUnknownPrincipal, RestoreFull, RestoreLastNumber, Store, Output}
 use Rattle.book_dumps_loading.specs.declared.faults.LoadFault.{LoadFault}
 use Rattle.book_dumps_loading.specs.declared.faults.LoadFault.TheVariants as faults
 use Rattle.book_dumps_reading.specs.Faults.{fault_text}
@@ -35,6 +35,11 @@ keeping_text BackupDiffers = codes "backup: differs"
 keeping_text CopyExists = codes "copy: exists"
 keeping_text CopyRefused = codes "copy: refused"
 keeping_text CopyLastNumber = codes "copy: last-number"
+keeping_text RestoreNotFound = codes "restore: not-found"
+keeping_text RestoreNoParent = codes "restore: no-parent"
+keeping_text RestoreUnknownPrincipal = codes "restore: unknown-principal"
+keeping_text RestoreFull = codes "restore: full"
+keeping_text RestoreLastNumber = codes "restore: last-number"
 keeping_text (Store failure) = store_text failure
 keeping_text Output = codes "output: write"
 
@@ -50,5 +55,10 @@ fault_status BackupDiffers = 1
 fault_status CopyExists = 1
 fault_status CopyRefused = 3
 fault_status CopyLastNumber = 1
+fault_status RestoreNotFound = 1
+fault_status RestoreNoParent = 1
+fault_status RestoreUnknownPrincipal = 1
+fault_status RestoreFull = 1
+fault_status RestoreLastNumber = 1
 fault_status (Store failure) = 3
 fault_status Output = 3

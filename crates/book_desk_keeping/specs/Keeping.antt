@@ -10,7 +10,7 @@ use Rattle.book_desk_keeping.specs.Changes.{changed_by_all}
 use Rattle.book_desk_keeping.specs.Failures.{fault_status, keeping_text}
 use Rattle.book_desk_keeping.specs.declared.changes.Change.{Change}
 use Rattle.book_desk_keeping.specs.declared.failures.KeepingFault.{KeepingFault}
-use Rattle.book_desk_keeping.specs.declared.failures.KeepingFault.TheVariants.{Line, LoadExists, LoadRefused, LoadUnknownPrincipal, LoadLastNumber, BackupExists, BackupDiffers, CopyExists, CopyRefused, CopyLastNumber, Store, Output}
+use Rattle.book_desk_keeping.specs.declared.failures.KeepingFault.TheVariants.{Line, LoadExists, LoadRefused, LoadUnknownPrincipal, LoadLastNumber, BackupExists, BackupDiffers, CopyExists, CopyRefused, CopyLastNumber, RestoreNotFound, RestoreNoParent, RestoreUnknownPrincipal, RestoreFull, RestoreLastNumber, Store, Output}
 use Rattle.book_dumps.specs.Dumps.{dump_text}
 use Rattle.book_dumps_changes.specs.Removals.{without_removed}
 use Rattle.book_dumps_loading.specs.Loading.{IsCopy, Rests, StandsForText}
@@ -40,6 +40,11 @@ IsOfInput BackupDiffers = ⊥
 IsOfInput CopyExists = ⊥
 IsOfInput CopyRefused = ⊥
 IsOfInput CopyLastNumber = ⊥
+IsOfInput RestoreNotFound = ⊥
+IsOfInput RestoreNoParent = ⊥
+IsOfInput RestoreUnknownPrincipal = ⊥
+IsOfInput RestoreFull = ⊥
+IsOfInput RestoreLastNumber = ⊥
 IsOfInput (Store failure) = Unit {0}
 IsOfInput Output = ⊥
 
@@ -57,6 +62,11 @@ module _ {C : Type 0} (state : C → State) where
   LeavesNew fresh CopyExists back = ((state fresh).now.schema ≢ no_schema) × (back ≡ Some fresh)
   LeavesNew fresh CopyRefused back = Unit {0}
   LeavesNew fresh CopyLastNumber back = back ≡ Some fresh
+  LeavesNew fresh RestoreNotFound back = back ≡ Some fresh
+  LeavesNew fresh RestoreNoParent back = back ≡ Some fresh
+  LeavesNew fresh RestoreUnknownPrincipal back = back ≡ Some fresh
+  LeavesNew fresh RestoreFull back = back ≡ Some fresh
+  LeavesNew fresh RestoreLastNumber back = back ≡ Some fresh
   LeavesNew fresh (Store failure) back = Unit {0}
   LeavesNew fresh Output back = Unit {0}
 
@@ -130,6 +140,11 @@ IsOfSource BackupDiffers = ⊥
 IsOfSource CopyExists = ⊥
 IsOfSource CopyRefused = Unit {0}
 IsOfSource CopyLastNumber = Unit {0}
+IsOfSource RestoreNotFound = ⊥
+IsOfSource RestoreNoParent = ⊥
+IsOfSource RestoreUnknownPrincipal = ⊥
+IsOfSource RestoreFull = ⊥
+IsOfSource RestoreLastNumber = ⊥
 IsOfSource (Store failure) = Unit {0}
 IsOfSource Output = ⊥
 

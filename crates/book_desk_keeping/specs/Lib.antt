@@ -1,3 +1,4 @@
 pub mod Failures
 pub mod Changes
 pub mod Keeping
+pub mod Restoring

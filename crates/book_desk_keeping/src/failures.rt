@@ -38,6 +38,16 @@ pub enum KeepingFault {
     CopyRefused,
     /// `copy: last-number`: the epoch would be above the last.
     CopyLastNumber,
+    /// `restore: not-found`: a path is neither a card nor a book of the backup.
+    RestoreNotFound,
+    /// `restore: no-parent`: the book of a card is neither in the store nor restored.
+    RestoreNoParent,
+    /// `restore: unknown-principal`: a person or group of what is restored has no line in the store.
+    RestoreUnknownPrincipal,
+    /// `restore: full`: there would be too many books, or too many cards, or a number above the last.
+    RestoreFull,
+    /// `restore: last-number`: the epoch would be above the last.
+    RestoreLastNumber,
     /// `store: NAME`: a store was not opened, or could not be read or written, or memory was refused.
     Store(StoreFailure),
     /// `output: write`: what was changed could not be written.
@@ -136,6 +146,11 @@ fn lines_of(fault: &KeepingFault) -> ArrayString<MAX_LINE>
         KeepingFault::CopyExists => short_line("copy: exists\n"),
         KeepingFault::CopyRefused => short_line("copy: refused\n"),
         KeepingFault::CopyLastNumber => short_line("copy: last-number\n"),
+        KeepingFault::RestoreNotFound => short_line("restore: not-found\n"),
+        KeepingFault::RestoreNoParent => short_line("restore: no-parent\n"),
+        KeepingFault::RestoreUnknownPrincipal => short_line("restore: unknown-principal\n"),
+        KeepingFault::RestoreFull => short_line("restore: full\n"),
+        KeepingFault::RestoreLastNumber => short_line("restore: last-number\n"),
         KeepingFault::Store(failure) => short_line(store_line(*failure)),
         KeepingFault::Output => short_line("output: write\n"),
     }
@@ -153,7 +168,12 @@ fn status_of(fault: &KeepingFault) -> u8
         | KeepingFault::BackupExists
         | KeepingFault::BackupDiffers
         | KeepingFault::CopyExists
-        | KeepingFault::CopyLastNumber => REFUSED,
+        | KeepingFault::CopyLastNumber
+        | KeepingFault::RestoreNotFound
+        | KeepingFault::RestoreNoParent
+        | KeepingFault::RestoreUnknownPrincipal
+        | KeepingFault::RestoreFull
+        | KeepingFault::RestoreLastNumber => REFUSED,
         KeepingFault::LoadRefused
         | KeepingFault::CopyRefused
         | KeepingFault::Store(_)

@@ -91,7 +91,7 @@ fn put<W: Write>(writer: &mut W, text: &str) -> Result<(), KeepingFault>
 }
 
 /// Makes a store of what changes made of a dump, and writes what they tell.
-fn make<S: Alter + Drop, W: Write>(
+pub(crate) fn make<S: Alter + Drop, W: Write>(
     alloc: Global,
     changed: &Changed,
     fresh: Connection<S>,

@@ -1,0 +1,25 @@
+use Rattle.book_desk_keeping.proofs.Common.{◌∙◌, None, Some, inl, inr, refl, sym}
+use Rattle.book_desk_app.proofs.Ending.{not_done}
+use Rattle.book_desk_app.specs.declared.failures.Failure.TheVariants.{Store}
+use Rattle.book_desk_keeping.proofs.restores.restore_from.Goals as goal
+
+pub returns-in-Ok-clause-runs : goal.returns-in-Ok-clause-runs
+returns-in-Ok-clause-runs g c =
+    let over = c.restore_told-status in
+    (Some over.new.backup.connection, inr (c.in-Ok.tables, over.new.backup, c.in-Ok.ensures.opened, over.ensures.backup, over.ensures.ends, refl))
+
+pub returns-in-Err-clause-runs : goal.returns-in-Err-clause-runs
+returns-in-Err-clause-runs g c = (
+  None,
+  inl (
+    c.in-Err.failure,
+    (c.in-Err.left, c.in-Err.ensures.refused),
+    c.tell_line.ensures.status,
+    refl,
+    record { front = c.tell_line.ensures.told.front; line = c.tell_line.ensures.told.line },
+    refl,
+  ),
+)
+
+pub returns-in-Err-clause-silent : goal.returns-in-Err-clause-silent
+returns-in-Err-clause-silent g c = λ done. absurd (not_done (Store c.in-Err.failure) (sym c.tell_line.ensures.status ∙ done))
