@@ -18,6 +18,8 @@ mod columns;
 #[cfg(test)]
 mod edits;
 #[cfg(test)]
+mod findings;
+#[cfg(test)]
 mod found;
 #[cfg(test)]
 mod founded;
@@ -25,6 +27,8 @@ mod founded;
 mod kept;
 #[cfg(test)]
 mod lists;
+#[cfg(test)]
+mod loads;
 #[cfg(test)]
 mod migrated;
 #[cfg(test)]
