@@ -16,11 +16,13 @@
 #   make faults  makes stores, memory and disks fail at each point at which they can, and compares what is answered and kept
 #   make bench   builds the program, and prints the processor time that it takes for many workloads, and the instructions
 #                of requests at two sizes of what they should not rest on
-#   make figures builds the program, and prints what its requests over a store in a file take, and asks for what takes most
-#                memory under an address space of 512 MB
+#   make figures builds the program, and prints what its requests over a store in a file take, and what load, backup, compact,
+#                restore and doctor take beside sqlite3; and asks for what takes most memory under an address space of 512 MB
 #   make many    builds the program, and serves 10,000 connections, 100 at once, and each worked stream cut at each byte, four
 #                at once; ends it by TERM at 100 moments; loses the file of a store beside its log; makes syncs fail; asks it
 #                through nginx; prints what an honest client waits for beside clients that take places or turns
+#   make loads   builds the program, and compares what load, compact, backup and restore make of random stores, also where they
+#                are killed, and what doctor tells
 #   make clients tests the gateway with clients as they are: vdirsyncer, khard, curl, nginx, Chromium (gateway/packages.txt)
 #   make first-hour plays the first hour of the README from a clean clone, with the program of make try, and compares
 #   make gateway-demo runs the server and the gateway with two persons, for at most an hour
@@ -29,7 +31,7 @@
 # They need rt, the command of the Rattle toolchain: on PATH, or in the kit whose folder RATTLE_KIT names; and python3, which
 # rt needs too.
 
-.PHONY: try build install demo tour streams test quick wrong turned faults bench figures many clients gateway-demo \
+.PHONY: try build install demo tour streams test quick wrong turned faults bench figures many loads clients gateway-demo \
 	package try-package first-hour clean
 
 try:
@@ -79,6 +81,7 @@ bench: build
 
 figures: build
 	@tools/measure-stores build/book_desk
+	@tools/measure-loads build/book_desk
 	@tools/check-memory build/book_desk
 
 many: build
@@ -89,6 +92,9 @@ many: build
 	@tools/check-unsynced build/book_desk
 	@tools/check-proxied build/book_desk
 	@tools/measure-crowds build/book_desk
+
+loads: build
+	@tools/check-loads build/book_desk
 
 clients:
 	@gateway/clients

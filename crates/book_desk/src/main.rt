@@ -6,7 +6,7 @@
 //! `differs` does; `check` and `check_over` of `book_desk_checks` do what `check` does. Their contracts say what is
 //! written where these tell their bytes. Nothing stands above it: `main` joins them to the process, to the files
 //! (`files`, `folders`) and to the port, and tells each stage before it calls it, where standard error is a terminal
-//! (`progress`).
+//! (`progress`). The commands that make stores are in `keeping`, over `book_desk_keeping`.
 #![tactic(auto)]
 
 ghost use Rattle.std.specs.Prelude.{◌≡◌};
@@ -14,8 +14,13 @@ ghost use Rattle.book_desk_words.specs.WordsFaults.{words_status};
 
 mod beginnings;
 mod builds;
+mod causes;
+mod changes;
+mod drafts;
+mod examining;
 mod files;
 mod folders;
+mod keeping;
 mod progress;
 
 use beginnings::BEGINNING;
@@ -24,6 +29,7 @@ use book_desk_app::{
     run, run_migration, run_text, serve, serve_many, tell, tell_line,
 };
 use book_desk_checks::{check, check_over};
+use book_desk_keeping::tell_fault;
 use book_desk_loop::{Limits, Polled};
 use book_desk_questions::{
     DecisionWords, PartWords, RightsWords, WhoWords, WhyWords, Words, run_differs, run_dump,
@@ -35,8 +41,11 @@ use book_office::Keeper;
 use book_questions_audit::Wanted;
 use book_tables_schema::Unopened;
 use builds::BUILD;
+use changes::{LoadWords, changes_of};
+use examining::examine;
 use files::{FileConnection, Opened, close, open_former, open_inputs};
 use folders::{DiskFolder, make_folder, remove_folder};
+use keeping::{backup, check_backup, compact, load, restore};
 use progress::{Stage, tell_stage};
 use sqlite::{Alter, Connection};
 use std::env;
@@ -111,12 +120,12 @@ fn init<W: Write, E: Lines>(rt: &HostRuntime, path: &str, writer: &mut W, errors
 }
 
 /// The files that the words name.
-#[derive(Drop)]
-struct Named {
+#[derive(Clone, Copy)]
+struct Named<'a> {
     /// The file of the store.
-    store: Option<String>,
+    store: Option<&'a str>,
     /// The file of the policy.
-    policy: Option<String>,
+    policy: Option<&'a str>,
     /// Whether the store has to be there already.
     existing: bool,
 }
@@ -125,14 +134,14 @@ struct Named {
 fn work<W: Write, E: Lines>(
     rt: &HostRuntime,
     kind: Work,
-    named: &Named,
+    named: Named<'_>,
     writer: &mut W,
     errors: &mut E,
 ) -> u8 {
     let Opened { store, policy } = match open_inputs(
         rt,
-        &named.store,
-        &named.policy,
+        named.store,
+        named.policy,
         named.existing,
     ) {
         Ok(opened) => opened,
@@ -151,12 +160,12 @@ fn work<W: Write, E: Lines>(
 /// which has to be there, where one is named.
 fn check_files<W: Write, E: Lines>(
     rt: &HostRuntime,
-    named: &Named,
+    named: Named<'_>,
     strict: bool,
     writer: &mut W,
     errors: &mut E,
 ) -> u8 {
-    let Opened { store, policy } = match open_inputs(rt, &named.store, &named.policy, true) {
+    let Opened { store, policy } = match open_inputs(rt, named.store, named.policy, true) {
         Ok(opened) => opened,
         Err(failure) => return tell_line(errors, &failure),
     };
@@ -265,9 +274,9 @@ fn words_of_show<'a>(path: &'a str) -> Words<'a> {
 /// Opens what is named for a command that looks at a store: the store's file has to be there.
 fn open_viewed(
     rt: &HostRuntime,
-    named: &Named,
+    named: Named<'_>,
 ) -> Result<(FileConnection, Option<Vec<u8>>), Failure> {
-    let Opened { store, policy } = open_inputs(rt, &named.store, &named.policy, true)?;
+    let Opened { store, policy } = open_inputs(rt, named.store, named.policy, true)?;
     match store {
         Some(store) => Ok((store, policy)),
         None => Err(Failure::Store(StoreFailure::NoStore)),
@@ -275,7 +284,7 @@ fn open_viewed(
 }
 
 /// A store that is looked at.
-fn viewed(store: String, policy: Option<String>) -> Named {
+fn viewed<'a>(store: &'a str, policy: Option<&'a str>) -> Named<'a> {
     Named {
         store: Some(store),
         policy,
@@ -286,12 +295,12 @@ fn viewed(store: String, policy: Option<String>) -> Named {
 /// The commands that ask: the store's file, which has to be there, is opened, and the question answered.
 fn ask<W: Write, E: Lines>(
     rt: &HostRuntime,
-    store: String,
+    store: &str,
     words: &Words<'_>,
     writer: &mut W,
     errors: &mut E,
 ) -> u8 {
-    let store = match open_viewed(rt, &viewed(store, None)) {
+    let store = match open_viewed(rt, viewed(store, None)) {
         Ok((store, _)) => store,
         Err(failure) => return tell(errors, &failure),
     };
@@ -301,8 +310,8 @@ fn ask<W: Write, E: Lines>(
 }
 
 /// The command `dump`: the store's file, which has to be there, is opened, and its Office written.
-fn dump<W: Write, E: Lines>(rt: &HostRuntime, store: String, writer: &mut W, errors: &mut E) -> u8 {
-    let store = match open_viewed(rt, &viewed(store, None)) {
+fn dump<W: Write, E: Lines>(rt: &HostRuntime, store: &str, writer: &mut W, errors: &mut E) -> u8 {
+    let store = match open_viewed(rt, viewed(store, None)) {
         Ok((store, _)) => store,
         Err(failure) => return tell(errors, &failure),
     };
@@ -315,7 +324,7 @@ fn dump<W: Write, E: Lines>(rt: &HostRuntime, store: String, writer: &mut W, err
 /// change is told.
 fn tell_differences<W: Write, E: Lines>(
     rt: &HostRuntime,
-    named: &Named,
+    named: Named<'_>,
     strict: bool,
     writer: &mut W,
     errors: &mut E,
@@ -461,15 +470,15 @@ fn serve_prepared<S: Alter + Drop, N: Net + Clock + AllocGlobal, W: Write, E: Li
 /// The command `serve`: the policy's file is read, the store's file is opened, and connections are served.
 fn serve_with<W: Write, E: Lines>(
     rt: &HostRuntime,
-    named: &Named,
+    named: Named<'_>,
     service: Service,
     writer: &mut W,
     errors: &mut E,
 ) -> u8 {
     let Opened { store, policy } = match open_inputs(
         rt,
-        &named.store,
-        &named.policy,
+        named.store,
+        named.policy,
         named.existing,
     ) {
         Ok(opened) => opened,
@@ -492,26 +501,39 @@ fn serve_with<W: Write, E: Lines>(
     status
 }
 
+/// Prints the help that the words ask for.
+fn print_help<W: Write, E: Write>(
+    rt: &HostRuntime,
+    text: &str,
+    writer: &mut W,
+    errors: &mut E,
+) -> u8 {
+    match String::from_str(rt.alloc(), text) {
+        Ok(text) => print(rt, &TextCommand::Help(text), writer, errors),
+        Err(_) => refuse(errors, &WordsFault::Memory),
+    }
+}
+
 /// Does what the words ask for, and gives the status.
 fn perform<W: Write, E: Lines>(
     rt: &HostRuntime,
-    command: Command,
+    command: &Command,
     writer: &mut W,
     errors: &mut E,
 ) -> u8 {
     match command {
         Command::Explain => print(rt, &TextCommand::Explain, writer, errors),
         Command::Card => print(rt, &TextCommand::Card, writer, errors),
-        Command::Help(text) => print(rt, &TextCommand::Help(text), writer, errors),
+        Command::Help(text) => print_help(rt, text.as_str(), writer, errors),
         Command::Version(name) => print_version(rt, name.as_str(), writer, errors),
         Command::Init { folder } => init(rt, folder.as_str(), writer, errors),
         Command::Import { store, policy } => {
             let named = Named {
-                store: Some(store),
-                policy: Some(policy),
+                store: Some(store.as_str()),
+                policy: Some(policy.as_str()),
                 existing: false,
             };
-            work(rt, Work::Import, &named, writer, errors)
+            work(rt, Work::Import, named, writer, errors)
         }
         Command::Check {
             policy,
@@ -519,11 +541,11 @@ fn perform<W: Write, E: Lines>(
             store,
         } => {
             let named = Named {
-                store,
-                policy: Some(policy),
+                store: store.as_deref(),
+                policy: Some(policy.as_str()),
                 existing: true,
             };
-            check_files(rt, &named, strict, writer, errors)
+            check_files(rt, named, *strict, writer, errors)
         }
         Command::Audit {
             store,
@@ -533,11 +555,11 @@ fn perform<W: Write, E: Lines>(
             labels: false,
         } => {
             let named = Named {
-                store: Some(store),
+                store: Some(store.as_str()),
                 policy: None,
-                existing,
+                existing: *existing,
             };
-            work(rt, Work::Audit, &named, writer, errors)
+            work(rt, Work::Audit, named, writer, errors)
         }
         Command::Audit {
             store,
@@ -547,19 +569,19 @@ fn perform<W: Write, E: Lines>(
             labels,
         } => {
             let wanted = Wanted {
-                listed: books,
-                labels,
+                listed: *books,
+                labels: *labels,
             };
             let words = words_of_part(at.as_deref(), wanted);
-            ask(rt, store, &words, writer, errors)
+            ask(rt, store.as_str(), &words, writer, errors)
         }
         Command::Pipe { store, policy } => {
             let named = Named {
-                store,
-                policy,
+                store: store.as_deref(),
+                policy: policy.as_deref(),
                 existing: false,
             };
-            work(rt, Work::Pipe, &named, writer, errors)
+            work(rt, Work::Pipe, named, writer, errors)
         }
         Command::Migrate { store } => migrate(rt, store.as_str(), writer, errors),
         Command::Why {
@@ -575,9 +597,9 @@ fn perform<W: Write, E: Lines>(
                 what.as_str(),
                 path.as_str(),
                 destination.as_deref(),
-                json,
+                *json,
             );
-            ask(rt, store, &words, writer, errors)
+            ask(rt, store.as_str(), &words, writer, errors)
         }
         Command::Who {
             store,
@@ -586,8 +608,8 @@ fn perform<W: Write, E: Lines>(
             denied,
             json,
         } => {
-            let words = words_of_who(privilege.as_str(), path.as_str(), denied, json);
-            ask(rt, store, &words, writer, errors)
+            let words = words_of_who(privilege.as_str(), path.as_str(), *denied, *json);
+            ask(rt, store.as_str(), &words, writer, errors)
         }
         Command::Rights {
             store,
@@ -596,8 +618,8 @@ fn perform<W: Write, E: Lines>(
             shared,
             json,
         } => {
-            let words = words_of_rights(at.as_deref(), caller.as_deref(), shared, json);
-            ask(rt, store, &words, writer, errors)
+            let words = words_of_rights(at.as_deref(), caller.as_deref(), *shared, *json);
+            ask(rt, store.as_str(), &words, writer, errors)
         }
         Command::Ask {
             store,
@@ -606,20 +628,71 @@ fn perform<W: Write, E: Lines>(
             privileges,
         } => {
             let words = words_of_ask(caller.as_str(), path.as_str(), privileges.as_slice());
-            ask(rt, store, &words, writer, errors)
+            ask(rt, store.as_str(), &words, writer, errors)
         }
         Command::Show { store, path } => {
             let words = words_of_show(path.as_str());
-            ask(rt, store, &words, writer, errors)
+            ask(rt, store.as_str(), &words, writer, errors)
         }
-        Command::Dump { store } => dump(rt, store, writer, errors),
+        Command::Dump { store } => dump(rt, store.as_str(), writer, errors),
+        Command::Load {
+            store,
+            dump,
+            owners,
+            at,
+            without,
+            heir,
+            forget_removed,
+            new_epoch,
+            above,
+        } => {
+            let words = LoadWords {
+                owners: owners.as_deref(),
+                at: at.as_deref(),
+                without: without.as_deref(),
+                heir: heir.as_deref(),
+                forget_removed: *forget_removed,
+                new_epoch: *new_epoch,
+                above: above.as_deref(),
+            };
+            match changes_of(rt.alloc(), &words) {
+                Ok(changes) => load(
+                    rt,
+                    store.as_str(),
+                    dump.as_deref(),
+                    changes.as_slice(),
+                    writer,
+                    errors,
+                ),
+                Err(fault) => tell_fault(errors, &fault),
+            }
+        }
+        Command::Compact {
+            store,
+            forget_removed,
+        } => compact(rt, store.as_str(), *forget_removed, writer, errors),
+        Command::Restore { store, from, paths } => {
+            restore(
+                rt,
+                store.as_str(),
+                from.as_str(),
+                paths.as_slice(),
+                writer,
+                errors,
+            )
+        }
+        Command::Doctor { store } => examine(rt, store.as_str(), writer, errors),
+        Command::Backup { store, to } => backup(rt, store.as_str(), to.as_str(), errors),
+        Command::CheckBackup { store, copy } => {
+            check_backup(rt, store.as_str(), copy.as_str(), errors)
+        }
         Command::Differs {
             store,
             policy,
             strict,
         } => {
-            let named = viewed(store, Some(policy));
-            tell_differences(rt, &named, strict, writer, errors)
+            let named = viewed(store.as_str(), Some(policy.as_str()));
+            tell_differences(rt, named, *strict, writer, errors)
         }
         Command::Serve {
             port,
@@ -631,17 +704,17 @@ fn perform<W: Write, E: Lines>(
             existing,
         } => {
             let named = Named {
-                store,
-                policy,
-                existing,
+                store: store.as_deref(),
+                policy: policy.as_deref(),
+                existing: *existing,
             };
             let service = Service {
-                port,
-                connections,
-                at_once,
-                idle,
+                port: *port,
+                connections: *connections,
+                at_once: *at_once,
+                idle: *idle,
             };
-            serve_with(rt, &named, service, writer, errors)
+            serve_with(rt, named, service, writer, errors)
         }
     }
 }
@@ -654,7 +727,11 @@ fn main(rt: HostRuntime) -> ExitCode {
         Err(fault) => Err(fault),
     };
     let status = match command {
-        Ok(command) => perform(&rt, command, &mut writer, &mut errors),
+        Ok(command) => {
+            let status = perform(&rt, &command, &mut writer, &mut errors);
+            drop(command);
+            status
+        }
         Err(fault) => refuse(&mut errors, &fault),
     };
     ExitCode::from(status)

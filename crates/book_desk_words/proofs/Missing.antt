@@ -7,7 +7,7 @@ use Rattle.clap.specs.Words.{Kinds, Row, Text, first_of, one_text, rows_of}
 use Rattle.clap.specs.declared.parser.matches.Found.{Found}
 use Rattle.clap.proofs.WalkLemmas.{one_text-rows}
 use Rattle.book_desk_words.specs.CommandLine.{HasCounts, HasNumber, IsRefused, MatchesNone, MayHaveNumber, ReadsAs, ReadsNone}
-use Rattle.book_desk_words.specs.declared.commands.Command.TheVariants.{Explain, Card, Init, Import, Check, Audit, Migrate, Why, Who, Rights, Ask, Differs, Dump, Show, Pipe, Serve, Help, Version}
+use Rattle.book_desk_words.specs.declared.commands.Command.TheVariants.{Explain, Card, Init, Import, Check, Audit, Migrate, Why, Who, Rights, Ask, Differs, Dump, Show, Load, Compact, Backup, CheckBackup, Restore, Doctor, Pipe, Serve, Help, Version}
 use Rattle.book_desk_words.specs.declared.commands.WordsFault.{WordsFault}
 use Rattle.book_desk_words.specs.declared.commands.WordsFault.TheVariants.{Usage, Memory}
 use Rattle.book_desk_words.specs.WordsFaults.{IsUsage, serve_wants}
@@ -79,6 +79,21 @@ is_not_dump e = cc (e)
 is_not_show : codes "serve" ≡ codes "show" → ⊥
 is_not_show e = cc (e)
 
+is_not_load : codes "serve" ≡ codes "load" → ⊥
+is_not_load e = cc (e)
+
+is_not_compact : codes "serve" ≡ codes "compact" → ⊥
+is_not_compact e = let first : slice_index (codes "serve") 0 ≡ slice_index (codes "compact") 0 = ap (λ (t : Text). slice_index t 0) e in omega arith
+
+is_not_backup : codes "serve" ≡ codes "backup" → ⊥
+is_not_backup e = cc (e)
+
+is_not_restore : codes "serve" ≡ codes "restore" → ⊥
+is_not_restore e = let first : slice_index (codes "serve") 0 ≡ slice_index (codes "restore") 0 = ap (λ (t : Text). slice_index t 0) e in omega arith
+
+is_not_doctor : codes "serve" ≡ codes "doctor" → ⊥
+is_not_doctor e = cc (e)
+
 module _ (rows : List Row) where
   -- no command `serve` is read of the matches
   serve_lacks : ((port : ℕ) (connections at_once idle : Option ℕ) (store policy : Option (String Global)) (existing : Bool)
@@ -97,6 +112,12 @@ module _ (rows : List Row) where
   serve_lacks none (Differs store policy strict) r = is_not_differs r.0
   serve_lacks none (Dump store) r = is_not_dump r.0
   serve_lacks none (Show store path) r = is_not_show r.0
+  serve_lacks none (Load store dump owners at without heir forget_removed new_epoch above) r = is_not_load r.0
+  serve_lacks none (Compact store forget_removed) r = is_not_compact r.0
+  serve_lacks none (Backup store to) r = is_not_backup r.0
+  serve_lacks none (CheckBackup store copy) r = is_not_backup r.0
+  serve_lacks none (Restore store from paths) r = is_not_restore r.0
+  serve_lacks none (Doctor store) r = is_not_doctor r.0
   serve_lacks none (Pipe store policy) r = is_not_pipe r.0
   serve_lacks none (Serve port connections at_once idle store policy existing) r = none port connections at_once idle store policy existing r
   serve_lacks none (Help text) r = r

@@ -1,16 +1,19 @@
 -- The command line (own profile): the words that it has, and the command that clap's matches of them give.
-use Rattle.std.specs.Prelude.{◌≡◌, ◌≢◌, ◌⊎◌, ◌||◌, ℕ, ◌≤◌, pos, Bool, true, false, List, [], codes, Option, Some, None, is_none, is_some, String, option_map, map, string_bytes, bytes_eq, Vec}
+use Rattle.std.specs.Prelude.{◌≡◌, ◌≢◌, ◌⊎◌, ◌||◌, ℕ, ◌≤◌, pos, Bool, true, false, List, [], codes, Result, IfOk, Option, Some, None, is_none, is_some, String, option_map, map, string_bytes, bytes_eq, Vec}
+use Rattle.std.specs.declared.alloc.AllocError.{AllocError}
 use Rattle.std.specs.declared.alloc.Global.{Global}
 use Rattle.std.specs.Str.Parse.{IsNumeral, digits_value, without_leading_plus}
-use Rattle.clap.specs.Words.{App, Row, Rule, Text, all_of, first_of, new_app, new_rule, one_of, with_rule, with_subcommand}
+use Rattle.clap.specs.Words.{App, app_of, Row, Rule, Text, all_of, first_of, new_app, new_rule, one_of, with_rule, with_subcommand}
 use Rattle.clap.specs.Kinds.{Kinds, IsAmong}
+use Rattle.clap.specs.declared.builder.command.Command.{Command as clap-Command}
+use Rattle.clap.specs.declared.builder.command.Command.TheViews.{out-Command}
 use Rattle.clap.specs.Simple.{on_top}
 use Rattle.clap.specs.declared.builder.action.ArgAction.TheVariants.{Append, SetTrue}
 use Rattle.clap.specs.declared.builder.value_parser.ValueParser.TheVariants as parsers
 use Rattle.clap.specs.declared.error.kind.ErrorKind.{ErrorKind}
 use Rattle.clap.specs.declared.error.kind.ErrorKind.TheVariants as kind
 use Rattle.book_desk_words.specs.declared.commands.Command.{Command}
-use Rattle.book_desk_words.specs.declared.commands.Command.TheVariants.{Explain, Card, Init, Import, Check, Audit, Migrate, Why, Who, Rights, Ask, Differs, Dump, Show, Pipe, Serve, Help, Version}
+use Rattle.book_desk_words.specs.declared.commands.Command.TheVariants.{Explain, Card, Init, Import, Check, Audit, Migrate, Why, Who, Rights, Ask, Differs, Dump, Show, Load, Compact, Backup, CheckBackup, Restore, Doctor, Pipe, Serve, Help, Version}
 use Rattle.book_desk_words.specs.declared.commands.WordsFault.{WordsFault}
 use Rattle.book_desk_words.specs.declared.commands.WordsFault.TheVariants.{Usage, Memory}
 use Rattle.book_desk_words.specs.WordsFaults.{IsUsage, serve_wants}
@@ -45,29 +48,36 @@ word_rule name = record (new_rule name) { value_names = 1; required = true }
 abbrev pub words_rule : Text → Rule
 words_rule name = record (word_rule name) { action = Some Append }
 
+-- the store, and whether it is told why it can't be had
+abbrev pub with_store : App → App
+with_store app = with_rule (with_rule app (required_rule (codes "store"))) (flag_rule (codes "cause"))
+
 abbrev pub init_app : App
 init_app = with_rule (new_app (codes "init")) (word_rule (codes "folder"))
 
 abbrev pub import_app : App
-import_app = with_rule (with_rule (new_app (codes "import")) (required_rule (codes "store"))) (word_rule (codes "policy"))
+import_app = with_rule (with_store (new_app (codes "import"))) (word_rule (codes "policy"))
+
+-- the same of one that may be named
+abbrev pub with_checked : App → App
+with_checked app = with_rule (with_rule app (option_rule (codes "store"))) (flag_rule (codes "cause"))
 
 abbrev pub check_app : App
-check_app =
-    with_rule (with_rule (with_rule (new_app (codes "check")) (word_rule (codes "policy"))) (flag_rule (codes "strict"))) (option_rule (codes "store"))
+check_app = with_checked (with_rule (with_rule (new_app (codes "check")) (word_rule (codes "policy"))) (flag_rule (codes "strict")))
 
 abbrev pub differs_app : App
 differs_app =
-    with_rule (with_rule (with_rule (new_app (codes "differs")) (required_rule (codes "store"))) (word_rule (codes "policy"))) (flag_rule (codes "strict"))
+    with_rule (with_rule (with_store (new_app (codes "differs"))) (word_rule (codes "policy"))) (flag_rule (codes "strict"))
 
 -- the words that say which part is printed, and what of it
 abbrev pub with_part : App → App
 with_part app = with_rule (with_rule (with_rule app (option_rule (codes "at"))) (flag_rule (codes "books"))) (flag_rule (codes "labels"))
 
 abbrev pub audit_app : App
-audit_app = with_part (with_rule (with_rule (new_app (codes "audit")) (required_rule (codes "store"))) (flag_rule (codes "existing")))
+audit_app = with_part (with_rule (with_store (new_app (codes "audit"))) (flag_rule (codes "existing")))
 
 abbrev pub migrate_app : App
-migrate_app = with_rule (new_app (codes "migrate")) (required_rule (codes "store"))
+migrate_app = with_store (new_app (codes "migrate"))
 
 -- a word that may follow, and follows no option's name
 abbrev pub last_word_rule : Text → Rule
@@ -82,7 +92,7 @@ abbrev pub with_places : App → App
 with_places app = with_rule (with_rule app (word_rule (codes "path"))) (last_word_rule (codes "destination"))
 
 abbrev pub why_app : App
-why_app = with_rule (with_places (with_question (with_rule (new_app (codes "why")) (required_rule (codes "store"))))) (flag_rule (codes "json"))
+why_app = with_rule (with_places (with_question (with_store (new_app (codes "why"))))) (flag_rule (codes "json"))
 
 -- a privilege, and where
 abbrev pub with_privilege : App → App
@@ -90,7 +100,7 @@ with_privilege app = with_rule (with_rule app (word_rule (codes "privilege"))) (
 
 abbrev pub who_app : App
 who_app =
-    with_rule (with_rule (with_privilege (with_rule (new_app (codes "who")) (required_rule (codes "store")))) (flag_rule (codes "denied")))
+    with_rule (with_rule (with_privilege (with_store (new_app (codes "who")))) (flag_rule (codes "denied")))
     (flag_rule (codes "json"))
 
 -- the options that say where rights are told, and whose
@@ -99,7 +109,7 @@ with_scope app = with_rule (with_rule app (option_rule (codes "at"))) (option_ru
 
 abbrev pub rights_app : App
 rights_app =
-    with_rule (with_rule (with_scope (with_rule (new_app (codes "rights")) (required_rule (codes "store")))) (flag_rule (codes "shared")))
+    with_rule (with_rule (with_scope (with_store (new_app (codes "rights")))) (flag_rule (codes "shared")))
     (flag_rule (codes "json"))
 
 -- who asks, where, and for what
@@ -108,17 +118,54 @@ with_decision app =
     with_rule (with_rule (with_rule app (word_rule (codes "caller"))) (word_rule (codes "path"))) (words_rule (codes "privilege"))
 
 abbrev pub ask_app : App
-ask_app = with_decision (with_rule (new_app (codes "ask")) (required_rule (codes "store")))
+ask_app = with_decision (with_store (new_app (codes "ask")))
 
 abbrev pub dump_app : App
-dump_app = with_rule (new_app (codes "dump")) (required_rule (codes "store"))
+dump_app = with_store (new_app (codes "dump"))
 
 abbrev pub show_app : App
-show_app = with_rule (with_rule (new_app (codes "show")) (required_rule (codes "store"))) (word_rule (codes "path"))
+show_app = with_rule (with_store (new_app (codes "show"))) (word_rule (codes "path"))
+
+-- one with a number of 64 bits
+abbrev pub whole_rule : Text → Rule
+whole_rule name = record (option_rule name) { parser = Some (parsers.Unsigned 0 18446744073709551615) }
+
+-- an option --NAME with a value, any number of times
+abbrev pub options_rule : Text → Rule
+options_rule name = record (option_rule name) { action = Some Append }
+
+-- who owns what was somebody's
+abbrev pub with_owners : App → App
+with_owners app =
+    with_rule (with_rule (with_rule (with_rule app (options_rule (codes "owner"))) (option_rule (codes "at"))) (options_rule (codes "without")))
+    (option_rule (codes "heir"))
+
+-- what of the past is left out
+abbrev pub with_past : App → App
+with_past app =
+    with_rule (with_rule (with_rule app (flag_rule (codes "forget-removed"))) (flag_rule (codes "new-epoch"))) (whole_rule (codes "above"))
+
+abbrev pub load_app : App
+load_app =
+    with_past (with_owners (with_rule (with_store (new_app (codes "load"))) (last_word_rule (codes "dump"))))
+
+abbrev pub compact_app : App
+compact_app = with_rule (with_store (new_app (codes "compact"))) (flag_rule (codes "forget-removed"))
+
+abbrev pub backup_app : App
+backup_app =
+    with_rule (with_rule (with_store (new_app (codes "backup"))) (option_rule (codes "to"))) (option_rule (codes "check"))
+
+abbrev pub restore_app : App
+restore_app =
+    with_rule (with_rule (with_rule (new_app (codes "restore")) (required_rule (codes "store"))) (required_rule (codes "from"))) (words_rule (codes "path"))
+
+abbrev pub doctor_app : App
+doctor_app = with_rule (new_app (codes "doctor")) (required_rule (codes "store"))
 
 -- the options that name the files of the store and of the policy
 abbrev pub with_files : App → App
-with_files app = with_rule (with_rule app (option_rule (codes "store"))) (option_rule (codes "policy"))
+with_files app = with_rule (with_rule (with_rule app (option_rule (codes "store"))) (option_rule (codes "policy"))) (flag_rule (codes "cause"))
 
 abbrev pub pipe_app : App
 pipe_app = with_files (new_app (codes "pipe"))
@@ -139,13 +186,41 @@ serve_app =
 abbrev pub top_app : App
 top_app = on_top (λ s. record s { no_binary_name = true; subcommand_required = true; has_version = true }) (new_app (codes "book_desk"))
 
+-- the commands over texts, and those that make, adopt and print
+abbrev pub with_first : App → App
+with_first app =
+    with_subcommand (with_subcommand (with_subcommand (with_subcommand (with_subcommand app
+    (new_app (codes "explain")).top) (new_app (codes "card")).top) init_app.top) import_app.top) audit_app.top
+
+-- those that migrate, tell why, serve and check
+abbrev pub with_serving : App → App
+with_serving app =
+    with_subcommand (with_subcommand (with_subcommand (with_subcommand (with_subcommand app migrate_app.top)
+    why_app.top) pipe_app.top) serve_app.top) check_app.top
+
+-- those that ask a store
+abbrev pub with_asking : App → App
+with_asking app =
+    with_subcommand (with_subcommand (with_subcommand (with_subcommand (with_subcommand (with_subcommand app
+    who_app.top) rights_app.top) dump_app.top) show_app.top) ask_app.top) differs_app.top
+
+-- those that make and keep stores
+abbrev pub with_keeping : App → App
+with_keeping app =
+    with_subcommand (with_subcommand (with_subcommand (with_subcommand (with_subcommand app load_app.top)
+    compact_app.top) backup_app.top) restore_app.top) doctor_app.top
+
 -- the whole command line
 abbrev pub program_app : App
-program_app =
-    with_subcommand (with_subcommand (with_subcommand (with_subcommand (with_subcommand (with_subcommand (with_subcommand (with_subcommand
-    (with_subcommand (with_subcommand (with_subcommand (with_subcommand (with_subcommand (with_subcommand (with_subcommand (with_subcommand top_app
-    (new_app (codes "explain")).top) (new_app (codes "card")).top) init_app.top) import_app.top) audit_app.top) migrate_app.top) why_app.top) pipe_app.top) serve_app.top) check_app.top)
-    who_app.top) rights_app.top) dump_app.top) show_app.top) ask_app.top) differs_app.top
+program_app = with_keeping (with_asking (with_serving (with_first top_app)))
+
+-- a command, if it was made, is that one, and none of its arguments is global
+abbrev pub IsMade : App → Result clap-Command AllocError → Type 0
+IsMade app made = IfOk made (λ c. (app_of c ≡ app) × ((out-Command c).has_globals ≡ false))
+
+-- a program, if it was made, is that one
+abbrev pub IsProgram : App → Result clap-Command AllocError → Type 0
+IsProgram app made = IfOk made (λ c. app_of c ≡ app)
 
 -- ---- the command that the matches give
 
@@ -226,6 +301,24 @@ ReadsAs name rows (Ask store caller path privileges) =
 ReadsAs name rows (Dump store) = (name ≡ codes "dump") × NamesFile rows (codes "store") (Some store)
 ReadsAs name rows (Show store path) =
     (name ≡ codes "show") × NamesFile rows (codes "store") (Some store) × NamesFile rows (codes "path") (Some path)
+ReadsAs name rows (Load store dump owners at without heir forget_removed new_epoch above) =
+    (name ≡ codes "load") × NamesFile rows (codes "store") (Some store) × NamesFile rows (codes "dump") dump
+    × HasTexts rows (codes "owner") owners × NamesFile rows (codes "at") at
+    × HasTexts rows (codes "without") without × NamesFile rows (codes "heir") heir
+    × (forget_removed ≡ has_flag rows (codes "forget-removed")) × (new_epoch ≡ has_flag rows (codes "new-epoch"))
+    × NamesFile rows (codes "above") above
+ReadsAs name rows (Compact store forget_removed) =
+    (name ≡ codes "compact") × NamesFile rows (codes "store") (Some store) × (forget_removed ≡ has_flag rows (codes "forget-removed"))
+ReadsAs name rows (Backup store to) =
+    (name ≡ codes "backup") × NamesFile rows (codes "store") (Some store) × NamesFile rows (codes "to") (Some to)
+    × NamesFile rows (codes "check") None
+ReadsAs name rows (CheckBackup store copy) =
+    (name ≡ codes "backup") × NamesFile rows (codes "store") (Some store) × NamesFile rows (codes "to") None
+    × NamesFile rows (codes "check") (Some copy)
+ReadsAs name rows (Restore store from paths) =
+    (name ≡ codes "restore") × NamesFile rows (codes "store") (Some store) × NamesFile rows (codes "from") (Some from)
+    × HasTexts rows (codes "path") (Some paths)
+ReadsAs name rows (Doctor store) = (name ≡ codes "doctor") × NamesFile rows (codes "store") (Some store)
 ReadsAs name rows (Pipe store policy) =
     (name ≡ codes "pipe") × NamesFile rows (codes "store") store × NamesFile rows (codes "policy") policy
 ReadsAs name rows (Serve port connections at_once idle store policy existing) =

@@ -21,7 +21,7 @@ not_text = codes "invalid UTF-8 was detected in one or more arguments"
 
 -- what the options of serve want of each other, and the words of why
 abbrev pub serve_wants : List ℕ
-serve_wants = codes "serve wants one of '--connections <N>' and '--forever', with '--idle <N>' also '--at-once <N>', and with '--existing' also '--store <FILE>'; why wants DESTINATION with COPY and MOVE"
+serve_wants = codes "serve wants one of '--connections <N>' and '--forever', with '--idle <N>' also '--at-once <N>', and with '--existing' also '--store <FILE>'; why wants DESTINATION with COPY and MOVE; backup wants one of '--to <NEW>' and '--check <COPY>'"
 
 -- the words are refused with this, but for want of memory
 abbrev pub IsUsage : List ℕ → WordsFault → Type 0

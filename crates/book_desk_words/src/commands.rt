@@ -8,6 +8,7 @@ ghost use Rattle.book_desk_words.specs.CommandLine.{program_app, has_flag, HasCo
 ghost use Rattle.book_desk_words.specs.WordsFaults.{IsUsage, not_text, usage_text, words_status};
 
 use crate::helps::{NOT_TEXT, SERVE_WANTS, USAGE_LINES};
+use crate::keeping::{backup_of, compact_of, doctor_of, load_of, restore_of};
 use crate::programs::program;
 use crate::questions::{ask_of, differs_of, dump_of, rights_of, show_of, who_of, why_of};
 use clap::ArgMatches;
@@ -30,7 +31,7 @@ const MAX_AT_ONCE: u16 = 1_000;
 const MAX_IDLE: u16 = 3_600;
 
 /// What the program is to do.
-#[derive(Debug, Drop, PartialEq, Eq)]
+#[derive(Debug, Drop)]
 pub enum Command {
     /// Decide the question on standard input.
     Explain,
@@ -148,6 +149,62 @@ pub enum Command {
         store: String,
         /// The path of the resource.
         path: String,
+    },
+    /// Make a store of a dump.
+    Load {
+        /// The file of the store, in which there is none.
+        store: String,
+        /// The file of the dump; without one, or where it is `-`, it is read from standard input.
+        dump: Option<String>,
+        /// Texts `FROM=TO`: what the one principal owns, the other owns.
+        owners: Option<Vec<String>>,
+        /// The book whose cards alone get other owners; without one, all cards and books do.
+        at: Option<String>,
+        /// Persons that are taken out.
+        without: Option<Vec<String>>,
+        /// The principal that owns what they owned; without one, nobody does.
+        heir: Option<String>,
+        /// Whether removed names are left out.
+        forget_removed: bool,
+        /// Whether the epoch is one that no token was given under.
+        new_epoch: bool,
+        /// An epoch above which it is, in decimal digits.
+        above: Option<String>,
+    },
+    /// Write a store anew, without what was removed of its texts.
+    Compact {
+        /// The file of the store.
+        store: String,
+        /// Whether removed names are left out.
+        forget_removed: bool,
+    },
+    /// Copy a store.
+    Backup {
+        /// The file of the store.
+        store: String,
+        /// The file of the copy, which is not there.
+        to: String,
+    },
+    /// Tell whether a copy has the same Office.
+    CheckBackup {
+        /// The file of the store.
+        store: String,
+        /// The file of the copy.
+        copy: String,
+    },
+    /// Put resources of a backup into a store.
+    Restore {
+        /// The file of the store.
+        store: String,
+        /// The file of the backup.
+        from: String,
+        /// The paths of cards and books, of which there is one at least.
+        paths: Vec<String>,
+    },
+    /// Tell whether a store is sound, what it holds, and how large it is.
+    Doctor {
+        /// The file of the store.
+        store: String,
     },
     /// Serve the requests on standard input.
     Pipe {
@@ -507,6 +564,11 @@ fn command_named(
         "differs" => differs_of(alloc, found),
         "dump" => dump_of(alloc, found),
         "show" => show_of(alloc, found),
+        "load" => load_of(alloc, found),
+        "compact" => compact_of(alloc, found),
+        "backup" => backup_of(alloc, found),
+        "restore" => restore_of(alloc, found),
+        "doctor" => doctor_of(alloc, found),
         "pipe" => pipe_of(alloc, found),
         "serve" => serve_of(alloc, found),
         _ => Ok(None),
@@ -514,7 +576,7 @@ fn command_named(
 }
 
 /// The command that the matches give; none where they give none, which clap lets come where the options of `serve` lack
-/// what they want of each other, or `why` its destination, and nowhere else.
+/// what they want of each other, `why` its destination or `backup` its file, and nowhere else.
 fn read_command(alloc: Global, matches: &ArgMatches<'_>) -> Result<Option<Command>, AllocError>
     ensures read { IfOk result (λ command. IfSome command
         (IsMatched (subcommand_rows_of matches.now))) }

@@ -4,7 +4,7 @@ pub(crate) const ABOUT: &str =
     "Shared contact books of an office: WebDAV access lists (RFC 3744) and vCards (RFC 6350)";
 
 /// The number of VERSION, at the top of the repository, which `tools/check-streams` compares.
-pub(crate) const VERSION: &str = "0.5.0";
+pub(crate) const VERSION: &str = "0.6.0";
 
 /// What follows a text of what is wrong with the words.
 pub(crate) const USAGE_LINES: &str =
@@ -13,9 +13,9 @@ pub(crate) const USAGE_LINES: &str =
 /// What is wrong with words that are not UTF-8.
 pub(crate) const NOT_TEXT: &str = "invalid UTF-8 was detected in one or more arguments";
 
-/// What the options of `serve` want of each other, and the words of `why`.
+/// What the options of `serve` want of each other, and the words of `why` and `backup`.
 pub(crate) const SERVE_WANTS: &str =
-    "serve wants one of '--connections <N>' and '--forever', with '--idle <N>' also '--at-once <N>', and with '--existing' also '--store <FILE>'; why wants DESTINATION with COPY and MOVE";
+    "serve wants one of '--connections <N>' and '--forever', with '--idle <N>' also '--at-once <N>', and with '--existing' also '--store <FILE>'; why wants DESTINATION with COPY and MOVE; backup wants one of '--to <NEW>' and '--check <COPY>'";
 
 pub(crate) const EXPLAIN: &str = "Reads a question from standard input and prints its decision";
 
@@ -153,8 +153,9 @@ many more. As in
   entry 9 (at /books/law, who all): never decides: behind own entry 2 at /books/law
   /books/law: nobody may change its list
   ada: PROPPATCH /groups/law (+ /people/ada); then GET /books/law/* is granted
-The last is of a person to whom a book is closed and whose own requests open it: they were served over the policy in
-memory. That no such line is told is no promise.
+  ada: PROPPATCH /groups/law (+ /people/ada); then at /books/law is granted: write-acl
+The last two are of a person to whom a book is closed, or who holds less at a resource, and whose own requests change that:
+they were served over the policy in memory. That no such line is told is no promise.
 
 Told on standard error, a line for each fault, in the order of their places; at most 1,000, and then how many more
   PLACE: KEY: FAULT     as in: entry 12 (at /books/sales, who /groups/helpers): who: unknown-principal
@@ -403,6 +404,160 @@ Told on standard error, on a line
   output: write         it could not be written
 
 Status: 0 printed, 1 nothing is there, 2 usage, 3 memory, the store, or a failed write.
+";
+
+pub(crate) const NEW_STORE: &str = "The file of the store that is made";
+
+pub(crate) const DUMP_WORD: &str =
+    "The file of a dump; without it, or where it is -, standard input";
+
+pub(crate) const OWNER: &str =
+    "What the principal FROM owns, TO owns: each card and, without --at, each book";
+
+pub(crate) const OWNED_AT: &str = "The name of the book whose cards alone get another owner";
+
+pub(crate) const WITHOUT: &str = "The person, by path, is taken out";
+
+pub(crate) const HEIR: &str =
+    "The person or group that owns what they owned; without it, nobody does";
+
+pub(crate) const FORGET_REMOVED: &str = "Removed names are left out";
+
+pub(crate) const NEW_EPOCH: &str =
+    "The epoch rises by 1048576, so that every token that was given is refused";
+
+pub(crate) const ABOVE: &str = "With --new-epoch: the epoch is above N too";
+
+pub(crate) const LOAD: &str = "Makes a store of a dump";
+
+pub(crate) const LOAD_TEXT: &str = "\
+It reads what dump wrote, and makes the store in a file that is not there, or has no byte. As in:
+  book_desk dump --store office.db | book_desk load --store copy.db
+  book_desk load --store new.db --without /people/ann --heir /people/bo office.jsonl
+The store stands under another name, FILE.new, until it was read again and has exactly the text of the dump. The options
+change the Office on the way, in the order in which help tells them. With --owner, --without and --forget-removed the epoch
+rises by one at least. An entry that names a person who is taken out goes; an inverted one becomes one for all, since an
+inverted deny that went would open what it closes.
+
+Output, a line for each thing that the options changed
+  owner PATH FROM -> TO         another owner; TO is nobody where there is none
+  person PATH                   a person who is taken out
+  gone PATH  protected|own ENTRY
+  all PATH  protected|own ENTRY   an inverted entry, as it was, that is one for all now
+  member GROUP PERSON           a person who is a member no more
+  removed PATH N                how many removed names a book had
+  epoch OLD -> NEW              with --new-epoch
+
+Told on standard error, on a line
+  input: read               the dump could not be read
+  line N: FAULT             the dump is refused, at the first line that has a fault: bad-line, bad-name, order,
+                            unknown-principal, too-many, too-long or last-line; 'key: KEY' on a second line tells where
+  load: unknown-principal   an option names one that the dump does not have, or the heir is taken out
+  load: last-number         the epoch would pass its last number
+  load: exists              the file has bytes, or its log holds a commit
+  load: refused             what was read again is no Office, or not that of the dump; nothing was made
+  store: FAULT              memory, or store
+  output: write             it could not be told
+
+Status: 0 made; 1 the dump or an option is refused, or the file is there; 2 usage; 3 memory, the store, or a failed read or
+write.
+";
+
+pub(crate) const COMPACT: &str = "Writes a store anew, without what was removed";
+
+pub(crate) const COMPACT_TEXT: &str = "\
+As in: book_desk compact --store office.db
+The Office stays, with its epoch and all numbers. It is written to FILE.new, read again and compared, and that file then
+takes the name of the store: a stop leaves the old one or the new one. No text, label or path that was removed stands in the
+new file, but for removed names, which --forget-removed leaves out too; the epoch then rises. What a disk keeps of the old
+file is not overwritten.
+
+Output: size OLD -> NEW, the bytes of the files.
+
+Told on standard error, on a line
+  store: FAULT          as audit
+  copy: refused         what was read again is not the Office; the store is as it was
+  copy: last-number     the epoch would pass its last number
+  output: write         it could not be told
+
+Status: 0 written; 2 usage; 3 the store, memory, or a failed write.
+";
+
+pub(crate) const BACKUP_TO: &str = "The file of the copy, which is not there";
+
+pub(crate) const BACKUP_CHECK: &str = "The file of a copy, which is compared with the store";
+
+pub(crate) const BACKUP: &str = "Copies a store, or compares a copy with it";
+
+pub(crate) const BACKUP_TEXT: &str = "\
+One of the options is needed. As in:
+  book_desk backup --store office.db --to office-monday.db
+  book_desk backup --store office.db --check office-monday.db
+The copy is one file that opens as the same Office, with its epoch and all numbers. It stands under another name, NEW.new,
+until it was read again and compared; a stop leaves NEW missing or whole. Of COPY a copy in memory is read, and it is not
+changed. Nothing is printed.
+
+Told on standard error, on a line
+  store: FAULT          as audit
+  backup: exists        NEW is there
+  backup: differs       the copy has another Office
+  copy: refused         what was read again is not the Office; nothing was made
+  output: write         it could not be told
+
+Status: 0 copied, or equal; 1 NEW is there, or the copy differs; 2 usage; 3 the store, memory, or a failed write.
+";
+
+pub(crate) const CAUSE: &str = "Tells on standard error why the store can't be had, on a line more";
+
+pub(crate) const RESTORE_FROM: &str = "The file of a backup, which is not changed";
+
+pub(crate) const RESTORED: &str = "The path of a card or of a book";
+
+pub(crate) const RESTORE: &str = "Puts cards and books of a backup into a store";
+
+pub(crate) const RESTORE_TEXT: &str = "\
+As in: book_desk restore --store office.db --from office-monday.db /books/sales/bo.vcf /books/law
+A card gets the text, label, owner and own list of the backup, and the next number of its book, so that synced copies see it.
+A book gets the label, owner and own list of the backup, and each card that the backup has in it is restored; other cards
+stay. A book that is not there is made, with the protected list of the backup too. The epoch rises where an owner or a list
+changes. The store is written anew as by compact: a stop leaves the old one or the new one.
+
+Output, in the order of paths
+  card PATH number N
+  book PATH
+  epoch OLD -> NEW      where it rose
+
+Told on standard error, on a line; nothing was done then
+  store: FAULT                 as audit, of the store or of the backup
+  restore: not-found           the backup has no card and no book at a path
+  restore: no-parent           the store has no book for a card
+  restore: unknown-principal   an owner, or whom an entry names, is not in the store
+  restore: full                a book would have more cards, or the store more books, than it may
+  restore: last-number         the epoch would pass its last number
+  load: refused                what was read again is not what was to be; the store is as it was
+  output: write                it could not be told
+
+Status: 0 restored; 1 refused; 2 usage; 3 a store, memory, or a failed write.
+";
+
+pub(crate) const DOCTOR: &str = "Tells whether a store is sound, and how large it is";
+
+pub(crate) const DOCTOR_TEXT: &str = "\
+It reads a copy of the store in memory, and changes nothing. As in: book_desk doctor --store office.db
+
+Output of a sound store, a line each
+  epoch N, persons N, groups N, books N, cards N, removed N, members N, entries N
+  file N bytes, log N bytes, mode MODE
+  pages N of N bytes, N free    what compact gives back
+  open N bytes                  about as much memory as an open wants
+
+Told on standard error, on a line
+  store: FAULT              as audit
+  store: TABLE ROW: RULE    the first row that breaks a rule of a sound store
+  cause: CAUSE              as by --cause: why it can't be had, or that others may read the file
+  output: write             it could not be told
+
+Status: 0 sound; 2 usage; 3 the store, memory, or a failed write.
 ";
 
 pub(crate) const PIPE: &str = "Serves the requests on standard input";

@@ -3,11 +3,13 @@
 //! It stands on `clap`. The program uses `command_of`: where it answers a command, it is the one that clap's matches of
 //! the words give, with the port and the number of connections in range, or help, where the words ask for it.
 //!
-//! Read `commands` first, and `questions`, which has the commands that ask; then `programs`, which tells clap of the command line, and `helps`, its texts.
+//! Read `commands` first, and `questions` and `keeping`, which have the commands that ask and those that make stores; then
+//! `programs`, which tells clap of the command line, and `helps`, its texts.
 #![tactic(auto)]
 
 mod commands;
 mod helps;
+mod keeping;
 mod programs;
 mod questions;
 

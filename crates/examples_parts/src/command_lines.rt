@@ -50,6 +50,51 @@ const COMMANDS: &[(&str, &str)] = &[
         "Differs { store: \"office.db\", policy: \"office.toml\", strict: true }",
     ),
     (
+        "load --store new.db",
+        "Load { store: \"new.db\", dump: None, owners: None, at: None, without: None, heir: None, forget_removed: false, new_epoch: false, above: None }",
+    ),
+    (
+        "load - --owner /people/ann=/people/bo --store new.db --at sales --owner /groups/a=/groups/b",
+        "Load { store: \"new.db\", dump: Some(\"-\"), owners: Some([\"/people/ann=/people/bo\", \"/groups/a=/groups/b\"]), at: Some(\"sales\"), without: None, heir: None, forget_removed: false, new_epoch: false, above: None }",
+    ),
+    (
+        "load --store new.db --without /people/ann --heir /people/bo --new-epoch --above 7 --forget-removed office.jsonl",
+        "Load { store: \"new.db\", dump: Some(\"office.jsonl\"), owners: None, at: None, without: Some([\"/people/ann\"]), heir: Some(\"/people/bo\"), forget_removed: true, new_epoch: true, above: Some(\"7\") }",
+    ),
+    (
+        "compact --store office.db",
+        "Compact { store: \"office.db\", forget_removed: false }",
+    ),
+    (
+        "compact --forget-removed --store office.db",
+        "Compact { store: \"office.db\", forget_removed: true }",
+    ),
+    (
+        "backup --store office.db --to monday.db",
+        "Backup { store: \"office.db\", to: \"monday.db\" }",
+    ),
+    (
+        "backup --check monday.db --store office.db",
+        "CheckBackup { store: \"office.db\", copy: \"monday.db\" }",
+    ),
+    ("backup --store office.db", SERVE_WANTS),
+    (
+        "backup --store office.db --to a.db --check a.db",
+        SERVE_WANTS,
+    ),
+    (
+        "restore --store office.db --from monday.db /books/a/b.vcf",
+        "Restore { store: \"office.db\", from: \"monday.db\", paths: [\"/books/a/b.vcf\"] }",
+    ),
+    (
+        "restore /books/a /books/c/d.vcf --from monday.db --store office.db",
+        "Restore { store: \"office.db\", from: \"monday.db\", paths: [\"/books/a\", \"/books/c/d.vcf\"] }",
+    ),
+    (
+        "doctor --store office.db",
+        "Doctor { store: \"office.db\" }",
+    ),
+    (
         "ask --store office.db - /books read",
         "Ask { store: \"office.db\", caller: \"-\", path: \"/books\", privileges: [\"read\"] }",
     ),
@@ -189,6 +234,26 @@ const REFUSED: &[(&str, &str)] = &[
         "2 error: the following required arguments were not provided:",
     ),
     (
+        "load office.jsonl",
+        "2 error: the following required arguments were not provided:",
+    ),
+    (
+        "compact",
+        "2 error: the following required arguments were not provided:",
+    ),
+    (
+        "restore --store office.db --from monday.db",
+        "2 error: the following required arguments were not provided:",
+    ),
+    (
+        "doctor",
+        "2 error: the following required arguments were not provided:",
+    ),
+    (
+        "backup --to monday.db",
+        "2 error: the following required arguments were not provided:",
+    ),
+    (
         "migrate",
         "2 error: the following required arguments were not provided:",
     ),
@@ -234,7 +299,7 @@ const REFUSED: &[(&str, &str)] = &[
 
 /// What is told where the options of `serve` lack what they want of each other.
 const SERVE_WANTS: &str =
-    "2 error: serve wants one of '--connections <N>' and '--forever', with '--idle <N>' also '--at-once <N>', and with '--existing' also '--store <FILE>'; why wants DESTINATION with COPY and MOVE";
+    "2 error: serve wants one of '--connections <N>' and '--forever', with '--idle <N>' also '--at-once <N>', and with '--existing' also '--store <FILE>'; why wants DESTINATION with COPY and MOVE; backup wants one of '--to <NEW>' and '--check <COPY>'";
 
 /// The status, and the first line of what is told.
 fn first_line(alloc: Global, fault: &WordsFault) -> Result<String, AllocError> {

@@ -1,9 +1,4 @@
-use Rattle.std.proofs.Common.{◌∙◌, ap, ap₂}
-use Rattle.std.proofs.lemmas.Result.{IfOk-weaker}
-use Rattle.clap.specs.Words.{app_of, with_rule}
 use Rattle.book_desk_words.proofs.programs.with_ends.Goals as goal
 
-pub returns-clause-app : goal.returns-clause-app
-returns-clause-app c =
-    let one = c.in_ok-arg.ensures.shape c.number_option.ensures.local ∙ ap (with_rule (app_of c.args.command)) c.number_option.ensures.rule in
-    IfOk-weaker c.arg-2.result _ _ (λ r h. h.shape c.flag_option.ensures.local ∙ ap₂ with_rule one c.flag_option.ensures.rule) c.arg-2.ensures
+pub returns : goal.returns
+returns c = λ app is. c.with_word.ensures _ _ (c.with_word-made.ensures _ _ is c.number_option.ensures.rule) c.flag_option.ensures.rule

@@ -1,9 +1,4 @@
-use Rattle.std.proofs.Common.{◌∙◌, ap, ap₂}
-use Rattle.std.proofs.lemmas.Result.{IfOk-weaker}
-use Rattle.clap.specs.Words.{app_of, with_rule}
 use Rattle.book_desk_words.proofs.programs.with_places.Goals as goal
 
-pub returns-clause-app : goal.returns-clause-app
-returns-clause-app c =
-    let one = c.in_ok-arg.ensures.shape c.word_needed.ensures.local ∙ ap (with_rule (app_of c.args.command)) c.word_needed.ensures.rule in
-    IfOk-weaker c.arg-2.result _ _ (λ r h. h.shape c.word_option.ensures.local ∙ ap₂ with_rule one c.word_option.ensures.rule) c.arg-2.ensures
+pub returns : goal.returns
+returns c = λ app is. c.with_word.ensures _ _ (c.with_word-made.ensures _ _ is c.word_needed.ensures.rule) c.word_option.ensures.rule
