@@ -16,8 +16,9 @@
 #   make faults  makes stores, memory and disks fail at each point at which they can, and compares what is answered and kept
 #   make bench   builds the program, and prints the processor time that it takes for many workloads, and the instructions
 #                of requests at two sizes of what they should not rest on
-#   make figures builds the program, and prints what its requests over a store in a file take, and what load, backup, compact,
-#                restore and doctor take beside sqlite3; and asks for what takes most memory under an address space of 512 MB
+#   make figures builds the program, and prints what its requests over a store in a file take, what check of a policy of 1 MB
+#                takes, and what load, backup, compact, restore and doctor take beside sqlite3; and asks for what takes most
+#                memory under an address space of 512 MB
 #   make many    builds the program, and serves 10,000 connections, 100 at once, and each worked stream cut at each byte, four
 #                at once; ends it by TERM at 100 moments; loses the file of a store beside its log; makes syncs fail; asks it
 #                through nginx; prints what an honest client waits for beside clients that take places or turns
@@ -81,6 +82,7 @@ bench: build
 
 figures: build
 	@tools/measure-stores build/book_desk
+	@tools/check-policies --figures build/book_desk
 	@tools/measure-loads build/book_desk
 	@tools/check-memory build/book_desk
 
