@@ -1,0 +1,4 @@
+pub mod Times
+pub mod Words
+pub mod Lines
+pub mod Laws
