@@ -1,0 +1,6 @@
+pub mod Common
+pub mod Texts
+pub mod LinesInTurn
+pub mod Times
+pub mod MembersToEnd
+pub mod ObjectsAsJson

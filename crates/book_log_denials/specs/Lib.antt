@@ -1,0 +1,4 @@
+pub mod Reading
+pub mod Tallies
+pub mod Denials
+pub mod Laws
