@@ -1,0 +1,294 @@
+-- From a reply of the machine to what is owed for it.
+use Rattle.std.proofs.Common.{◌≡◌, ◌≢◌, ℕ, Bool, true, false, List, [], Option, Some, None, Ok, Err, refl, sym, ap, ◌∙◌, subst, inl, inr}
+use Rattle.book_log_replies.specs.Replies.{denial_in}
+use Rattle.book_log_service.specs.Kept.{owed_text}
+use Rattle.book_log_service.specs.Settling.{IsUnavailableText, Settles, Withdraws}
+use Rattle.book_log_service.specs.Spelling.{IsDenial, Spells}
+use Rattle.book_log_service.specs.Texts.{IsTextBy}
+use Rattle.book_machine.specs.Asking.{IsWellFormed}
+use Rattle.book_machine.specs.Laws.{TellingRepliesChangeNothing}
+use Rattle.book_machine.specs.Promises.{ServePromise}
+use Rattle.book_machine.specs.Refusals.{refused}
+use Rattle.book_machine.specs.declared.machine.Machine.{Machine}
+use Rattle.book_machine.specs.declared.messages.Content.{Content}
+use Rattle.book_machine.specs.declared.messages.Content.TheVariants as content
+use Rattle.book_machine.specs.declared.messages.Reply.{Reply}
+use Rattle.book_machine.specs.declared.messages.Request.{Request}
+use Rattle.book_machine.specs.declared.refusals.Refusal.TheVariants.{Unavailable}
+use Rattle.book_office.specs.Keeping.{Reads, Standing, one_more}
+use Rattle.book_office.specs.Levels.{lists_at}
+use Rattle.book_office.specs.declared.keepers.StoreFault.{StoreFault}
+use Rattle.book_office.specs.declared.keepers.StoreFault.TheVariants.{Memory, Store}
+use Rattle.book_office.specs.declared.nodes.Lists.{Lists}
+use Rattle.book_office_listings.specs.declared.messages.Denial.{Denial}
+use Rattle.book_office_values.specs.declared.offices.Office.{Office}
+use Rattle.book_wire_serving.proofs.Servings.{promise_still, still}
+use Rattle.book_wire_serving.proofs.Unavailable.{no_edit}
+use Rattle.book_wire_serving.specs.Logs.{IsLineBy}
+use Rattle.book_wire_serving.specs.Serving.{IsTextOf, Owes, Serving, StandsStill}
+
+-- ---- no denial
+no_denial : (denial : Denial) → None ≡ Some denial → ⊥
+no_denial denial e = absurd cc
+
+empty_is_no_denial : (c : Content) (denial : Denial) → denial_in c ≡ Some denial → c ≢ content.Empty
+empty_is_no_denial c denial is empty = no_denial denial (sym (ap denial_in empty) ∙ is)
+
+unavailable_is_no_denial : (reply : Reply) → IsDenial reply → reply ≡ refused Unavailable → ⊥
+unavailable_is_no_denial reply denial is = no_denial denial.0 (sym (ap (λ (r : Reply). denial_in r.content) is) ∙ denial.1)
+
+-- ---- the machine is not asked
+not_asked : (old new : Standing) (name : Option (List ℕ)) (request : Request) → StandsStill old new → ServePromise old new name request (refused Unavailable)
+not_asked old new name request s = record {
+  was_honest = s.was_honest;
+  served = λ h o stands. (o, s.kept h o stands, inr (refl, refl));
+  left = λ h o stands x left. (inl (s.left h x left), λ served. absurd (served refl));
+  counted = inl s.counted;
+}
+
+unavailable_text : (old new : Standing) (name : Option (List ℕ)) (request : Request) (text : List ℕ)
+    → IsUnavailableText text → IsTextOf old new name request (refused Unavailable) text
+unavailable_text old new name request text is = record {
+  l = is.0;
+  text_is = is.1;
+  is_line = inr (refl, is.2);
+  by_force = λ h o stands denial told. absurd (no_denial denial told);
+}
+
+pub owes_unasked : (old new : Serving) (other : List ℕ) (name : Option (List ℕ)) (request : Request)
+    → StandsStill old.standing new.standing → IsWellFormed request
+    → (new.log.failed ≡ false → old.log.failed ≡ false) → new.log.held ≡ old.log.held
+    → (new.log.failed ≡ false → IsUnavailableText other) → Owes old new (owed_text None other) name request (refused Unavailable)
+owes_unasked old new other name request still known was_sound held is = record {
+  served = not_asked old.standing new.standing name request still;
+  well_formed = known;
+  was_sound = was_sound;
+  held = held;
+  text = λ sound bytes holds. unavailable_text old.standing new.standing name request other (is sound);
+  other = λ sound bytes holds. is sound;
+}
+
+-- ---- the reply is sent
+told_by_force : TellingRepliesChangeNothing → (old mid new : Standing) (name : Option (List ℕ)) (request : Request) (reply : Reply) (text : List ℕ)
+    → ServePromise old mid name request reply → StandsStill mid new → IsTextOf mid new name request reply text → IsTextOf old new name request reply text
+told_by_force law old mid new name request reply text p s t = record {
+  l = t.l;
+  text_is = t.text_is;
+  is_line = t.is_line;
+  by_force = λ h o stands denial is.
+      let a = p.served (s.was_honest h) o stands in
+      let same : a.0 ≡ o = no_edit law o a.0 name request reply a.2 (empty_is_no_denial reply.content denial is) in
+      let P : Office → Type 0 = λ x. IsLineBy name request reply (lists_at x denial.resource).levels t.l in
+      subst P same (t.by_force h a.0 a.1 denial is);
+}
+
+owes_sent : TellingRepliesChangeNothing → (old new : Serving) (mid : Standing) (made : Option (List ℕ)) (other : List ℕ) (name : Option (List ℕ)) (request : Request) (reply : Reply)
+    → ServePromise old.standing mid name request reply → IsWellFormed request
+    → (new.log.failed ≡ false → old.log.failed ≡ false) → new.log.held ≡ old.log.held → IsUnavailableText other
+    → StandsStill mid new.standing → (new.log.failed ≡ false → (text : List ℕ) × (made ≡ Some text) × IsTextOf mid new.standing name request reply text)
+    → Owes old new (owed_text made other) name request reply
+owes_sent law old new mid made other name request reply p known was_sound held is still told = record {
+  served = promise_still old.standing mid new.standing name request reply p still;
+  well_formed = known;
+  was_sound = was_sound;
+  held = held;
+  text = λ sound bytes holds.
+      let t = told sound in
+      let P : Option (List ℕ) → Type 0 = λ m. IsTextOf old.standing new.standing name request reply (owed_text m other true) in
+      subst P (sym t.1) (told_by_force law old.standing mid new.standing name request reply t.0 p still t.2);
+  other = λ sound bytes holds. is;
+}
+
+-- ---- `unavailable` is sent in its place
+withdrawn : TellingRepliesChangeNothing → (old mid new : Standing) (name : Option (List ℕ)) (request : Request) (reply sent : Reply) (made : Option (List ℕ))
+    → ServePromise old mid name request reply → Withdraws mid new reply sent made → ServePromise old new name request (refused Unavailable)
+withdrawn law old mid new name request reply sent made p w = record {
+  was_honest = λ h. p.was_honest (w.was_honest h);
+  served = λ h o stands.
+      let s = p.served (w.was_honest h) o stands in
+      (s.0, w.kept h s.0 s.1, inr (refl, no_edit law o s.0 name request reply s.2 w.telling));
+  left = λ h o stands x left.
+      let may = p.left (w.was_honest h) o stands x (w.left h x left) in
+      (may.0, λ served. absurd (served refl));
+  counted = elim w.failed [
+    | inl same ↦ elim p.counted [ inl before ↦ inl (same ∙ before) | inr rose ↦ inr (refl, same ∙ rose.1) ]
+    | inr failed ↦ elim p.counted [
+      | inl before ↦ inr (refl, failed.1 ∙ ap one_more before)
+      | inr rose ↦ absurd (unavailable_is_no_denial reply failed.0 rose.0)
+    ]
+  ];
+}
+
+pub owes_settled : TellingRepliesChangeNothing → (old new : Serving) (mid : Standing) (made : Option (List ℕ)) (other : List ℕ) (name : Option (List ℕ)) (request : Request) (reply sent : Reply)
+    → ServePromise old.standing mid name request reply → IsWellFormed request
+    → (new.log.failed ≡ false → old.log.failed ≡ false) → new.log.held ≡ old.log.held → IsUnavailableText other
+    → Settles mid new.standing name request reply sent new.log.failed made
+    → Owes old new (owed_text made other) name request sent
+owes_settled law old new mid made other name request reply sent p known was_sound held is (inl s) =
+    let P : Reply → Type 0 = λ r. Owes old new (owed_text made other) name request r in
+    subst P (sym s.same) (owes_sent law old new mid made other name request reply p known was_sound held is s.still s.told)
+owes_settled law old new mid made other name request reply sent p known was_sound held is (inr w) =
+    let P : Reply → Type 0 = λ r. Owes old new (owed_text made other) name request r in
+    let Q : Option (List ℕ) → Type 0 = λ m. Owes old new (owed_text m other) name request (refused Unavailable) in
+    subst P (sym w.unavailable)
+    (subst Q (sym w.none) (record {
+      served = withdrawn law old.standing mid new.standing name request reply sent made p w;
+      well_formed = known;
+      was_sound = was_sound;
+      held = held;
+      text = λ sound bytes holds. unavailable_text old.standing new.standing name request other is;
+      other = λ sound bytes holds. is;
+    }))
+
+-- ---- the cases of a reply
+pub still_kept : {K : Type 0} (standing : K → Standing) (old new : Machine K) → new ≡ old → StandsStill (standing old.keeper) (standing new.keeper)
+still_kept {K} standing old new same =
+    let P : Machine K → Type 0 = λ m. StandsStill (standing old.keeper) (standing m.keeper) in
+    subst P (sym same) (still (standing old.keeper))
+
+pub served_from : {K : Type 0} (standing : K → Standing) (old begun : Machine K) (mid : Standing) (name : Option (List ℕ)) (request : Request) (reply : Reply)
+    → begun ≡ old → ServePromise (standing begun.keeper) mid name request reply → ServePromise (standing old.keeper) mid name request reply
+served_from {K} standing old begun mid name request reply same p =
+    let P : Machine K → Type 0 = λ m. ServePromise (standing m.keeper) mid name request reply in
+    subst P same p
+
+pub owes_at_once : (old new : Serving) (made : Option (List ℕ)) (other : List ℕ) (name : Option (List ℕ)) (request : Request) (sent : Reply)
+    → sent ≡ refused Unavailable → made ≡ None → StandsStill old.standing new.standing → IsWellFormed request
+    → (new.log.failed ≡ false → old.log.failed ≡ false) → new.log.held ≡ old.log.held
+    → (new.log.failed ≡ false → IsUnavailableText other) → Owes old new (owed_text made other) name request sent
+owes_at_once old new made other name request sent is_sent none s known was_sound held is =
+    let P : Reply → Type 0 = λ r. Owes old new (owed_text made other) name request r in
+    let Q : Option (List ℕ) → Type 0 = λ m. Owes old new (owed_text m other) name request (refused Unavailable) in
+    subst P (sym is_sent) (subst Q (sym none) (owes_unasked old new other name request s known was_sound held is))
+
+-- a reply without a content
+told_empty : (old new : Standing) (name : Option (List ℕ)) (request : Request) (reply : Reply) (text : List ℕ)
+    → reply.content ≡ content.Empty → IsTextBy name request reply [] text → IsTextOf old new name request reply text
+told_empty old new name request reply text empty t = record {
+  l = t.0;
+  text_is = t.1;
+  is_line = inl ([], t.2);
+  by_force = λ h o stands denial is. absurd (empty_is_no_denial reply.content denial is empty);
+}
+
+pub settles_empty : (old new : Standing) (name : Option (List ℕ)) (request : Request) (reply : Reply) (failed : Bool) (made : Option (List ℕ))
+    → reply.content ≡ content.Empty → StandsStill old new
+    → (failed ≡ false → (text : List ℕ) × (made ≡ Some text) × IsTextBy name request reply [] text)
+    → Settles old new name request reply reply failed made
+settles_empty old new name request reply failed made empty s told = inl (record {
+  same = refl;
+  still = s;
+  told = λ sound.
+      let t = told sound in
+      (t.0, t.1, told_empty old new name request reply t.0 empty t.2);
+})
+
+-- a reply whose line was made
+pub settles_spelled : (old new : Standing) (name : Option (List ℕ)) (request : Request) (reply : Reply) (failed : Bool) (text : List ℕ)
+    → Spells old new name request reply (Ok text) → Settles old new name request reply reply failed (Some text)
+settles_spelled old new name request reply failed text s = inl (record {
+  same = refl;
+  still = record { was_honest = s.was_honest; kept = s.kept; left = s.left; counted = s.counted };
+  told = λ sound. (text, refl, s.told);
+})
+
+-- a reply whose line was not made
+pub settles_withdrawn : (old new : Standing) (name : Option (List ℕ)) (request : Request) (reply sent : Reply) (failed : Bool) (made : Option (List ℕ)) (fault : StoreFault)
+    → Spells old new name request reply (Err fault) → sent ≡ refused Unavailable → reply.content ≢ content.Empty → made ≡ None
+    → Settles old new name request reply sent failed made
+settles_withdrawn old new name request reply sent failed made fault s is_sent telling none = inr (record {
+  unavailable = is_sent;
+  telling = telling;
+  was_honest = s.was_honest;
+  kept = s.kept;
+  left = s.left;
+  failed = s.failed;
+  none = none;
+})
+
+-- ---- the line of a reply with a content
+-- by the lists that the keeper told
+pub spells_read : (old new : Standing) (name : Option (List ℕ)) (request : Request) (reply : Reply) (denial : Denial) (lists : Lists) (text : List ℕ)
+    → denial_in reply.content ≡ Some denial → Reads old new (Ok lists) (λ o told. told ≡ lists_at o denial.resource)
+    → IsTextBy name request reply lists.levels text → Spells old new name request reply (Ok text)
+spells_read old new name request reply denial lists text denied r t = record {
+  was_honest = r.was_honest;
+  kept = r.kept;
+  left = r.left;
+  told = record {
+    l = t.0;
+    text_is = t.1;
+    is_line = inl (lists.levels, t.2);
+    by_force = λ h o stands other is.
+        let same : denial ≡ other = cc in
+        let P : Lists → Type 0 = λ ls. IsLineBy name request reply ls.levels t.0 in
+        let Q : Denial → Type 0 = λ d. IsLineBy name request reply (lists_at o d.resource).levels t.0 in
+        subst Q same (subst P (r.value h o stands) t.2);
+  };
+  counted = r.counted;
+  failed = tt;
+}
+
+-- memory was refused after the lists were told
+pub spells_refused : (old new : Standing) (name : Option (List ℕ)) (request : Request) (reply : Reply) (denial : Denial) (lists : Lists)
+    → Reads old new (Ok lists) (λ o told. told ≡ lists_at o denial.resource) → Spells old new name request reply (Err Memory)
+spells_refused old new name request reply denial lists r = record {
+  was_honest = r.was_honest;
+  kept = r.kept;
+  left = r.left;
+  told = tt;
+  counted = tt;
+  failed = inl r.counted;
+}
+
+-- the lists were not told
+pub spells_unread : (old new : Standing) (name : Option (List ℕ)) (request : Request) (reply : Reply) (denial : Denial) (fault : StoreFault)
+    → denial_in reply.content ≡ Some denial → Reads {A = Lists} old new (Err fault) (λ o told. told ≡ lists_at o denial.resource)
+    → Spells old new name request reply (Err fault)
+spells_unread old new name request reply denial Memory denied r = record {
+  was_honest = r.was_honest;
+  kept = r.kept;
+  left = r.left;
+  told = tt;
+  counted = tt;
+  failed = inl r.counted;
+}
+spells_unread old new name request reply denial Store denied r = record {
+  was_honest = r.was_honest;
+  kept = r.kept;
+  left = r.left;
+  told = tt;
+  counted = tt;
+  failed = inr ((denial, denied), r.counted);
+}
+
+-- no lists are asked for
+told_plain : (old new : Standing) (name : Option (List ℕ)) (request : Request) (reply : Reply) (text : List ℕ)
+    → denial_in reply.content ≡ None → IsTextBy name request reply [] text → IsTextOf old new name request reply text
+told_plain old new name request reply text none t = record {
+  l = t.0;
+  text_is = t.1;
+  is_line = inl ([], t.2);
+  by_force = λ h o stands denial is. absurd (no_denial denial (sym none ∙ is));
+}
+
+pub spells_plain : (s : Standing) (name : Option (List ℕ)) (request : Request) (reply : Reply) (text : List ℕ)
+    → denial_in reply.content ≡ None → IsTextBy name request reply [] text → Spells s s name request reply (Ok text)
+spells_plain s name request reply text none t = record {
+  was_honest = λ h. h;
+  kept = λ h o stands. stands;
+  left = λ h x left. left;
+  told = told_plain s s name request reply text none t;
+  counted = refl;
+  failed = tt;
+}
+
+pub spells_nothing : (s : Standing) (name : Option (List ℕ)) (request : Request) (reply : Reply) → Spells s s name request reply (Err Memory)
+spells_nothing s name request reply = record {
+  was_honest = λ h. h;
+  kept = λ h o stands. stands;
+  left = λ h x left. left;
+  told = tt;
+  counted = tt;
+  failed = inl refl;
+}

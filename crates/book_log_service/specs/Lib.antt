@@ -1,0 +1,6 @@
+pub mod Texts
+pub mod Drafts
+pub mod Kept
+pub mod Spelling
+pub mod Settling
+pub mod Adoptions

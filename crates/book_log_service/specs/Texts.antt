@@ -1,0 +1,29 @@
+-- Texts of lines of a log.
+use Rattle.std.specs.Prelude.{◌≡◌, ℕ, List, Option}
+use Rattle.book_log_lines.specs.Lines.{line_text}
+use Rattle.book_log_lines.specs.declared.lines.Adoption.{Adoption}
+use Rattle.book_log_lines.specs.declared.lines.Line.{Line}
+use Rattle.book_log_lines.specs.declared.lines.Line.TheVariants as line
+use Rattle.book_machine.specs.declared.messages.Reply.{Reply}
+use Rattle.book_machine.specs.declared.messages.Request.{Request}
+use Rattle.book_office.specs.declared.nodes.Level.{Level}
+use Rattle.book_wire_serving.specs.Logs.{IsBare, IsLineBy}
+
+-- the text of a line that is so
+abbrev pub IsTextWith : (Line → Type 0) → List ℕ → Type 0
+IsTextWith IsSo text = (l : Line) × (text ≡ line_text l) × IsSo l
+
+-- the text of the line of a request of that caller and its reply, by the lists in force at the resource of a denial
+abbrev pub IsTextBy : Option (List ℕ) → Request → Reply → List Level → List ℕ → Type 0
+IsTextBy name request reply levels text = IsTextWith (IsLineBy name request reply levels) text
+
+-- the text of a line that tells a refusal, and nothing of a request
+abbrev pub IsBareText : ℕ → List ℕ → List ℕ → Type 0
+IsBareText status error text = IsTextWith (IsBare status error) text
+
+-- a line that tells what came of adopting a policy, and the epoch after it
+abbrev pub IsAdoption : Adoption → ℕ → Line → Type 0
+IsAdoption adopted epoch l = (time : List ℕ) × (l ≡ line.Adoption (record { time = time; epoch = epoch; adopted = adopted }))
+
+abbrev pub IsAdoptionText : Adoption → ℕ → List ℕ → Type 0
+IsAdoptionText adopted epoch text = IsTextWith (IsAdoption adopted epoch) text

@@ -1,0 +1,2 @@
+pub mod Unavailable
+pub mod Servings
