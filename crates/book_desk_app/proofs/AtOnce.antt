@@ -1,10 +1,10 @@
 -- Connections at once, and what is told of them.
-use Rattle.std.proofs.Common.{◌≡◌, ◌-◌, ℕ, Bool, true, false, cond, List, [], ◌∷◌, ◌++◌, Option, Result, Ok, Err, refl, sym, ap, subst, ◌∙◌}
+use Rattle.std.proofs.Common.{◌≡◌, ◌-◌, ℕ, Bool, true, false, cond, List, [], ◌∷◌, Option, Result, sym, ap, subst, ◌∙◌}
 use Rattle.std.proofs.KnownBytes.{Appends-nil}
 use Rattle.book_wire.specs.declared.stream.StreamFault.{StreamFault}
 use Rattle.book_desk_loop.specs.Serving.{ToldFault, AreTold}
 use Rattle.book_desk_loop.specs.declared.limits.Stop.{Stop}
-use Rattle.book_desk_app.specs.AtOnce.{last_line, line_of_client, lines_of_clients, served_status}
+use Rattle.book_desk_app.specs.AtOnce.{line_of_client, lines_of_clients, served_status}
 use Rattle.book_desk_app.specs.Telling.{Tells}
 use Rattle.book_desk_app.proofs.InTurn.{tells_then}
 

@@ -2,15 +2,15 @@
 use Rattle.std.specs.Prelude.{◌≡◌, ◌⊎◌, ◌-◌, ℕ, zero, suc, Bool, List, [], ◌∷◌, ◌++◌, codes, Option, Result, Ok, Err}
 use Rattle.std.specs.Io.KnownBytes.{Appends}
 use Rattle.std.specs.declared.net.socket_addr.SocketAddr.{SocketAddr}
-use Rattle.book_office.specs.Keeping.{Standing}
+use Rattle.book_wire_serving.specs.Serving.{Serving}
 use Rattle.book_wire.specs.declared.stream.StreamFault.{StreamFault}
 use Rattle.book_desk_loop.specs.Serving.{ToldFault, AreServedAtOnce}
 use Rattle.book_desk_loop.specs.declared.limits.Limits.{Limits}
 use Rattle.book_desk_loop.specs.declared.limits.Stop.{Stop}
-use Rattle.book_desk_loop.specs.declared.limits.Stop.TheVariants.{Failed as StopFailed, Store as StopStore}
+use Rattle.book_desk_loop.specs.declared.limits.Stop.TheVariants.{Failed as StopFailed, Log as StopLog, Store as StopStore}
 use Rattle.book_desk_app.specs.Failures.{failure_text}
 use Rattle.book_desk_app.specs.ServingFailures.{stream_text}
-use Rattle.book_desk_app.specs.Streams.{SaysNothing, listening_line}
+use Rattle.book_desk_app.specs.Streams.{SaysNothing, listening_line, log_failure}
 use Rattle.book_desk_app.specs.Telling.{Tells}
 use Rattle.book_desk_app.specs.declared.failures.Failure.{Failure}
 use Rattle.book_desk_app.specs.declared.failures.Failure.TheVariants.{Listen, Store}
@@ -35,6 +35,7 @@ lines_of_clients left (told ∷ more) = line_of_client left told.fault ++ lines_
 abbrev pub stop_failure : Stop → Failure
 stop_failure StopFailed = Listen
 stop_failure StopStore = Store stores.Store
+stop_failure StopLog = log_failure
 
 -- the last line, where it does not end well
 abbrev pub last_line : Result (Unit {0}) Stop → List ℕ
@@ -47,19 +48,19 @@ served_status [] (Ok done) = 0
 served_status [] (Err stop) = 3
 served_status (told ∷ more) ended = 3
 
-module _ {S K : Type 0} (remaining contents : S → Option (List ℕ)) (standing : K → Standing) (limits : Limits) (first : K)
+module _ {S M : Type 0} (remaining contents : S → Option (List ℕ)) (serving : M → Serving) (limits : Limits) (first : M)
     (was_whole is_whole : Bool) (told tells : Option (List ℕ)) where
-  -- Connections were served at once, from the first keeper to the last. What is told is the lines on the faults of clients, at most
+  -- Connections were served at once, from the first service to the last. What is told is the lines on the faults of clients, at most
   -- 1,000, and then what ended it.
-  pub record EndsAtOnce (status : ℕ) (last : K) : Type 0 where
+  pub record EndsAtOnce (status : ℕ) (last : M) : Type 0 where
     pub faults : List ToldFault
     pub ended : Result (Unit {0}) Stop
-    pub served : AreServedAtOnce remaining contents standing limits first faults ended last
+    pub served : AreServedAtOnce remaining contents serving limits first faults ended last
     pub status_is : status ≡ served_status faults ended
     pub lines : Tells was_whole is_whole told tells (lines_of_clients 1000 faults ++ last_line ended)
 
   -- it could not be said where it listens, and no connection was served; or it said so, and connections were served at once
-  abbrev pub ServesAtOnce : Option (List ℕ) → Option (List ℕ) → ℕ → K → Type 0
+  abbrev pub ServesAtOnce : Option (List ℕ) → Option (List ℕ) → ℕ → M → Type 0
   ServesAtOnce held holds status last =
-      (SaysNothing remaining contents standing was_whole is_whole told tells status × (last ≡ first))
+      (SaysNothing remaining contents serving was_whole is_whole told tells status × (last ≡ first))
       ⊎ (((address : SocketAddr) × Appends held holds (listening_line address)) × EndsAtOnce status last)

@@ -6,7 +6,7 @@ use Rattle.book_machine.specs.declared.adoptions.Adopted.{Adopted}
 use Rattle.book_office.specs.Keeping.{Standing}
 use Rattle.book_policy_values.specs.declared.parts.PolicyTables.{PolicyTables}
 use Rattle.book_desk_app.specs.declared.serving_failures.AdoptionFailure.{AdoptionFailure}
-use Rattle.book_wire.specs.Serving.{Stays}
+use Rattle.book_wire_serving.specs.Serving.{StandsStill}
 use Rattle.book_desk_app.specs.declared.failures.Failure.{Failure}
 use Rattle.book_desk_app.specs.declared.failures.Failure.TheVariants.{Output, Adoption}
 
@@ -23,7 +23,7 @@ RefusesPolicy old policy failure new =
 
 -- nothing was done where none is given
 abbrev pub AdoptsGiven : Standing → Option PolicyTables → Standing → Type 0
-AdoptsGiven old None new = Stays old new
+AdoptsGiven old None new = StandsStill old new
 AdoptsGiven old (Some policy) new = Adoptions old policy new
 
 abbrev pub FailsToAdopt : Standing → Option PolicyTables → Failure → Standing → Type 0

@@ -1,12 +1,13 @@
 -- What a task over a store does, and the status that ends it (own profile).
-use Rattle.std.specs.Prelude.{◌≡◌, ◌≢◌, ◌⊎◌, ℕ, List, Option}
+use Rattle.std.specs.Prelude.{◌≡◌, ◌≢◌, ◌⊎◌, ℕ, false, List, Option}
 use Rattle.std.specs.Io.KnownBytes.{Keeps}
 use Rattle.book_office.specs.Keeping.{Standing}
+use Rattle.book_wire_serving.specs.Serving.{Serving}
 use Rattle.book_policy_values.specs.declared.parts.PolicyTables.{PolicyTables}
 use Rattle.book_desk_app.specs.Audits.{Audits, FailsToAudit}
 use Rattle.book_desk_app.specs.Failures.{failure_status}
 use Rattle.book_desk_app.specs.Imports.{AdoptsGiven, FailsToAdopt, Imports, FailsToImport}
-use Rattle.book_desk_app.specs.Streams.{Pipes, StopsToPipe}
+use Rattle.book_desk_app.specs.Streams.{Pipes, StopsToPipe, unlogged}
 use Rattle.book_desk_app.specs.declared.failures.Failure.{Failure}
 use Rattle.book_desk_app.specs.declared.tasks.Task.{Task}
 use Rattle.book_desk_app.specs.declared.tasks.Task.TheVariants.{Import, Audit, Pipe}
@@ -17,10 +18,10 @@ module _ (Told : Failure → Type 0) where
   abbrev pub EndsWith : Type 0 → (Failure → Type 0) → ℕ → Type 0
   EndsWith Done Fails status = ((status ≡ 0) × Done) ⊎ ((failure : Failure) × (status ≡ failure_status failure) × Fails failure × Told failure)
 
-  -- the requests were served, or the stream stopped with a fault, which was told
-  abbrev pub EndsPipe : Standing → Option (List ℕ) → Option (List ℕ) → Option (List ℕ) → Option (List ℕ) → ℕ → Standing → Type 0
+  -- the requests were served, and the log has not failed; or the stream stopped with a fault, or the log has failed, which was told
+  abbrev pub EndsPipe : Serving → Option (List ℕ) → Option (List ℕ) → Option (List ℕ) → Option (List ℕ) → ℕ → Serving → Type 0
   EndsPipe old before after held holds status new =
-      (status ≢ 3 → Pipes old before held holds status new) × (status ≡ 3 → StopsToPipe Told old before after held holds new)
+      (status ≢ 3 → Pipes old before held holds status new × (new.log.failed ≡ false)) × (status ≡ 3 → StopsToPipe Told old before after held holds new)
 
 -- over a keeper: what was read and is left to read, what the writer held and holds, the status, and the keeper afterwards
 module _ (Told : Failure → Type 0) {K : Type 0} (standing : K → Standing) where
@@ -29,7 +30,7 @@ module _ (Told : Failure → Type 0) {K : Type 0} (standing : K → Standing) wh
   PipesAfter policy old before after held holds status new =
       ((failure : Failure) × (status ≡ failure_status failure) × FailsToAdopt (standing old) policy failure (standing new) × Keeps before after × Keeps held holds
       × Told failure)
-      ⊎ ((between : K) × AdoptsGiven (standing old) policy (standing between) × EndsPipe Told (standing between) before after held holds status (standing new))
+      ⊎ ((between : K) × AdoptsGiven (standing old) policy (standing between) × EndsPipe Told (unlogged (standing between)) before after held holds status (unlogged (standing new)))
 
   abbrev pub Performs : Task → K → Option (List ℕ) → Option (List ℕ) → Option (List ℕ) → Option (List ℕ) → ℕ → K → Type 0
   Performs (Import policy) old before after held holds status new =

@@ -104,7 +104,7 @@ pub enum Failure {
     Store(StoreFailure),
     /// The policy was not adopted.
     Adoption(AdoptionFailure),
-    /// The requests of `pipe` were not served to their end.
+    /// The requests of `pipe` were not served to their end, or a line of the log could not be written.
     Stream(StreamFailure),
 }
 

@@ -1,20 +1,22 @@
 //! The connections of a listener.
 
-ghost use Rattle.std.specs.Prelude.{◌≡◌, ◌⊎◌, IfErr, List, OnOk};
+ghost use Rattle.std.specs.Prelude.{◌≡◌, ◌⊎◌, ◌++◌, codes, cond, false, true, IfErr, List, OnOk};
 ghost use Rattle.std.specs.Io.KnownBytes.{Appends, Keeps};
 ghost use Rattle.std.specs.declared.net.socket_addr.SocketAddr.{SocketAddr};
-ghost use Rattle.book_wire.specs.Serving.{Answered, Runs};
-ghost use Rattle.book_desk_app.specs.Failures.{failure_status};
-ghost use Rattle.book_desk_app.specs.Streams.{Serves, ServesSoundly, listening_line};
+ghost use Rattle.book_wire_serving.specs.Serving.{Answered, Runs};
+ghost use Rattle.book_desk_app.specs.Failures.{failure_status, failure_text};
+ghost use Rattle.book_desk_app.specs.Streams.{Serves, ServesSoundly, listening_line, log_failure};
+ghost use Rattle.book_desk_app.specs.Telling.{Tells};
 ghost use Rattle.book_desk_app.specs.declared.failures.Failure.TheVariants.{Listen, Output};
 
 use crate::connections::serve_connections;
 use crate::failures::Failure;
 use crate::lines::Lines;
+use crate::serving_failures::StreamFailure;
 use crate::telling::tell_line;
 use crate::text_failures::{BROKEN, DONE};
-use book_machine::Machine;
-use book_office::Keeper;
+use book_wire::StreamFault;
+use book_wire_serving::Service;
 use std::alloc::Global;
 use std::io::{Read, Write};
 use std::net::{OpenListener, OpenStream};
@@ -43,12 +45,33 @@ pub(crate) fn say_where<L: OpenListener, W: Write>(
     Ok(())
 }
 
+/// The status of connections that were served: 0 where none had a fault. Where the log has failed all the same, that is
+/// told.
+fn status_of<E: Lines>(sound: bool, failed_log: bool, errors: &mut E) -> u8
+    ensures statuses { (result ≡ 0) ⊎ (result ≡ 3) }
+    ensures done { result ≡ 0 → (sound ≡ true) × (failed_log ≡ false) }
+    ensures silent { (sound ≡ false) ⊎ (failed_log ≡ false) → (errors.new ≡ errors.old)
+        × (result ≡ cond sound 0 3) }
+    ensures told { sound ≡ true → failed_log ≡ true → (result ≡ 3)
+        × Tells (E.is_whole errors.old) (E.is_whole errors.new) (E.Write.contents errors.old)
+        (E.Write.contents errors.new) (failure_text log_failure ++ codes "\n") }
+{
+    if !sound {
+        return BROKEN;
+    }
+    if failed_log {
+        let fault = StreamFault::Log;
+        return tell_line(errors, &Failure::Stream(StreamFailure { fault }));
+    }
+    DONE
+}
+
 /// Says where it listens, and serves so many connections, as `serve_connections`. The status is 0 where none had a fault,
 /// else 3; it is 3 at once where that can't be said, or a connection can't be accepted, which is told on `errors` after the
-/// faults of those before it.
+/// faults of those before it. With status 0 the log has not failed.
 pub fn serve<
     C: Clock,
-    K: Keeper,
+    M: Service,
     S: Read + Write + OpenStream + Drop,
     L: OpenListener<Stream = S>,
     W: Write,
@@ -56,30 +79,29 @@ pub fn serve<
 >(
     clock: &C,
     alloc: Global,
-    machine: &mut Machine<K>,
+    service: &mut M,
     listener: &L,
     connections: u64,
     writer: &mut W,
     errors: &mut E,
 ) -> u8
     ensures statuses { (result ≡ 0) ⊎ (result ≡ 3) }
-    ensures sound { result ≡ 0 → ServesSoundly S.remaining S.contents K.standing machine.old.keeper
-        (W.contents writer.old) (W.contents writer.new) connections machine.new.keeper }
+    ensures sound { result ≡ 0 → ServesSoundly S.remaining S.contents M.serving service.old
+        (W.contents writer.old) (W.contents writer.new) connections service.new }
     ensures runs { (answered : List Answered)
-        × Runs (K.standing machine.old.keeper) (K.standing machine.new.keeper) answered }
+        × Runs (M.serving service.old) (M.serving service.new) answered }
     ensures silent { result ≡ 0 → Keeps (E.Write.contents errors.old)
         (E.Write.contents errors.new) }
-    ensures serves { Serves S.remaining S.contents K.standing (E.is_whole errors.old)
+    ensures serves { Serves S.remaining S.contents M.serving (E.is_whole errors.old)
         (E.is_whole errors.new) (E.Write.contents errors.old)
-        (E.Write.contents errors.new) machine.old.keeper (W.contents writer.old)
-        (W.contents writer.new) connections result machine.new.keeper }
+        (E.Write.contents errors.new) service.old (W.contents writer.old)
+        (W.contents writer.new) connections result service.new }
 {
     if let Err(failure) = say_where(listener, writer) {
         return tell_line(errors, &failure);
     }
-    match serve_connections(clock, alloc, machine, listener, connections, errors) {
-        Ok(true) => DONE,
-        Ok(false) => BROKEN,
+    match serve_connections(clock, alloc, service, listener, connections, errors) {
+        Ok(sound) => status_of(sound, service.has_failed_log(), errors),
         Err(_) => tell_line(errors, &Failure::Listen),
     }
 }

@@ -1,7 +1,7 @@
 //! The connections of a listener, many at once.
 
 ghost use Rattle.std.specs.Prelude.{◌≡◌, List, [], cond};
-ghost use Rattle.book_wire.specs.Serving.{Answered, Runs};
+ghost use Rattle.book_wire_serving.specs.Serving.{Answered, Runs};
 ghost use Rattle.book_desk_app.specs.AtOnce.{ServesAtOnce, last_line, served_status, stop_failure};
 ghost use Rattle.book_desk_app.specs.Telling.{Tells};
 
@@ -12,9 +12,8 @@ use crate::serving_failures::StreamFailure;
 use crate::telling::tell_line;
 use crate::text_failures::{BROKEN, DONE};
 use book_desk_loop::{Faults, Limits, Readiness, Stop, serve_at_once};
-use book_machine::Machine;
-use book_office::Keeper;
 use book_wire::StreamFault;
+use book_wire_serving::Service;
 use std::alloc::Global;
 use std::io::{Read, Write};
 use std::net::{OpenListener, OpenStream};
@@ -64,6 +63,9 @@ fn failure_of(stop: Stop) -> Failure
     match stop {
         Stop::Failed => Failure::Listen,
         Stop::Store => Failure::Store(StoreFailure::Store),
+        Stop::Log => Failure::Stream(StreamFailure {
+            fault: StreamFault::Log,
+        }),
     }
 }
 
@@ -79,16 +81,17 @@ fn status_of<E: Lines>(errors: &mut E, served: Result<(), Stop>, sound: bool) ->
     }
 }
 
-/// Says where it listens, and serves connections, many at once, and gives the machine and `errors` back. The status is 0
+/// Says where it listens, and serves connections, many at once, and gives the service and `errors` back. The status is 0
 /// where none had a fault, else 3; it is 3 at once where that can't be said, or a connection can't be accepted. The fault of
 /// each client is told on `errors`, as a line, and at most 1,000 lines: the last says that no more are told. Where there is
-/// no end of connections, and the store has failed and shows nothing, that is told, and the status is 3.
+/// no end of connections, and the store has failed and shows nothing, that is told, and the status is 3. Where a line of the
+/// log could not be written, that is told, once, and the status is 3.
 ///
 /// Whatever the order in which the bytes of the connections come, each is answered for its own requests alone, and the
 /// requests of all are one run, in the order in which they were completed. What each stream gave and was given is what
 /// its connection received and was sent; why each was let go is known.
 pub fn serve_many<
-    K: Keeper,
+    M: Service,
     S: Read + Write + OpenStream + Drop,
     L: OpenListener<Stream = S>,
     P: Readiness<S>,
@@ -96,35 +99,35 @@ pub fn serve_many<
     E: Lines,
 >(
     alloc: Global,
-    machine: Machine<K>,
+    service: M,
     listener: &L,
     readiness: &mut P,
     limits: Limits,
     writer: &mut W,
     mut errors: E,
-) -> (Machine<K>, E, u8)
-    ensures served { ServesAtOnce S.remaining S.contents K.standing limits machine.keeper
+) -> (M, E, u8)
+    ensures served { ServesAtOnce S.remaining S.contents M.serving limits service
         (E.is_whole errors) (E.is_whole result.1) (E.Write.contents errors)
         (E.Write.contents result.1) (W.contents writer.old)
-        (W.contents writer.new) result.2 result.0.keeper }
+        (W.contents writer.new) result.2 result.0 }
     ensures runs { (answered : List Answered)
-        × Runs (K.standing machine.keeper) (K.standing result.0.keeper) answered }
+        × Runs (M.serving service) (M.serving result.0) answered }
 {
     if let Err(failure) = say_where(listener, writer) {
         let status = tell_line(&mut errors, &failure);
-        return (machine, errors, status);
+        return (service, errors, status);
     }
     let mut told = Told {
         errors,
         sound: true,
         lines: LINES_ON_CLIENTS,
     };
-    let (machine, served) = serve_at_once(alloc, machine, listener, readiness, limits, &mut told);
+    let (service, served) = serve_at_once(alloc, service, listener, readiness, limits, &mut told);
     let Told {
         mut errors,
         sound,
         lines: _,
     } = told;
     let status = status_of(&mut errors, served, sound);
-    (machine, errors, status)
+    (service, errors, status)
 }

@@ -5,6 +5,7 @@ ghost use Rattle.std.specs.Io.KnownBytes.{Keeps};
 ghost use Rattle.sqlite.specs.Held.{state};
 ghost use Rattle.book_desk_app.specs.Runs.{IsNotHad, Runs, RunsIn, RunsOver, standing_in};
 ghost use Rattle.book_tables.specs.declared.tables.Tables.{Tables};
+ghost use Rattle.book_desk_app.specs.Streams.{unlogged};
 ghost use Rattle.book_desk_app.specs.Tasks.{EndsPipe, Performs, PipesAfter};
 ghost use Rattle.book_desk_app.specs.Telling.{TellsFailure};
 
@@ -35,10 +36,10 @@ fn pipe_over<S: Alter + Drop, R: Read, W: Write, E: Lines>(
     errors: &mut E,
 ) -> (u8, Tables<S>)
     ensures ends { EndsPipe (TellsFailure (E.is_whole errors.new) (E.Write.contents errors.old)
-        (E.Write.contents errors.new)) (standing_in (state S.Store) (λ t. t.connection)
-        (λ t. t.failures) tables) (R.remaining reader.old) (R.remaining reader.new)
+        (E.Write.contents errors.new)) (unlogged (standing_in (state S.Store) (λ t. t.connection)
+        (λ t. t.failures) tables)) (R.remaining reader.old) (R.remaining reader.new)
         (W.contents writer.old) (W.contents writer.new) result.0
-        (standing_in (state S.Store) (λ t. t.connection) (λ t. t.failures) result.1) }
+        (unlogged (standing_in (state S.Store) (λ t. t.connection) (λ t. t.failures) result.1)) }
     ensures silent { result.0 ≢ 3 → Keeps (E.Write.contents errors.old)
         (E.Write.contents errors.new) }
 {

@@ -28,7 +28,8 @@ impl fmt::Display for AdoptionFailure {
 
 impl Error for AdoptionFailure {}
 
-/// A stream was not served to its end (own profile). It prints as what is told on standard error.
+/// A stream was not served to its end, or a line of the log could not be written (own profile). It prints as what is told
+/// on standard error.
 #[derive(Clone, Copy, Debug, PartialEq, Eq)]
 pub struct StreamFailure {
     /// Why.
@@ -46,6 +47,7 @@ impl fmt::Display for StreamFailure {
             StreamFault::Memory => f.write_str("stream: memory"),
             StreamFault::Read => f.write_str("stream: read"),
             StreamFault::Write => f.write_str("stream: write"),
+            StreamFault::Log => f.write_str("log: write"),
         }
     }
 }

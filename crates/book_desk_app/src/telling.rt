@@ -75,6 +75,7 @@ fn stream_line(fault: StreamFault) -> &'static str
         StreamFault::Memory => "stream: memory\n",
         StreamFault::Read => "stream: read\n",
         StreamFault::Write => "stream: write\n",
+        StreamFault::Log => "log: write\n",
     }
 }
 

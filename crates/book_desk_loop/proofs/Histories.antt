@@ -7,13 +7,12 @@ use Rattle.std.proofs.lemmas.Bool.Decides.{nat_tests}
 use Rattle.std.proofs.Math.Seq.{get_or-append_seam}
 use Rattle.std.specs.Prelude.{slice_set}
 use Rattle.std.specs.List.{flat_map, AllByRecursion}
-use Rattle.book_office.specs.Keeping.{Standing}
 use Rattle.book_wire.specs.Connection.{View, fresh, IsFed}
-use Rattle.book_wire.specs.Serving.{Answered, Runs, Stays}
+use Rattle.book_wire_serving.specs.Serving.{Answered, Runs, Serving, Stays}
 use Rattle.book_wire.specs.Stream.{Exchange, IsOpen, IsPartial, IsServed, Waits, Ends, SoFar, text_of, reply_text, answered_of}
 use Rattle.book_wire.specs.Turn.{StopsWriting, StopsAt}
 use Rattle.book_wire.specs.declared.stream.Ended.TheVariants.{Closed}
-use Rattle.book_wire.proofs.Servings.{runs_none, runs_then, stays}
+use Rattle.book_wire_serving.proofs.Servings.{runs_none, runs_then, stays}
 use Rattle.book_wire.proofs.Streams.{all_append, ends_then, joined}
 use Rattle.book_desk_loop.specs.declared.connections.Accepted.{Accepted}
 use Rattle.book_desk_loop.specs.ManyConnections.{History, nothing, Entry, answered_in, entries, own, with_history, grows, receives, is_sent, IsThere, IsBehind, EndsSomehow, Holds, AreServed, number_in, number_at}
@@ -32,7 +31,7 @@ pub entries_append : (k : ℕ) (es fs : List Exchange) → entries k (es ++ fs) 
 entries_append k [] fs = refl
 entries_append k (e ∷ es) fs = ap (λ (t : List Entry). record { number = k; exchange = e } ∷ t) (entries_append k es fs)
 
-pub entries_run : (m a : Standing) (k : ℕ) (es : List Exchange) → Runs m a (map answered_of es) → Runs m a (map answered_in (entries k es))
+pub entries_run : (m a : Serving) (k : ℕ) (es : List Exchange) → Runs m a (map answered_of es) → Runs m a (map answered_in (entries k es))
 entries_run m a k es runs = let P : List Answered → Type 0 = λ t. Runs m a t in subst P (sym (entries_answered k es)) runs
 
 own_entries : (k : ℕ) (es : List Exchange) → own k (entries k es) ≡ es
@@ -185,7 +184,7 @@ behind es history v x = by v.closing refl
         }
 
 -- its exchanges, and that it is as they left it
-abbrev FedOne : Standing → Standing → List Exchange → History → View → List ℕ → Type 0
+abbrev FedOne : Serving → Serving → List Exchange → History → View → List ℕ → Type 0
 FedOne m a es history w bytes =
     (fs : List Exchange) × Runs m a (map answered_of fs) × IsThere (es ++ fs) (record { received = history.received ++ bytes; sent = history.sent }) w
 
@@ -198,7 +197,7 @@ made_more : (sent unsent new more replies : List ℕ) → sent ++ unsent ≡ rep
 made_more sent unsent new more replies x y =
     ap (λ (t : List ℕ). sent ++ t) y ∙ sym (append_assoc sent unsent more) ∙ ap (λ (t : List ℕ). t ++ more) x
 
-fed_open : (m a : Standing) (es : List Exchange) (history : History) (v w : View) (bytes more : List ℕ) (n : ℕ)
+fed_open : (m a : Serving) (es : List Exchange) (history : History) (v w : View) (bytes more : List ℕ) (n : ℕ)
     → IsThere es history v → v.closing ≡ false → w.unsent ≡ v.unsent ++ more → w.closing ≡ false
     → (w.closing ≡ false → w.stalled ≡ false → IsPartial w.unread)
     → SoFar m (v.unread ++ bytes) more n a w.unread → FedOne m a es history w bytes
@@ -219,7 +218,7 @@ fed_open m a es history v w bytes more n x stayed made open_still waits s =
       },
     )
 
-fed_closing : (m a : Standing) (es : List Exchange) (history : History) (v w : View) (bytes more : List ℕ) (n : ℕ)
+fed_closing : (m a : Serving) (es : List Exchange) (history : History) (v w : View) (bytes more : List ℕ) (n : ℕ)
     → IsThere es history v → v.closing ≡ false → w.unsent ≡ v.unsent ++ more → w.closing ≡ true
     → IsServed m (v.unread ++ bytes) more n Closed a → FedOne m a es history w bytes
 fed_closing m a es history v w bytes more n x stayed made closed s =
@@ -243,7 +242,7 @@ fed_closing m a es history v w bytes more n x stayed made closed s =
       },
     )
 
-fed_one : (m a : Standing) (es : List Exchange) (history : History) (v w : View) (bytes more : List ℕ) (n : ℕ)
+fed_one : (m a : Serving) (es : List Exchange) (history : History) (v w : View) (bytes more : List ℕ) (n : ℕ)
     → IsThere es history v → v.closing ≡ false → w.unsent ≡ v.unsent ++ more
     → IsFed m (v.unread ++ bytes) more n a w → FedOne m a es history w bytes
 fed_one m a es history v w bytes more n x stayed made fed = by w.closing refl
@@ -254,7 +253,7 @@ fed_one m a es history v w bytes more n x stayed made fed = by w.closing refl
 
 -- ---- bytes came
 
-pub feeds : (m a : Standing) (histories : ℕ → History) (log : List Entry) (opened : ℕ) (places : List (Option Accepted)) (i : ℕ) (l w : Accepted) (bytes more : List ℕ) (n : ℕ)
+pub feeds : (m a : Serving) (histories : ℕ → History) (log : List Entry) (opened : ℕ) (places : List (Option Accepted)) (i : ℕ) (l w : Accepted) (bytes more : List ℕ) (n : ℕ)
     → AreServed histories log opened places → Holds places i l → l.connection.closing ≡ false → w.number ≡ l.number
     → w.connection.unsent ≡ l.connection.unsent ++ more
     → IsFed m (l.connection.unread ++ bytes) more n a w.connection
@@ -272,7 +271,7 @@ feeds m a histories log opened places i l w bytes more n s holds stayed number m
 -- ---- one that is let go
 
 -- what becomes of one that is let go after these requests, of which the last may have no reply
-abbrev LostOne : Standing → Standing → List Exchange → History → List ℕ → Type 0
+abbrev LostOne : Serving → Serving → List Exchange → History → List ℕ → Type 0
 LostOne m a es history bytes =
     (fs : List Exchange) × Runs m a (map answered_of fs) × IsBehind (es ++ fs) (record { received = history.received ++ bytes; sent = history.sent })
 
@@ -294,7 +293,7 @@ lost_after es fs history v bytes front rest x stayed split front_is ends =
       ends = ends;
     }
 
-lost_one : (m a : Standing) (es : List Exchange) (history : History) (v : View) (bytes more : List ℕ)
+lost_one : (m a : Serving) (es : List Exchange) (history : History) (v : View) (bytes more : List ℕ)
     → IsThere es history v → v.closing ≡ false → StopsWriting m (v.unread ++ bytes) more a → LostOne m a es history bytes
 lost_one m a es history v bytes more x stayed s = by s.stops
   where
@@ -317,7 +316,7 @@ lost_one m a es history v bytes more x stayed s = by s.stops
     by (inr y) =
         (s.exchanges, y.4, lost_after es s.exchanges history v bytes s.taken s.unread x stayed s.input_is s.taken_is (inl (opened_all, inl refl)))
 
-pub loses : (m a : Standing) (histories : ℕ → History) (log : List Entry) (opened : ℕ) (places : List (Option Accepted)) (i : ℕ) (l : Accepted) (bytes more : List ℕ)
+pub loses : (m a : Serving) (histories : ℕ → History) (log : List Entry) (opened : ℕ) (places : List (Option Accepted)) (i : ℕ) (l : Accepted) (bytes more : List ℕ)
     → AreServed histories log opened places → Holds places i l → l.connection.closing ≡ false
     → StopsWriting m (l.connection.unread ++ bytes) more a
     → (later : List Exchange) × AreServed (receives histories l.number bytes) (log ++ entries l.number later) opened (slice_set places i None) × Runs m a (map answered_of later)
@@ -328,7 +327,7 @@ loses m a histories log opened places i l bytes more s holds stayed stops =
     (x.0, went_on histories log opened places i l x.0 p None s holds x.2 (nobody_now k (own k log ++ x.0) p), x.1)
 
 -- no memory for what came
-pub starves : (m a : Standing) (histories : ℕ → History) (log : List Entry) (opened : ℕ) (places : List (Option Accepted)) (i : ℕ) (l : Accepted) (bytes : List ℕ)
+pub starves : (m a : Serving) (histories : ℕ → History) (log : List Entry) (opened : ℕ) (places : List (Option Accepted)) (i : ℕ) (l : Accepted) (bytes : List ℕ)
     → AreServed histories log opened places → Holds places i l → l.connection.closing ≡ false → Stays m a
     → (later : List Exchange) × AreServed (receives histories l.number bytes) (log ++ entries l.number later) opened (slice_set places i None) × Runs m a (map answered_of later)
 starves m a histories log opened places i l bytes s holds stayed idle =
@@ -340,7 +339,7 @@ starves m a histories log opened places i l bytes s holds stayed idle =
     let left = lost_after (own k log) [] (histories k) l.connection bytes [] (l.connection.unread ++ bytes) there stayed refl refl (inl (all_open, inl refl)) in
     ([], went_on histories log opened places i l [] p None s holds left (nobody_now k (own k log ++ []) p), runs_none m a idle)
 
--- ---- the machine does nothing
+-- ---- the service does nothing
 
 -- what a place has is left, or let go
 pub kept : (histories : ℕ → History) (log : List Entry) (opened : ℕ) (places others : List (Option Accepted))
@@ -524,7 +523,7 @@ unchanged histories k p e j = elim (cases_eq j k) [
   | inr far ↦ history_there histories j k p far
 ]
 
-pub receives_none : (m : Standing) (histories : ℕ → History) (log : List Entry) (opened : ℕ) (places : List (Option Accepted)) (k : ℕ)
+pub receives_none : (m : Serving) (histories : ℕ → History) (log : List Entry) (opened : ℕ) (places : List (Option Accepted)) (k : ℕ)
     → AreServed histories log opened places
     → (more : List Exchange) × AreServed (receives histories k []) (log ++ entries k more) opened places × Runs m m (map answered_of more)
 receives_none m histories log opened places k s =

@@ -3,17 +3,16 @@ use Rattle.std.proofs.Common.{zero, suc, slice_set, ◌≡◌, ◌≢◌, ◌⊎
 use Rattle.std.proofs.lemmas.Bool.{cases_eq, cases_lt, false≢true}
 use Rattle.std.proofs.lemmas.List.{get_or_default, get_or_past, get_or-set_same, get_or-set_other, map-append}
 use Rattle.std.specs.Prelude.{IfOk, IfSome, OnOk}
-use Rattle.book_office.specs.Keeping.{Standing}
 use Rattle.book_wire.specs.Connection.{View, fresh}
-use Rattle.book_wire.specs.Serving.{Answered, Runs}
+use Rattle.book_wire_serving.specs.Serving.{Answered, Runs, Serving}
 use Rattle.book_wire.specs.Stream.{Exchange, IsPartial, Waits, answered_of}
 use Rattle.book_wire.specs.declared.stream.StreamFault.{StreamFault}
-use Rattle.book_wire.proofs.Servings.{runs_none, runs_then, stays}
+use Rattle.book_wire_serving.proofs.Servings.{runs_none, runs_then, stays}
 use Rattle.book_desk_loop.specs.Closing.{DropsSome}
 use Rattle.book_desk_loop.specs.ManyConnections.{History, nothing, Entry, AreServed, IsThere, Holds, AllStay, OthersStay, answered_in, entries, grows, own, number_at}
 use Rattle.book_desk_loop.specs.Streams.{HasNoWhole, IsMoved, WasAtEnd, IsDoneAt, IsIdleAt, IsAnsweredAt, IsStillAt, IsWithinAt, TakesATurn}
 use Rattle.book_desk_loop.specs.Streams.IsMoved.{rests, moves_on}
-use Rattle.book_desk_loop.specs.Serving.{Line, line_at, line_of, LinesStay, OtherLinesStay, ToldFault, told_of, count_unopened, HaveCome, IsOneFewer, count_held, IsCarriedBy, MayGiveWayAt, MayGo, MayGoAt, WasLetGo, AreKept, IsKept, KeepsOn, GoesOn, RestStays, LetsGo, TurnsAt, Begins, BeginsAt, BeginsNone, EndsSo, StoreHasFailed, AreServedAtOnce}
+use Rattle.book_desk_loop.specs.Serving.{Line, line_at, line_of, LinesStay, OtherLinesStay, ToldFault, told_of, count_unopened, HaveCome, IsOneFewer, count_held, IsCarriedBy, MayGiveWayAt, MayGo, MayGoAt, WasLetGo, AreKept, IsKept, KeepsOn, GoesOn, RestStays, LetsGo, TurnsAt, Begins, BeginsAt, BeginsNone, EndsSo, HasFailedLog, HasSoundLog, StoreHasFailed, AreServedAtOnce}
 use Rattle.book_desk_loop.specs.declared.connections.Accepted.{Accepted}
 use Rattle.book_desk_loop.specs.declared.connections.Connections.{Connections}
 use Rattle.book_desk_loop.specs.declared.moves.Turn.{Turn}
@@ -22,7 +21,7 @@ use Rattle.book_desk_loop.specs.declared.limits.Limits.{Limits}
 use Rattle.book_desk_loop.specs.declared.limits.Ended.{Ended as Rounds}
 use Rattle.book_desk_loop.specs.declared.limits.Ended.TheVariants as rounds
 use Rattle.book_desk_loop.specs.declared.limits.Stop.{Stop}
-use Rattle.book_desk_loop.specs.declared.limits.Stop.TheVariants.{Failed as StopsFailed, Store as StopsForStore}
+use Rattle.book_desk_loop.specs.declared.limits.Stop.TheVariants.{Log as StopsForLog, Store as StopsForStore}
 use Rattle.book_desk_loop.specs.declared.looping.Server.{Server}
 use Rattle.book_desk_loop.specs.declared.sockets.Socket.{Socket}
 use Rattle.book_desk_loop.proofs.Histories.{entries_run, history_here, history_there, own_there, holds_one, number_held, nobody}
@@ -178,11 +177,11 @@ module _ {S : Type 0} (remaining contents : S → Option (List ℕ)) where
             ))))
       ]
 
-  module _ {K : Type 0} (standing : K → Standing) (limits : Limits) (first : K) where
+  module _ {M : Type 0} (serving : M → Serving) (limits : Limits) (first : M) where
     -- the streams stay where they are
-    pub kept_lines : (faults : List ToldFault) (connections : Connections K) (sockets others : List (Option (Socket S))) (left : Option ℕ) (held : Option S)
-        → AreKept remaining contents standing limits first faults connections sockets left held → LinesStay sockets others
-        → AreKept remaining contents standing limits first faults connections others left held
+    pub kept_lines : (faults : List ToldFault) (connections : Connections M) (sockets others : List (Option (Socket S))) (left : Option ℕ) (held : Option S)
+        → AreKept remaining contents serving limits first faults connections sockets left held → LinesStay sockets others
+        → AreKept remaining contents serving limits first faults connections others left held
     kept_lines faults connections sockets others left held x s = record {
       histories = x.histories;
       log = x.log;
@@ -197,13 +196,13 @@ module _ {S : Type 0} (remaining contents : S → Option (List ℕ)) where
     }
 
     -- one stream went on
-    pub kept_at : (faults : List ToldFault) (connections : Connections K) (sockets others : List (Option (Socket S))) (left : Option ℕ) (held : Option S)
+    pub kept_at : (faults : List ToldFault) (connections : Connections M) (sockets others : List (Option (Socket S))) (left : Option ℕ) (held : Option S)
         (place : ℕ) (line line_then : Line S)
-        → AreKept remaining contents standing limits first faults connections sockets left held
+        → AreKept remaining contents serving limits first faults connections sockets left held
         → line_at sockets place ≡ Some line → line_at others place ≡ Some line_then → OtherLinesStay place sockets others
         → ((history : History) (l : Accepted) → Holds connections.places.items place l → IsCarriedBy remaining contents history l.connection line
         → IsCarriedBy remaining contents history l.connection line_then)
-        → AreKept remaining contents standing limits first faults connections others left held
+        → AreKept remaining contents serving limits first faults connections others left held
     kept_at faults connections sockets others left held place line line_then x was is stay carry = record {
       histories = x.histories;
       log = x.log;
@@ -240,16 +239,16 @@ module _ {S : Type 0} (remaining contents : S → Option (List ℕ)) where
         ]
 
     -- a connection that may go is let go
-    pub kept_let_go : (faults : List ToldFault) (place : ℕ) (old new : Server K S)
-        → AreKept remaining contents standing limits first faults old.connections old.sockets.items old.left old.held
-        → LetsGo remaining contents standing place old new
+    pub kept_let_go : (faults : List ToldFault) (place : ℕ) (old new : Server M S)
+        → AreKept remaining contents serving limits first faults old.connections old.sockets.items old.left old.held
+        → LetsGo remaining contents serving place old new
         → MayGoAt remaining contents limits old.connections.places.items old.sockets.items place
-        → AreKept remaining contents standing limits first faults new.connections new.sockets.items old.left old.held
+        → AreKept remaining contents serving limits first faults new.connections new.sockets.items old.left old.held
     kept_let_go faults place old new x goes may = record {
       histories = x.histories;
       log = x.log;
       served = goes.served x.histories x.log x.served;
-      runs = rw goes.machine x.runs;
+      runs = rw goes.service x.runs;
       here = λ i l h.
           let far : i ≡ place → ⊥ = not_at place i new.connections.places.items l goes.gone h in
           let y = x.here i l (still_holds place i old.connections.places.items new.connections.places.items l goes.others far h) in
@@ -269,10 +268,12 @@ module _ {S : Type 0} (remaining contents : S → Option (List ℕ)) where
           | inr far ↦ goes.lines.stay i far ∙ x.nobody i (sym (goes.others.stay i far) ∙ e)
         ]
 
-        gone : (k : ℕ) → k < new.connections.opened
+        gone : HasSoundLog remaining contents serving new.connections.service → (k : ℕ) → k < new.connections.opened
             → ((i : ℕ) (l : Accepted) → Holds new.connections.places.items i l → l.number ≢ k)
             → WasLetGo remaining contents limits (told_of k faults) (own k x.log) (x.histories k)
-        gone k within none =
+        gone sound_log k within none =
+            let was_sound : HasSoundLog remaining contents serving old.connections.service =
+            (let Sound : M → Type 0 = λ t. HasSoundLog remaining contents serving t in subst Sound goes.service sound_log) in
             let below : k < old.connections.opened = (let P : ℕ → Type 0 = λ n. k < n in subst P goes.opened within) in
             elim (held_or_not old.connections.places.items place) [
               | inl e ↦ absurd (no_line may.0 (sym (x.nobody place e) ∙ may.1))
@@ -284,7 +285,7 @@ module _ {S : Type 0} (remaining contents : S → Option (List ℕ)) where
                         let P : ℕ → Type 0 = λ n. WasLetGo remaining contents limits (told_of n faults) (own n x.log) (x.histories n) in
                         subst P is (went_as_it_was limits (told_of l.number faults) (own l.number x.log) (x.histories l.number) l y.0
                         old.connections.places.items old.sockets.items place (x.sound place l held.1) held.1 (x.served.here place l held.1).1 y.1 y.2 may)
-                    | inr differs ↦ x.gone k below (λ i m h e.
+                    | inr differs ↦ x.gone was_sound k below (λ i m h e.
                         elim (cases_eq i place) [
                           | inl at ↦
                               let P : ℕ → Type 0 = λ n. Holds old.connections.places.items n m in
@@ -296,9 +297,9 @@ module _ {S : Type 0} (remaining contents : S → Option (List ℕ)) where
             ]
 
     -- a turn of a connection that is served: it is there afterwards
-    pub kept_turn : (faults : List ToldFault) (place k : ℕ) (old new : Connections K) (sockets others : List (Option (Socket S))) (left : Option ℕ) (held : Option S)
+    pub kept_turn : (faults : List ToldFault) (place k : ℕ) (old new : Connections M) (sockets others : List (Option (Socket S))) (left : Option ℕ) (held : Option S)
         (l : Accepted) (line line_then : Line S) (came went : List ℕ) (more : List Exchange)
-        (x : AreKept remaining contents standing limits first faults old sockets left held)
+        (x : AreKept remaining contents serving limits first faults old sockets left held)
         → Holds old.places.items place l → l.number ≡ k
         → line_at sockets place ≡ Some line → line.lingers ≡ false
         → line_at others place ≡ Some line_then → line_then.lingers ≡ false → OtherLinesStay place sockets others
@@ -306,15 +307,15 @@ module _ {S : Type 0} (remaining contents : S → Option (List ℕ)) where
         → IsMoved remaining contents line.stream came went line_then.stream
         → (line_then.at_end ≡ true → (line.at_end ≡ true → WasAtEnd remaining contents line.stream) → WasAtEnd remaining contents line_then.stream)
         → AreServed (grows x.histories k came went) (x.log ++ entries k more) new.opened new.places.items
-        → Runs (standing old.machine.keeper) (standing new.machine.keeper) (map answered_of more)
+        → Runs (serving old.service) (serving new.service) (map answered_of more)
         → IsStillAt place old.places.items new.places.items
-        → AreKept remaining contents standing limits first faults new others left held
+        → AreKept remaining contents serving limits first faults new others left held
     kept_turn faults place k old new sockets others left held l line line_then came went more x holds is_k was serves is serves_then stay elsewhere opened moved ended served runs still = record {
       histories = grows x.histories k came went;
       log = x.log ++ entries k more;
       served = served;
       runs =
-          let P : List Answered → Type 0 = λ t. Runs (standing first) (standing new.machine.keeper) t in
+          let P : List Answered → Type 0 = λ t. Runs (serving first) (serving new.service) t in
           subst P (sym (map-append answered_in x.log (entries k more)))
           (runs_then _ _ _ (map answered_in x.log) (map answered_in (entries k more)) x.runs (entries_run _ _ k more runs));
       here = here;
@@ -348,13 +349,13 @@ module _ {S : Type 0} (remaining contents : S → Option (List ℕ)) where
         carried_now m =
             let before = carried_before in
             let had = x.histories k in
-            let M : S → Type 0 = λ t. IsMoved remaining contents before.accepted had.received had.sent t in
+            let Moves : S → Type 0 = λ t. IsMoved remaining contents before.accepted had.received had.sent t in
             let grown : History = record { received = had.received ++ came; sent = had.sent ++ went } in
             let C : History → Type 0 = λ t. IsCarriedBy remaining contents t m.connection line_then in
             let now : IsCarriedBy remaining contents grown m.connection line_then = record {
               accepted = before.accepted;
               replied = line_then.stream;
-              moved = moves_on before.accepted line.stream line_then.stream had.received had.sent came went (subst M (sym (before.served serves)) before.moved) moved;
+              moved = moves_on before.accepted line.stream line_then.stream had.received had.sent came went (subst Moves (sym (before.served serves)) before.moved) moved;
               served = λ e. refl;
               lingers = λ e. absurd (false≢true (sym serves_then ∙ e));
               at_end = λ e f. ended f (λ h. before.at_end serves h);
@@ -386,15 +387,16 @@ module _ {S : Type 0} (remaining contents : S → Option (List ℕ)) where
           | inr far ↦ stay.stay i far ∙ x.nobody i (sym (elsewhere.stay i far) ∙ e)
         ]
 
-        gone : (j : ℕ) → j < new.opened → ((i : ℕ) (m : Accepted) → Holds new.places.items i m → m.number ≢ j)
+        gone : HasSoundLog remaining contents serving new.service → (j : ℕ) → j < new.opened
+            → ((i : ℕ) (m : Accepted) → Holds new.places.items i m → m.number ≢ j)
             → WasLetGo remaining contents limits (told_of j faults) (own j (x.log ++ entries k more)) (grows x.histories k came went j)
-        gone j within none =
+        gone sound_log j within none =
             let below : j < old.opened = (let P : ℕ → Type 0 = λ n. j < n in subst P opened within) in
             let m = still.there l holds in
             let other : j ≡ k → ⊥ = λ e. none place m.0 m.1 (number_is m.0 m.1 ∙ sym e) in
             let share = share_there j k x.log more x.histories came went other in
             was_let_go_as limits (told_of j faults) (own j x.log) (own j (x.log ++ entries k more)) (x.histories j) (grows x.histories k came went j) share.0 share.1
-            (x.gone j below (λ i n h e.
+            (x.gone (runs.noted.was_sound sound_log) j below (λ i n h e.
             elim (cases_eq i place) [
               | inl at ↦
                   let P : ℕ → Type 0 = λ t. Holds old.places.items t n in
@@ -403,41 +405,40 @@ module _ {S : Type 0} (remaining contents : S → Option (List ℕ)) where
               | inr far ↦ none i n (then_holds place i old.places.items new.places.items n elsewhere far h) e
             ]))
 
-    -- a turn of a connection that has a fault: it is let go, and the fault is told
-    pub kept_fault : (faults : List ToldFault) (fault : StreamFault) (place k : ℕ) (old new : Connections K) (sockets others : List (Option (Socket S))) (left : Option ℕ) (held : Option S)
-        (l : Accepted) (line line_then : Line S) (came went : List ℕ) (more : List Exchange)
-        (x : AreKept remaining contents standing limits first faults old sockets left held)
+    -- after a turn a connection is let go, and of no other more is told
+    kept_without : (faults told : List ToldFault) (place k : ℕ) (old new : Connections M) (sockets others : List (Option (Socket S))) (left : Option ℕ) (held : Option S)
+        (l : Accepted) (came went : List ℕ) (more : List Exchange)
+        (x : AreKept remaining contents serving limits first faults old sockets left held)
         → Holds old.places.items place l → l.number ≡ k
-        → line_at sockets place ≡ Some line → line.lingers ≡ false
         → line_at others place ≡ None → OtherLinesStay place sockets others
         → get_or new.places.items place None ≡ None → OthersStay place old.places.items new.places.items → new.opened ≡ old.opened
-        → IsMoved remaining contents line.stream came went line_then.stream
         → AreServed (grows x.histories k came went) (x.log ++ entries k more) new.opened new.places.items
-        → Runs (standing old.machine.keeper) (standing new.machine.keeper) (map answered_of more)
-        → AreKept remaining contents standing limits first (faults ++ one_told (Some k) fault) new others left held
-    kept_fault faults fault place k old new sockets others left held l line line_then came went more x holds is_k was serves is stay empty elsewhere opened moved served runs = record {
+        → Runs (serving old.service) (serving new.service) (map answered_of more)
+        → ((j : ℕ) → (j ≡ k → ⊥) → told_of j told ≡ told_of j faults) → count_unopened told ≡ count_unopened faults
+        → (HasSoundLog remaining contents serving new.service
+        → WasLetGo remaining contents limits (told_of k told) (own k (x.log ++ entries k more)) (grows x.histories k came went k))
+        → AreKept remaining contents serving limits first told new others left held
+    kept_without faults told place k old new sockets others left held l came went more x holds is_k is stay empty elsewhere opened served runs alike count lost = record {
       histories = grows x.histories k came went;
       log = x.log ++ entries k more;
       served = served;
       runs =
-          let P : List Answered → Type 0 = λ t. Runs (standing first) (standing new.machine.keeper) t in
+          let P : List Answered → Type 0 = λ t. Runs (serving first) (serving new.service) t in
           subst P (sym (map-append answered_in x.log (entries k more)))
           (runs_then _ _ _ (map answered_in x.log) (map answered_in (entries k more)) x.runs (entries_run _ _ k more runs));
       here = here;
-      sound = λ i m h. told_there m.number k faults fault (apart i m h) ∙ x.sound i m (before i m h);
+      sound = λ i m h. alike m.number (apart i m h) ∙ x.sound i m (before i m h);
       later = λ j above.
           let P : ℕ → Type 0 = λ n. n ≤ j in
           let past : old.opened ≤ j = subst P opened above in
           let number : l.number < old.opened = (x.served.here place l holds).0 in
           let other : j ≡ k → ⊥ = λ e. absurd (omega (arith, past, number, is_k, e)) in
-          told_there j k faults fault other ∙ x.later j past;
+          alike j other ∙ x.later j past;
       nobody = nobody_at;
       gone = gone;
       came =
           let P : ℕ → ℕ → Type 0 = λ n m. HaveCome limits.total left (n + (m + count_held held)) in
-          let one : count_unopened (faults ++ one_told (Some k) fault) ≡ count_unopened faults + 0 = unopened_one faults (Some k) fault in
-          let same : count_unopened faults ≡ count_unopened (faults ++ one_told (Some k) fault) = omega (arith, one) in
-          subst (λ m. P new.opened m) same (subst (λ n. P n (count_unopened faults)) (sym opened) x.came);
+          subst (λ m. P new.opened m) (sym count) (subst (λ n. P n (count_unopened faults)) (sym opened) x.came);
     }
       where
         elsewhere_is : (i : ℕ) (m : Accepted) → Holds new.places.items i m → i ≡ place → ⊥
@@ -462,39 +463,20 @@ module _ {S : Type 0} (remaining contents : S → Option (List ℕ)) where
           | inr far ↦ stay.stay i far ∙ x.nobody i (sym (elsewhere.stay i far) ∙ e)
         ]
 
-        lost : WasLetGo remaining contents limits (told_of k (faults ++ one_told (Some k) fault)) (own k (x.log ++ entries k more)) (grows x.histories k came went k)
-        lost =
-            let y = x.here place l holds in
-            let C : Line S → Type 0 = λ t. IsCarriedBy remaining contents (x.histories l.number) l.connection t in
-            let D : ℕ → Type 0 = λ n. IsCarriedBy remaining contents (x.histories n) l.connection line in
-            let was_carried = subst D is_k (subst C (same_line y.0 line (line_at sockets place) y.1 was) y.2) in
-            let had = x.histories k in
-            let M : S → Type 0 = λ t. IsMoved remaining contents was_carried.accepted had.received had.sent t in
-            let grown : History = record { received = had.received ++ came; sent = had.sent ++ went } in
-            let R : ℕ → Type 0 = λ n. told_of n faults ≡ [] in
-            let W : History → Type 0 = λ t. WasLetGo remaining contents limits (told_of k (faults ++ one_told (Some k) fault)) (own k (x.log ++ entries k more)) t in
-            let now : WasLetGo remaining contents limits (told_of k (faults ++ one_told (Some k) fault)) (own k (x.log ++ entries k more)) grown = record {
-              accepted = was_carried.accepted;
-              replied = line_then.stream;
-              left = line_then.stream;
-              moved = moves_on was_carried.accepted line.stream line_then.stream had.received had.sent came went (subst M (sym (was_carried.served serves)) was_carried.moved) moved;
-              why = inr (fault, told_here k faults fault (subst R is_k (x.sound place l holds)), refl);
-            } in
-            subst W (sym (share_here k x.histories came went)) now
-
-        gone : (j : ℕ) → j < new.opened → ((i : ℕ) (m : Accepted) → Holds new.places.items i m → m.number ≢ j)
-            → WasLetGo remaining contents limits (told_of j (faults ++ one_told (Some k) fault)) (own j (x.log ++ entries k more)) (grows x.histories k came went j)
-        gone j within none = elim (cases_eq j k) [
+        gone : HasSoundLog remaining contents serving new.service → (j : ℕ) → j < new.opened
+            → ((i : ℕ) (m : Accepted) → Holds new.places.items i m → m.number ≢ j)
+            → WasLetGo remaining contents limits (told_of j told) (own j (x.log ++ entries k more)) (grows x.histories k came went j)
+        gone sound_log j within none = elim (cases_eq j k) [
           | inl at ↦
-              let W : ℕ → Type 0 = λ n. WasLetGo remaining contents limits (told_of n (faults ++ one_told (Some k) fault)) (own n (x.log ++ entries k more)) (grows x.histories k came went n) in
-              subst W (sym at) lost
+              let W : ℕ → Type 0 = λ n. WasLetGo remaining contents limits (told_of n told) (own n (x.log ++ entries k more)) (grows x.histories k came went n) in
+              subst W (sym at) (lost sound_log)
           | inr other ↦
               let below : j < old.opened = (let P : ℕ → Type 0 = λ n. j < n in subst P opened within) in
               let share = share_there j k x.log more x.histories came went other in
-              told_as limits (told_of j faults) (told_of j (faults ++ one_told (Some k) fault)) (own j (x.log ++ entries k more)) (grows x.histories k came went j)
-              (told_there j k faults fault other)
+              told_as limits (told_of j faults) (told_of j told) (own j (x.log ++ entries k more)) (grows x.histories k came went j)
+              (alike j other)
               (was_let_go_as limits (told_of j faults) (own j x.log) (own j (x.log ++ entries k more)) (x.histories j) (grows x.histories k came went j) share.0 share.1
-              (x.gone j below (λ i n h e.
+              (x.gone (runs.noted.was_sound sound_log) j below (λ i n h e.
               elim (cases_eq i place) [
                 | inl at ↦
                     let P : ℕ → Type 0 = λ t. Holds old.places.items t n in
@@ -504,16 +486,73 @@ module _ {S : Type 0} (remaining contents : S → Option (List ℕ)) where
               ])))
         ]
 
+    -- a turn of a connection that has a fault: it is let go, and the fault is told
+    pub kept_fault : (faults : List ToldFault) (fault : StreamFault) (place k : ℕ) (old new : Connections M) (sockets others : List (Option (Socket S))) (left : Option ℕ) (held : Option S)
+        (l : Accepted) (line line_then : Line S) (came went : List ℕ) (more : List Exchange)
+        (x : AreKept remaining contents serving limits first faults old sockets left held)
+        → Holds old.places.items place l → l.number ≡ k
+        → line_at sockets place ≡ Some line → line.lingers ≡ false
+        → line_at others place ≡ None → OtherLinesStay place sockets others
+        → get_or new.places.items place None ≡ None → OthersStay place old.places.items new.places.items → new.opened ≡ old.opened
+        → IsMoved remaining contents line.stream came went line_then.stream
+        → AreServed (grows x.histories k came went) (x.log ++ entries k more) new.opened new.places.items
+        → Runs (serving old.service) (serving new.service) (map answered_of more)
+        → AreKept remaining contents serving limits first (faults ++ one_told (Some k) fault) new others left held
+    kept_fault faults fault place k old new sockets others left held l line line_then came went more x holds is_k was serves is stay empty elsewhere opened moved served runs =
+        kept_without faults told place k old new sockets others left held l came went more x holds is_k is stay empty elsewhere opened served runs
+        (λ j other. told_there j k faults fault other) unopened (λ sound_log. lost)
+      where
+        told : List ToldFault
+        told = faults ++ one_told (Some k) fault
+
+        unopened : count_unopened told ≡ count_unopened faults
+        unopened = (let one : count_unopened told ≡ count_unopened faults + 0 = unopened_one faults (Some k) fault in omega (arith, one))
+
+        lost : WasLetGo remaining contents limits (told_of k told) (own k (x.log ++ entries k more)) (grows x.histories k came went k)
+        lost =
+            let y = x.here place l holds in
+            let C : Line S → Type 0 = λ t. IsCarriedBy remaining contents (x.histories l.number) l.connection t in
+            let D : ℕ → Type 0 = λ n. IsCarriedBy remaining contents (x.histories n) l.connection line in
+            let was_carried = subst D is_k (subst C (same_line y.0 line (line_at sockets place) y.1 was) y.2) in
+            let had = x.histories k in
+            let Moves : S → Type 0 = λ t. IsMoved remaining contents was_carried.accepted had.received had.sent t in
+            let grown : History = record { received = had.received ++ came; sent = had.sent ++ went } in
+            let R : ℕ → Type 0 = λ n. told_of n faults ≡ [] in
+            let W : History → Type 0 = λ t. WasLetGo remaining contents limits (told_of k told) (own k (x.log ++ entries k more)) t in
+            let now : WasLetGo remaining contents limits (told_of k told) (own k (x.log ++ entries k more)) grown = record {
+              accepted = was_carried.accepted;
+              replied = line_then.stream;
+              left = line_then.stream;
+              moved = moves_on was_carried.accepted line.stream line_then.stream had.received had.sent came went (subst Moves (sym (was_carried.served serves)) was_carried.moved) moved;
+              why = inr (fault, told_here k faults fault (subst R is_k (x.sound place l holds)), refl);
+            } in
+            subst W (sym (share_here k x.histories came went)) now
+
+    -- the log has failed in a turn: its connection is let go, and nothing is told
+    pub kept_stopped : (faults : List ToldFault) (place k : ℕ) (old new : Connections M) (sockets others : List (Option (Socket S))) (left : Option ℕ) (held : Option S)
+        (l : Accepted) (came went : List ℕ) (more : List Exchange)
+        (x : AreKept remaining contents serving limits first faults old sockets left held)
+        → Holds old.places.items place l → l.number ≡ k
+        → line_at others place ≡ None → OtherLinesStay place sockets others
+        → get_or new.places.items place None ≡ None → OthersStay place old.places.items new.places.items → new.opened ≡ old.opened
+        → AreServed (grows x.histories k came went) (x.log ++ entries k more) new.opened new.places.items
+        → Runs (serving old.service) (serving new.service) (map answered_of more)
+        → HasFailedLog remaining contents serving new.service
+        → AreKept remaining contents serving limits first faults new others left held
+    kept_stopped faults place k old new sockets others left held l came went more x holds is_k is stay empty elsewhere opened served runs failed =
+        kept_without faults faults place k old new sockets others left held l came went more x holds is_k is stay empty elsewhere opened served runs
+        (λ j other. refl) refl (λ sound_log. absurd (false≢true (sym sound_log ∙ failed)))
+
     -- a connection begins with the stream that was held
-    pub kept_begin : (faults : List ToldFault) (place : ℕ) (stream : S) (old new : Server K S)
-        → AreKept remaining contents standing limits first faults old.connections old.sockets.items old.left (Some stream)
-        → Begins remaining contents standing old new → BeginsAt remaining contents standing place stream old new
-        → AreKept remaining contents standing limits first faults new.connections new.sockets.items old.left None
+    pub kept_begin : (faults : List ToldFault) (place : ℕ) (stream : S) (old new : Server M S)
+        → AreKept remaining contents serving limits first faults old.connections old.sockets.items old.left (Some stream)
+        → Begins remaining contents serving old new → BeginsAt remaining contents serving place stream old new
+        → AreKept remaining contents serving limits first faults new.connections new.sockets.items old.left None
     kept_begin faults place stream old new x begins at_place = record {
       histories = x.histories;
       log = x.log;
       served = begins.served x.histories x.log x.served;
-      runs = rw begins.machine x.runs;
+      runs = rw begins.service x.runs;
       here = here;
       sound = sound;
       later = λ k above. (let opened = at_place.opened in x.later k (omega (arith, above, opened)));
@@ -574,34 +613,36 @@ module _ {S : Type 0} (remaining contents : S → Option (List ℕ)) where
           | inr far ↦ at_place.lines.stay i far ∙ x.nobody i (sym (at_place.others.stay i far) ∙ e)
         ]
 
-        gone : (k : ℕ) → k < new.connections.opened
+        gone : HasSoundLog remaining contents serving new.connections.service → (k : ℕ) → k < new.connections.opened
             → ((i : ℕ) (m : Accepted) → Holds new.connections.places.items i m → m.number ≢ k)
             → WasLetGo remaining contents limits (told_of k faults) (own k x.log) (x.histories k)
-        gone k within none =
+        gone sound_log k within none =
+            let Sound : M → Type 0 = λ t. HasSoundLog remaining contents serving t in
             let last : old.connections.opened ≡ k → ⊥ = λ e. none place at_place.there.0 at_place.there.1 (at_place.there.2 ∙ e) in
             let opened = at_place.opened in
-            x.gone k (omega (arith, within, opened, last)) (λ i m h e.
+            x.gone (subst Sound begins.service sound_log) k (omega (arith, within, opened, last)) (λ i m h e.
             none i m (then_holds place i old.connections.places.items new.connections.places.items m at_place.others
             (not_at place i old.connections.places.items m at_place.free h) h) e)
 
     -- none begins with the stream that was held, and a fault is told: it has no number
-    kept_unopened : (faults : List ToldFault) (fault : StreamFault) (stream : S) (old new : Server K S)
-        → AreKept remaining contents standing limits first faults old.connections old.sockets.items old.left (Some stream)
-        → Begins remaining contents standing old new → BeginsNone remaining contents standing old new
+    kept_unopened : (faults : List ToldFault) (fault : StreamFault) (stream : S) (old new : Server M S)
+        → AreKept remaining contents serving limits first faults old.connections old.sockets.items old.left (Some stream)
+        → Begins remaining contents serving old new → BeginsNone remaining contents serving old new
         → new.connections.opened ≡ old.connections.opened
-        → AreKept remaining contents standing limits first (faults ++ one_told None fault) new.connections new.sockets.items old.left None
+        → AreKept remaining contents serving limits first (faults ++ one_told None fault) new.connections new.sockets.items old.left None
     kept_unopened faults fault stream old new x begins none opened = record {
       histories = x.histories;
       log = x.log;
       served = begins.served x.histories x.log x.served;
-      runs = rw begins.machine x.runs;
+      runs = rw begins.service x.runs;
       here = λ i m h. (let y = x.here i m (before i m h) in (y.0, none.lines.stay i ∙ y.1, y.2));
       sound = λ i m h. told_elsewhere m.number faults fault ∙ x.sound i m (before i m h);
       later = λ k above. told_elsewhere k faults fault ∙ x.later k (omega (arith, above, opened));
       nobody = λ i e. none.lines.stay i ∙ x.nobody i (sym (none.places.stay i) ∙ e);
-      gone = λ k within nobody_is.
+      gone = λ sound_log k within nobody_is.
+          let Sound : M → Type 0 = λ t. HasSoundLog remaining contents serving t in
           told_as limits (told_of k faults) (told_of k (faults ++ one_told None fault)) (own k x.log) (x.histories k) (told_elsewhere k faults fault)
-          (x.gone k (omega (arith, within, opened)) (λ i m h e.
+          (x.gone (subst Sound begins.service sound_log) k (omega (arith, within, opened)) (λ i m h e.
           nobody_is i m (holds_of new.connections.places.items i m (none.places.stay i ∙ h.1)) e));
       came =
           let P : ℕ → Type 0 = λ n. HaveCome limits.total old.left n in
@@ -614,16 +655,16 @@ module _ {S : Type 0} (remaining contents : S → Option (List ℕ)) where
         before i m h = holds_of old.connections.places.items i m (sym (none.places.stay i) ∙ h.1)
 
     -- it has a number
-    kept_unserved : (faults : List ToldFault) (fault : StreamFault) (stream : S) (old new : Server K S)
-        → AreKept remaining contents standing limits first faults old.connections old.sockets.items old.left (Some stream)
-        → Begins remaining contents standing old new → BeginsNone remaining contents standing old new
+    kept_unserved : (faults : List ToldFault) (fault : StreamFault) (stream : S) (old new : Server M S)
+        → AreKept remaining contents serving limits first faults old.connections old.sockets.items old.left (Some stream)
+        → Begins remaining contents serving old new → BeginsNone remaining contents serving old new
         → new.connections.opened ≡ old.connections.opened + 1
-        → AreKept remaining contents standing limits first (faults ++ one_told (Some old.connections.opened) fault) new.connections new.sockets.items old.left None
+        → AreKept remaining contents serving limits first (faults ++ one_told (Some old.connections.opened) fault) new.connections new.sockets.items old.left None
     kept_unserved faults fault stream old new x begins none opened = record {
       histories = x.histories;
       log = x.log;
       served = begins.served x.histories x.log x.served;
-      runs = rw begins.machine x.runs;
+      runs = rw begins.service x.runs;
       here = λ i m h. (let y = x.here i m (before i m h) in (y.0, none.lines.stay i ∙ y.1, y.2));
       sound = λ i m h.
           let within : m.number < k = (x.served.here i m (before i m h)).0 in
@@ -660,32 +701,35 @@ module _ {S : Type 0} (remaining contents : S → Option (List ℕ)) where
             } in
             subst W (sym after.1) now
 
-        gone : (j : ℕ) → j < new.connections.opened
+        was_sound : HasSoundLog remaining contents serving new.connections.service → HasSoundLog remaining contents serving old.connections.service
+        was_sound sound_log = (let Sound : M → Type 0 = λ t. HasSoundLog remaining contents serving t in subst Sound begins.service sound_log)
+
+        gone : HasSoundLog remaining contents serving new.connections.service → (j : ℕ) → j < new.connections.opened
             → ((i : ℕ) (m : Accepted) → Holds new.connections.places.items i m → m.number ≢ j)
             → WasLetGo remaining contents limits (told_of j (faults ++ one_told (Some k) fault)) (own j x.log) (x.histories j)
-        gone j within nobody_is = elim (cases_eq j k) [
+        gone sound_log j within nobody_is = elim (cases_eq j k) [
           | inl is ↦
               let W : ℕ → Type 0 = λ n. WasLetGo remaining contents limits (told_of n (faults ++ one_told (Some k) fault)) (own n x.log) (x.histories n) in
               subst W (sym is) unserved
           | inr other ↦
               told_as limits (told_of j faults) (told_of j (faults ++ one_told (Some k) fault)) (own j x.log) (x.histories j) (told_there j k faults fault other)
-              (x.gone j (omega (arith, within, opened, other)) (λ i m h e.
+              (x.gone (was_sound sound_log) j (omega (arith, within, opened, other)) (λ i m h e.
               nobody_is i m (holds_of new.connections.places.items i m (none.places.stay i ∙ h.1)) e))
         ]
 
-    pub kept_unbegun : (faults : List ToldFault) (fault : StreamFault) (stream : S) (old new : Server K S)
-        → AreKept remaining contents standing limits first faults old.connections old.sockets.items old.left (Some stream)
-        → Begins remaining contents standing old new → BeginsNone remaining contents standing old new
+    pub kept_unbegun : (faults : List ToldFault) (fault : StreamFault) (stream : S) (old new : Server M S)
+        → AreKept remaining contents serving limits first faults old.connections old.sockets.items old.left (Some stream)
+        → Begins remaining contents serving old new → BeginsNone remaining contents serving old new
         → (opened : (new.connections.opened ≡ old.connections.opened) ⊎ (new.connections.opened ≡ old.connections.opened + 1))
-        → AreKept remaining contents standing limits first (faults ++ one_told (number_unbegun old.connections.opened new.connections.opened opened) fault)
+        → AreKept remaining contents serving limits first (faults ++ one_told (number_unbegun old.connections.opened new.connections.opened opened) fault)
         new.connections new.sockets.items old.left None
     kept_unbegun faults fault stream old new x begins none (inl same) = kept_unopened faults fault stream old new x begins none same
     kept_unbegun faults fault stream old new x begins none (inr more) = kept_unserved faults fault stream old new x begins none more
 
     -- a stream is taken from the listener, and held
-    pub kept_take : (faults : List ToldFault) (connections : Connections K) (sockets : List (Option (Socket S))) (left left_then : Option ℕ) (held : Option S) (stream : S)
-        → AreKept remaining contents standing limits first faults connections sockets left held → held ≡ None → IsOneFewer left left_then
-        → AreKept remaining contents standing limits first faults connections sockets left_then (Some stream)
+    pub kept_take : (faults : List ToldFault) (connections : Connections M) (sockets : List (Option (Socket S))) (left left_then : Option ℕ) (held : Option S) (stream : S)
+        → AreKept remaining contents serving limits first faults connections sockets left held → held ≡ None → IsOneFewer left left_then
+        → AreKept remaining contents serving limits first faults connections sockets left_then (Some stream)
     kept_take faults connections sockets left left_then held stream x none fewer = record {
       histories = x.histories;
       log = x.log;
@@ -793,53 +837,53 @@ ended_sound fault turn e f = cc
 
 -- ---- the server
 
-module _ {S K : Type 0} (remaining contents : S → Option (List ℕ)) (standing : K → Standing) where
-  rest_kept : (limits : Limits) (first : K) (faults : List ToldFault) (old new : Server K S) (connections : Connections K) (sockets : List (Option (Socket S)))
-      → RestStays remaining contents standing old new
-      → AreKept remaining contents standing limits first faults connections sockets old.left old.held
-      → AreKept remaining contents standing limits first faults connections sockets new.left new.held
+module _ {S M : Type 0} (remaining contents : S → Option (List ℕ)) (serving : M → Serving) where
+  rest_kept : (limits : Limits) (first : M) (faults : List ToldFault) (old new : Server M S) (connections : Connections M) (sockets : List (Option (Socket S)))
+      → RestStays remaining contents serving old new
+      → AreKept remaining contents serving limits first faults connections sockets old.left old.held
+      → AreKept remaining contents serving limits first faults connections sockets new.left new.held
   rest_kept limits first faults old new connections sockets rest x =
-      let P : Option ℕ → Type 0 = λ t. AreKept remaining contents standing limits first faults connections sockets t old.held in
-      let Q : Option S → Type 0 = λ t. AreKept remaining contents standing limits first faults connections sockets new.left t in
+      let P : Option ℕ → Type 0 = λ t. AreKept remaining contents serving limits first faults connections sockets t old.held in
+      let Q : Option S → Type 0 = λ t. AreKept remaining contents serving limits first faults connections sockets new.left t in
       subst Q (sym rest.held) (subst P (sym rest.left) x)
 
   -- its streams stay where they are
-  pub keeps_lines : (old new : Server K S) → RestStays remaining contents standing old new → new.connections ≡ old.connections
-      → LinesStay old.sockets.items new.sockets.items → KeepsOn remaining contents standing old new
+  pub keeps_lines : (old new : Server M S) → RestStays remaining contents serving old new → new.connections ≡ old.connections
+      → LinesStay old.sockets.items new.sockets.items → KeepsOn remaining contents serving old new
   keeps_lines old new rest connections lines limits first faults y =
-      let P : Connections K → Type 0 = λ t. AreKept remaining contents standing limits first faults t new.sockets.items old.left old.held in (
+      let P : Connections M → Type 0 = λ t. AreKept remaining contents serving limits first faults t new.sockets.items old.left old.held in (
         rest.limits ∙ y.0,
         rest_kept limits first faults old new new.connections new.sockets.items rest
             (subst P (sym connections)
-            (kept_lines remaining contents standing limits first faults old.connections old.sockets.items new.sockets.items old.left old.held y.1 lines)),
+            (kept_lines remaining contents serving limits first faults old.connections old.sockets.items new.sockets.items old.left old.held y.1 lines)),
       )
 
   -- one stream goes on
-  pub keeps_at : (place : ℕ) (old new : Server K S) (line line_then : Line S) → RestStays remaining contents standing old new → new.connections ≡ old.connections
+  pub keeps_at : (place : ℕ) (old new : Server M S) (line line_then : Line S) → RestStays remaining contents serving old new → new.connections ≡ old.connections
       → line_at old.sockets.items place ≡ Some line → line_at new.sockets.items place ≡ Some line_then
       → OtherLinesStay place old.sockets.items new.sockets.items
       → ((history : History) (l : Accepted) → Holds old.connections.places.items place l → IsCarriedBy remaining contents history l.connection line
       → IsCarriedBy remaining contents history l.connection line_then)
-      → KeepsOn remaining contents standing old new
+      → KeepsOn remaining contents serving old new
   keeps_at place old new line line_then rest connections was is stay carry limits first faults y =
-      let P : Connections K → Type 0 = λ t. AreKept remaining contents standing limits first faults t new.sockets.items old.left old.held in (
+      let P : Connections M → Type 0 = λ t. AreKept remaining contents serving limits first faults t new.sockets.items old.left old.held in (
         rest.limits ∙ y.0,
         rest_kept limits first faults old new new.connections new.sockets.items rest
             (subst P (sym connections)
-            (kept_at remaining contents standing limits first faults old.connections old.sockets.items new.sockets.items old.left old.held place line line_then y.1 was is stay carry)),
+            (kept_at remaining contents serving limits first faults old.connections old.sockets.items new.sockets.items old.left old.held place line line_then y.1 was is stay carry)),
       )
 
-  pub keeps_release : (place : ℕ) (old new : Server K S) → LetsGo remaining contents standing place old new
-      → MayGoAt remaining contents old.limits old.connections.places.items old.sockets.items place → KeepsOn remaining contents standing old new
+  pub keeps_release : (place : ℕ) (old new : Server M S) → LetsGo remaining contents serving place old new
+      → MayGoAt remaining contents old.limits old.connections.places.items old.sockets.items place → KeepsOn remaining contents serving old new
   keeps_release place old new goes may limits first faults y =
       let P : Limits → Type 0 = λ t. MayGoAt remaining contents t old.connections.places.items old.sockets.items place in (
         goes.rest.limits ∙ y.0,
         rest_kept limits first faults old new new.connections new.sockets.items goes.rest
-            (kept_let_go remaining contents standing limits first faults place old new y.1 goes (subst P y.0 may)),
+            (kept_let_go remaining contents serving limits first faults place old new y.1 goes (subst P y.0 may)),
       )
 
-  pub keeps_turn : (place : ℕ) (old new : Server K S) (line line_then : Line S) → TurnsAt remaining contents standing place old new line line_then
-      → line.lingers ≡ false → IsStillAt place old.connections.places.items new.connections.places.items → KeepsOn remaining contents standing old new
+  pub keeps_turn : (place : ℕ) (old new : Server M S) (line line_then : Line S) → TurnsAt remaining contents serving place old new line line_then
+      → line.lingers ≡ false → IsStillAt place old.connections.places.items new.connections.places.items → KeepsOn remaining contents serving old new
   keeps_turn place old new line line_then turns serves still limits first faults y =
       elim (held_or_not old.connections.places.items place) [
         | inl e ↦ absurd (no_line line (sym (y.1.nobody place e) ∙ turns.was))
@@ -849,7 +893,7 @@ module _ {S K : Type 0} (remaining contents : S → Option (List ℕ)) (standing
             let served = t.serves.served x.histories x.log x.served in (
               turns.rest.limits ∙ y.0,
               rest_kept limits first faults old new new.connections new.sockets.items turns.rest
-                  (kept_turn remaining contents standing limits first faults place (number_at old.connections.places.items place) old.connections new.connections
+                  (kept_turn remaining contents serving limits first faults place (number_at old.connections.places.items place) old.connections new.connections
                   old.sockets.items new.sockets.items old.left old.held held.0 line line_then t.came t.went served.0 x held.1
                   (sym (number_held old.connections.places.items place held.0 held.1)) turns.was serves turns.is (turns.lingers ∙ serves) turns.lines
                   t.serves.others t.serves.opened t.serves.moved turns.at_end served.1 served.2 still),
@@ -857,13 +901,13 @@ module _ {S K : Type 0} (remaining contents : S → Option (List ℕ)) (standing
       ]
 
   -- the Office was looked at
-  pub keeps_read : (old new : Server K S) → RestStays remaining contents standing old new
-      → Runs (standing old.connections.machine.keeper) (standing new.connections.machine.keeper) []
+  pub keeps_read : (old new : Server M S) → RestStays remaining contents serving old new
+      → Runs (serving old.connections.service) (serving new.connections.service) []
       → new.connections.places.items ≡ old.connections.places.items → new.connections.opened ≡ old.connections.opened
-      → new.sockets.items ≡ old.sockets.items → KeepsOn remaining contents standing old new
+      → new.sockets.items ≡ old.sockets.items → KeepsOn remaining contents serving old new
   keeps_read old new rest runs places opened sockets limits first faults y =
       let x = y.1 in
-      let P : List (Option (Socket S)) → Type 0 = λ t. AreKept remaining contents standing limits first faults new.connections t old.left old.held in (
+      let P : List (Option (Socket S)) → Type 0 = λ t. AreKept remaining contents serving limits first faults new.connections t old.left old.held in (
         rest.limits ∙ y.0,
         rest_kept limits first faults old new new.connections new.sockets.items rest (subst P (sym sockets) (record {
           histories = x.histories;
@@ -873,30 +917,30 @@ module _ {S K : Type 0} (remaining contents : S → Option (List ℕ)) (standing
               let R : List (Option Accepted) → Type 0 = λ t. AreServed x.histories x.log old.connections.opened t in
               subst Q (sym opened) (subst R (sym places) x.served);
           runs =
-              let Q : List Answered → Type 0 = λ t. Runs (standing first) (standing new.connections.machine.keeper) t in
+              let Q : List Answered → Type 0 = λ t. Runs (serving first) (serving new.connections.service) t in
               subst Q (append-nil (map answered_in x.log)) (runs_then _ _ _ (map answered_in x.log) [] x.runs runs);
           here = λ i l h. (let Q : List (Option Accepted) → Type 0 = λ t. Holds t i l in x.here i l (subst Q places h));
           sound = λ i l h. (let Q : List (Option Accepted) → Type 0 = λ t. Holds t i l in x.sound i l (subst Q places h));
           later = λ k above. (let Q : ℕ → Type 0 = λ n. n ≤ k in x.later k (subst Q opened above));
           nobody = λ i e. (let Q : List (Option Accepted) → Type 0 = λ t. get_or t i None ≡ None in x.nobody i (subst Q places e));
-          gone = λ k within none.
+          gone = λ sound_log k within none.
               let Q : ℕ → Type 0 = λ n. k < n in
-              x.gone k (subst Q opened within) (λ i l h. (let R : List (Option Accepted) → Type 0 = λ t. Holds t i l in none i l (subst R (sym places) h)));
+              x.gone (runs.noted.was_sound sound_log) k (subst Q opened within) (λ i l h. (let R : List (Option Accepted) → Type 0 = λ t. Holds t i l in none i l (subst R (sym places) h)));
           came = rw opened x.came;
         })),
       )
 
-  pub keeps_then : (a b c : Server K S) → KeepsOn remaining contents standing a b → KeepsOn remaining contents standing b c → KeepsOn remaining contents standing a c
+  pub keeps_then : (a b c : Server M S) → KeepsOn remaining contents serving a b → KeepsOn remaining contents serving b c → KeepsOn remaining contents serving a c
   keeps_then a b c x y limits first faults s = y limits first faults (x limits first faults s)
 
   -- one whose last reply is sent begins to close
-  pub closes_at : (place : ℕ) (old new : Server K S) → RestStays remaining contents standing old new → new.connections ≡ old.connections
+  pub closes_at : (place : ℕ) (old new : Server M S) → RestStays remaining contents serving old new → new.connections ≡ old.connections
       → IsDoneAt old.connections.places.items place
       → ((line : Line S) → line_at old.sockets.items place ≡ Some line → line.lingers ≡ false)
       → ((line : Line S) → line_at old.sockets.items place ≡ Some line
       → line_at new.sockets.items place ≡ Some (record { stream = line.stream; at_end = line.at_end; lingers = true }))
       → (line_at old.sockets.items place ≡ None → line_at new.sockets.items place ≡ None)
-      → OtherLinesStay place old.sockets.items new.sockets.items → KeepsOn remaining contents standing old new
+      → OtherLinesStay place old.sockets.items new.sockets.items → KeepsOn remaining contents serving old new
   closes_at place old new rest connections done serves there none lines =
       elim (line_or_not (line_at old.sockets.items place)) [
         | inl e ↦ keeps_lines old new rest connections (lines_all place old.sockets.items new.sockets.items (none e ∙ sym e) lines)
@@ -921,12 +965,12 @@ module _ {S K : Type 0} (remaining contents : S → Option (List ℕ)) (standing
       ]
 
   -- what comes to one whose last reply is sent is dropped
-  pub drops_at : (place : ℕ) (old new : Server K S) → RestStays remaining contents standing old new → new.connections ≡ old.connections
+  pub drops_at : (place : ℕ) (old new : Server M S) → RestStays remaining contents serving old new → new.connections ≡ old.connections
       → ((line : Line S) → line_at old.sockets.items place ≡ Some line → line.lingers ≡ true)
       → ((line : Line S) → line_at old.sockets.items place ≡ Some line → (line_then : Line S) × (line_at new.sockets.items place ≡ Some line_then)
       × DropsSome (remaining line.stream) (remaining line_then.stream) × (line_then.lingers ≡ true))
       → (line_at old.sockets.items place ≡ None → line_at new.sockets.items place ≡ None)
-      → OtherLinesStay place old.sockets.items new.sockets.items → KeepsOn remaining contents standing old new
+      → OtherLinesStay place old.sockets.items new.sockets.items → KeepsOn remaining contents serving old new
   drops_at place old new rest connections lingering there none lines =
       elim (line_or_not (line_at old.sockets.items place)) [
         | inl e ↦ keeps_lines old new rest connections (lines_all place old.sockets.items new.sockets.items (none e ∙ sym e) lines)
@@ -947,7 +991,7 @@ module _ {S K : Type 0} (remaining contents : S → Option (List ℕ)) (standing
             })
       ]
 
-  pub lingers_at : (place : ℕ) (old new : Server K S) (turn : Turn) → turn ≡ Ended
+  pub lingers_at : (place : ℕ) (old new : Server M S) (turn : Turn) → turn ≡ Ended
       → ((line : Line S) → line_at old.sockets.items place ≡ Some line → line.lingers ≡ true)
       → ((line : Line S) → line_at old.sockets.items place ≡ Some line → (line_then : Line S) × (line_at new.sockets.items place ≡ Some line_then)
       × DropsSome (remaining line.stream) (remaining line_then.stream) × (line_then.lingers ≡ true))
@@ -960,40 +1004,40 @@ module _ {S K : Type 0} (remaining contents : S → Option (List ℕ)) (standing
       ]
 
   module _ {F : Type 0} (tells : F → StreamFault → F → Type 0) where
-    pub goes_keeps : (old new : Server K S) (f : F) → KeepsOn remaining contents standing old new → GoesOn remaining contents standing tells old f new f
+    pub goes_keeps : (old new : Server M S) (f : F) → KeepsOn remaining contents serving old new → GoesOn remaining contents serving tells old f new f
     goes_keeps old new f k = record {
       told = [];
       tells_them = refl;
       keeps = λ limits first before y.
-          let P : List ToldFault → Type 0 = λ t. IsKept remaining contents standing limits first t new in
+          let P : List ToldFault → Type 0 = λ t. IsKept remaining contents serving limits first t new in
           subst P (sym (append-nil before)) (k limits first before y);
     }
 
-    pub goes_none : (old : Server K S) (f : F) → GoesOn remaining contents standing tells old f old f
+    pub goes_none : (old : Server M S) (f : F) → GoesOn remaining contents serving tells old f old f
     goes_none old f = goes_keeps old old f (λ limits first faults y. y)
 
-    pub goes_then : (a b c : Server K S) (f g h : F) → GoesOn remaining contents standing tells a f b g → GoesOn remaining contents standing tells b g c h
-        → GoesOn remaining contents standing tells a f c h
+    pub goes_then : (a b c : Server M S) (f g h : F) → GoesOn remaining contents serving tells a f b g → GoesOn remaining contents serving tells b g c h
+        → GoesOn remaining contents serving tells a f c h
     goes_then a b c f g h x y = record {
       told = x.told ++ y.told;
       tells_them = told_twice tells f g h x.told y.told x.tells_them y.tells_them;
       keeps = λ limits first before s.
-          let P : List ToldFault → Type 0 = λ t. IsKept remaining contents standing limits first t c in
+          let P : List ToldFault → Type 0 = λ t. IsKept remaining contents serving limits first t c in
           subst P (append_assoc before x.told y.told) (y.keeps limits first (before ++ x.told) (x.keeps limits first before s));
     }
 
-    pub then_keeps : (a b c : Server K S) (f g : F) → GoesOn remaining contents standing tells a f b g → KeepsOn remaining contents standing b c
-        → GoesOn remaining contents standing tells a f c g
+    pub then_keeps : (a b c : Server M S) (f g : F) → GoesOn remaining contents serving tells a f b g → KeepsOn remaining contents serving b c
+        → GoesOn remaining contents serving tells a f c g
     then_keeps a b c f g x k = goes_then a b c f g g x (goes_keeps b c g k)
 
-    pub keeps_goes : (a b c : Server K S) (f g : F) → KeepsOn remaining contents standing a b → GoesOn remaining contents standing tells b f c g
-        → GoesOn remaining contents standing tells a f c g
+    pub keeps_goes : (a b c : Server M S) (f g : F) → KeepsOn remaining contents serving a b → GoesOn remaining contents serving tells b f c g
+        → GoesOn remaining contents serving tells a f c g
     keeps_goes a b c f g k x = goes_then a b c f f g (goes_keeps a b f k) x
 
     -- a turn that has a fault
-    pub goes_fault : (place : ℕ) (old mid new : Server K S) (line line_then : Line S) (fault : StreamFault) (f g : F)
-        → TurnsAt remaining contents standing place old mid line line_then → line.lingers ≡ false
-        → tells f fault g → LetsGo remaining contents standing place mid new → GoesOn remaining contents standing tells old f new g
+    pub goes_fault : (place : ℕ) (old mid new : Server M S) (line line_then : Line S) (fault : StreamFault) (f g : F)
+        → TurnsAt remaining contents serving place old mid line line_then → line.lingers ≡ false
+        → tells f fault g → LetsGo remaining contents serving place mid new → GoesOn remaining contents serving tells old f new g
     goes_fault place old mid new line line_then fault f g turns serves told goes = record {
       told = one_told (Some (number_at old.connections.places.items place)) fault;
       tells_them = (g, told, refl);
@@ -1008,68 +1052,96 @@ module _ {S K : Type 0} (remaining contents : S → Option (List ℕ)) (standing
                   goes.rest.limits ∙ turns.rest.limits ∙ y.0,
                   rest_kept limits first (before ++ one_told (Some k) fault) mid new new.connections new.sockets.items goes.rest
                       (rest_kept limits first (before ++ one_told (Some k) fault) old mid new.connections new.sockets.items turns.rest
-                      (kept_fault remaining contents standing limits first before fault place k old.connections new.connections
+                      (kept_fault remaining contents serving limits first before fault place k old.connections new.connections
                       old.sockets.items new.sockets.items old.left old.held held.0 line line_then t.came t.went served.0 x held.1
                       (sym (number_held old.connections.places.items place held.0 held.1)) turns.was serves goes.line
                       (record { stay = λ j far. goes.lines.stay j far ∙ turns.lines.stay j far })
                       goes.gone (record { stay = λ j far. goes.others.stay j far ∙ t.serves.others.stay j far })
                       (goes.opened ∙ t.serves.opened) t.serves.moved
                       (goes.served (grows x.histories k t.came t.went) (x.log ++ entries k served.0) served.1)
-                      (rw goes.machine served.2))),
+                      (rw goes.service served.2))),
                 )
           ];
     }
 
+    -- a turn in which the log has failed
+    pub goes_stopped : (place : ℕ) (old mid new : Server M S) (line line_then : Line S) (f : F)
+        → TurnsAt remaining contents serving place old mid line line_then
+        → HasFailedLog remaining contents serving mid.connections.service
+        → LetsGo remaining contents serving place mid new → GoesOn remaining contents serving tells old f new f
+    goes_stopped place old mid new line line_then f turns failed goes = goes_keeps old new f (λ limits first before y.
+        elim (held_or_not old.connections.places.items place) [
+          | inl e ↦ absurd (no_line line (sym (y.1.nobody place e) ∙ turns.was))
+          | inr held ↦
+              let x = y.1 in
+              let t = turns.turn in
+              let served = t.serves.served x.histories x.log x.served in
+              let k = number_at old.connections.places.items place in
+              let Fails : M → Type 0 = λ t. HasFailedLog remaining contents serving t in (
+                goes.rest.limits ∙ turns.rest.limits ∙ y.0,
+                rest_kept limits first before mid new new.connections new.sockets.items goes.rest
+                    (rest_kept limits first before old mid new.connections new.sockets.items turns.rest
+                    (kept_stopped remaining contents serving limits first before place k old.connections new.connections
+                    old.sockets.items new.sockets.items old.left old.held held.0 t.came t.went served.0 x held.1
+                    (sym (number_held old.connections.places.items place held.0 held.1)) goes.line
+                    (record { stay = λ j far. goes.lines.stay j far ∙ turns.lines.stay j far })
+                    goes.gone (record { stay = λ j far. goes.others.stay j far ∙ t.serves.others.stay j far })
+                    (goes.opened ∙ t.serves.opened)
+                    (goes.served (grows x.histories k t.came t.went) (x.log ++ entries k served.0) served.1)
+                    (rw goes.service served.2) (subst Fails (sym goes.service) failed))),
+              )
+        ])
+
     -- the stream that was held begins
-    pub goes_begun : (place : ℕ) (stream : S) (old mid new : Server K S) (f : F)
-        → ((limits : Limits) (first : K) (faults : List ToldFault) → IsKept remaining contents standing limits first faults old
-        → (mid.limits ≡ limits) × AreKept remaining contents standing limits first faults mid.connections mid.sockets.items mid.left (Some stream))
-        → mid.held ≡ None → RestStays remaining contents standing mid new
-        → Begins remaining contents standing mid new → BeginsAt remaining contents standing place stream mid new
-        → GoesOn remaining contents standing tells old f new f
+    pub goes_begun : (place : ℕ) (stream : S) (old mid new : Server M S) (f : F)
+        → ((limits : Limits) (first : M) (faults : List ToldFault) → IsKept remaining contents serving limits first faults old
+        → (mid.limits ≡ limits) × AreKept remaining contents serving limits first faults mid.connections mid.sockets.items mid.left (Some stream))
+        → mid.held ≡ None → RestStays remaining contents serving mid new
+        → Begins remaining contents serving mid new → BeginsAt remaining contents serving place stream mid new
+        → GoesOn remaining contents serving tells old f new f
     goes_begun place stream old mid new f held none rest begins at_place = goes_keeps old new f (λ limits first faults y.
         let x = held limits first faults y in
-        let P : Option S → Type 0 = λ t. AreKept remaining contents standing limits first faults new.connections new.sockets.items mid.left t in (
+        let P : Option S → Type 0 = λ t. AreKept remaining contents serving limits first faults new.connections new.sockets.items mid.left t in (
           rest.limits ∙ x.0,
           rest_kept limits first faults mid new new.connections new.sockets.items rest
-              (subst P (sym none) (kept_begin remaining contents standing limits first faults place stream mid new x.1 begins at_place)),
+              (subst P (sym none) (kept_begin remaining contents serving limits first faults place stream mid new x.1 begins at_place)),
         ))
 
     -- it does not, and a fault is told
-    pub goes_unbegun : (fault : StreamFault) (stream : S) (old mid new : Server K S) (f g : F)
-        → ((limits : Limits) (first : K) (faults : List ToldFault) → IsKept remaining contents standing limits first faults old
-        → (mid.limits ≡ limits) × AreKept remaining contents standing limits first faults mid.connections mid.sockets.items mid.left (Some stream))
-        → mid.held ≡ None → RestStays remaining contents standing mid new
-        → Begins remaining contents standing mid new → BeginsNone remaining contents standing mid new → tells f fault g
-        → GoesOn remaining contents standing tells old f new g
+    pub goes_unbegun : (fault : StreamFault) (stream : S) (old mid new : Server M S) (f g : F)
+        → ((limits : Limits) (first : M) (faults : List ToldFault) → IsKept remaining contents serving limits first faults old
+        → (mid.limits ≡ limits) × AreKept remaining contents serving limits first faults mid.connections mid.sockets.items mid.left (Some stream))
+        → mid.held ≡ None → RestStays remaining contents serving mid new
+        → Begins remaining contents serving mid new → BeginsNone remaining contents serving mid new → tells f fault g
+        → GoesOn remaining contents serving tells old f new g
     goes_unbegun fault stream old mid new f g held none rest begins at_none told = record {
       told = one_told (number_unbegun mid.connections.opened new.connections.opened at_none.opened) fault;
       tells_them = (g, told, refl);
       keeps = λ limits first before y.
           let x = held limits first before y in
           let number = number_unbegun mid.connections.opened new.connections.opened at_none.opened in
-          let P : Option S → Type 0 = λ t. AreKept remaining contents standing limits first (before ++ one_told number fault) new.connections new.sockets.items mid.left t in (
+          let P : Option S → Type 0 = λ t. AreKept remaining contents serving limits first (before ++ one_told number fault) new.connections new.sockets.items mid.left t in (
             rest.limits ∙ x.0,
             rest_kept limits first (before ++ one_told number fault) mid new new.connections new.sockets.items rest
-                (subst P (sym none) (kept_unbegun remaining contents standing limits first before fault stream mid new x.1 begins at_none at_none.opened)),
+                (subst P (sym none) (kept_unbegun remaining contents serving limits first before fault stream mid new x.1 begins at_none at_none.opened)),
           );
     }
 
   -- ---- a turn at a place
 
   -- what the turn of the connection at a place says
-  abbrev pub TurnSays : (place : ℕ) (old new : Server K S) → Turn → Type 0
+  abbrev pub TurnSays : (place : ℕ) (old new : Server M S) → Turn → Type 0
   TurnSays place old new turn = (line : Line S) → line_at old.sockets.items place ≡ Some line
-      → (line_then : Line S) × TurnsAt remaining contents standing place old new line line_then
+      → (line_then : Line S) × TurnsAt remaining contents serving place old new line line_then
       × (((fault : StreamFault) → turn ≢ Failed fault) → IsStillAt place old.connections.places.items new.connections.places.items)
       × (turn ≡ Ended → line_then.at_end ≡ true)
 
   -- there is no connection at the place
-  abbrev pub SaysNone : (place : ℕ) (old new : Server K S) → Turn → Type 0
+  abbrev pub SaysNone : (place : ℕ) (old new : Server M S) → Turn → Type 0
   SaysNone place old new turn = line_at old.sockets.items place ≡ None → (turn ≡ Waiting)
-      × RestStays remaining contents standing old new × (new.connections ≡ old.connections) × LinesStay old.sockets.items new.sockets.items
+      × RestStays remaining contents serving old new × (new.connections ≡ old.connections) × LinesStay old.sockets.items new.sockets.items
 
-  pub serving_at : (place : ℕ) (old new : Server K S) (turn : Turn) → TurnSays place old new turn
+  pub serving_at : (place : ℕ) (old new : Server M S) (turn : Turn) → TurnSays place old new turn
       → SaysNone place old new turn
       → ((line : Line S) → line_at old.sockets.items place ≡ Some line → line.lingers ≡ false)
       → (line : Line S) → line_at new.sockets.items place ≡ Some line → line.lingers ≡ false
@@ -1082,7 +1154,7 @@ module _ {S K : Type 0} (remaining contents : S → Option (List ℕ)) (standing
             ap (λ (t : Line S). t.lingers) (sym (same_line x.0 line (line_at new.sockets.items place) x.1.is at)) ∙ x.1.lingers ∙ serves was.0 was.1
       ]
 
-  pub ended_at : (place : ℕ) (old new : Server K S) (turn : Turn) → TurnSays place old new turn
+  pub ended_at : (place : ℕ) (old new : Server M S) (turn : Turn) → TurnSays place old new turn
       → SaysNone place old new turn
       → ((line : Line S) → line_at old.sockets.items place ≡ Some line → line.lingers ≡ false)
       → turn ≡ Ended → IsAnsweredAt new.connections.places.items place
@@ -1095,10 +1167,10 @@ module _ {S K : Type 0} (remaining contents : S → Option (List ℕ)) (standing
             (x.0, x.1.is, inr (inr (inl (x.1.lingers ∙ serves was.0 was.1, x.3 ended, answered))))
       ]
 
-  pub turned_at : (place : ℕ) (old new : Server K S) (turn : Turn) → TurnSays place old new turn
+  pub turned_at : (place : ℕ) (old new : Server M S) (turn : Turn) → TurnSays place old new turn
       → SaysNone place old new turn
       → ((line : Line S) → line_at old.sockets.items place ≡ Some line → line.lingers ≡ false)
-      → ((fault : StreamFault) → turn ≢ Failed fault) → KeepsOn remaining contents standing old new
+      → ((fault : StreamFault) → turn ≢ Failed fault) → KeepsOn remaining contents serving old new
   turned_at place old new turn says none serves sound =
       elim (line_or_not (line_at old.sockets.items place)) [
         | inl e ↦ keeps_lines old new (none e).1 (none e).2 (none e).3
@@ -1106,11 +1178,11 @@ module _ {S K : Type 0} (remaining contents : S → Option (List ℕ)) (standing
       ]
 
   -- one that has a fault is let go, and the fault is told
-  pub failed_at : {F : Type 0} (tells : F → StreamFault → F → Type 0) (place : ℕ) (old mid new : Server K S) (turn : Turn) (fault : StreamFault) (f g : F)
+  pub failed_at : {F : Type 0} (tells : F → StreamFault → F → Type 0) (place : ℕ) (old mid new : Server M S) (turn : Turn) (fault : StreamFault) (f g : F)
       → TurnSays place old mid turn → SaysNone place old mid turn
       → ((line : Line S) → line_at old.sockets.items place ≡ Some line → line.lingers ≡ false)
-      → turn ≡ Failed fault → tells f fault g → LetsGo remaining contents standing place mid new
-      → GoesOn remaining contents standing tells old f new g
+      → turn ≡ Failed fault → tells f fault g → LetsGo remaining contents serving place mid new
+      → GoesOn remaining contents serving tells old f new g
   failed_at {F} tells place old mid new turn fault f g says none serves failed told goes =
       elim (line_or_not (line_at old.sockets.items place)) [
         | inl e ↦ absurd (failed_waits fault (sym failed ∙ (none e).0))
@@ -1119,23 +1191,34 @@ module _ {S K : Type 0} (remaining contents : S → Option (List ℕ)) (standing
             goes_fault tells place old mid new was.0 x.0 fault f g x.1 (serves was.0 was.1) told goes)
       ]
 
+  -- the log has failed in it: it is let go, and nothing is told
+  pub stopped_at : {F : Type 0} (tells : F → StreamFault → F → Type 0) (place : ℕ) (old mid new : Server M S) (turn : Turn) (fault : StreamFault) (f : F)
+      → TurnSays place old mid turn → SaysNone place old mid turn → turn ≡ Failed fault
+      → HasFailedLog remaining contents serving mid.connections.service → LetsGo remaining contents serving place mid new
+      → GoesOn remaining contents serving tells old f new f
+  stopped_at {F} tells place old mid new turn fault f says none failed failed_log goes =
+      elim (line_or_not (line_at old.sockets.items place)) [
+        | inl e ↦ absurd (failed_waits fault (sym failed ∙ (none e).0))
+        | inr was ↦ (let x = says was.0 was.1 in goes_stopped tells place old mid new was.0 x.0 f x.1 failed_log goes)
+      ]
+
   -- ---- the whole
 
-  kept_none : (limits : Limits) (first : K) (connections : Connections K) → connections.machine.keeper ≡ first → connections.opened ≡ 0
-      → connections.places.items ≡ [] → AreKept remaining contents standing limits first [] connections [] limits.total None
-  kept_none limits first connections keeper opened places = record {
+  kept_none : (limits : Limits) (first : M) (connections : Connections M) → connections.service ≡ first → connections.opened ≡ 0
+      → connections.places.items ≡ [] → AreKept remaining contents serving limits first [] connections [] limits.total None
+  kept_none limits first connections same opened places = record {
     histories = λ k. nothing;
     log = [];
     served =
         let P : ℕ → Type 0 = λ n. AreServed (λ k. nothing) [] n connections.places.items in
         let Q : List (Option Accepted) → Type 0 = λ t. AreServed (λ k. nothing) [] 0 t in
         subst P (sym opened) (subst Q (sym places) nobody);
-    runs = rw keeper (runs_none _ _ (stays _));
+    runs = rw same (runs_none _ _ (stays _));
     here = λ i l h. (let P : List (Option Accepted) → Type 0 = λ t. i < length t in let below : i < 0 = subst P places h.0 in absurd (omega (arith, below)));
     sound = λ i l h. (let P : List (Option Accepted) → Type 0 = λ t. i < length t in let below : i < 0 = subst P places h.0 in absurd (omega (arith, below)));
     later = λ k above. refl;
     nobody = λ i e. ap (λ (t : Option (Socket S)). line_of t) (get_or_past [] i None (omega arith));
-    gone = λ k within none. absurd (omega (arith, within, opened));
+    gone = λ sound_log k within none. absurd (omega (arith, within, opened));
     came = all_to_come limits.total;
   }
     where
@@ -1143,36 +1226,43 @@ module _ {S K : Type 0} (remaining contents : S → Option (List ℕ)) (standing
       all_to_come None = refl
       all_to_come (Some n) = omega (arith, opened)
 
-  pub kept_none_in : (limits : Limits) (first : K) (connections : Connections K) (sockets : List (Option (Socket S)))
-      → connections.machine.keeper ≡ first → connections.opened ≡ 0 → connections.places.items ≡ [] → sockets ≡ []
-      → AreKept remaining contents standing limits first [] connections sockets limits.total None
-  kept_none_in limits first connections sockets keeper opened places none =
-      let P : List (Option (Socket S)) → Type 0 = λ t. AreKept remaining contents standing limits first [] connections t limits.total None in
-      subst P (sym none) (kept_none limits first connections keeper opened places)
+  pub kept_none_in : (limits : Limits) (first : M) (connections : Connections M) (sockets : List (Option (Socket S)))
+      → connections.service ≡ first → connections.opened ≡ 0 → connections.places.items ≡ [] → sockets ≡ []
+      → AreKept remaining contents serving limits first [] connections sockets limits.total None
+  kept_none_in limits first connections sockets same opened places none =
+      let P : List (Option (Socket S)) → Type 0 = λ t. AreKept remaining contents serving limits first [] connections t limits.total None in
+      subst P (sym none) (kept_none limits first connections same opened places)
 
-  pub served_at_once : {E : Type 0} (limits : Limits) (first : K) (faults : List ToldFault) (server : Server K S) (ended : Result Rounds E)
-      (result : Result (Unit {0}) Stop) (last : K) (failures : ℕ)
-      → IsKept remaining contents standing limits first faults server → last ≡ server.connections.machine.keeper → failures ≡ (standing first).failures
-      → IfOk ended (λ e. EndsSo remaining contents standing e server failures)
+  pub served_at_once : {E : Type 0} (limits : Limits) (first : M) (faults : List ToldFault) (server : Server M S) (ended : Result Rounds E)
+      (result : Result (Unit {0}) Stop) (last : M) (failures : ℕ)
+      → IsKept remaining contents serving limits first faults server → last ≡ server.connections.service → failures ≡ (serving first).standing.failures
+      → IfOk ended (λ e. EndsSo remaining contents serving e server failures)
       → OnOk result (ended ≡ Ok rounds.Done) → (result ≡ Err StopsForStore → ended ≡ Ok rounds.StoreFailed)
-      → AreServedAtOnce remaining contents standing limits first faults result last
-  served_at_once {E} limits first faults server ended result last failures y keeper count ends done store = record {
+      → (result ≡ Err StopsForLog → ((serving last).log.failed ≡ true) ⊎ (ended ≡ Ok rounds.LogFailed))
+      → ((serving last).log.failed ≡ true → result ≡ Err StopsForLog)
+      → AreServedAtOnce remaining contents serving limits first faults result last
+  served_at_once {E} limits first faults server ended result last failures y same count ends done store for_log failed_log = record {
     histories = y.1.histories;
     log = y.1.log;
     opened = server.connections.opened;
     all = y.1.served.all;
-    runs = rw keeper y.1.runs;
+    runs = rw same y.1.runs;
     done = by result done;
     store = λ e.
         let x = subst Ends (store e) ends in
-        let P : ℕ → Type 0 = λ n. StoreHasFailed remaining contents standing limits n last in
-        let Q : K → Type 0 = λ t. StoreHasFailed remaining contents standing limits failures t in
-        let R : Limits → Type 0 = λ t. StoreHasFailed remaining contents standing t failures server.connections.machine.keeper in
-        subst P count (subst Q (sym keeper) (subst R y.0 x));
+        let P : ℕ → Type 0 = λ n. StoreHasFailed remaining contents serving limits n last in
+        let Q : M → Type 0 = λ t. StoreHasFailed remaining contents serving limits failures t in
+        let R : Limits → Type 0 = λ t. StoreHasFailed remaining contents serving t failures server.connections.service in
+        subst P count (subst Q (sym same) (subst R y.0 x));
+    for_log = λ e. elim (for_log e) [
+      | inl failed ↦ failed
+      | inr is ↦ (let Fails : M → Type 0 = λ t. HasFailedLog remaining contents serving t in subst Fails (sym same) (subst Ends is ends))
+    ];
+    failed_log = failed_log;
   }
     where
       Ends : Result Rounds E → Type 0
-      Ends r = IfOk r (λ e. EndsSo remaining contents standing e server failures)
+      Ends r = IfOk r (λ e. EndsSo remaining contents serving e server failures)
 
       by : (r : Result (Unit {0}) Stop) → OnOk r (ended ≡ Ok rounds.Done)
           → OnOk r (((k : ℕ) → k < server.connections.opened → WasLetGo remaining contents limits (told_of k faults) (own k y.1.log) (y.1.histories k))
@@ -1183,7 +1273,7 @@ module _ {S K : Type 0} (remaining contents : S → Option (List ℕ)) (standing
           let d = subst Ends is ends in
           let P : Option ℕ → Type 0 = λ t. HaveCome limits.total t (server.connections.opened + (count_unopened faults + count_held server.held)) in
           let Q : Option S → Type 0 = λ t. HaveCome limits.total (Some 0) (server.connections.opened + (count_unopened faults + count_held t)) in (
-            λ k within. x.gone k within (λ i l h e. absurd (let z = x.here i l h in no_line z.0 (sym (d.2 i) ∙ z.1))),
+            λ k within. x.gone d.3 k within (λ i l h e. absurd (let z = x.here i l h in no_line z.0 (sym (d.2 i) ∙ z.1))),
             all_came limits.total server.connections.opened (count_unopened faults) (subst Q d.1 (subst P d.0 x.came)),
           )
         where
@@ -1194,16 +1284,27 @@ module _ {S K : Type 0} (remaining contents : S → Option (List ℕ)) (standing
           all_came None n m h = absurd (none_some 0 h)
           all_came (Some t) n m h = (let e : t ≡ n + m = omega (arith, h) in ap (λ (k : ℕ). Some k) e)
 
-  pub served_none : (limits : Limits) (first : K) → AreServedAtOnce remaining contents standing limits first [] (Err StopsFailed) first
-  served_none limits first = record {
+  pub served_none : {E : Type 0} (limits : Limits) (first : M) (error : E) (result : Result (Unit {0}) Stop)
+      → OnOk result ((◌≡◌) {A = Result Rounds E} (Err error) (Ok rounds.Done))
+      → (result ≡ Err StopsForStore → (◌≡◌) {A = Result Rounds E} (Err error) (Ok rounds.StoreFailed))
+      → (result ≡ Err StopsForLog → ((serving first).log.failed ≡ true) ⊎ ((◌≡◌) {A = Result Rounds E} (Err error) (Ok rounds.LogFailed)))
+      → ((serving first).log.failed ≡ true → result ≡ Err StopsForLog)
+      → AreServedAtOnce remaining contents serving limits first [] result first
+  served_none {E} limits first error result done store for_log failed_log = record {
     histories = λ k. nothing;
     log = [];
     opened = 0;
     all = nobody.all;
     runs = runs_none _ _ (stays _);
-    done = tt;
-    store = λ e. absurd (differ e);
+    done = by result _ done;
+    store = λ e. absurd (differ rounds.StoreFailed (store e));
+    for_log = λ e. elim (for_log e) [ inl failed ↦ failed | inr is ↦ absurd (differ rounds.LogFailed is) ];
+    failed_log = failed_log;
   }
     where
-      differ : (◌≡◌) {A = Result (Unit {0}) Stop} (Err StopsFailed) (Err StopsForStore) → ⊥
-      differ e = cc
+      differ : (r : Rounds) → (◌≡◌) {A = Result Rounds E} (Err error) (Ok r) → ⊥
+      differ r e = cc
+
+      by : (r : Result (Unit {0}) Stop) (P : Type 0) → OnOk r ((◌≡◌) {A = Result Rounds E} (Err error) (Ok rounds.Done)) → OnOk r P
+      by (Err e) P is = tt
+      by (Ok u) P is = absurd (differ rounds.Done is)

@@ -3,10 +3,9 @@ use Rattle.std.proofs.Common.{◌≡◌, ◌≢◌, ℕ, ◌⊎◌, inl, inr, Bo
 use Rattle.std.proofs.lemmas.List.{map-append}
 use Rattle.std.proofs.lemmas.Bool.{cases_eq}
 use Rattle.std.specs.Io.KnownBytes.{Appends, Consumes, IsAtEnd}
-use Rattle.book_office.specs.Keeping.{Standing}
-use Rattle.book_wire.specs.Serving.{Answered, Runs}
+use Rattle.book_wire_serving.specs.Serving.{Answered, Runs, Serving}
 use Rattle.book_wire.specs.Stream.{Exchange, answered_of}
-use Rattle.book_wire.proofs.Servings.{runs_none, runs_then, stays}
+use Rattle.book_wire_serving.proofs.Servings.{runs_none, runs_then, stays}
 use Rattle.book_desk_loop.specs.declared.connections.Accepted.{Accepted}
 use Rattle.book_desk_loop.specs.declared.connections.Connections.{Connections}
 use Rattle.book_desk_loop.specs.ManyConnections.{History, Entry, AreServed, Holds, OthersStay, entries, grows, receives, is_sent, number_at, with_history}
@@ -39,33 +38,33 @@ grows_twice histories k a b c d j = elim (cases_eq j k) [
       let had = histories k in
       let first : History = record { received = had.received ++ a; sent = had.sent ++ b } in
       let whole : History = record { received = had.received ++ (a ++ c); sent = had.sent ++ (b ++ d) } in
-      let M : History → History = λ t. record { received = t.received ++ c; sent = t.sent ++ d } in
+      let Grows : History → History = λ t. record { received = t.received ++ c; sent = t.sent ++ d } in
       let P : ℕ → Type 0 = λ n. grows histories k (a ++ c) (b ++ d) n ≡ grows (grows histories k a b) k c d n in
       let G : List ℕ → List ℕ → History = λ x y. record { received = x; sent = y } in
-      let joined : whole ≡ M first =
+      let joined : whole ≡ Grows first =
       ap (λ (t : List ℕ). G t (had.sent ++ (b ++ d))) (sym (append_assoc had.received a c))
       ∙ ap (λ (t : List ℕ). G ((had.received ++ a) ++ c) t) (sym (append_assoc had.sent b d)) in
       subst P (sym at)
-      (history_here histories k whole ∙ joined ∙ sym (ap M (history_here histories k first))
-      ∙ sym (history_here (grows histories k a b) k (M (grows histories k a b k))))
+      (history_here histories k whole ∙ joined ∙ sym (ap Grows (history_here histories k first))
+      ∙ sym (history_here (grows histories k a b) k (Grows (grows histories k a b k))))
   | inr far ↦
       let had = histories k in
       let first : History = record { received = had.received ++ a; sent = had.sent ++ b } in
       let whole : History = record { received = had.received ++ (a ++ c); sent = had.sent ++ (b ++ d) } in
-      let M : History → History = λ t. record { received = t.received ++ c; sent = t.sent ++ d } in
+      let Grows : History → History = λ t. record { received = t.received ++ c; sent = t.sent ++ d } in
       history_there histories j k whole far ∙ sym (history_there histories j k first far)
-      ∙ sym (history_there (grows histories k a b) j k (M (grows histories k a b k)) far)
+      ∙ sym (history_there (grows histories k a b) j k (Grows (grows histories k a b k)) far)
 ]
 
 -- ---- one move
 
-pub serves_read : {K S : Type 0} (standing : K → Standing) (remaining contents : S → Option (List ℕ)) (place : ℕ) (old new : Connections K) (s t : S) (bytes : List ℕ)
+pub serves_read : {M S : Type 0} (serving : M → Serving) (remaining contents : S → Option (List ℕ)) (place : ℕ) (old new : Connections M) (s t : S) (bytes : List ℕ)
     → Consumes (remaining s) (remaining t) bytes → new.opened ≡ old.opened → OthersStay place old.places.items new.places.items
     → ((histories : ℕ → History) (log : List Entry) → AreServed histories log old.opened old.places.items
     → (more : List Exchange) × AreServed (receives histories (number_at old.places.items place) bytes) (log ++ entries (number_at old.places.items place) more) new.opened new.places.items
-    × Runs (standing old.machine.keeper) (standing new.machine.keeper) (map answered_of more))
-    → Serves standing remaining contents place old new s t bytes []
-serves_read {K} {S} standing remaining contents place old new s t bytes read opened others served = record {
+    × Runs (serving old.service) (serving new.service) (map answered_of more))
+    → Serves serving remaining contents place old new s t bytes []
+serves_read {M} {S} serving remaining contents place old new s t bytes read opened others served = record {
   moved = reads s t bytes read;
   opened = opened;
   others = others;
@@ -76,13 +75,13 @@ serves_read {K} {S} standing remaining contents place old new s t bytes read ope
       (y.0, subst P (received_grows histories k bytes) y.1, y.2);
 }
 
-pub serves_more : {K S : Type 0} (standing : K → Standing) (remaining contents : S → Option (List ℕ)) (place : ℕ) (old new : Connections K) (s : S)
+pub serves_more : {M S : Type 0} (serving : M → Serving) (remaining contents : S → Option (List ℕ)) (place : ℕ) (old new : Connections M) (s : S)
     → new.opened ≡ old.opened → OthersStay place old.places.items new.places.items
     → ((histories : ℕ → History) (log : List Entry) → AreServed histories log old.opened old.places.items
     → (more : List Exchange) × AreServed (receives histories (number_at old.places.items place) []) (log ++ entries (number_at old.places.items place) more) new.opened new.places.items
-    × Runs (standing old.machine.keeper) (standing new.machine.keeper) (map answered_of more))
-    → Serves standing remaining contents place old new s s [] []
-serves_more {K} {S} standing remaining contents place old new s opened others served = record {
+    × Runs (serving old.service) (serving new.service) (map answered_of more))
+    → Serves serving remaining contents place old new s s [] []
+serves_more {M} {S} serving remaining contents place old new s opened others served = record {
   moved = rests s;
   opened = opened;
   others = others;
@@ -93,13 +92,13 @@ serves_more {K} {S} standing remaining contents place old new s opened others se
       (y.0, subst P (received_grows histories k []) y.1, y.2);
 }
 
-pub serves_sent : {K S : Type 0} (standing : K → Standing) (remaining contents : S → Option (List ℕ)) (place : ℕ) (old new : Connections K) (s t : S) (bytes : List ℕ)
+pub serves_sent : {M S : Type 0} (serving : M → Serving) (remaining contents : S → Option (List ℕ)) (place : ℕ) (old new : Connections M) (s t : S) (bytes : List ℕ)
     → Appends (contents s) (contents t) bytes → new.opened ≡ old.opened → OthersStay place old.places.items new.places.items
-    → new.machine ≡ old.machine
+    → new.service ≡ old.service
     → ((histories : ℕ → History) (log : List Entry) → AreServed histories log old.opened old.places.items
     → AreServed (is_sent histories (number_at old.places.items place) bytes) log new.opened new.places.items)
-    → Serves standing remaining contents place old new s t [] bytes
-serves_sent {K} {S} standing remaining contents place old new s t bytes wrote opened others machine served = record {
+    → Serves serving remaining contents place old new s t [] bytes
+serves_sent {M} {S} serving remaining contents place old new s t bytes wrote opened others service served = record {
   moved = writes s t bytes wrote;
   opened = opened;
   others = others;
@@ -109,14 +108,14 @@ serves_sent {K} {S} standing remaining contents place old new s t bytes wrote op
       let Q : List Entry → Type 0 = λ l. AreServed (grows histories k [] bytes) l new.opened new.places.items in (
         [],
         subst Q (sym (append-nil log)) (subst P (sent_grows histories k bytes) (served histories log x)),
-        rw machine (runs_none _ _ (stays _)),
+        rw service (runs_none _ _ (stays _)),
       );
 }
 
 -- nothing is moved
-pub serves_none : {K S : Type 0} (standing : K → Standing) (remaining contents : S → Option (List ℕ)) (place : ℕ) (old : Connections K) (s : S)
-    → Serves standing remaining contents place old old s s [] []
-serves_none {K} {S} standing remaining contents place old s = record {
+pub serves_none : {M S : Type 0} (serving : M → Serving) (remaining contents : S → Option (List ℕ)) (place : ℕ) (old : Connections M) (s : S)
+    → Serves serving remaining contents place old old s s [] []
+serves_none {M} {S} serving remaining contents place old s = record {
   moved = rests s;
   opened = refl;
   others = record { stay = λ j far. refl };
@@ -141,11 +140,11 @@ serves_none {K} {S} standing remaining contents place old s = record {
 
 -- ---- one after the other
 
-pub serves_then : {K S : Type 0} (standing : K → Standing) (remaining contents : S → Option (List ℕ)) (place : ℕ) (old mid new : Connections K) (s t u : S) (a b c d : List ℕ)
-    → Serves standing remaining contents place old mid s t a b → Serves standing remaining contents place mid new t u c d
+pub serves_then : {M S : Type 0} (serving : M → Serving) (remaining contents : S → Option (List ℕ)) (place : ℕ) (old mid new : Connections M) (s t u : S) (a b c d : List ℕ)
+    → Serves serving remaining contents place old mid s t a b → Serves serving remaining contents place mid new t u c d
     → number_at mid.places.items place ≡ number_at old.places.items place
-    → Serves standing remaining contents place old new s u (a ++ c) (b ++ d)
-serves_then {K} {S} standing remaining contents place old mid new s t u a b c d x y same_number = record {
+    → Serves serving remaining contents place old new s u (a ++ c) (b ++ d)
+serves_then {M} {S} serving remaining contents place old mid new s t u a b c d x y same_number = record {
   moved = moves_on s t u a b c d x.moved y.moved;
   opened = y.opened ∙ x.opened;
   others = others_then place old.places.items mid.places.items new.places.items x.others y.others;
@@ -155,10 +154,10 @@ serves_then {K} {S} standing remaining contents place old mid new s t u a b c d 
       let S1 = log ++ entries k first.0 in
       let P : ℕ → Type 0 = λ n. (more : List Exchange)
       × AreServed (grows (grows histories k a b) n c d) (S1 ++ entries n more) new.opened new.places.items
-      × Runs (standing mid.machine.keeper) (standing new.machine.keeper) (map answered_of more) in
+      × Runs (serving mid.service) (serving new.service) (map answered_of more) in
       let second = subst P same_number (y.served (grows histories k a b) S1 first.1) in
       let Q : List Entry → Type 0 = λ l. AreServed (grows histories k (a ++ c) (b ++ d)) l new.opened new.places.items in
-      let R : List Answered → Type 0 = λ l. Runs (standing old.machine.keeper) (standing new.machine.keeper) l in (
+      let R : List Answered → Type 0 = λ l. Runs (serving old.service) (serving new.service) l in (
         first.0 ++ second.0,
         subst Q (append_assoc log (entries k first.0) (entries k second.0) ∙ ap (λ (l : List Entry). log ++ l) (sym (entries_append k first.0 second.0)))
             (like (grows (grows histories k a b) k c d) (grows histories k (a ++ c) (b ++ d)) (S1 ++ entries k second.0) new.opened new.places.items
@@ -184,23 +183,23 @@ still_then place a b c x y = record {
   there = λ l h. (let m = x.there l h in y.there m.0 m.1);
 }
 
-pub turn_then : {K S : Type 0} (standing : K → Standing) (remaining contents : S → Option (List ℕ)) (place : ℕ) (old mid new : Connections K) (s t u : S) (e f : Bool)
-    → TakesATurn standing remaining contents place old mid s t e → TakesATurn standing remaining contents place mid new t u f
+pub turn_then : {M S : Type 0} (serving : M → Serving) (remaining contents : S → Option (List ℕ)) (place : ℕ) (old mid new : Connections M) (s t u : S) (e f : Bool)
+    → TakesATurn serving remaining contents place old mid s t e → TakesATurn serving remaining contents place mid new t u f
     → (e ≡ true → f ≡ true) → number_at mid.places.items place ≡ number_at old.places.items place
-    → TakesATurn standing remaining contents place old new s u e
-turn_then {K} {S} standing remaining contents place old mid new s t u e f x y ended same_number = record {
+    → TakesATurn serving remaining contents place old new s u e
+turn_then {M} {S} serving remaining contents place old mid new s t u e f x y ended same_number = record {
   came = x.came ++ y.came;
   went = x.went ++ y.went;
-  serves = serves_then standing remaining contents place old mid new s t u x.came x.went y.came y.went x.serves y.serves same_number;
+  serves = serves_then serving remaining contents place old mid new s t u x.came x.went y.came y.went x.serves y.serves same_number;
   unread = λ h.
       let P : List ℕ → Type 0 = λ l. l ++ y.came ≡ [] in
       subst P (sym (x.unread h)) (y.unread (ended h));
 }
 
 -- its input was at its end, and it was not read since
-pub at_end_then : {K S : Type 0} (standing : K → Standing) (remaining contents : S → Option (List ℕ)) (place : ℕ) (old new : Connections K) (s t : S) (e : Bool)
-    → TakesATurn standing remaining contents place old new s t e → e ≡ true → WasAtEnd remaining contents s → WasAtEnd remaining contents t
-at_end_then {K} {S} standing remaining contents place old new s t e x h was =
+pub at_end_then : {M S : Type 0} (serving : M → Serving) (remaining contents : S → Option (List ℕ)) (place : ℕ) (old new : Connections M) (s t : S) (e : Bool)
+    → TakesATurn serving remaining contents place old new s t e → e ≡ true → WasAtEnd remaining contents s → WasAtEnd remaining contents t
+at_end_then {M} {S} serving remaining contents place old new s t e x h was =
     let P : List ℕ → Type 0 = λ l. IsMoved remaining contents was.0 l (was.2 ++ x.went) t in (
       was.0,
       was.1,
@@ -212,30 +211,30 @@ pub at_end_now : {S : Type 0} (remaining contents : S → Option (List ℕ)) (s 
 at_end_now {S} remaining contents s h = (s, h, [], rests s)
 
 -- a turn in which nothing is moved
-pub turn_none : {K S : Type 0} (standing : K → Standing) (remaining contents : S → Option (List ℕ)) (place : ℕ) (old : Connections K) (s : S) (e : Bool)
-    → TakesATurn standing remaining contents place old old s s e
-turn_none {K} {S} standing remaining contents place old s e = record {
+pub turn_none : {M S : Type 0} (serving : M → Serving) (remaining contents : S → Option (List ℕ)) (place : ℕ) (old : Connections M) (s : S) (e : Bool)
+    → TakesATurn serving remaining contents place old old s s e
+turn_none {M} {S} serving remaining contents place old s e = record {
   came = [];
   went = [];
-  serves = serves_none standing remaining contents place old s;
+  serves = serves_none serving remaining contents place old s;
   unread = λ h. refl;
 }
 
 -- it was sent something
-pub turn_sent : {K S : Type 0} (standing : K → Standing) (remaining contents : S → Option (List ℕ)) (place : ℕ) (old new : Connections K) (s t : S) (e : Bool)
-    → ((went : List ℕ) × Serves standing remaining contents place old new s t [] went)
-    → TakesATurn standing remaining contents place old new s t e
-turn_sent {K} {S} standing remaining contents place old new s t e x = record { came = []; went = x.0; serves = x.1; unread = λ h. refl }
+pub turn_sent : {M S : Type 0} (serving : M → Serving) (remaining contents : S → Option (List ℕ)) (place : ℕ) (old new : Connections M) (s t : S) (e : Bool)
+    → ((went : List ℕ) × Serves serving remaining contents place old new s t [] went)
+    → TakesATurn serving remaining contents place old new s t e
+turn_sent {M} {S} serving remaining contents place old new s t e x = record { came = []; went = x.0; serves = x.1; unread = λ h. refl }
 
 -- it brought something
-pub turn_brought : {K S : Type 0} (standing : K → Standing) (remaining contents : S → Option (List ℕ)) (place : ℕ) (old new : Connections K) (s t : S) (e : Bool)
-    → ((came : List ℕ) × Serves standing remaining contents place old new s t came [] × (e ≡ true → came ≡ []))
-    → TakesATurn standing remaining contents place old new s t e
-turn_brought {K} {S} standing remaining contents place old new s t e x = record { came = x.0; went = []; serves = x.1; unread = x.2 }
+pub turn_brought : {M S : Type 0} (serving : M → Serving) (remaining contents : S → Option (List ℕ)) (place : ℕ) (old new : Connections M) (s t : S) (e : Bool)
+    → ((came : List ℕ) × Serves serving remaining contents place old new s t came [] × (e ≡ true → came ≡ []))
+    → TakesATurn serving remaining contents place old new s t e
+turn_brought {M} {S} serving remaining contents place old new s t e x = record { came = x.0; went = []; serves = x.1; unread = x.2 }
 
 -- its input is at its end now, or was before
-pub at_end_after : {K S : Type 0} (standing : K → Standing) (remaining contents : S → Option (List ℕ)) (place : ℕ) (old new : Connections K) (s t : S) (e : Bool)
-    → TakesATurn standing remaining contents place old new s t e → (e ≡ true) ⊎ IsAtEnd (remaining t) → (e ≡ true → WasAtEnd remaining contents s)
+pub at_end_after : {M S : Type 0} (serving : M → Serving) (remaining contents : S → Option (List ℕ)) (place : ℕ) (old new : Connections M) (s t : S) (e : Bool)
+    → TakesATurn serving remaining contents place old new s t e → (e ≡ true) ⊎ IsAtEnd (remaining t) → (e ≡ true → WasAtEnd remaining contents s)
     → WasAtEnd remaining contents t
-at_end_after {K} {S} standing remaining contents place old new s t e x (inl h) was = at_end_then standing remaining contents place old new s t e x h (was h)
-at_end_after {K} {S} standing remaining contents place old new s t e x (inr h) was = at_end_now remaining contents t h
+at_end_after {M} {S} serving remaining contents place old new s t e x (inl h) was = at_end_then serving remaining contents place old new s t e x h (was h)
+at_end_after {M} {S} serving remaining contents place old new s t e x (inr h) was = at_end_now remaining contents t h

@@ -1,8 +1,7 @@
 -- The loop: connections and their sockets, each at the place of its connection.
 use Rattle.std.specs.Prelude.{◌≡◌, ◌≢◌, ◌⊎◌, ℕ, ◌+◌, ◌<◌, ◌≤◌, Bool, true, false, is_some, ◌==◌, if◌then◌else◌, List, [], ◌∷◌, ◌++◌, length, get_or, map, Option, Some, None, Result, Err, OnOk}
-use Rattle.book_office.specs.Keeping.{Standing}
 use Rattle.book_wire.specs.Connection.{View, fresh}
-use Rattle.book_wire.specs.Serving.{Runs}
+use Rattle.book_wire_serving.specs.Serving.{Runs, Serving}
 use Rattle.book_wire.specs.Stream.{Exchange, IsPartial, Waits}
 use Rattle.book_wire.specs.declared.stream.StreamFault.{StreamFault}
 use Rattle.book_desk_loop.specs.Closing.{DropsSome}
@@ -13,9 +12,9 @@ use Rattle.book_desk_loop.specs.declared.connections.Connections.{Connections}
 use Rattle.book_desk_loop.specs.declared.limits.Limits.{Limits}
 use Rattle.book_desk_loop.specs.declared.looping.Server.{Server}
 use Rattle.book_desk_loop.specs.declared.limits.Stop.{Stop}
-use Rattle.book_desk_loop.specs.declared.limits.Stop.TheVariants.{Store as StopsForStore}
+use Rattle.book_desk_loop.specs.declared.limits.Stop.TheVariants.{Log as StopsForLog, Store as StopsForStore}
 use Rattle.book_desk_loop.specs.declared.limits.Ended.{Ended}
-use Rattle.book_desk_loop.specs.declared.limits.Ended.TheVariants.{Done, StoreFailed}
+use Rattle.book_desk_loop.specs.declared.limits.Ended.TheVariants.{Done, LogFailed, StoreFailed}
 use Rattle.book_desk_loop.specs.declared.sockets.Socket.{Socket}
 
 -- a stream that is served; whether its input is at its end, and whether its last reply is sent
@@ -146,49 +145,57 @@ module _ {S : Type 0} (remaining contents : S → Option (List ℕ)) where
       ⊎ ((line.lingers ≡ false) × (limits.idle ≢ None))
       ⊎ ((line.lingers ≡ false) × IsWithinAt places place))
 
-  -- over keepers with what they stand for
-  module _ {K : Type 0} (standing : K → Standing) where
-    -- As many connections came as were to come. Each that is there has its stream at its place; why each other was let go is known.
-    -- The requests of all are one run of the machine since the first keeper.
-    pub record AreKept (limits : Limits) (first : K) (failed : List ToldFault) (connections : Connections K)
+  -- over services with what they stand for
+  module _ {M : Type 0} (serving : M → Serving) where
+    -- a line of the log could not be written
+    abbrev pub HasFailedLog : M → Type 0
+    HasFailedLog service = (serving service).log.failed ≡ true
+
+    -- each line could be written
+    abbrev pub HasSoundLog : M → Type 0
+    HasSoundLog service = (serving service).log.failed ≡ false
+
+    -- As many connections came as were to come. Each that is there has its stream at its place; why each other was let go is known,
+    -- unless a line of the log could not be written. The requests of all are one run since the first service.
+    pub record AreKept (limits : Limits) (first : M) (failed : List ToldFault) (connections : Connections M)
         (sockets : List (Option (Socket S))) (left : Option ℕ) (held : Option S) : Type 0 where
       pub histories : ℕ → History
       pub log : List Entry
       pub served : AreServed histories log connections.opened connections.places.items
-      pub runs : Runs (standing first) (standing connections.machine.keeper) (map answered_in log)
+      pub runs : Runs (serving first) (serving connections.service) (map answered_in log)
       pub here : (i : ℕ) (l : Accepted) → Holds connections.places.items i l
           → (line : Line S) × (line_at sockets i ≡ Some line) × IsCarriedBy (histories l.number) l.connection line
       pub sound : (i : ℕ) (l : Accepted) → Holds connections.places.items i l → told_of l.number failed ≡ []
       pub later : (k : ℕ) → connections.opened ≤ k → told_of k failed ≡ []
       pub nobody : (i : ℕ) → get_or connections.places.items i None ≡ None → line_at sockets i ≡ None
-      pub gone : (k : ℕ) → k < connections.opened → ((i : ℕ) (l : Accepted) → Holds connections.places.items i l → l.number ≢ k)
+      pub gone : HasSoundLog connections.service → (k : ℕ) → k < connections.opened → ((i : ℕ) (l : Accepted) → Holds connections.places.items i l → l.number ≢ k)
           → WasLetGo limits (told_of k failed) (own k log) (histories k)
       pub came : HaveCome limits.total left (connections.opened + (count_unopened failed + count_held held))
 
-    abbrev pub IsKept : Limits → K → List ToldFault → Server K S → Type 0
+    abbrev pub IsKept : Limits → M → List ToldFault → Server M S → Type 0
     IsKept limits first failed server =
         (server.limits ≡ limits) × AreKept limits first failed server.connections server.sockets.items server.left server.held
 
     -- no fault is told
-    abbrev pub KeepsOn : Server K S → Server K S → Type 0
-    KeepsOn old new = (limits : Limits) (first : K) (failed : List ToldFault) → IsKept limits first failed old → IsKept limits first failed new
+    abbrev pub KeepsOn : Server M S → Server M S → Type 0
+    KeepsOn old new = (limits : Limits) (first : M) (failed : List ToldFault) → IsKept limits first failed old → IsKept limits first failed new
 
     -- these faults are told
-    pub record GoesOn {F : Type 0} (tells : F → StreamFault → F → Type 0) (old : Server K S) (faults : F) (new : Server K S) (faults_then : F) : Type 0 where
+    pub record GoesOn {F : Type 0} (tells : F → StreamFault → F → Type 0) (old : Server M S) (faults : F) (new : Server M S) (faults_then : F) : Type 0 where
       pub told : List ToldFault
       pub tells_them : AreTold tells faults told faults_then
-      pub keeps : (limits : Limits) (first : K) (before : List ToldFault) → IsKept limits first before old → IsKept limits first (before ++ told) new
+      pub keeps : (limits : Limits) (first : M) (before : List ToldFault) → IsKept limits first before old → IsKept limits first (before ++ told) new
 
     -- what else the server has
-    pub record RestStays (old new : Server K S) : Type 0 where
+    pub record RestStays (old new : Server M S) : Type 0 where
       pub limits : new.limits ≡ old.limits
       pub left : new.left ≡ old.left
       pub held : new.held ≡ old.held
 
     -- the connection at the place and its stream are let go
-    pub record LetsGo (place : ℕ) (old new : Server K S) : Type 0 where
+    pub record LetsGo (place : ℕ) (old new : Server M S) : Type 0 where
       pub rest : RestStays old new
-      pub machine : new.connections.machine ≡ old.connections.machine
+      pub service : new.connections.service ≡ old.connections.service
       pub opened : new.connections.opened ≡ old.connections.opened
       pub gone : get_or new.connections.places.items place None ≡ None
       pub others : OthersStay place old.connections.places.items new.connections.places.items
@@ -199,17 +206,17 @@ module _ {S : Type 0} (remaining contents : S → Option (List ℕ)) where
       pub lines : OtherLinesStay place old.sockets.items new.sockets.items
 
     -- the connection at the place has its turn, if it is there
-    pub record TurnsAt (place : ℕ) (old new : Server K S) (line line_then : Line S) : Type 0 where
+    pub record TurnsAt (place : ℕ) (old new : Server M S) (line line_then : Line S) : Type 0 where
       pub rest : RestStays old new
       pub was : line_at old.sockets.items place ≡ Some line
       pub is : line_at new.sockets.items place ≡ Some line_then
       pub lingers : line_then.lingers ≡ line.lingers
       pub lines : OtherLinesStay place old.sockets.items new.sockets.items
-      pub turn : TakesATurn standing remaining contents place old.connections new.connections line.stream line_then.stream line.at_end
+      pub turn : TakesATurn serving remaining contents place old.connections new.connections line.stream line_then.stream line.at_end
       pub at_end : line_then.at_end ≡ true → (line.at_end ≡ true → WasAtEnd remaining contents line.stream) → WasAtEnd remaining contents line_then.stream
 
     -- a connection begins with the stream
-    pub record BeginsAt (place : ℕ) (stream : S) (old new : Server K S) : Type 0 where
+    pub record BeginsAt (place : ℕ) (stream : S) (old new : Server M S) : Type 0 where
       pub free : get_or old.connections.places.items place None ≡ None
       pub there : (l : Accepted) × Holds new.connections.places.items place l × (l.number ≡ old.connections.opened) × (l.connection ≡ fresh)
       pub opened : new.connections.opened ≡ old.connections.opened + 1
@@ -218,14 +225,14 @@ module _ {S : Type 0} (remaining contents : S → Option (List ℕ)) where
       pub lines : OtherLinesStay place old.sockets.items new.sockets.items
 
     -- none does: it has a number, or none
-    pub record BeginsNone (old new : Server K S) : Type 0 where
+    pub record BeginsNone (old new : Server M S) : Type 0 where
       pub places : AllStay old.connections.places.items new.connections.places.items
       pub opened : (new.connections.opened ≡ old.connections.opened) ⊎ (new.connections.opened ≡ old.connections.opened + 1)
       pub lines : LinesStay old.sockets.items new.sockets.items
 
-    pub record Begins (old new : Server K S) : Type 0 where
+    pub record Begins (old new : Server M S) : Type 0 where
       pub rest : RestStays old new
-      pub machine : new.connections.machine ≡ old.connections.machine
+      pub service : new.connections.service ≡ old.connections.service
       pub served : (histories : ℕ → History) (log : List Entry)
           → AreServed histories log old.connections.opened old.connections.places.items
           → AreServed histories log new.connections.opened new.connections.places.items
@@ -235,23 +242,28 @@ module _ {S : Type 0} (remaining contents : S → Option (List ℕ)) where
     AllWereLetGo limits failed histories log opened = (k : ℕ) → k < opened → WasLetGo limits (told_of k failed) (own k log) (histories k)
 
     -- the store has failed since it had failed so often, and there is no end of connections
-    abbrev pub StoreHasFailed : Limits → ℕ → K → Type 0
-    StoreHasFailed limits failures last = (limits.total ≡ None) × ((standing last).failures ≢ failures)
+    abbrev pub StoreHasFailed : Limits → ℕ → M → Type 0
+    StoreHasFailed limits failures last = (limits.total ≡ None) × ((serving last).standing.failures ≢ failures)
 
     -- how rounds of the loop end
-    abbrev pub EndsSo : Ended → Server K S → ℕ → Type 0
-    EndsSo Done server failures = (server.left ≡ Some 0) × (server.held ≡ None) × ((i : ℕ) → line_at server.sockets.items i ≡ None)
-    EndsSo StoreFailed server failures = StoreHasFailed server.limits failures server.connections.machine.keeper
+    abbrev pub EndsSo : Ended → Server M S → ℕ → Type 0
+    EndsSo Done server failures =
+        (server.left ≡ Some 0) × (server.held ≡ None) × ((i : ℕ) → line_at server.sockets.items i ≡ None) × HasSoundLog server.connections.service
+    EndsSo StoreFailed server failures = StoreHasFailed server.limits failures server.connections.service
+    EndsSo LogFailed server failures = HasFailedLog server.connections.service
 
     -- So many connections were served, each for its own requests alone; the requests of all are one run of the machine. Where
     -- it ended so, as many came as were to come, but for those that could not begin, and each was let go. It stops for the store
-    -- only where that has failed, and there is no end of connections.
-    pub record AreServedAtOnce (limits : Limits) (first : K) (failed : List ToldFault) (result : Result (Unit {0}) Stop) (last : K) : Type 0 where
+    -- only where that has failed, and there is no end of connections; and for the log exactly where a line of it could not be
+    -- written.
+    pub record AreServedAtOnce (limits : Limits) (first : M) (failed : List ToldFault) (result : Result (Unit {0}) Stop) (last : M) : Type 0 where
       pub histories : ℕ → History
       pub log : List Entry
       pub opened : ℕ
       pub all : (k : ℕ) → IsBehind (own k log) (histories k)
-      pub runs : Runs (standing first) (standing last) (map answered_in log)
+      pub runs : Runs (serving first) (serving last) (map answered_in log)
       pub done : OnOk result (AllWereLetGo limits failed histories log opened
           × (limits.total ≡ Some (opened + count_unopened failed)))
-      pub store : result ≡ Err StopsForStore → StoreHasFailed limits (standing first).failures last
+      pub store : result ≡ Err StopsForStore → StoreHasFailed limits (serving first).standing.failures last
+      pub for_log : result ≡ Err StopsForLog → HasFailedLog last
+      pub failed_log : HasFailedLog last → result ≡ Err StopsForLog

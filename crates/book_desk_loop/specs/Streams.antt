@@ -1,9 +1,8 @@
 -- A connection and its stream (RFC 9112, section 9): what the one received and was sent is what the other gave and was given.
 use Rattle.std.specs.Prelude.{◌≡◌, ◌≢◌, ◌⊎◌, ℕ, Bool, true, false, List, [], ◌++◌, map, Option, Some, None}
 use Rattle.std.specs.Io.KnownBytes.{Appends, Consumes, IsAtEnd}
-use Rattle.book_office.specs.Keeping.{Standing}
 use Rattle.book_wire.specs.Connection.{View}
-use Rattle.book_wire.specs.Serving.{Runs}
+use Rattle.book_wire_serving.specs.Serving.{Runs, Serving}
 use Rattle.book_wire.specs.Stream.{Exchange, answered_of}
 use Rattle.book_desk_loop.specs.ManyConnections.{History, Entry, AreServed, Holds, OthersStay, entries, grows, number_at}
 use Rattle.book_desk_loop.specs.declared.connections.Accepted.{Accepted}
@@ -29,8 +28,8 @@ pub record IsStillAt (place : ℕ) (old new : List (Option Accepted)) : Type 0 w
 
 -- The stream gave some bytes and took others, and these are what the connection at the place received and was sent. The requests
 -- that were answered are its own.
-pub record Serves {K S : Type 0} (standing : K → Standing) (remaining contents : S → Option (List ℕ)) (place : ℕ)
-    (old new : Connections K) (stream stream_then : S) (came went : List ℕ) : Type 0 where
+pub record Serves {M S : Type 0} (serving : M → Serving) (remaining contents : S → Option (List ℕ)) (place : ℕ)
+    (old new : Connections M) (stream stream_then : S) (came went : List ℕ) : Type 0 where
   pub moved : IsMoved remaining contents stream came went stream_then
   pub opened : new.opened ≡ old.opened
   pub others : OthersStay place old.places.items new.places.items
@@ -38,14 +37,14 @@ pub record Serves {K S : Type 0} (standing : K → Standing) (remaining contents
       → (more : List Exchange)
       × AreServed (grows histories (number_at old.places.items place) came went) (log ++ entries (number_at old.places.items place) more)
       new.opened new.places.items
-      × Runs (standing old.machine.keeper) (standing new.machine.keeper) (map answered_of more)
+      × Runs (serving old.service) (serving new.service) (map answered_of more)
 
 -- a turn of the connection at the place; where its input was at its end, nothing is read
-pub record TakesATurn {K S : Type 0} (standing : K → Standing) (remaining contents : S → Option (List ℕ)) (place : ℕ)
-    (old new : Connections K) (stream stream_then : S) (at_end : Bool) : Type 0 where
+pub record TakesATurn {M S : Type 0} (serving : M → Serving) (remaining contents : S → Option (List ℕ)) (place : ℕ)
+    (old new : Connections M) (stream stream_then : S) (at_end : Bool) : Type 0 where
   pub came : List ℕ
   pub went : List ℕ
-  pub serves : Serves standing remaining contents place old new stream stream_then came went
+  pub serves : Serves serving remaining contents place old new stream stream_then came went
   pub unread : at_end ≡ true → came ≡ []
 
 -- the last reply of the connection at the place is sent, and it is to close

@@ -1,15 +1,14 @@
-//! Many connections of one machine, without their sockets.
+//! Many connections of one service, without their sockets.
 
-ghost use Rattle.std.specs.Prelude.{◌≡◌, ◌≢◌, ◌⊎◌, ℕ, ◌+◌, ◌≤◌, ◌<◌, true, false, List, [], ◌++◌, length, take, drop, get_or, map, None, IfOk, IfSome, OnOk, OnErr};
+ghost use Rattle.std.specs.Prelude.{◌≡◌, ◌≢◌, ◌⊎◌, ℕ, ◌+◌, ◌≤◌, ◌<◌, true, false, List, [], ◌++◌, length, take, drop, get_or, map, None, IfOk, IfSome, OnOk, OnErr, Err};
 ghost use Rattle.book_wire.specs.Connection.{fresh};
-ghost use Rattle.book_wire.specs.Serving.{Runs};
+ghost use Rattle.book_wire_serving.specs.Serving.{Runs};
 ghost use Rattle.book_wire.specs.Stream.{Exchange, answered_of};
 ghost use Rattle.book_desk_loop.specs.ManyConnections.{AllStay, History, Entry, AreServed, TakesBytes, IsAnswered, Holds, OthersStay, entries, receives, is_sent};
 ghost use Rattle.book_desk_loop.specs.Streams.{HasNoWhole, IsDoneAt, IsIdleAt, IsWithinAt};
 
-use book_machine::Machine;
-use book_office::Keeper;
 use book_wire::{Connection, StreamFault, Wire};
+use book_wire_serving::Service;
 use std::alloc::{AllocError, Global};
 use std::mem;
 
@@ -59,12 +58,12 @@ pub struct Accepted {
     pub connection: Connection,
 }
 
-/// A machine, and the connections that it serves, each at a place. One that was let go leaves its place to another.
+/// A service, and the connections that it serves, each at a place. One that was let go leaves its place to another.
 #[derive(Drop)]
-pub struct Connections<K> {
+pub struct Connections<M> {
     wire: Wire,
-    /// The machine.
-    pub machine: Machine<K>,
+    /// The service.
+    pub service: M,
     /// How many connections came.
     pub opened: u64,
     /// How many requests were answered. It stays at its last value.
@@ -73,43 +72,50 @@ pub struct Connections<K> {
     pub places: Vec<Option<Accepted>>,
 }
 
-impl<K: Keeper> Connections<K> {
-    /// A machine that serves nobody yet.
-    pub fn new(alloc: Global, wire: Wire, machine: Machine<K>) -> Connections<K>
-        ensures machine { result.machine ≡ machine }
+impl<M: Service> Connections<M> {
+    /// A service that serves nobody yet.
+    pub fn new(alloc: Global, wire: Wire, service: M) -> Connections<M>
+        ensures service { result.service ≡ service }
         ensures none { (result.opened ≡ 0) × (result.places.items ≡ []) }
     {
         Connections {
             wire,
-            machine,
+            service,
             opened: 0,
             answered: 0,
             places: Vec::new(alloc),
         }
     }
 
-    /// The machine.
-    pub fn release(self) -> Machine<K>
-        ensures { result ≡ self.machine }
+    /// The service.
+    pub fn release(self) -> M
+        ensures { result ≡ self.service }
     {
-        self.machine
+        self.service
     }
 
     /// How often the store has failed.
     pub(crate) fn failures(&self) -> u64
-        ensures { result ≡ (K.standing self.now.machine.keeper).failures }
+        ensures { result ≡ (M.serving self.now.service).standing.failures }
     {
-        self.machine.keeper.failures()
+        self.service.failures()
+    }
+
+    /// Whether a line of the log could not be written.
+    pub(crate) fn has_failed_log(&self) -> bool
+        ensures { result ≡ (M.serving self.now.service).log.failed }
+    {
+        self.service.has_failed_log()
     }
 
     /// Whether the Office can't be read now: its epoch is asked for.
     pub(crate) fn shows_nothing(&mut self) -> bool
-        ensures runs { Runs (K.standing self.old.machine.keeper)
-            (K.standing self.new.machine.keeper) [] }
+        ensures runs { Runs (M.serving self.old.service)
+            (M.serving self.new.service) [] }
         ensures places { (self.new.places.items ≡ self.old.places.items)
             × (self.new.opened ≡ self.old.opened) }
     {
-        self.machine.keeper.epoch().is_err()
+        self.service.shows_nothing()
     }
 
     /// A place with nothing in it.
@@ -122,7 +128,7 @@ impl<K: Keeper> Connections<K> {
             → AreServed histories log self.old.opened self.old.places.items
             → AreServed histories log self.new.opened self.new.places.items }
         ensures count { self.new.opened ≡ self.old.opened }
-        ensures machine { self.new.machine ≡ self.old.machine }
+        ensures service { self.new.service ≡ self.old.service }
     {
         let count = self.places.len();
         for place in 0..count {
@@ -148,7 +154,7 @@ impl<K: Keeper> Connections<K> {
         ensures opened { IfOk result (λ place. self.new.opened ≡ self.old.opened + 1) }
         ensures err { OnErr result ((self.new.opened ≡ self.old.opened)
             × AllStay self.old.places.items self.new.places.items) }
-        ensures machine { self.new.machine ≡ self.old.machine }
+        ensures service { self.new.service ≡ self.old.service }
         ensures served { (histories : ℕ → History) (log : List Entry)
             → AreServed histories log self.old.opened self.old.places.items
             → AreServed histories log self.new.opened self.new.places.items }
@@ -264,7 +270,7 @@ impl<K: Keeper> Connections<K> {
     pub fn did_send(&mut self, alloc: Global, place: usize, count: usize) -> Result<(), StreamFault>
         requires { (l : Accepted) × Holds self.old.places.items place l
             × (count ≤ length l.connection.unsent) }
-        ensures machine { self.new.machine ≡ self.old.machine }
+        ensures service { self.new.service ≡ self.old.service }
         ensures others { OthersStay place self.old.places.items self.new.places.items }
         ensures sent { (l : Accepted) → Holds self.old.places.items place l
             → (histories : ℕ → History) (log : List Entry)
@@ -293,7 +299,7 @@ impl<K: Keeper> Connections<K> {
     /// Lets a connection go, if it is there. What was not sent is lost.
     #[tactic(auto, using(crate::proofs::Places::others_same, crate::proofs::Places::others_set))]
     pub fn let_go(&mut self, place: usize)
-        ensures machine { self.new.machine ≡ self.old.machine }
+        ensures service { self.new.service ≡ self.old.service }
         ensures gone { get_or self.new.places.items place None ≡ None }
         ensures others { OthersStay place self.old.places.items self.new.places.items }
         ensures opened { self.new.opened ≡ self.old.opened }
@@ -311,7 +317,7 @@ impl<K: Keeper> Connections<K> {
     ///
     /// # Errors
     ///
-    /// Where memory was refused: the connection was let go.
+    /// Where memory was refused, or the line of a reply could not be written: the connection was let go.
     #[tactic(auto, using(crate::proofs::Places::others_set, crate::proofs::Places::others_twice))]
     pub fn feed(&mut self, alloc: Global, place: usize, bytes: &[u8]) -> Result<(), StreamFault>
         requires { TakesBytes self.old.places.items place }
@@ -320,21 +326,24 @@ impl<K: Keeper> Connections<K> {
             → AreServed histories log self.old.opened self.old.places.items → (more : List Exchange)
             × AreServed (receives histories l.number bytes.now)
             (log ++ entries l.number more) self.new.opened self.new.places.items
-            × Runs (K.standing self.old.machine.keeper) (K.standing self.new.machine.keeper)
+            × Runs (M.serving self.old.service) (M.serving self.new.service)
             (map answered_of more) }
         ensures others { OthersStay place self.old.places.items self.new.places.items }
         ensures there { OnOk result ((l : Accepted) → Holds self.old.places.items place l
             → (m : Accepted) × Holds self.new.places.items place m × (m.number ≡ l.number)
             × IsAnswered m.connection) }
         ensures gone { OnErr result (get_or self.new.places.items place None ≡ None) }
+        ensures log { result ≡ Err StreamFault.Log
+            → (M.serving self.new.service).log.failed ≡ true }
         ensures opened { self.new.opened ≡ self.old.opened }
     {
         match mem::replace(&mut self.places[place], None) {
             Some(mut accepted) => {
+                self.service.turn_to(accepted.number);
                 let most = most_of_one(accepted.connection.unsent().len());
                 match accepted
                     .connection
-                    .feed(alloc, &mut self.machine, &mut self.wire, bytes, most)
+                    .feed(alloc, &mut self.service, &mut self.wire, bytes, most)
                 {
                     Ok(answered) => {
                         self.answered = self.answered.saturating_add(answered);

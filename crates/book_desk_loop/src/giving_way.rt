@@ -5,7 +5,7 @@ ghost use Rattle.book_desk_loop.specs.Serving.{MayGiveWayAt};
 
 use crate::connections::Connections;
 use crate::sockets::{Socket, is_rested, is_slow};
-use book_office::Keeper;
+use book_wire_serving::Service;
 use std::time::Instant;
 
 /// Why a connection gives its place to one that waits.
@@ -20,8 +20,8 @@ enum Reason {
 }
 
 /// When the last reply of the connection at a place was sent, if it is only read to its end since.
-fn closes_since<K: Keeper, S>(
-    connections: &Connections<K>,
+fn closes_since<M: Service, S>(
+    connections: &Connections<M>,
     sockets: &[Option<Socket<S>>],
     place: usize,
 ) -> Option<Instant>
@@ -41,8 +41,8 @@ fn closes_since<K: Keeper, S>(
 }
 
 /// When the connection at a place moved bytes last, if it is idle.
-fn idle_since<K: Keeper, S>(
-    connections: &Connections<K>,
+fn idle_since<M: Service, S>(
+    connections: &Connections<M>,
     sockets: &[Option<Socket<S>>],
     place: usize,
     now: Instant,
@@ -63,8 +63,8 @@ fn idle_since<K: Keeper, S>(
 }
 
 /// When the request of the connection at a place began, if it is not whole for a second.
-fn slow_since<K: Keeper, S>(
-    connections: &Connections<K>,
+fn slow_since<M: Service, S>(
+    connections: &Connections<M>,
     sockets: &[Option<Socket<S>>],
     place: usize,
     now: Instant,
@@ -85,8 +85,8 @@ fn slow_since<K: Keeper, S>(
 }
 
 /// Since when the connection at a place has a reason to give its place, if it has.
-fn since<K: Keeper, S>(
-    connections: &Connections<K>,
+fn since<M: Service, S>(
+    connections: &Connections<M>,
     sockets: &[Option<Socket<S>>],
     place: usize,
     now: Instant,
@@ -102,8 +102,8 @@ fn since<K: Keeper, S>(
 }
 
 /// The connection that has a reason to give its place for the longest time, if one has.
-fn longest<K: Keeper, S>(
-    connections: &Connections<K>,
+fn longest<M: Service, S>(
+    connections: &Connections<M>,
     sockets: &[Option<Socket<S>>],
     now: Instant,
     reason: Reason,
@@ -125,8 +125,8 @@ fn longest<K: Keeper, S>(
 
 /// The connection that gives its place to one that waits, if one does: one whose last reply is sent, else one that is idle
 /// for 0.1 seconds, else one whose request is not whole for a second; of these the one for which it is the longest time.
-pub(crate) fn gives_way<K: Keeper, S>(
-    connections: &Connections<K>,
+pub(crate) fn gives_way<M: Service, S>(
+    connections: &Connections<M>,
     sockets: &[Option<Socket<S>>],
     now: Instant,
 ) -> Option<usize>

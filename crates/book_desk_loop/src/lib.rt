@@ -1,10 +1,10 @@
-//! Many connections at once, in one thread, over any keeper, listener and streams that do not wait.
+//! Many connections at once, in one thread, over any service, listener and streams that do not wait.
 //!
 //! It stands on `book_wire`, whose `Connection` is one connection without its socket, and on `mio`, which tells which
 //! sockets can go on. The program above uses that `serve_at_once` does to the Office what one run of all requests does,
 //! in the order in which they were completed (`AreServed`).
 //!
-//! Read `connections` first: those of one machine, without their sockets; then `moves`, which ties each to a reader and a
+//! Read `connections` first: those of one service, without their sockets; then `moves`, which ties each to a reader and a
 //! writer, and gives one its turn; then `limits` and `looping`, the loop, over `sockets`, `socket_places`, `giving_way` and `readiness`; and `closing`, which also
 //! serves a program that has one connection after the other.
 #![tactic(auto)]

@@ -1,6 +1,6 @@
 //! How many connections are served, and how; what is told of their faults; and why they are served no more.
 
-ghost use Rattle.std.specs.Prelude.{◌≡◌, ◌≢◌, None, Ok, Err, OnOk, Some, false, true};
+ghost use Rattle.std.specs.Prelude.{◌≡◌, ◌≢◌, ◌⊎◌, None, Ok, Err, OnOk, Some, false, true};
 ghost use Rattle.book_wire.specs.declared.stream.StreamFault.{StreamFault as Fault};
 ghost use Rattle.book_desk_loop.specs.Serving.{IsOneFewer};
 
@@ -33,6 +33,8 @@ pub enum Stop {
     Failed,
     /// The store has failed and shows nothing, and there was no end of connections.
     Store,
+    /// A line of the log could not be written.
+    Log,
 }
 
 /// How rounds of the loop end.
@@ -42,6 +44,8 @@ pub(crate) enum Ended {
     Done,
     /// The store has failed and shows nothing, and there is no end of connections.
     StoreFailed,
+    /// A line of the log could not be written.
+    LogFailed,
 }
 
 /// How it stands with the store.
@@ -108,14 +112,20 @@ pub(crate) fn fewer(left: Option<u16>) -> Option<u16>
     }
 }
 
-/// Why it ended so.
-pub(crate) fn stop_of(ended: io::Result<Ended>) -> Result<(), Stop>
+/// Why it ended so. Where the log has failed too, that is why.
+pub(crate) fn stop_of(ended: io::Result<Ended>, failed_log: bool) -> Result<(), Stop>
     ensures done { OnOk result (ended ≡ Ok Ended.Done) }
     ensures store { result ≡ Err Stop.Store → ended ≡ Ok Ended.StoreFailed }
+    ensures log { result ≡ Err Stop.Log → (failed_log ≡ true) ⊎ (ended ≡ Ok Ended.LogFailed) }
+    ensures failed_log { failed_log ≡ true → result ≡ Err Stop.Log }
 {
+    if failed_log {
+        return Err(Stop::Log);
+    }
     match ended {
         Ok(Ended::Done) => Ok(()),
         Ok(Ended::StoreFailed) => Err(Stop::Store),
+        Ok(Ended::LogFailed) => Err(Stop::Log),
         Err(_) => Err(Stop::Failed),
     }
 }

@@ -1,7 +1,7 @@
 //! The loop: one thread, and readiness of sockets that do not wait (RFC 9112, section 9).
 
 ghost use Rattle.std.specs.Prelude.{◌≡◌, ◌≢◌, ℕ, List, Option, None, Some, IfSome, Ok, Err, IfOk, OnOk, OnErr, true, false};
-ghost use Rattle.book_wire.specs.Serving.{Answered, Runs};
+ghost use Rattle.book_wire_serving.specs.Serving.{Answered, Runs};
 ghost use Rattle.book_wire.specs.declared.stream.StreamFault.{StreamFault as Fault};
 ghost use Rattle.book_desk_loop.specs.Serving.{AreServedAtOnce, AreTold, Begins, BeginsAt, BeginsNone, EndsSo, GoesOn, KeepsOn, LetsGo, Line, LinesStay, MayGoAt, RestStays, ToldFault, TurnsAt, line_at};
 ghost use Rattle.book_desk_loop.specs.Streams.{IsAnsweredAt, IsDoneAt, IsStillAt};
@@ -18,9 +18,8 @@ use crate::socket_places::{
     are_none, close_at, close_for_writing, drop_at, join, note_begin, note_queued,
 };
 use crate::sockets::{DRAINED, RESTED, Socket, has_passed, is_late, is_short, passes};
-use book_machine::Machine;
-use book_office::Keeper;
-use book_wire::Wire;
+use book_wire::{StreamFault, Wire};
+use book_wire_serving::Service;
 use std::alloc::Global;
 use std::io::{ErrorKind, Read, Write};
 use std::net::{OpenListener, OpenStream};
@@ -33,11 +32,11 @@ const READ: usize = 16_384;
 /// The longest wait where a time passes that is looked at, in milliseconds.
 const STEP: u64 = 250;
 
-/// The connections of a machine, and their sockets, each at the place of its connection.
+/// The connections of a service, and their sockets, each at the place of its connection.
 #[derive(Drop)]
-struct Server<K, S> {
+struct Server<M, S> {
     limits: Limits,
-    connections: Connections<K>,
+    connections: Connections<M>,
     sockets: Vec<Option<Socket<S>>>,
     /// One that was accepted while no place was free.
     held: Option<S>,
@@ -59,7 +58,7 @@ struct Server<K, S> {
     failures: u64,
 }
 
-impl<K: Keeper, S: Read + Write + OpenStream + Drop> Server<K, S> {
+impl<M: Service, S: Read + Write + OpenStream + Drop> Server<M, S> {
     /// Whether no more are to come, and none is there.
     fn is_done(&self) -> bool
         ensures { result ≡ true → (self.now.left ≡ Some 0) × (self.now.held ≡ None)
@@ -76,6 +75,7 @@ impl<K: Keeper, S: Read + Write + OpenStream + Drop> Server<K, S> {
         ensures { result ≡ true → (self.now.held ≡ None) × (self.now.left ≢ Some 0) }
     {
         self.held.is_none()
+            && !self.connections.has_failed_log()
             && self.waiting
             && !self.paused
             && !none_left(self.left)
@@ -98,7 +98,7 @@ impl<K: Keeper, S: Read + Write + OpenStream + Drop> Server<K, S> {
 
     /// Lets a connection go, and closes its socket.
     fn let_go(&mut self, place: usize)
-        ensures { LetsGo S.remaining S.contents K.standing place self.old self.new }
+        ensures { LetsGo S.remaining S.contents M.serving place self.old self.new }
     {
         self.connections.let_go(place);
         if close_at(&mut self.sockets, place) {
@@ -112,7 +112,7 @@ impl<K: Keeper, S: Read + Write + OpenStream + Drop> Server<K, S> {
     fn release(&mut self, place: usize)
         requires { MayGoAt S.remaining S.contents self.old.limits self.old.connections.places.items
             self.old.sockets.items place }
-        ensures { KeepsOn S.remaining S.contents K.standing self.old self.new }
+        ensures { KeepsOn S.remaining S.contents M.serving self.old self.new }
     {
         self.let_go(place);
     }
@@ -125,10 +125,10 @@ impl<K: Keeper, S: Read + Write + OpenStream + Drop> Server<K, S> {
         stream: S,
         now: Instant,
     ) -> io::Result<()>
-        ensures begins { Begins S.remaining S.contents K.standing self.old self.new }
+        ensures begins { Begins S.remaining S.contents M.serving self.old self.new }
         ensures ok { OnOk result ((place : ℕ)
-            × BeginsAt S.remaining S.contents K.standing place stream self.old self.new) }
-        ensures err { OnErr result (BeginsNone S.remaining S.contents K.standing self.old
+            × BeginsAt S.remaining S.contents M.serving place stream self.old self.new) }
+        ensures err { OnErr result (BeginsNone S.remaining S.contents M.serving self.old
             self.new) }
     {
         stream.set_nonblocking(true)?;
@@ -155,7 +155,7 @@ impl<K: Keeper, S: Read + Write + OpenStream + Drop> Server<K, S> {
 
     /// Makes room for a connection that waits, if it can.
     fn make_room(&mut self, now: Instant)
-        ensures { KeepsOn S.remaining S.contents K.standing self.old self.new }
+        ensures { KeepsOn S.remaining S.contents M.serving self.old self.new }
     {
         if !self.wants_room() {
             return;
@@ -170,7 +170,7 @@ impl<K: Keeper, S: Read + Write + OpenStream + Drop> Server<K, S> {
     fn take<L: OpenListener<Stream = S>>(&mut self, listener: &L) -> io::Result<()>
         requires none_held { self.old.held ≡ None }
         requires more { self.old.left ≢ Some 0 }
-        ensures { KeepsOn S.remaining S.contents K.standing self.old self.new }
+        ensures { KeepsOn S.remaining S.contents M.serving self.old self.new }
     {
         match listener.accept() {
             Ok((stream, _)) => {
@@ -195,7 +195,7 @@ impl<K: Keeper, S: Read + Write + OpenStream + Drop> Server<K, S> {
 
     /// Takes a connection from the listener, if one waits and none is held.
     fn take_waiting<L: OpenListener<Stream = S>>(&mut self, listener: &L) -> io::Result<()>
-        ensures { KeepsOn S.remaining S.contents K.standing self.old self.new }
+        ensures { KeepsOn S.remaining S.contents M.serving self.old self.new }
     {
         if !self.may_take() {
             return Ok(());
@@ -211,7 +211,7 @@ impl<K: Keeper, S: Read + Write + OpenStream + Drop> Server<K, S> {
         now: Instant,
         faults: &mut F,
     )
-        ensures { GoesOn S.remaining S.contents K.standing F.tells self.old faults.old self.new
+        ensures { GoesOn S.remaining S.contents M.serving F.tells self.old faults.old self.new
             faults.new }
     {
         if self.open >= self.limits.at_once {
@@ -234,7 +234,7 @@ impl<K: Keeper, S: Read + Write + OpenStream + Drop> Server<K, S> {
         now: Instant,
         faults: &mut F,
     )
-        ensures { GoesOn S.remaining S.contents K.standing F.tells self.old faults.old self.new
+        ensures { GoesOn S.remaining S.contents M.serving F.tells self.old faults.old self.new
             faults.new }
     {
         self.make_room(now);
@@ -250,7 +250,7 @@ impl<K: Keeper, S: Read + Write + OpenStream + Drop> Server<K, S> {
         now: Instant,
         faults: &mut F,
     ) -> io::Result<()>
-        ensures { GoesOn S.remaining S.contents K.standing F.tells self.old faults.old self.new
+        ensures { GoesOn S.remaining S.contents M.serving F.tells self.old faults.old self.new
             faults.new }
     {
         self.take_waiting(listener)?;
@@ -267,7 +267,7 @@ impl<K: Keeper, S: Read + Write + OpenStream + Drop> Server<K, S> {
         now: Instant,
         faults: &mut F,
     ) -> io::Result<()>
-        ensures { GoesOn S.remaining S.contents K.standing F.tells self.old faults.old self.new
+        ensures { GoesOn S.remaining S.contents M.serving F.tells self.old faults.old self.new
             faults.new }
     {
         for _ in 0..self.limits.at_once {
@@ -282,7 +282,7 @@ impl<K: Keeper, S: Read + Write + OpenStream + Drop> Server<K, S> {
 
     /// Notes that a connection may go on at once.
     fn queue(&mut self, place: usize) -> io::Result<()>
-        ensures { KeepsOn S.remaining S.contents K.standing self.old self.new }
+        ensures { KeepsOn S.remaining S.contents M.serving self.old self.new }
     {
         note_queued(&mut self.sockets, place);
         self.again.push(place)?;
@@ -316,7 +316,7 @@ impl<K: Keeper, S: Read + Write + OpenStream + Drop> Server<K, S> {
         requires done { IsDoneAt self.old.connections.places.items place }
         requires serves { (line : Line S) → line_at self.old.sockets.items place ≡ Some line
             → line.lingers ≡ false }
-        ensures { KeepsOn S.remaining S.contents K.standing self.old self.new }
+        ensures { KeepsOn S.remaining S.contents M.serving self.old self.new }
     {
         close_for_writing(&mut self.sockets, place);
     }
@@ -325,7 +325,7 @@ impl<K: Keeper, S: Read + Write + OpenStream + Drop> Server<K, S> {
     fn linger(&mut self, place: usize, memory: &mut [u8]) -> Turn
         requires { (line : Line S) → line_at self.old.sockets.items place ≡ Some line
             → line.lingers ≡ true }
-        ensures keeps { KeepsOn S.remaining S.contents K.standing self.old self.new }
+        ensures keeps { KeepsOn S.remaining S.contents M.serving self.old self.new }
         ensures done { result ≢ Turn.Done }
         ensures ended { result ≡ Turn.Ended
             → MayGoAt S.remaining S.contents self.new.limits self.new.connections.places.items
@@ -338,11 +338,11 @@ impl<K: Keeper, S: Read + Write + OpenStream + Drop> Server<K, S> {
     /// The turn of the connection at a place, by its own socket.
     fn turn_at(&mut self, alloc: Global, place: usize, memory: &mut [u8], now: Instant) -> Turn
         ensures none { line_at self.old.sockets.items place ≡ None → (result ≡ Turn.Waits)
-            × RestStays S.remaining S.contents K.standing self.old self.new
+            × RestStays S.remaining S.contents M.serving self.old self.new
             × (self.new.connections ≡ self.old.connections)
             × LinesStay self.old.sockets.items self.new.sockets.items }
         ensures turns { (line : Line S) → line_at self.old.sockets.items place ≡ Some line
-            → (line_then : Line S) × TurnsAt S.remaining S.contents K.standing place self.old
+            → (line_then : Line S) × TurnsAt S.remaining S.contents M.serving place self.old
             self.new line line_then × (((fault : Fault) → result ≢ Turn.Failed fault)
             → IsStillAt place self.old.connections.places.items self.new.connections.places.items)
             × (result ≡ Turn.Ended → line_then.at_end ≡ true) }
@@ -369,7 +369,21 @@ impl<K: Keeper, S: Read + Write + OpenStream + Drop> Server<K, S> {
         }
     }
 
-    /// The turn of a connection that is served. One that has a fault is let go, and the fault is told.
+    /// Tells the fault of a connection. Where a line of the log could not be written, that ends all, and no fault is
+    /// told.
+    fn tell_fault<F: Faults>(&self, fault: StreamFault, faults: &mut F)
+        ensures told { (M.serving self.now.connections.service).log.failed ≡ false
+            → F.tells faults.old fault faults.new }
+        ensures silent { (M.serving self.now.connections.service).log.failed ≡ true
+            → faults.new ≡ faults.old }
+    {
+        if !self.connections.has_failed_log() {
+            tell(faults, fault);
+        }
+    }
+
+    /// The turn of a connection that is served. One that has a fault is let go, and the fault is told, unless the log has
+    /// failed.
     fn serve<F: Faults>(
         &mut self,
         alloc: Global,
@@ -380,7 +394,7 @@ impl<K: Keeper, S: Read + Write + OpenStream + Drop> Server<K, S> {
     ) -> Turn
         requires { (line : Line S) → line_at self.old.sockets.items place ≡ Some line
             → line.lingers ≡ false }
-        ensures goes { GoesOn S.remaining S.contents K.standing F.tells self.old faults.old self.new
+        ensures goes { GoesOn S.remaining S.contents M.serving F.tells self.old faults.old self.new
             faults.new }
         ensures done { result ≡ Turn.Done → IsDoneAt self.new.connections.places.items place }
         ensures ended { result ≡ Turn.Ended
@@ -392,7 +406,7 @@ impl<K: Keeper, S: Read + Write + OpenStream + Drop> Server<K, S> {
         let turn = self.turn_at(alloc, place, memory, now);
         match turn {
             Turn::Failed(fault) => {
-                tell(faults, fault);
+                self.tell_fault(fault, faults);
                 self.let_go(place);
                 turn
             }
@@ -411,7 +425,7 @@ impl<K: Keeper, S: Read + Write + OpenStream + Drop> Server<K, S> {
         requires ended { turn ≡ Turn.Ended
             → MayGoAt S.remaining S.contents self.old.limits self.old.connections.places.items
             self.old.sockets.items place }
-        ensures { KeepsOn S.remaining S.contents K.standing self.old self.new }
+        ensures { KeepsOn S.remaining S.contents M.serving self.old self.new }
     {
         match turn {
             Turn::Waits | Turn::Failed(_) => Ok(()),
@@ -438,7 +452,7 @@ impl<K: Keeper, S: Read + Write + OpenStream + Drop> Server<K, S> {
     ) -> io::Result<()>
         requires { (line : Line S) → line_at self.old.sockets.items place ≡ Some line
             → line.lingers ≡ false }
-        ensures { GoesOn S.remaining S.contents K.standing F.tells self.old faults.old self.new
+        ensures { GoesOn S.remaining S.contents M.serving F.tells self.old faults.old self.new
             faults.new }
     {
         let answered = self.connections.answered;
@@ -453,13 +467,13 @@ impl<K: Keeper, S: Read + Write + OpenStream + Drop> Server<K, S> {
     fn give_lingering(&mut self, place: usize, memory: &mut [u8]) -> io::Result<()>
         requires { (line : Line S) → line_at self.old.sockets.items place ≡ Some line
             → line.lingers ≡ true }
-        ensures { KeepsOn S.remaining S.contents K.standing self.old self.new }
+        ensures { KeepsOn S.remaining S.contents M.serving self.old self.new }
     {
         let turn = self.linger(place, memory);
         self.after_turn(place, turn)
     }
 
-    /// Gives a connection its turn.
+    /// Gives a connection its turn. None has a turn once a line of the log could not be written.
     fn give_turn<F: Faults>(
         &mut self,
         alloc: Global,
@@ -468,9 +482,14 @@ impl<K: Keeper, S: Read + Write + OpenStream + Drop> Server<K, S> {
         now: Instant,
         faults: &mut F,
     ) -> io::Result<()>
-        ensures { GoesOn S.remaining S.contents K.standing F.tells self.old faults.old self.new
+        ensures goes { GoesOn S.remaining S.contents M.serving F.tells self.old faults.old self.new
             faults.new }
+        ensures none { (M.serving self.old.connections.service).log.failed ≡ true
+            → (self.new ≡ self.old) × (faults.new ≡ faults.old) }
     {
+        if self.connections.has_failed_log() {
+            return Ok(());
+        }
         if self.is_lingering(place) {
             return self.give_lingering(place, memory);
         }
@@ -500,7 +519,7 @@ impl<K: Keeper, S: Read + Write + OpenStream + Drop> Server<K, S> {
 
     /// Lets a connection go whose time is up.
     fn release_if_over(&mut self, place: usize, now: Instant)
-        ensures { KeepsOn S.remaining S.contents K.standing self.old self.new }
+        ensures { KeepsOn S.remaining S.contents M.serving self.old self.new }
     {
         if self.is_over(place, now) {
             self.release(place);
@@ -509,7 +528,7 @@ impl<K: Keeper, S: Read + Write + OpenStream + Drop> Server<K, S> {
 
     /// Lets those go whose time is up.
     fn sweep(&mut self, now: Instant)
-        ensures { KeepsOn S.remaining S.contents K.standing self.old self.new }
+        ensures { KeepsOn S.remaining S.contents M.serving self.old self.new }
     {
         let count = self.sockets.len();
         for place in 0..count {
@@ -519,7 +538,7 @@ impl<K: Keeper, S: Read + Write + OpenStream + Drop> Server<K, S> {
 
     /// Lets those go whose time is up, if the last time was so long ago, and says when the last time was.
     fn sweep_at(&mut self, now: Instant, swept: Instant) -> Instant
-        ensures { KeepsOn S.remaining S.contents K.standing self.old self.new }
+        ensures { KeepsOn S.remaining S.contents M.serving self.old self.new }
     {
         if now.saturating_duration_since(swept) < Duration::from_millis(STEP) {
             return swept;
@@ -533,7 +552,7 @@ impl<K: Keeper, S: Read + Write + OpenStream + Drop> Server<K, S> {
     /// Looks at the store, and lets those go whose time is up, if the last time was so long ago. It says when the last time
     /// was.
     fn look_round(&mut self, now: Instant, swept: Instant) -> Instant
-        ensures { KeepsOn S.remaining S.contents K.standing self.old self.new }
+        ensures { KeepsOn S.remaining S.contents M.serving self.old self.new }
     {
         self.note_store(now);
         self.sweep_at(now, swept)
@@ -547,7 +566,7 @@ impl<K: Keeper, S: Read + Write + OpenStream + Drop> Server<K, S> {
         now: Instant,
         faults: &mut F,
     ) -> io::Result<()>
-        ensures { GoesOn S.remaining S.contents K.standing F.tells self.old faults.old self.new
+        ensures { GoesOn S.remaining S.contents M.serving F.tells self.old faults.old self.new
             faults.new }
     {
         let places = mem::replace(&mut self.again, Vec::new(alloc));
@@ -566,7 +585,7 @@ impl<K: Keeper, S: Read + Write + OpenStream + Drop> Server<K, S> {
         now: Instant,
         faults: &mut F,
     ) -> io::Result<()>
-        ensures { GoesOn S.remaining S.contents K.standing F.tells self.old faults.old self.new
+        ensures { GoesOn S.remaining S.contents M.serving F.tells self.old faults.old self.new
             faults.new }
     {
         if self.is_queued(place) {
@@ -584,7 +603,7 @@ impl<K: Keeper, S: Read + Write + OpenStream + Drop> Server<K, S> {
         now: Instant,
         faults: &mut F,
     ) -> io::Result<()>
-        ensures { GoesOn S.remaining S.contents K.standing F.tells self.old faults.old self.new
+        ensures { GoesOn S.remaining S.contents M.serving F.tells self.old faults.old self.new
             faults.new }
     {
         for place in ready {
@@ -604,7 +623,7 @@ impl<K: Keeper, S: Read + Write + OpenStream + Drop> Server<K, S> {
         now: Instant,
         faults: &mut F,
     ) -> io::Result<()>
-        ensures { GoesOn S.remaining S.contents K.standing F.tells self.old faults.old self.new
+        ensures { GoesOn S.remaining S.contents M.serving F.tells self.old faults.old self.new
             faults.new }
     {
         self.give_again(alloc, memory, now, faults)?;
@@ -614,7 +633,7 @@ impl<K: Keeper, S: Read + Write + OpenStream + Drop> Server<K, S> {
 
     /// Whether the store has failed since it was looked at last, and shows nothing.
     fn fails(&mut self) -> bool
-        ensures { KeepsOn S.remaining S.contents K.standing self.old self.new }
+        ensures { KeepsOn S.remaining S.contents M.serving self.old self.new }
     {
         let failures = self.connections.failures();
         if failures == self.failures {
@@ -645,7 +664,7 @@ impl<K: Keeper, S: Read + Write + OpenStream + Drop> Server<K, S> {
 
     /// Notes that the store shows nothing, where there is no end of connections.
     fn note_failure(&mut self, now: Instant)
-        ensures { KeepsOn S.remaining S.contents K.standing self.old self.new }
+        ensures { KeepsOn S.remaining S.contents M.serving self.old self.new }
     {
         if !is_endless(self.limits.total) {
             return;
@@ -658,7 +677,7 @@ impl<K: Keeper, S: Read + Write + OpenStream + Drop> Server<K, S> {
 
     /// Notes that the store shows nothing; and then that each is answered.
     fn note_store(&mut self, now: Instant)
-        ensures { KeepsOn S.remaining S.contents K.standing self.old self.new }
+        ensures { KeepsOn S.remaining S.contents M.serving self.old self.new }
     {
         match self.store {
             StoreState::Shows => self.note_failure(now),
@@ -674,7 +693,7 @@ impl<K: Keeper, S: Read + Write + OpenStream + Drop> Server<K, S> {
 
     /// Whether it ends since the store has failed more often than so.
     fn is_left(&self, failures: u64) -> bool
-        ensures { result ≡ true → EndsSo S.remaining S.contents K.standing Ended.StoreFailed
+        ensures { result ≡ true → EndsSo S.remaining S.contents M.serving Ended.StoreFailed
             self.now failures }
     {
         matches!(self.store, StoreState::Left)
@@ -682,9 +701,27 @@ impl<K: Keeper, S: Read + Write + OpenStream + Drop> Server<K, S> {
             && self.connections.failures() != failures
     }
 
+    /// How it ends, if it does, where the store had failed so often when it began.
+    fn ended(&self, failures: u64) -> Option<Ended>
+        ensures { IfSome result (λ ended. EndsSo S.remaining S.contents M.serving ended self.now
+            failures) }
+    {
+        let failed_log = self.connections.has_failed_log();
+        if failed_log {
+            return Some(Ended::LogFailed);
+        }
+        if self.is_done() {
+            return Some(Ended::Done);
+        }
+        if self.is_left(failures) {
+            return Some(Ended::StoreFailed);
+        }
+        None
+    }
+
     /// Notes whether a connection may wait to be accepted.
     fn note_waiting(&mut self, waits: bool)
-        ensures { KeepsOn S.remaining S.contents K.standing self.old self.new }
+        ensures { KeepsOn S.remaining S.contents M.serving self.old self.new }
     {
         if waits {
             self.waiting = true;
@@ -697,7 +734,7 @@ impl<K: Keeper, S: Read + Write + OpenStream + Drop> Server<K, S> {
         readiness: &mut P,
         ready: &mut Vec<usize>,
     ) -> io::Result<Instant>
-        ensures { KeepsOn S.remaining S.contents K.standing self.old self.new }
+        ensures { KeepsOn S.remaining S.contents M.serving self.old self.new }
     {
         ready.clear();
         let waits = readiness.wait(self.patience(), ready)?;
@@ -717,7 +754,7 @@ impl<K: Keeper, S: Read + Write + OpenStream + Drop> Server<K, S> {
         swept: Instant,
         faults: &mut F,
     ) -> io::Result<Instant>
-        ensures { GoesOn S.remaining S.contents K.standing F.tells self.old faults.old self.new
+        ensures { GoesOn S.remaining S.contents M.serving F.tells self.old faults.old self.new
             faults.new }
     {
         let now = self.wait(readiness, ready)?;
@@ -734,7 +771,7 @@ impl<K: Keeper, S: Read + Write + OpenStream + Drop> Server<K, S> {
     }
 
     /// Rounds of the loop, until no more are to come and none is there, or the store has failed more often than so, where
-    /// there is no end of connections.
+    /// there is no end of connections, or a line of the log could not be written.
     ///
     /// # Errors
     ///
@@ -747,20 +784,17 @@ impl<K: Keeper, S: Read + Write + OpenStream + Drop> Server<K, S> {
         faults: &mut F,
         failures: u64,
     ) -> io::Result<Ended>
-        ensures goes { GoesOn S.remaining S.contents K.standing F.tells self.old faults.old self.new
+        ensures goes { GoesOn S.remaining S.contents M.serving F.tells self.old faults.old self.new
             faults.new }
         ensures ended { IfOk result (λ ended.
-            EndsSo S.remaining S.contents K.standing ended self.new failures) }
+            EndsSo S.remaining S.contents M.serving ended self.new failures) }
     {
         let mut memory = vec![in alloc; 0u8; READ]?;
         let mut ready = Vec::new(alloc);
         let mut swept = readiness.now()?;
         for _ in 0..u64::MAX {
-            if self.is_done() {
-                return Ok(Ended::Done);
-            }
-            if self.is_left(failures) {
-                return Ok(Ended::StoreFailed);
+            if let Some(ended) = self.ended(failures) {
+                return Ok(ended);
             }
             swept = self.round(
                 alloc,
@@ -777,14 +811,14 @@ impl<K: Keeper, S: Read + Write + OpenStream + Drop> Server<K, S> {
     }
 }
 
-/// Serves connections of the listener, which does not wait, many at once, and gives the machine back. One that is cut or
+/// Serves connections of the listener, which does not wait, many at once, and gives the service back. One that is cut or
 /// fails ends no other; the fault of one that fails is told. Where none can be accepted for want of file descriptors,
 /// memory or the network, or since one was given up, none is until one is closed, or 0.25 seconds have passed. After a
 /// last reply the client is told that no more comes, and what it still sends is read and dropped for at most 2 seconds
 /// (RFC 9112, section 9.6).
 ///
 /// Whatever the order in which the bytes of the connections come, each is answered for its own requests alone, and all
-/// their requests are one run of the machine, in the order in which they were completed. What each stream gave is what
+/// their requests are one run of the service, in the order in which they were completed. What each stream gave is what
 /// its connection received, and what it was given is what its connection was sent. Where it ends so, as many came as were
 /// to come, and each was let go for a reason: its last reply was sent, nothing of it was unread or unsent, its input was
 /// at its end and each whole request answered, its time was up, or it had a fault, which was told.
@@ -793,34 +827,38 @@ impl<K: Keeper, S: Read + Write + OpenStream + Drop> Server<K, S> {
 ///
 /// `Failed` where a connection can't be accepted, nothing can be waited for, the time can't be told, or for want of memory.
 /// `Store` where the store has failed and shows nothing, and there is no end of connections: none was accepted since, each
-/// whole request that came was answered, and what waited was sent, for at most 2 seconds.
+/// whole request that came was answered, and what waited was sent, for at most 2 seconds. `Log` where a line of the log could
+/// not be written, and only there: no connection had a turn since.
 pub fn serve_at_once<
-    K: Keeper,
+    M: Service,
     S: Read + Write + OpenStream + Drop,
     L: OpenListener<Stream = S>,
     P: Readiness<S>,
     F: Faults,
 >(
     alloc: Global,
-    machine: Machine<K>,
+    service: M,
     listener: &L,
     readiness: &mut P,
     limits: Limits,
     faults: &mut F,
-) -> (Machine<K>, Result<(), Stop>)
+) -> (M, Result<(), Stop>)
     ensures served { (told : List ToldFault) × AreTold F.tells faults.old told faults.new
-        × AreServedAtOnce S.remaining S.contents K.standing limits machine.keeper told result.1
-        result.0.keeper }
+        × AreServedAtOnce S.remaining S.contents M.serving limits service told result.1
+        result.0 }
     ensures runs { (answered : List Answered)
-        × Runs (K.standing machine.keeper) (K.standing result.0.keeper) answered }
+        × Runs (M.serving service) (M.serving result.0) answered }
 {
     let wire = match Wire::new(alloc) {
         Ok(wire) => wire,
-        Err(_) => return (machine, Err(Stop::Failed)),
+        Err(_) => {
+            let failed = service.has_failed_log();
+            return (service, stop_of(Err(ErrorKind::OutOfMemory.into()), failed));
+        }
     };
-    let failures = machine.keeper.failures();
-    let connections = Connections::new(alloc, wire, machine);
-    let mut server: Server<K, S> = Server {
+    let failures = service.failures();
+    let connections = Connections::new(alloc, wire, service);
+    let mut server: Server<M, S> = Server {
         limits,
         connections,
         sockets: Vec::new(alloc),
@@ -835,5 +873,7 @@ pub fn serve_at_once<
         failures,
     };
     let ended = server.run(alloc, listener, readiness, faults, failures);
-    (server.connections.release(), stop_of(ended))
+    let service = server.connections.release();
+    let failed = service.has_failed_log();
+    (service, stop_of(ended, failed))
 }

@@ -2,7 +2,7 @@
 
 ghost use Rattle.std.specs.Prelude.{◌≡◌, ◌≢◌, ◌⊎◌, ℕ, ◌<◌, List, [], ◌++◌, length, map, false, true};
 ghost use Rattle.std.specs.Io.KnownBytes.{Appends, Consumes, IsAtEnd};
-ghost use Rattle.book_wire.specs.Serving.{Runs};
+ghost use Rattle.book_wire_serving.specs.Serving.{Runs};
 ghost use Rattle.book_wire.specs.Stream.{Exchange, answered_of};
 ghost use Rattle.book_wire.specs.declared.stream.StreamFault.{StreamFault as Fault};
 ghost use Rattle.book_desk_loop.specs.ManyConnections.{History, Entry, AreServed, Holds, TakesBytes, OthersStay, entries, receives, is_sent, number_at};
@@ -10,8 +10,8 @@ ghost use Rattle.book_desk_loop.specs.declared.connections.Accepted.{Accepted};
 ghost use Rattle.book_desk_loop.specs.Streams.{HasNoWhole, IsAnsweredAt, IsDoneAt, IsStillAt, Serves, TakesATurn, WasAtEnd};
 
 use crate::connections::Connections;
-use book_office::Keeper;
 use book_wire::StreamFault;
+use book_wire_serving::Service;
 use std::alloc::Global;
 use std::io::{ErrorKind, Read, Write};
 use std::net::OpenStream;
@@ -31,9 +31,9 @@ pub enum Moved {
 
 /// Reads once, and answers the requests that are whole then.
 #[tactic(auto, using(crate::proofs::Places::others_same))]
-pub fn read_once<K: Keeper, R: Read>(
+pub fn read_once<M: Service, R: Read>(
     alloc: Global,
-    connections: &mut Connections<K>,
+    connections: &mut Connections<M>,
     place: usize,
     reader: &mut R,
     memory: &mut [u8],
@@ -46,8 +46,8 @@ pub fn read_once<K: Keeper, R: Read>(
         → (more : List Exchange) × AreServed
         (receives histories (number_at connections.old.places.items place) bytes)
         (log ++ entries (number_at connections.old.places.items place) more) connections.new.opened
-        connections.new.places.items × Runs (K.standing connections.old.machine.keeper)
-        (K.standing connections.new.machine.keeper) (map answered_of more)) }
+        connections.new.places.items × Runs (M.serving connections.old.service)
+        (M.serving connections.new.service) (map answered_of more)) }
     ensures others { OthersStay place connections.old.places.items connections.new.places.items }
     ensures opened { connections.new.opened ≡ connections.old.opened }
     ensures there { ((fault : Fault) → result ≢ Moved.Failed fault)
@@ -70,13 +70,13 @@ pub fn read_once<K: Keeper, R: Read>(
 
 /// Writes once of what waits to be sent.
 #[tactic(auto, using(crate::proofs::Places::others_same))]
-pub fn write_once<K: Keeper, W: Write>(
+pub fn write_once<M: Service, W: Write>(
     alloc: Global,
-    connections: &mut Connections<K>,
+    connections: &mut Connections<M>,
     place: usize,
     writer: &mut W,
 ) -> Moved
-    ensures machine { connections.new.machine ≡ connections.old.machine }
+    ensures service { connections.new.service ≡ connections.old.service }
     ensures others { OthersStay place connections.old.places.items connections.new.places.items }
     ensures opened { connections.new.opened ≡ connections.old.opened }
     ensures there { ((fault : Fault) → result ≢ Moved.Failed fault)
@@ -131,13 +131,13 @@ pub enum Turn {
 }
 
 /// Sends once of what waits.
-fn send_some<K: Keeper, S: Read + Write>(
+fn send_some<M: Service, S: Read + Write>(
     alloc: Global,
-    connections: &mut Connections<K>,
+    connections: &mut Connections<M>,
     place: usize,
     stream: &mut S,
 ) -> Moved
-    ensures served { (went : List ℕ) × Serves K.standing S.remaining S.contents place
+    ensures served { (went : List ℕ) × Serves M.serving S.remaining S.contents place
         connections.old connections.new stream.old stream.new [] went }
     ensures there { ((fault : Fault) → result ≢ Moved.Failed fault)
         → IsStillAt place connections.old.places.items connections.new.places.items }
@@ -146,15 +146,15 @@ fn send_some<K: Keeper, S: Read + Write>(
 }
 
 /// Reads once, and answers.
-fn take_some<K: Keeper, S: Read + Write>(
+fn take_some<M: Service, S: Read + Write>(
     alloc: Global,
-    connections: &mut Connections<K>,
+    connections: &mut Connections<M>,
     place: usize,
     stream: &mut S,
     memory: &mut [u8],
 ) -> Moved
     requires { TakesBytes connections.old.places.items place }
-    ensures served { (came : List ℕ) × Serves K.standing S.remaining S.contents place
+    ensures served { (came : List ℕ) × Serves M.serving S.remaining S.contents place
         connections.old connections.new stream.old stream.new came [] }
     ensures there { ((fault : Fault) → result ≢ Moved.Failed fault)
         → IsStillAt place connections.old.places.items connections.new.places.items }
@@ -165,15 +165,15 @@ fn take_some<K: Keeper, S: Read + Write>(
 }
 
 /// Goes on with the whole requests that are there. No byte is read for them.
-fn answer_more<K: Keeper>(alloc: Global, connections: &mut Connections<K>, place: usize) -> Moved
+fn answer_more<M: Service>(alloc: Global, connections: &mut Connections<M>, place: usize) -> Moved
     requires { TakesBytes connections.old.places.items place }
     ensures served { (histories : ℕ → History) (log : List Entry)
         → AreServed histories log connections.old.opened connections.old.places.items
         → (more : List Exchange) × AreServed
         (receives histories (number_at connections.old.places.items place) [])
         (log ++ entries (number_at connections.old.places.items place) more) connections.new.opened
-        connections.new.places.items × Runs (K.standing connections.old.machine.keeper)
-        (K.standing connections.new.machine.keeper) (map answered_of more) }
+        connections.new.places.items × Runs (M.serving connections.old.service)
+        (M.serving connections.new.service) (map answered_of more) }
     ensures others { OthersStay place connections.old.places.items connections.new.places.items }
     ensures opened { connections.new.opened ≡ connections.old.opened }
     ensures there { ((fault : Fault) → result ≢ Moved.Failed fault)
@@ -187,16 +187,16 @@ fn answer_more<K: Keeper>(alloc: Global, connections: &mut Connections<K>, place
 }
 
 /// Goes on with the requests of a connection that takes bytes: with those that are there, or with those that come.
-fn bring<K: Keeper, S: Read + Write>(
+fn bring<M: Service, S: Read + Write>(
     alloc: Global,
-    connections: &mut Connections<K>,
+    connections: &mut Connections<M>,
     place: usize,
     stream: &mut S,
     memory: &mut [u8],
     at_end: bool,
 ) -> Moved
     requires { TakesBytes connections.old.places.items place }
-    ensures served { (came : List ℕ) × Serves K.standing S.remaining S.contents place
+    ensures served { (came : List ℕ) × Serves M.serving S.remaining S.contents place
         connections.old connections.new stream.old stream.new came []
         × (at_end ≡ true → came ≡ []) }
     ensures there { ((fault : Fault) → result ≢ Moved.Failed fault)
@@ -227,7 +227,7 @@ fn waits(wrote: Moved) -> Turn
 }
 
 /// What a connection does next that was written to and of which nothing can be read now.
-fn rests<K: Keeper>(connections: &Connections<K>, place: usize, wrote: Moved) -> Turn
+fn rests<M: Service>(connections: &Connections<M>, place: usize, wrote: Moved) -> Turn
     ensures done { result ≢ Turn.Done }
     ensures ended { result ≢ Turn.Ended }
 {
@@ -239,7 +239,7 @@ fn rests<K: Keeper>(connections: &Connections<K>, place: usize, wrote: Moved) ->
 }
 
 /// What a connection does next whose input is at its end.
-fn ends<K: Keeper>(connections: &Connections<K>, place: usize, wrote: Moved) -> Turn
+fn ends<M: Service>(connections: &Connections<M>, place: usize, wrote: Moved) -> Turn
     ensures done { result ≢ Turn.Done }
     ensures ended { result ≡ Turn.Ended → (l : Accepted)
         × Holds connections.now.places.items place l × (l.connection.unsent ≡ []) }
@@ -252,15 +252,15 @@ fn ends<K: Keeper>(connections: &Connections<K>, place: usize, wrote: Moved) -> 
 }
 
 /// The first step of a turn: a write, and then a read or an answer.
-fn step<K: Keeper, S: Read + Write>(
+fn step<M: Service, S: Read + Write>(
     alloc: Global,
-    connections: &mut Connections<K>,
+    connections: &mut Connections<M>,
     place: usize,
     stream: &mut S,
     memory: &mut [u8],
     at_end: &mut bool,
 ) -> Turn
-    ensures turn { TakesATurn K.standing S.remaining S.contents place connections.old
+    ensures turn { TakesATurn M.serving S.remaining S.contents place connections.old
         connections.new stream.old stream.new at_end.old }
     ensures there { ((fault : Fault) → result ≢ Turn.Failed fault)
         → IsStillAt place connections.old.places.items connections.new.places.items }
@@ -294,13 +294,13 @@ fn step<K: Keeper, S: Read + Write>(
 }
 
 /// The last step of a turn: what waits is sent once more.
-fn finish<K: Keeper, S: Read + Write>(
+fn finish<M: Service, S: Read + Write>(
     alloc: Global,
-    connections: &mut Connections<K>,
+    connections: &mut Connections<M>,
     place: usize,
     stream: &mut S,
 ) -> Turn
-    ensures served { (went : List ℕ) × Serves K.standing S.remaining S.contents place
+    ensures served { (went : List ℕ) × Serves M.serving S.remaining S.contents place
         connections.old connections.new stream.old stream.new [] went }
     ensures there { ((fault : Fault) → result ≢ Turn.Failed fault)
         → IsStillAt place connections.old.places.items connections.new.places.items }
@@ -322,15 +322,15 @@ fn finish<K: Keeper, S: Read + Write>(
 ///
 /// What the stream gave and took is what the connection received and was sent, and the requests that were answered are
 /// its own. `at_end` is whether a read of the stream found its end: then it is not read.
-pub fn go_on<K: Keeper, S: Read + Write>(
+pub fn go_on<M: Service, S: Read + Write>(
     alloc: Global,
-    connections: &mut Connections<K>,
+    connections: &mut Connections<M>,
     place: usize,
     stream: &mut S,
     memory: &mut [u8],
     at_end: &mut bool,
 ) -> Turn
-    ensures turn { TakesATurn K.standing S.remaining S.contents place connections.old
+    ensures turn { TakesATurn M.serving S.remaining S.contents place connections.old
         connections.new stream.old stream.new at_end.old }
     ensures there { ((fault : Fault) → result ≢ Turn.Failed fault)
         → IsStillAt place connections.old.places.items connections.new.places.items }
@@ -358,15 +358,15 @@ fn is_reset<S: OpenStream>(stream: &S) -> bool {
 }
 
 /// The turn of a connection, unless its client has reset it while whole requests of it are unread: these are not served.
-pub(crate) fn take_turn<K: Keeper, S: Read + Write + OpenStream>(
+pub(crate) fn take_turn<M: Service, S: Read + Write + OpenStream>(
     alloc: Global,
-    connections: &mut Connections<K>,
+    connections: &mut Connections<M>,
     place: usize,
     stream: &mut S,
     memory: &mut [u8],
     at_end: &mut bool,
 ) -> Turn
-    ensures turn { TakesATurn K.standing S.remaining S.contents place connections.old
+    ensures turn { TakesATurn M.serving S.remaining S.contents place connections.old
         connections.new stream.old stream.new at_end.old }
     ensures there { ((fault : Fault) → result ≢ Turn.Failed fault)
         → IsStillAt place connections.old.places.items connections.new.places.items }

@@ -5,7 +5,7 @@ pub use Rattle.std.proofs.lemmas.Result.{IfErr-weaker, on_ok_weaker}
 pub use Rattle.std.specs.Io.KnownBytes.{Appends, Consumes}
 pub use Rattle.httparse.specs.Grammar.{print_request, RequestHead}
 pub use Rattle.httparse.specs.Spans.{header_bytes, name_and_value}
-pub use Rattle.book_office.specs.Keeping.{Standing}
+pub use Rattle.book_wire_serving.specs.Serving.{Serving}
 pub use Rattle.book_machine.specs.declared.messages.Reply.{Reply}
 pub use Rattle.book_machine.specs.declared.messages.Request.{Request}
 pub use Rattle.book_wire.specs.Head.{Asked}

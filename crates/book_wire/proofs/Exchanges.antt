@@ -1,8 +1,8 @@
 -- A whole request at the front, and its exchange.
-use Rattle.book_wire.proofs.Common.{◌≡◌, ℕ, ◌+◌, ◌-◌, ◌<◌, ◌≤◌, List, ◌++◌, length, take, drop, Option, refl, sym, ap, ◌∙◌, arith, take-append-drop, take_at, length-take, length-take-le, length-drop, RequestHead, print_request, Standing, Reply, Request, Asked, Exchange, reply_text, Takes}
+use Rattle.book_wire.proofs.Common.{◌≡◌, ℕ, ◌+◌, ◌-◌, ◌<◌, ◌≤◌, List, ◌++◌, length, take, drop, Option, refl, sym, ap, ◌∙◌, arith, take-append-drop, take_at, length-take, length-take-le, length-drop, RequestHead, print_request, Serving, Reply, Request, Asked, Exchange, reply_text, Takes}
 use Rattle.std.proofs.Common.{Ok}
 use Rattle.book_wire.specs.Requests.{caller_name}
-use Rattle.book_wire.specs.Serving.{ServesAny}
+use Rattle.book_wire_serving.specs.Serving.{ServesAny}
 use Rattle.book_wire.specs.Head.{asked_of_head}
 use Rattle.book_wire.specs.Stream.{IsAskedBy, IsHead, IsExchange}
 use Rattle.book_wire.proofs.Known.{take_further}
@@ -40,7 +40,7 @@ is_exchange unread h n asked request reply is_head split n_is asks fits is =
       is,
     )
 
-pub takes : (before after : Standing) (unread : List ℕ) (n : ℕ) (asked : Asked) (request : Option Request) (reply : Reply)
+pub takes : (before after : Serving) (unread : List ℕ) (n : ℕ) (asked : Asked) (request : Option Request) (reply : Reply)
     → 0 < n → n ≤ length unread → ServesAny before after (caller_name asked.caller) request reply
     → Takes before unread (reply_text (exchange unread n asked request reply)) (exchange unread n asked request reply) after (drop (n + asked.length) unread)
 takes before after unread n asked request reply positive fits serves = record {

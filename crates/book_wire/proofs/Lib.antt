@@ -4,7 +4,6 @@ pub mod Buffers
 pub mod Chunks
 pub mod WholeBodies
 pub mod CommaLists
-pub mod Servings
 pub mod Unspelled
 pub mod Heads
 pub mod NothingUnread

@@ -1,5 +1,5 @@
 -- Streams, an exchange at a time.
-use Rattle.book_wire.proofs.Common.{◌≡◌, ◌≢◌, ℕ, ◌+◌, ◌<◌, ◌≤◌, Bool, true, false, List, [], ◌∷◌, ◌++◌, map, length, Option, Some, None, refl, sym, ap, subst, ◌∙◌, inl, inr, append_assoc, append-nil, arith, Consumes, print_request, Standing, WireRefusal, Exchange, SoFar, Refuses, reply_text, Takes, Asked}
+use Rattle.book_wire.proofs.Common.{◌≡◌, ◌≢◌, ℕ, ◌+◌, ◌<◌, ◌≤◌, Bool, true, false, List, [], ◌∷◌, ◌++◌, map, length, Option, Some, None, refl, sym, ap, subst, ◌∙◌, inl, inr, append_assoc, append-nil, arith, Consumes, print_request, Serving, WireRefusal, Exchange, SoFar, Refuses, reply_text, Takes, Asked}
 use Rattle.std.proofs.Common.{◌⊎◌, length-append}
 use Rattle.std.proofs.lemmas.List.{map-append, nil_from_length}
 use Rattle.std.proofs.lemmas.List.Concat.{flat_map-append}
@@ -13,16 +13,18 @@ use Rattle.book_wire.specs.declared.head.WireRefusal.TheVariants.{BadHead, HeadT
 use Rattle.book_wire.specs.declared.stream.Ended.{Ended}
 use Rattle.book_wire.specs.declared.stream.Ended.TheVariants.{Clean, Cut, Closed}
 use Rattle.book_wire.specs.Requests.{caller_name}
-use Rattle.book_wire.specs.Serving.{Answered, Runs, Stays}
-use Rattle.book_wire.specs.Spelling.{refusal_text}
+use Rattle.book_wire_serving.specs.Serving.{Answered, NotesRefusal, Runs, Stays}
+use Rattle.book_wire.specs.Spelling.{refusal_text, wire_name, wire_status}
 use Rattle.book_wire.specs.Stream.{IsOpen, IsLast, Answers, IsServed, Ends, EndsOpen, IsPartial, IsPartOfBodyOf, IsInput, Waits, WaitsFor, FrontRefuses, text_of, answered_of}
 use Rattle.book_wire.specs.declared.turns.Turn.{Turn}
 use Rattle.book_wire.specs.declared.turns.Turn.TheVariants as turn
-use Rattle.book_wire.specs.Turn.{IsPending, IsTurn, StopsAt, StopsWriting}
+use Rattle.book_wire.specs.declared.stream.StreamFault.{StreamFault}
+use Rattle.book_wire.specs.declared.stream.StreamFault.TheVariants as fault
+use Rattle.book_wire.specs.Turn.{IsPending, IsTurn, StopsAt, StopsBy, StopsWriting}
 use Rattle.book_wire.specs.Connection.{View, MayWait, IsFed, wanted_after}
 use Rattle.book_wire.specs.Head.{Fields, ◌>>=◌, lone, values_of, length_of, implemented, within, asked_by_head}
 use Rattle.book_wire.proofs.NothingUnread.{nothing_is_part}
-use Rattle.book_wire.proofs.Servings.{stays, runs_none, runs_one, runs_then, runs_stay}
+use Rattle.book_wire_serving.proofs.Servings.{stays, runs_none, runs_one, runs_then, runs_stay, runs_refusal}
 
 pub all_append : {X : Type 0} (P : X → Type 0) (xs ys : List X) → AllByRecursion P xs → AllByRecursion P ys → AllByRecursion P (xs ++ ys)
 all_append P [] ys all p = p
@@ -30,17 +32,17 @@ all_append P (x ∷ xs) ys all p = (all.0, all_append P xs ys all.1 p)
 
 -- ---- whole requests, each answered
 
-pub answers_none : (b a : Standing) → Stays b a → Answers b [] [] [] a
+pub answers_none : (b a : Serving) → Stays b a → Answers b [] [] [] a
 answers_none b a s = record { input_is = refl; written_is = refl; runs = runs_none b a s }
 
-pub answers_one : (b a : Standing) (unread written left : List ℕ) (e : Exchange) → Takes b unread written e a left → Answers b (e ∷ []) e.text written a
+pub answers_one : (b a : Serving) (unread written left : List ℕ) (e : Exchange) → Takes b unread written e a left → Answers b (e ∷ []) e.text written a
 answers_one b a unread written left e t = record {
   input_is = sym (append-nil e.text);
   written_is = t.written_is ∙ sym (append-nil (reply_text e));
   runs = runs_one b a (caller_name e.asked.caller) e.request e.reply t.serves;
 }
 
-pub answers_then : (b m a : Standing) (es fs : List Exchange) (input more written text : List ℕ)
+pub answers_then : (b m a : Serving) (es fs : List Exchange) (input more written text : List ℕ)
     → Answers b es input written m → Answers m fs more text a → Answers b (es ++ fs) (input ++ more) (written ++ text) a
 answers_then b m a es fs input more written text x y = record {
   input_is =
@@ -55,7 +57,7 @@ answers_then b m a es fs input more written text x y = record {
 
 -- ---- so far
 
-pub SoFar-none : (b : Standing) (unread : List ℕ) → SoFar b unread [] 0 b unread
+pub SoFar-none : (b : Serving) (unread : List ℕ) → SoFar b unread [] 0 b unread
 SoFar-none b unread = record {
   exchanges = [];
   taken = [];
@@ -68,7 +70,7 @@ SoFar-none b unread = record {
 split_then : (input taken unread more left : List ℕ) → input ≡ taken ++ unread → unread ≡ more ++ left → input ≡ (taken ++ more) ++ left
 split_then input taken unread more left x y = x ∙ ap (λ (z : List ℕ). taken ++ z) y ∙ sym (append_assoc taken more left)
 
-pub SoFar-then : (b m a : Standing) (input written unread more left : List ℕ) (n k : ℕ)
+pub SoFar-then : (b m a : Serving) (input written unread more left : List ℕ) (n k : ℕ)
     → SoFar b input written n m unread → SoFar m unread more k a left → SoFar b input (written ++ more) (n + k) a left
 SoFar-then b m a input written unread more left n k x y = record {
   exchanges = x.exchanges ++ y.exchanges;
@@ -79,7 +81,7 @@ SoFar-then b m a input written unread more left n k x y = record {
   count = (let was = x.count in let now = y.count in omega (arith, was, now, length-append x.exchanges y.exchanges));
 }
 
-pub SoFar-one : (b a : Standing) (unread more left : List ℕ) (e : Exchange) → IsOpen e → Takes b unread more e a left → SoFar b unread more 1 a left
+pub SoFar-one : (b a : Serving) (unread more left : List ℕ) (e : Exchange) → IsOpen e → Takes b unread more e a left → SoFar b unread more 1 a left
 SoFar-one b a unread more left e is t = record {
   exchanges = e ∷ [];
   taken = e.text;
@@ -89,13 +91,13 @@ SoFar-one b a unread more left e is t = record {
   count = refl;
 }
 
-pub so_far_answered : (b m a : Standing) (input written more unread left : List ℕ) (n : ℕ) (e : Exchange)
+pub so_far_answered : (b m a : Serving) (input written more unread left : List ℕ) (n : ℕ) (e : Exchange)
     → SoFar b input written n m unread → IsOpen e → Takes m unread more e a left → SoFar b input (written ++ more) (n + 1) a left
 so_far_answered b m a input written more unread left n e x is t =
     SoFar-then b m a input written unread more left n 1 x (SoFar-one m a unread more left e is t)
 
 -- more bytes came, into a buffer that holds what was unread
-pub so_far_read : (b a : Standing) (input written unread came now : List ℕ) (n : ℕ)
+pub so_far_read : (b a : Serving) (input written unread came now : List ℕ) (n : ℕ)
     → SoFar b input written n a unread → now ≡ unread ++ came → SoFar b (input ++ came) written n a now
 so_far_read b a input written unread came now n x now_is = record {
   exchanges = x.exchanges;
@@ -107,7 +109,7 @@ so_far_read b a input written unread came now n x now_is = record {
 }
 
 -- nothing more was done
-pub SoFar-same : (b m a : Standing) (input written more unread left : List ℕ) (n : ℕ)
+pub SoFar-same : (b m a : Serving) (input written more unread left : List ℕ) (n : ℕ)
     → SoFar b input written n m unread → Stays m a → left ≡ unread → more ≡ written → SoFar b input more n a left
 SoFar-same b m a input written more unread left n x s same_rest same_text = record {
   exchanges = x.exchanges;
@@ -122,6 +124,22 @@ SoFar-same b m a input written more unread left n x s same_rest same_text = reco
   count = x.count;
 }
 
+-- a refusal was noted, where no request could be read
+so_far_refused : (b m a : Serving) (input written unread : List ℕ) (n : ℕ) (r : WireRefusal)
+    → SoFar b input written n m unread → NotesRefusal m a (wire_status r) (wire_name r) → SoFar b input written n a unread
+so_far_refused b m a input written unread n r x noted = record {
+  exchanges = x.exchanges;
+  taken = x.taken;
+  input_is = x.input_is;
+  opened = x.opened;
+  answers = record {
+    input_is = x.answers.input_is;
+    written_is = x.answers.written_is;
+    runs = runs_refusal b m a (map answered_of x.exchanges) (wire_status r) (wire_name r) x.answers.runs noted;
+  };
+  count = x.count;
+}
+
 -- ---- the end
 
 -- texts of exchanges, and then those of others and a rest
@@ -131,12 +149,12 @@ joined f es fs all front more rest x y z =
     x ∙ ap (λ (t : List ℕ). t ++ more) y ∙ ap (λ (t : List ℕ). flat_map f es ++ t) z ∙ sym (append_assoc (flat_map f es) (flat_map f fs) rest)
     ∙ ap (λ (t : List ℕ). t ++ rest) (sym (flat_map-append f es fs))
 
-runs_after : (b m a : Standing) (es fs : List Exchange) → Runs b m (map answered_of es) → Runs m a (map answered_of fs) → Runs b a (map answered_of (es ++ fs))
+runs_after : (b m a : Serving) (es fs : List Exchange) → Runs b m (map answered_of es) → Runs m a (map answered_of fs) → Runs b a (map answered_of (es ++ fs))
 runs_after b m a es fs x y =
     let P : List Answered → Type 0 = λ calls. Runs b a calls in
     subst P (sym (map-append answered_of es fs)) (runs_then b m a (map answered_of es) (map answered_of fs) x y)
 
-pub served_last : (b m a : Standing) (input written more unread left : List ℕ) (n : ℕ) (e : Exchange)
+pub served_last : (b m a : Serving) (input written more unread left : List ℕ) (n : ℕ) (e : Exchange)
     → SoFar b input written n m unread → IsLast e → Takes m unread more e a left → IsServed b input (written ++ more) (n + 1) Closed a
 served_last b m a input written more unread left n e x is t =
     let one = answers_one m a unread more left e t in
@@ -158,7 +176,7 @@ served_last b m a input written more unread left n e x is t =
     }
 
 -- the connection was left open
-pub served_open : (b a : Standing) (input written unread refusal : List ℕ) (n : ℕ) (ended : Ended)
+pub served_open : (b a : Serving) (input written unread refusal : List ℕ) (n : ℕ) (ended : Ended)
     → SoFar b input written n a unread → EndsOpen unread refusal ended → IsServed b input (written ++ refusal) n ended a
 served_open b a input written unread refusal n ended x ends = record {
   exchanges = x.exchanges;
@@ -187,7 +205,7 @@ ends_then es fs rest refusal ended opened (inr x) =
       x.6,
     )
 
-pub served_then : (b m a : Standing) (input written unread more : List ℕ) (n k : ℕ) (ended : Ended)
+pub served_then : (b m a : Serving) (input written unread more : List ℕ) (n k : ℕ) (ended : Ended)
     → SoFar b input written n m unread → IsServed m unread more k ended a → IsServed b input (written ++ more) (n + k) ended a
 served_then b m a input written unread more n k ended x y = record {
   exchanges = x.exchanges ++ y.exchanges;
@@ -216,7 +234,7 @@ Refuses-append rest more r bare (inr x) =
     inr (x.0, x.1 ++ more, x.2, ap (λ (z : List ℕ). z ++ more) x.3 ∙ append_assoc _ x.1 more, x.4, x.5)
 
 -- a stream that closed takes no more
-pub IsServed-append : (b a : Standing) (input more written : List ℕ) (n : ℕ)
+pub IsServed-append : (b a : Serving) (input more written : List ℕ) (n : ℕ)
     → IsServed b input written n Closed a → IsServed b (input ++ more) written n Closed a
 IsServed-append b a input more written n x = record {
   exchanges = x.exchanges;
@@ -248,7 +266,7 @@ input_whole (Some xs) (Some ys) got x y = sym (x ∙ ap (λ (z : List ℕ). got 
 
 -- ---- what the loop over the whole requests says
 
-pub fed_waits : (b m a : Standing) (input more none unread : List ℕ) (n : ℕ) (now : View)
+pub fed_waits : (b m a : Serving) (input more none unread : List ℕ) (n : ℕ) (now : View)
     → SoFar b input more n m unread → IsPartial unread → none ≡ [] → Stays m a → now.unread ≡ unread → now.closing ≡ false
     → IsFed b input (more ++ none) n a now
 fed_waits b m a input more none unread n now x partial no_text same_office same_rest open_still = record {
@@ -260,7 +278,7 @@ fed_waits b m a input more none unread n now x partial no_text same_office same_
 }
 
 -- too much waits to be sent
-pub fed_stalls : (b a : Standing) (input more : List ℕ) (n : ℕ) (now : View)
+pub fed_stalls : (b a : Serving) (input more : List ℕ) (n : ℕ) (now : View)
     → SoFar b input more n a now.unread → now.closing ≡ false → now.stalled ≡ true → IsFed b input more n a now
 fed_stalls b a input more n now x open_still stalled = record {
   stays = λ _. x;
@@ -268,7 +286,7 @@ fed_stalls b a input more n now x open_still stalled = record {
   waits = λ _ e. absurd (false≢true (sym e ∙ stalled));
 }
 
-pub fed_last : (b m a : Standing) (input more text unread left : List ℕ) (n : ℕ) (e : Exchange) (now : View)
+pub fed_last : (b m a : Serving) (input more text unread left : List ℕ) (n : ℕ) (e : Exchange) (now : View)
     → SoFar b input more n m unread → IsLast e → Takes m unread text e a left → now.closing ≡ true
     → IsFed b input (more ++ text) (n + 1) a now
 fed_last b m a input more text unread left n e now x is t closed = record {
@@ -277,17 +295,17 @@ fed_last b m a input more text unread left n e now x is t closed = record {
   waits = λ f _. absurd (false≢true (sym f ∙ closed));
 }
 
-pub fed_refused : (b m a : Standing) (input more text unread : List ℕ) (n : ℕ) (r : WireRefusal) (bare : Bool) (now : View)
-    → SoFar b input more n m unread → Refuses unread r bare → text ≡ refusal_text r bare → Stays m a → now.closing ≡ true
+pub fed_refused : (b m a : Serving) (input more text unread : List ℕ) (n : ℕ) (r : WireRefusal) (bare : Bool) (now : View)
+    → SoFar b input more n m unread → Refuses unread r bare → text ≡ refusal_text r bare → NotesRefusal m a (wire_status r) (wire_name r) → now.closing ≡ true
     → IsFed b input (more ++ text) n a now
-fed_refused b m a input more text unread n r bare now x is text_is same_office closed = record {
+fed_refused b m a input more text unread n r bare now x is text_is noted closed = record {
   stays = λ f. absurd (false≢true (sym f ∙ closed));
-  closes = λ _. served_open b a input more unread text n Closed (SoFar-same b m a input more more unread unread n x same_office refl refl) (r, bare, is, text_is);
+  closes = λ _. served_open b a input more unread text n Closed (so_far_refused b m a input more unread n r x noted) (r, bare, is, text_is);
   waits = λ f _. absurd (false≢true (sym f ∙ closed));
 }
 
 -- a write that failed after more exchanges
-stops_then : (b m a : Standing) (es fs : List Exchange) (unread pending : List ℕ)
+stops_then : (b m a : Serving) (es fs : List Exchange) (unread pending : List ℕ)
     → Runs b m (map answered_of es) → StopsAt m fs unread pending a → StopsAt b (es ++ fs) unread pending a
 stops_then b m a es fs unread pending r (inl p) =
     inl (
@@ -311,7 +329,7 @@ stops_then b m a es fs unread pending r (inr p) =
           subst P (sym (map-append answered_of es fs)) (runs_then b m a (map answered_of es) (map answered_of fs) r p.4),
     )
 
-pub writing_then : (b m a : Standing) (input written unread more : List ℕ) (n : ℕ)
+pub writing_then : (b m a : Serving) (input written unread more : List ℕ) (n : ℕ)
     → SoFar b input written n m unread → StopsWriting m unread more a → StopsWriting b input (written ++ more) a
 writing_then b m a input written unread more n x y = record {
   exchanges = x.exchanges ++ y.exchanges;
@@ -334,7 +352,7 @@ writing_then b m a input written unread more n x y = record {
   written_is = ap (λ (z : List ℕ). written ++ z) y.written_is ∙ sym (append_assoc written y.replies y.front);
 }
 
-stops_here : (m a : Standing) (unread pending front left : List ℕ) → IsPending m unread pending a → pending ≡ front ++ left → StopsWriting m unread front a
+stops_here : (m a : Serving) (unread pending front left : List ℕ) → IsPending m unread pending a → pending ≡ front ++ left → StopsWriting m unread front a
 stops_here m a unread pending front left is cut = record {
   exchanges = [];
   taken = [];
@@ -349,20 +367,20 @@ stops_here m a unread pending front left is cut = record {
   replies_are = refl;
   stops = elim is [
     | inl p ↦ inl (p.0, p.1, p.2, p.3.unread_is, p.3.written_is, runs_one m a (caller_name p.0.asked.caller) p.0.request p.0.reply p.3.serves)
-    | inr r ↦ inr (r.0, r.1, r.2, r.3, runs_none m a r.4)
+    | inr r ↦ inr (r.0, r.1, r.2, r.3, runs_refusal m m a [] (wire_status r.0) (wire_name r.0) (runs_none m m (stays m)) r.4)
   ];
   cut = cut;
   written_is = refl;
 }
 
-pub stops_writing : (b m a : Standing) (input more unread pending front left : List ℕ) (n : ℕ)
+pub stops_writing : (b m a : Serving) (input more unread pending front left : List ℕ) (n : ℕ)
     → SoFar b input more n m unread → IsPending m unread pending a → pending ≡ front ++ left → StopsWriting b input (more ++ front) a
 stops_writing b m a input more unread pending front left n x is cut =
     writing_then b m a input more unread front n x (stops_here m a unread pending front left is cut)
 
 -- ---- what the loop over the reads says
 
-pub stream_ends : (b a : Standing) (input written unread : List ℕ) (n : ℕ) (ended : Ended)
+pub stream_ends : (b a : Serving) (input written unread : List ℕ) (n : ℕ) (ended : Ended)
     → SoFar b input written n a unread → Waits unread
     → ((unread ≡ []) × (ended ≡ Clean)) ⊎ ((unread ≢ []) × (ended ≡ Cut))
     → IsServed b input written n ended a
@@ -447,15 +465,23 @@ may_wait_more unread came now wanted (inr x) is =
 pub may_wait_same : (unread now : List ℕ) (wanted : ℕ) → MayWait unread wanted → now ≡ unread → MayWait now wanted
 may_wait_same unread now wanted may same = let P : List ℕ → Type 0 = λ u. MayWait u wanted in subst P (sym same) may
 
-pub may_wait_after : (b a : Standing) (unread written left : List ℕ) (done : Turn) → IsTurn b unread written done a left → MayWait left (wanted_after done)
+pub may_wait_after : (b a : Serving) (unread written left : List ℕ) (done : Turn) → IsTurn b unread written done a left → MayWait left (wanted_after done)
 may_wait_after b a unread written left (turn.Wait wanted) t = inr (unread, [], t.4 ∙ sym (append-nil unread), t.1)
 may_wait_after b a unread written left turn.Answered t = inl refl
 may_wait_after b a unread written left turn.Last t = inl refl
 may_wait_after b a unread written left turn.Refused t = inl refl
 
 -- no memory was left for a reply, and nothing of it was written
-pub stops_unsent : (b m a : Standing) (input more unread pending : List ℕ) (n : ℕ)
+pub stops_unsent : (b m a : Serving) (input more unread pending : List ℕ) (n : ℕ)
     → SoFar b input more n m unread → IsPending m unread pending a → StopsWriting b input more a
 stops_unsent b m a input more unread pending n x is =
     let P : List ℕ → Type 0 = λ t. StopsWriting b input t a in
     subst P (append-nil more) (stops_writing b m a input more unread pending [] pending n x is refl)
+
+-- ---- why it stops
+
+pub stops_log : (e : StreamFault) (a : Serving) → e ≡ fault.Log → StopsBy e a → a.log.failed ≡ true
+stops_log e a is by = let P : StreamFault → Type 0 = λ f. StopsBy f a in subst P is by
+
+pub stops_memory : (e : StreamFault) (a : Serving) → e ≡ fault.Memory → StopsBy e a → ⊥
+stops_memory e a is by = let P : StreamFault → Type 0 = λ f. StopsBy f a in subst P is by

@@ -1,6 +1,6 @@
 -- One connection between two calls (RFC 9112, section 9.3).
 use Rattle.std.specs.Prelude.{◌≡◌, ◌⊎◌, ℕ, Bool, true, false, List, [], ◌++◌}
-use Rattle.book_office.specs.Keeping.{Standing}
+use Rattle.book_wire_serving.specs.Serving.{Serving}
 use Rattle.book_wire.specs.declared.stream.Ended.TheVariants.{Closed}
 use Rattle.book_wire.specs.declared.turns.Turn.{Turn}
 use Rattle.book_wire.specs.declared.turns.Turn.TheVariants.{Wait, Answered, Last, Refused}
@@ -36,7 +36,7 @@ abbrev pub MayWait : List ℕ → ℕ → Type 0
 MayWait unread wanted = (wanted ≡ 0) ⊎ ((front : List ℕ) × (more : List ℕ) × (unread ≡ front ++ more) × WaitsFor front wanted)
 
 -- so many whole requests of the input were answered: the rest is unread, or the connection closes
-pub record IsFed (before : Standing) (input written : List ℕ) (requests : ℕ) (after : Standing) (now : View) : Type 0 where
+pub record IsFed (before : Serving) (input written : List ℕ) (requests : ℕ) (after : Serving) (now : View) : Type 0 where
   pub stays : now.closing ≡ false → SoFar before input written requests after now.unread
   pub closes : now.closing ≡ true → IsServed before input written requests Closed after
   pub waits : now.closing ≡ false → now.stalled ≡ false → IsPartial now.unread

@@ -3,7 +3,6 @@ pub mod Head
 pub mod Requests
 pub mod Spelling
 pub mod Sending
-pub mod Serving
 pub mod Stream
 pub mod Turn
 pub mod Connection

@@ -1,5 +1,5 @@
 -- What of a reply is made before it is written.
-use Rattle.std.specs.Prelude.{◌≡◌, ◌≢◌, ◌≤◌, ◌⊎◌, ℕ, Bool, true, false, List, [], ◌++◌, length, drop, codes, Option, Some, None}
+use Rattle.std.specs.Prelude.{◌≡◌, ◌≢◌, ◌≤◌, ◌⊎◌, ℕ, Bool, true, false, List, [], ◌++◌, length, drop, codes, Option, Some, None, Result, Ok, Err}
 use Rattle.std.specs.List.{concat}
 use Rattle.book_machine.specs.AllowedMethods.{allowed_text}
 use Rattle.book_machine.specs.Refusals.{refused}
@@ -8,6 +8,7 @@ use Rattle.book_machine.specs.declared.messages.Content.{Content}
 use Rattle.book_machine.specs.declared.messages.Content.TheVariants as content
 use Rattle.book_machine.specs.declared.messages.Reply.{Reply}
 use Rattle.book_machine.specs.declared.refusals.Refusal.TheVariants.{Unavailable}
+use Rattle.book_wire.specs.declared.stream.StreamFault.{StreamFault}
 use Rattle.book_wire_json.specs.Pieces.{pieces}
 
 abbrev pub allowed_line : Option AllowedMethods → List ℕ
@@ -42,6 +43,19 @@ is_there (content.Rulings rulings) = false
 is_there (content.Names book names) = false
 is_there (content.Refusal refusal) = false
 
--- the reply that is sent: the machine's, or unavailable in place of one with a content
-abbrev pub IsSent : Reply → Reply → Type 0
-IsSent reply sent = (sent ≡ reply) ⊎ ((reply.content ≢ content.Empty) × (sent ≡ refused Unavailable))
+-- the reply that is sent: the one that was made, or unavailable in place of one with a content
+abbrev pub IsSentAs : Bool → Reply → Reply → Type 0
+IsSentAs true reply sent = sent ≡ reply
+IsSentAs false reply sent = (reply.content ≢ content.Empty) × (sent ≡ refused Unavailable)
+
+-- what is noted of a reply that was sent: that itself, or unavailable; and that itself where it could not be sent
+abbrev pub as_sent : Result Bool StreamFault → Bool
+as_sent (Ok as_made) = as_made
+as_sent (Err fault) = true
+
+-- a beginning of the text was added
+pub record IsBegun (old text new : List ℕ) : Type 0 where
+  pub front : List ℕ
+  pub left : List ℕ
+  pub cut : text ≡ front ++ left
+  pub added : new ≡ old ++ front

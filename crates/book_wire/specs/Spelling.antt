@@ -111,6 +111,13 @@ wire_status wire.HeadTooLarge = 431
 wire_status wire.BodyTooLarge = 413
 wire_status wire.NotImplemented = 501
 
+-- its name
+abbrev pub wire_name : WireRefusal → List ℕ
+wire_name wire.BadHead = codes "bad-head"
+wire_name wire.HeadTooLarge = codes "head-too-large"
+wire_name wire.BodyTooLarge = codes "body-too-large"
+wire_name wire.NotImplemented = codes "not-implemented"
+
 -- {"error":NAME}
 abbrev pub wire_body : WireRefusal → List ℕ
 wire_body wire.BadHead = codes "{\"error\":\"bad-head\"}"

@@ -8,7 +8,7 @@ use Rattle.book_machine.specs.declared.messages.Reply.{Reply}
 use Rattle.book_machine.specs.declared.messages.Request.{Request}
 use Rattle.book_machine.specs.declared.refusals.Refusal.TheVariants.{Unavailable}
 use Rattle.book_machine.specs.Refusals.{refused}
-use Rattle.book_office.specs.Keeping.{Standing}
+use Rattle.book_wire_serving.specs.Serving.{Serving}
 use Rattle.book_rights.specs.declared.methods.Method.{Method}
 use Rattle.book_rights.specs.declared.methods.Method.TheVariants as method
 use Rattle.book_wire.specs.declared.head.WireRefusal.{WireRefusal}
@@ -17,7 +17,7 @@ use Rattle.book_wire.specs.declared.stream.Served.{Served}
 use Rattle.book_wire.specs.declared.stream.Ended.{Ended}
 use Rattle.book_wire.specs.declared.stream.Ended.TheVariants.{Clean, Cut, Closed}
 use Rattle.book_wire.specs.Requests.{IsRequest, caller_name}
-use Rattle.book_wire.specs.Serving.{Answered, Runs}
+use Rattle.book_wire_serving.specs.Serving.{Answered, Runs}
 use Rattle.book_wire.specs.Head.{Asked, asked_of_head, is_bare_head}
 use Rattle.book_wire.specs.Spelling.{spelling, refusal_text}
 
@@ -120,7 +120,7 @@ abbrev pub IsPartial : List ℕ → Type 0
 IsPartial rest = IsPartOfHead rest ⊎ IsPartOfBody rest
 
 -- whole requests, each answered
-pub record Answers (old : Standing) (exchanges : List Exchange) (input written : List ℕ) (new : Standing) : Type 0 where
+pub record Answers (old : Serving) (exchanges : List Exchange) (input written : List ℕ) (new : Serving) : Type 0 where
   pub input_is : input ≡ flat_map text_of exchanges
   pub written_is : written ≡ flat_map reply_text exchanges
   pub runs : Runs old new (map answered_of exchanges)
@@ -148,19 +148,19 @@ pub record IsTold (exchanges : List Exchange) (input written : List ℕ) (ended 
   pub ends : Ends exchanges rest refusal ended
 
 -- what one connection is told, and the run of the machine over its requests alone
-pub record IsServed (before : Standing) (input written : List ℕ) (requests : ℕ) (ended : Ended) (after : Standing) : Type 0 where
+pub record IsServed (before : Serving) (input written : List ℕ) (requests : ℕ) (ended : Ended) (after : Serving) : Type 0 where
   pub exchanges : List Exchange
   pub told : IsTold exchanges input written ended
   pub runs : Runs before after (map answered_of exchanges)
   pub count : requests ≡ length exchanges
 
 -- the count stays at its last value
-abbrev pub IsStream : Standing → List ℕ → List ℕ → Served → Standing → Type 0
+abbrev pub IsStream : Serving → List ℕ → List ℕ → Served → Serving → Type 0
 IsStream before input written served after =
     (requests : ℕ) × (served.requests ≡ min requests (2 ^ 64 - 1)) × IsServed before input written requests served.ended after
 
 -- whole requests that leave the connection open, each answered, and then what is unread
-pub record SoFar (before : Standing) (input written : List ℕ) (requests : ℕ) (after : Standing) (unread : List ℕ) : Type 0 where
+pub record SoFar (before : Serving) (input written : List ℕ) (requests : ℕ) (after : Serving) (unread : List ℕ) : Type 0 where
   pub exchanges : List Exchange
   pub taken : List ℕ
   pub input_is : input ≡ taken ++ unread

@@ -3,8 +3,9 @@
 ghost use Rattle.std.specs.Prelude.{◌≡◌, ◌≢◌, ◌⊎◌, ℕ, ◌==◌, ◌≤◌, ◌<◌, ◌-◌, ◌^◌, min, true, false, List, [], ◌++◌, length, drop, IfOk, IfErr, OnOk, OnErr, Err};
 ghost use Rattle.std.specs.Io.KnownBytes.{Consumes, IsAtEnd, Keeps};
 ghost use Rattle.book_wire.specs.Connection.{IsFed, closes_after, fresh};
-ghost use Rattle.book_wire.specs.Serving.{Stays};
-ghost use Rattle.book_wire.specs.Turn.{IsPending, IsTurn, StopsWriting};
+ghost use Rattle.book_wire.specs.Sending.{IsBegun};
+ghost use Rattle.book_wire_serving.specs.Serving.{Stays};
+ghost use Rattle.book_wire.specs.Turn.{IsPending, IsTurn, StopsBy, StopsWriting};
 
 use crate::buffer::Buffer;
 use crate::head::FieldSpans;
@@ -12,8 +13,7 @@ use crate::outgoing::Outgoing;
 use crate::stream::StreamFault;
 use crate::turns::{Turn, answer_one};
 use book_limits::MAX_FIELDS;
-use book_machine::Machine;
-use book_office::Keeper;
+use book_wire_serving::Service;
 use book_wire_targets::{Home, homes};
 use httparse::spans::EMPTY_HEADER_SPAN;
 use matchit::Router;
@@ -187,24 +187,22 @@ impl Connection {
     }
 
     /// Answers the request at the front, if it is whole. The reply is to be sent.
-    pub(crate) fn answer_next<K: Keeper>(
+    pub(crate) fn answer_next<M: Service>(
         &mut self,
         alloc: Global,
-        machine: &mut Machine<K>,
+        service: &mut M,
         wire: &mut Wire,
     ) -> Result<Turn, StreamFault>
         requires open { self.old.closing ≡ false }
         requires few { length self.old.unsent < 8192 }
         ensures ok { IfOk result (λ turn. (written : List ℕ)
             × (self.new.unsent ≡ self.old.unsent ++ written)
-            × IsTurn (K.standing machine.old.keeper) self.old.unread written turn
-            (K.standing machine.new.keeper) self.new.unread
+            × IsTurn (M.serving service.old) self.old.unread written turn
+            (M.serving service.new) self.new.unread
             × (self.new.closing ≡ closes_after turn)) }
-        ensures err { IfErr result (λ e. (e ≡ StreamFault.Write)
-            × ((pending front left : List ℕ)
-            × IsPending (K.standing machine.old.keeper) self.old.unread pending
-            (K.standing machine.new.keeper) × (pending ≡ front ++ left)
-            × (self.new.unsent ≡ self.old.unsent ++ front))) }
+        ensures err { IfErr result (λ e. StopsBy e (M.serving service.new)
+            × ((pending : List ℕ) × IsPending (M.serving service.old) self.old.unread pending
+            (M.serving service.new) × IsBegun self.old.unsent pending self.new.unsent)) }
         ensures stalled { self.new.stalled ≡ self.old.stalled }
     {
         if self.buffer.unread().len() < self.wanted {
@@ -212,7 +210,7 @@ impl Connection {
         }
         let turn = match answer_one(
             alloc,
-            machine,
+            service,
             &wire.router,
             &mut self.outgoing,
             &mut wire.headers,
@@ -228,10 +226,10 @@ impl Connection {
 
     /// Answers the requests that are there and whole, until so many bytes wait to be sent, and says how many. That stays
     /// at its last value.
-    fn answer_some<K: Keeper>(
+    fn answer_some<M: Service>(
         &mut self,
         alloc: Global,
-        machine: &mut Machine<K>,
+        service: &mut M,
         wire: &mut Wire,
         most: usize,
     ) -> Result<u64, StreamFault>
@@ -239,16 +237,14 @@ impl Connection {
         requires few { most ≤ 8192 }
         ensures ok { IfOk result (λ answered. (more : List ℕ) × (count : ℕ)
             × (answered ≡ min count (2 ^ 64 - 1)) × (self.new.unsent ≡ self.old.unsent ++ more)
-            × IsFed (K.standing machine.old.keeper) self.old.unread more count
-            (K.standing machine.new.keeper) self.new) }
+            × IsFed (M.serving service.old) self.old.unread more count
+            (M.serving service.new) self.new) }
         ensures stalled { IfOk result (λ answered. self.new.stalled ≡ true
             → most ≤ length self.new.unsent) }
-        ensures memory { result ≢ Err StreamFault.Memory }
-        ensures write { result ≡ Err StreamFault.Write → (more : List ℕ)
+        ensures stops { IfErr result (λ e. StopsBy e (M.serving service.new) × (more : List ℕ)
             × (self.new.unsent ≡ self.old.unsent ++ more)
-            × StopsWriting (K.standing machine.old.keeper) self.old.unread more
-            (K.standing machine.new.keeper) }
-        ensures read { result ≢ Err StreamFault.Read }
+            × StopsWriting (M.serving service.old) self.old.unread more
+            (M.serving service.new)) }
     {
         let mut answered: u64 = 0;
         self.stalled = false;
@@ -257,7 +253,7 @@ impl Connection {
                 self.stalled = true;
                 return Ok(answered);
             }
-            match self.answer_next(alloc, machine, wire) {
+            match self.answer_next(alloc, service, wire) {
                 Ok(turn) => match turn {
                     Turn::Wait(_) => return Ok(answered),
                     Turn::Answered => answered = answered.saturating_add(1),
@@ -277,11 +273,12 @@ impl Connection {
     ///
     /// The connection can't go on: `Memory` where there was none for the bytes, and nothing was done. `Write` where there
     /// was none for a reply: of the requests that are answered in what is unsent, only the one after them may have acted.
+    /// `Log` where the line of a reply could not be written: the same.
     #[tactic(auto, using(crate::proofs::Streams::may_wait_same, crate::proofs::Streams::may_wait_more))]
-    pub fn feed<K: Keeper>(
+    pub fn feed<M: Service>(
         &mut self,
         alloc: Global,
-        machine: &mut Machine<K>,
+        service: &mut M,
         wire: &mut Wire,
         bytes: &[u8],
         most: usize,
@@ -290,21 +287,21 @@ impl Connection {
         requires few { most ≤ 8192 }
         ensures ok { IfOk result (λ answered. (more : List ℕ) × (count : ℕ)
             × (answered ≡ min count (2 ^ 64 - 1)) × (self.new.unsent ≡ self.old.unsent ++ more)
-            × IsFed (K.standing machine.old.keeper) (self.old.unread ++ bytes.now) more count
-            (K.standing machine.new.keeper) self.new) }
+            × IsFed (M.serving service.old) (self.old.unread ++ bytes.now) more count
+            (M.serving service.new) self.new) }
         ensures stalled { IfOk result (λ answered. self.new.stalled ≡ true
             → most ≤ length self.new.unsent) }
         ensures memory { result ≡ Err StreamFault.Memory → (self.new ≡ self.old)
-            × Stays (K.standing machine.old.keeper) (K.standing machine.new.keeper) }
-        ensures write { result ≡ Err StreamFault.Write → (more : List ℕ)
+            × Stays (M.serving service.old) (M.serving service.new) }
+        ensures stops { IfErr result (λ e. e ≢ StreamFault.Memory
+            → StopsBy e (M.serving service.new) × (more : List ℕ)
             × (self.new.unsent ≡ self.old.unsent ++ more)
-            × StopsWriting (K.standing machine.old.keeper) (self.old.unread ++ bytes.now) more
-            (K.standing machine.new.keeper) }
-        ensures read { result ≢ Err StreamFault.Read }
+            × StopsWriting (M.serving service.old) (self.old.unread ++ bytes.now) more
+            (M.serving service.new)) }
     {
         if self.buffer.push(bytes).is_err() {
             return Err(StreamFault::Memory);
         }
-        self.answer_some(alloc, machine, wire, most)
+        self.answer_some(alloc, service, wire, most)
     }
 }

@@ -7,8 +7,8 @@ ghost use Rattle.book_machine.specs.Refusals as machine;
 ghost use Rattle.book_machine.specs.declared.messages.Content.TheVariants as contents;
 ghost use Rattle.book_machine.specs.declared.messages.Reply.{Reply as ReplyOf};
 ghost use Rattle.book_machine.specs.declared.refusals.Refusal.TheVariants.{Unavailable};
-ghost use Rattle.book_wire.specs.Sending.{IsChunk, IsSent, allowed_line, is_there};
-ghost use Rattle.book_wire.specs.Spelling.{allow_line, body_bytes, close_line, head_text, json_line, length_line, refusal_text, refused_allow, sent_text, spelling, type_line, wire_body, wire_status};
+ghost use Rattle.book_wire.specs.Sending.{IsChunk, IsSentAs, allowed_line, is_there};
+ghost use Rattle.book_wire.specs.Spelling.{allow_line, body_bytes, close_line, head_text, json_line, length_line, refusal_text, refused_allow, sent_text, spelling, type_line, wire_body, wire_name, wire_status};
 
 use crate::bodies::{Chunk, LongBody, MAX_REPLY_HEAD, first_chunk};
 use crate::head::WireRefusal;
@@ -318,7 +318,7 @@ pub(crate) fn send_unavailable(
 }
 
 /// The status (RFC 9110, section 15; RFC 6585, section 5).
-fn status_of(refusal: WireRefusal) -> u16
+pub(crate) fn status_of(refusal: WireRefusal) -> u16
     ensures { result ≡ wire_status refusal }
 {
     match refusal {
@@ -326,6 +326,18 @@ fn status_of(refusal: WireRefusal) -> u16
         WireRefusal::HeadTooLarge => 431,
         WireRefusal::BodyTooLarge => 413,
         WireRefusal::NotImplemented => 501,
+    }
+}
+
+/// The name of the refusal.
+pub(crate) fn name_of(refusal: WireRefusal) -> &'static str
+    ensures { result.now ≡ wire_name refusal }
+{
+    match refusal {
+        WireRefusal::BadHead => "bad-head",
+        WireRefusal::HeadTooLarge => "head-too-large",
+        WireRefusal::BodyTooLarge => "body-too-large",
+        WireRefusal::NotImplemented => "not-implemented",
     }
 }
 
@@ -394,27 +406,29 @@ fn has_content(content: &Content) -> bool
     }
 }
 
-/// Adds a reply that the machine gave, or, where there is no memory for it, one that it is unavailable. A reply to an
-/// edit has no body, and nothing is told in its place.
+/// Adds a reply that was made, or, where there is no memory for it, one that it is unavailable. A reply to an edit has no
+/// body, and nothing is told in its place. It says whether the reply itself was added.
 pub(crate) fn send(
     alloc: Global,
     out: &mut Outgoing,
     reply: Reply,
     bare: bool,
     closes: bool,
-) -> Result<(), StreamFault>
+) -> Result<bool, StreamFault>
     requires { length out.old < 8192 }
-    ensures ok { OnOk result ((sent : ReplyOf) × IsSent reply sent
+    ensures ok { IfOk result (λ as_made. (sent : ReplyOf) × IsSentAs as_made reply sent
         × (out.new ≡ out.old ++ spelling sent bare closes)) }
-    ensures err { IfErr result (λ e. (e ≡ StreamFault.Write)
-        × ((sent : ReplyOf) × IsSent reply sent × (out.new ≡ out.old))) }
+    ensures err { IfErr result (λ e. (e ≡ StreamFault.Write) × (out.new ≡ out.old)) }
 {
     let telling = has_content(&reply.content);
     match put_reply(alloc, out, reply, bare, closes) {
-        Ok(()) => Ok(()),
+        Ok(()) => Ok(true),
         Err(_) => {
             if telling {
-                return send_unavailable(out, bare, closes);
+                return match send_unavailable(out, bare, closes) {
+                    Ok(()) => Ok(false),
+                    Err(fault) => Err(fault),
+                };
             }
             Err(StreamFault::Write)
         }

@@ -1,17 +1,16 @@
 //! A stream of requests (RFC 9112, section 9.3).
 
-ghost use Rattle.std.specs.Prelude.{◌≡◌, ◌≢◌, ◌⊎◌, ℕ, ◌+◌, ◌-◌, ◌^◌, min, false, List, [], ◌++◌, IfOk, IfErr, OnOk, OnErr, Err};
+ghost use Rattle.std.specs.Prelude.{◌≡◌, ◌≢◌, ◌⊎◌, ℕ, ◌+◌, ◌-◌, ◌^◌, min, false, true, List, [], ◌++◌, IfOk, IfErr, OnOk, OnErr, Err};
 ghost use Rattle.std.specs.Io.KnownBytes.{Appends, Consumes, Keeps};
 ghost use Rattle.book_wire.specs.Connection.{IsFed, fresh};
-ghost use Rattle.book_wire.specs.Serving.{Stays};
+ghost use Rattle.book_wire_serving.specs.Serving.{Stays};
 ghost use Rattle.book_wire.specs.Stream.{IsStream, IsInput};
-ghost use Rattle.book_wire.specs.Turn.{StopsReading, StopsWriting};
+ghost use Rattle.book_wire.specs.Turn.{StopsBy, StopsReading, StopsWriting};
 
 use crate::connection::{Connection, Wire};
 use crate::output::put;
 use crate::turns::Turn;
-use book_machine::Machine;
-use book_office::Keeper;
+use book_wire_serving::Service;
 use std::alloc::Global;
 use std::io::{Read, Write};
 
@@ -46,6 +45,9 @@ pub enum StreamFault {
     /// A write failed, or took nothing. What was written is a beginning of the replies, and only the last request may
     /// have acted unanswered.
     Write,
+    /// A line of the log could not be written. What was written is a beginning of the replies, and only the last request,
+    /// whose line it was, may have acted unanswered.
+    Log,
 }
 
 /// Sends all that is to be sent, the front of it first.
@@ -81,9 +83,9 @@ fn send_all<W: Write>(
 
 /// Answers each whole request that is there, and sends each reply before the next request is read. It says how many
 /// requests were answered with those before.
-fn answer_all<K: Keeper, W: Write>(
+fn answer_all<M: Service, W: Write>(
     alloc: Global,
-    machine: &mut Machine<K>,
+    service: &mut M,
     wire: &mut Wire,
     connection: &mut Connection,
     writer: &mut W,
@@ -95,18 +97,18 @@ fn answer_all<K: Keeper, W: Write>(
     ensures ok { IfOk result (λ requests. (more : List ℕ) × (count : ℕ)
         × Appends (W.contents writer.old) (W.contents writer.new) more
         × (requests ≡ min (before + count) (2 ^ 64 - 1))
-        × IsFed (K.standing machine.old.keeper) connection.old.unread more count
-        (K.standing machine.new.keeper) connection.new × (connection.new.stalled ≡ false)
+        × IsFed (M.serving service.old) connection.old.unread more count
+        (M.serving service.new) connection.new × (connection.new.stalled ≡ false)
         × (connection.new.unsent ≡ [])) }
     ensures err { OnErr result ((more : List ℕ)
         × Appends (W.contents writer.old) (W.contents writer.new) more
-        × StopsWriting (K.standing machine.old.keeper) connection.old.unread more
-        (K.standing machine.new.keeper)) }
-    ensures fault { IfErr result (λ e. e ≡ StreamFault.Write) }
+        × StopsWriting (M.serving service.old) connection.old.unread more
+        (M.serving service.new)) }
+    ensures fault { IfErr result (λ e. StopsBy e (M.serving service.new)) }
 {
     let mut requests = before;
     loop {
-        match connection.answer_next(alloc, machine, wire) {
+        match connection.answer_next(alloc, service, wire) {
             Ok(turn) => match turn {
                 Turn::Wait(_) => return Ok(requests),
                 Turn::Answered => match send_all(alloc, connection, writer) {
@@ -155,32 +157,37 @@ fn end_at(unread: &[u8]) -> Ended
 /// # Errors
 ///
 /// `Memory` before the first byte is read. `Read` where a read failed, and `Write` where a write failed or took
-/// nothing: neither is repeated.
-pub fn serve_stream<K: Keeper, R: Read, W: Write>(
+/// nothing: neither is repeated. `Log` where the line of a reply could not be written, which is not sent then.
+pub fn serve_stream<M: Service, R: Read, W: Write>(
     alloc: Global,
-    machine: &mut Machine<K>,
+    service: &mut M,
     reader: &mut R,
     writer: &mut W,
 ) -> Result<Served, StreamFault>
     ensures served { IfOk result (λ served. (input written : List ℕ)
         × IsInput (R.remaining reader.old) input
         × Appends (W.contents writer.old) (W.contents writer.new) written
-        × IsStream (K.standing machine.old.keeper) input written served
-        (K.standing machine.new.keeper)) }
+        × IsStream (M.serving service.old) input written served
+        (M.serving service.new)) }
     ensures memory { result ≡ Err StreamFault.Memory
-        → Stays (K.standing machine.old.keeper) (K.standing machine.new.keeper)
+        → Stays (M.serving service.old) (M.serving service.new)
         × Keeps (R.remaining reader.old) (R.remaining reader.new)
         × Keeps (W.contents writer.old) (W.contents writer.new) }
     ensures read { result ≡ Err StreamFault.Read → (input written : List ℕ)
         × Consumes (R.remaining reader.old) (R.remaining reader.new) input
         × Appends (W.contents writer.old) (W.contents writer.new) written
-        × StopsReading (K.standing machine.old.keeper) input written
-        (K.standing machine.new.keeper) }
+        × StopsReading (M.serving service.old) input written
+        (M.serving service.new) }
     ensures write { result ≡ Err StreamFault.Write → (input written : List ℕ)
         × Consumes (R.remaining reader.old) (R.remaining reader.new) input
         × Appends (W.contents writer.old) (W.contents writer.new) written
-        × StopsWriting (K.standing machine.old.keeper) input written
-        (K.standing machine.new.keeper) }
+        × StopsWriting (M.serving service.old) input written
+        (M.serving service.new) }
+    ensures log { result ≡ Err StreamFault.Log → (input written : List ℕ)
+        × Consumes (R.remaining reader.old) (R.remaining reader.new) input
+        × Appends (W.contents writer.old) (W.contents writer.new) written
+        × StopsWriting (M.serving service.old) input written (M.serving service.new)
+        × ((M.serving service.new).log.failed ≡ true) }
 {
     let mut wire = match Wire::new(alloc) {
         Ok(wire) => wire,
@@ -190,13 +197,13 @@ pub fn serve_stream<K: Keeper, R: Read, W: Write>(
         Ok(connection) => connection,
         Err(_) => return Err(StreamFault::Memory),
     };
-    serve_from(alloc, machine, &mut wire, &mut connection, reader, writer)
+    serve_from(alloc, service, &mut wire, &mut connection, reader, writer)
 }
 
 /// Serves the requests of a reader, with nothing read so far.
-fn serve_from<K: Keeper, R: Read, W: Write>(
+fn serve_from<M: Service, R: Read, W: Write>(
     alloc: Global,
-    machine: &mut Machine<K>,
+    service: &mut M,
     wire: &mut Wire,
     connection: &mut Connection,
     reader: &mut R,
@@ -206,19 +213,24 @@ fn serve_from<K: Keeper, R: Read, W: Write>(
     ensures served { IfOk result (λ served. (input written : List ℕ)
         × IsInput (R.remaining reader.old) input
         × Appends (W.contents writer.old) (W.contents writer.new) written
-        × IsStream (K.standing machine.old.keeper) input written served
-        (K.standing machine.new.keeper)) }
+        × IsStream (M.serving service.old) input written served
+        (M.serving service.new)) }
     ensures memory { result ≢ Err StreamFault.Memory }
     ensures read { result ≡ Err StreamFault.Read → (input written : List ℕ)
         × Consumes (R.remaining reader.old) (R.remaining reader.new) input
         × Appends (W.contents writer.old) (W.contents writer.new) written
-        × StopsReading (K.standing machine.old.keeper) input written
-        (K.standing machine.new.keeper) }
+        × StopsReading (M.serving service.old) input written
+        (M.serving service.new) }
     ensures write { result ≡ Err StreamFault.Write → (input written : List ℕ)
         × Consumes (R.remaining reader.old) (R.remaining reader.new) input
         × Appends (W.contents writer.old) (W.contents writer.new) written
-        × StopsWriting (K.standing machine.old.keeper) input written
-        (K.standing machine.new.keeper) }
+        × StopsWriting (M.serving service.old) input written
+        (M.serving service.new) }
+    ensures log { result ≡ Err StreamFault.Log → (input written : List ℕ)
+        × Consumes (R.remaining reader.old) (R.remaining reader.new) input
+        × Appends (W.contents writer.old) (W.contents writer.new) written
+        × StopsWriting (M.serving service.old) input written (M.serving service.new)
+        × ((M.serving service.new).log.failed ≡ true) }
 {
     let mut requests = 0;
     for _ in 0..u64::MAX {
@@ -230,7 +242,7 @@ fn serve_from<K: Keeper, R: Read, W: Write>(
             let ended = end_at(connection.unread());
             return Ok(Served { requests, ended });
         }
-        match answer_all(alloc, machine, wire, connection, writer, requests) {
+        match answer_all(alloc, service, wire, connection, writer, requests) {
             Ok(answered) => requests = answered,
             Err(fault) => return Err(fault),
         }

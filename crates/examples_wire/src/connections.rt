@@ -1,5 +1,6 @@
 //! Connections over loopback, one after the other: one that is cut or fails ends no other, and each that fails is told.
 
+use crate::logs::logged;
 use crate::offices::{POLICY, machine};
 use book_desk_app::{Noting, serve_connections};
 use std::cell::Cell;
@@ -207,5 +208,47 @@ fn connections_are_served_in_turn(rt: HostRuntime) {
             streams.push(stream).expect(&rt, "memory");
         }
         check(&rt, &listener, &streams, row);
+    }
+}
+
+/// The lines of a new card on the first connection, and of the card on the second.
+const LINES: &str =
+    "{\"time\":\"2026-11-29T00:00:00.000Z\",\"connection\":0,\"caller\":\"bob\",\"method\":\"PUT\",\"path\":\"/books/sales/a.vcf\",\"status\":201}\n{\"time\":\"2026-11-29T00:00:00.000Z\",\"connection\":1,\"caller\":\"bob\",\"method\":\"GET\",\"path\":\"/books/sales/a.vcf\",\"status\":200}\n";
+
+/// A log that takes two lines: the reply of the third connection is not sent, that is told once, and no other is served.
+#[test]
+fn a_log_that_fails_ends_them(rt: HostRuntime) {
+    let alloc = rt.alloc();
+    let listener = TcpListener::bind(&rt, "127.0.0.1:0").expect(&rt, "a listener");
+    let address = listener.local_addr().expect(&rt, "an address");
+    let first = Client {
+        sent: PUT,
+        told: CREATED,
+        ..GET
+    };
+    let third = Client { told: "", ..GET };
+    let clients = [first, GET, third, GET];
+    let mut streams = Vec::new(alloc);
+    for client in &clients {
+        let stream = TcpStream::connect(&rt, address).expect(&rt, "a connection");
+        send(&rt, &stream, client);
+        streams.push(stream).expect(&rt, "memory");
+    }
+    let doors = Doors {
+        listener: &listener,
+        clients: &clients,
+        next: Cell::new(0),
+    };
+    let mut errors = Noting::new(Vec::new(alloc));
+    let mut kept = logged(&rt, alloc, 2);
+    let served = serve_connections(&rt, alloc, &mut kept, &doors, 4, &mut errors);
+    let (machine, lines) = kept.release();
+    drop(machine);
+    assert_eq!(rt; served.ok(), Some(false));
+    assert_eq!(rt; errors.into_inner().as_slice(), "log: write\n".as_bytes());
+    assert_eq!(rt; lines.told.as_slice(), LINES.as_bytes());
+    assert_eq!(rt; doors.next.get(), 3);
+    for (stream, client) in streams.iter().zip(&clients[..3]) {
+        check_told(&rt, stream, client);
     }
 }

@@ -4,6 +4,7 @@
 use crate::offices::{Cutting, POLICY, WHOLE, answered, machine};
 use crate::streams::{check_answer, check_cut_off};
 use book_desk_loop::{Connections, Turn, go_on};
+use book_machine::Machine;
 use book_office::MemoryKeeper;
 use book_wire::{Ended, Served, Wire};
 use std::alloc::Global;
@@ -201,7 +202,7 @@ fn new_client<'a>(alloc: Global, sends: &'a str, room: usize) -> Client<'a> {
 /// Gives the client at the place its turns, until it waits or is done.
 fn turns(
     alloc: Global,
-    connections: &mut Connections<MemoryKeeper>,
+    connections: &mut Connections<Machine<MemoryKeeper>>,
     place: usize,
     client: &mut Client<'_>,
 ) -> Turn {

@@ -1,5 +1,6 @@
 //! Connections at once over loopback, by a clock of the test's own: whose turn it is, which is closed, and when.
 
+use crate::logs::logged;
 use crate::offices::{POLICY, machine};
 use book_desk_loop::{Faults, Limits, Readiness, Stop, close_in_stages, serve_at_once};
 use book_machine::Machine;
@@ -463,6 +464,63 @@ fn a_store_that_fails_ends_it(rt: HostRuntime) {
     );
     drop(machine);
     assert_eq!(rt; served, Err(Stop::Store));
+    assert_eq!(rt; told.faults, 0);
+    check_told(&rt, &stream, &client);
+}
+
+/// The line of one request of nobody.
+const LINE: &str =
+    "{\"time\":\"2026-11-29T00:00:00.000Z\",\"connection\":0,\"method\":\"GET\",\"path\":\"/books/none\",\"status\":404,\"error\":\"not-found\"}\n";
+
+/// A log that takes one line: a second request acts, its reply is not sent, and then it ends. That is told of no client.
+#[test]
+fn a_log_that_fails_ends_it(rt: HostRuntime) {
+    let alloc = rt.alloc();
+    let listener = TcpListener::bind(&rt, "127.0.0.1:0").expect(&rt, "a listener");
+    let address = listener.local_addr().expect(&rt, "an address");
+    let stream = TcpStream::connect(&rt, address).expect(&rt, "a connection");
+    let client = Client {
+        sent: "GET /books/none HTTP/1.1\r\n\r\nGET /books/none HTTP/1.1\r\n\r\nGET /books/",
+        told: ABSENT,
+        ..IDLE
+    };
+    send(&rt, &stream, &client);
+    let clients = [client];
+    let doors = Doors {
+        listener: &listener,
+        clients: &clients,
+        refused: 0,
+        before: 0,
+        times: 0,
+        calls: Cell::new(0),
+        next: Cell::new(0),
+    };
+    let time = Time {
+        passed: Cell::new(Duration::ZERO),
+    };
+    let mut script = Script {
+        time: &time,
+        watched: Vec::new(alloc),
+    };
+    let mut told = Told { faults: 0 };
+    let limits = Limits {
+        at_once: 1,
+        total: None,
+        idle: None,
+        gives_way: false,
+    };
+    let (kept, served) = serve_at_once(
+        alloc,
+        logged(&rt, alloc, 1),
+        &doors,
+        &mut script,
+        limits,
+        &mut told,
+    );
+    let (machine, lines) = kept.release();
+    drop(machine);
+    assert_eq!(rt; lines.told.as_slice(), LINE.as_bytes());
+    assert_eq!(rt; served, Err(Stop::Log));
     assert_eq!(rt; told.faults, 0);
     check_told(&rt, &stream, &client);
 }

@@ -3,6 +3,7 @@
 
 use crate::offices::{POLICY, machine};
 use book_desk_loop::Connections;
+use book_machine::Machine;
 use book_office::MemoryKeeper;
 use book_wire::Wire;
 use std::process::Abort;
@@ -68,7 +69,7 @@ const STEPS: &[Step<'static>] = &[
 ];
 
 /// The connections of so many clients, at the first places.
-fn opened(rt: &(impl Abort + AllocGlobal), clients: usize) -> Connections<MemoryKeeper> {
+fn opened(rt: &(impl Abort + AllocGlobal), clients: usize) -> Connections<Machine<MemoryKeeper>> {
     let alloc = rt.alloc();
     let wire = Wire::new(alloc).expect(rt, "memory");
     let mut connections = Connections::new(alloc, wire, machine(rt, alloc, POLICY));
@@ -81,7 +82,7 @@ fn opened(rt: &(impl Abort + AllocGlobal), clients: usize) -> Connections<Memory
 /// The client at the place sends a piece, if its connection takes one. One request is answered.
 fn bring_one(
     rt: &(impl Abort + AllocGlobal),
-    connections: &mut Connections<MemoryKeeper>,
+    connections: &mut Connections<Machine<MemoryKeeper>>,
     place: usize,
     piece: &[u8],
 ) {
@@ -94,7 +95,7 @@ fn bring_one(
 /// The client at the place sends a piece, if its connection takes one. Each of up to four requests is answered.
 fn bring(
     rt: &(impl Abort + AllocGlobal),
-    connections: &mut Connections<MemoryKeeper>,
+    connections: &mut Connections<Machine<MemoryKeeper>>,
     place: usize,
     piece: &[u8],
 ) {
@@ -107,7 +108,7 @@ fn bring(
 /// What waits to be sent to the client at the place is the text, and is sent.
 fn check_told(
     rt: &(impl Abort + AllocGlobal),
-    connections: &mut Connections<MemoryKeeper>,
+    connections: &mut Connections<Machine<MemoryKeeper>>,
     place: usize,
     text: &str,
 ) {

@@ -1,11 +1,12 @@
-use Rattle.book_desk_app.proofs.Common.{inl, inr, refl, ◌∙◌}
+use Rattle.book_desk_app.proofs.Common.{[], inr, refl, ◌∙◌}
+use Rattle.book_wire_serving.proofs.Servings.{runs_none, stays}
 use Rattle.book_desk_app.proofs.AtOnce.{lines_told, status_told}
 use Rattle.book_desk_app.proofs.InTurn.{tells_then}
 use Rattle.book_desk_app.proofs.looping.serve_many.Goals as goal
 
 pub returns-clause-served : goal.returns-clause-served
 returns-clause-served g c =
-    let s = c.serve_at_once-machine in
+    let s = c.serve_at_once-service in
     let served = s.ensures.served in inr (
       c.in_default.ensures.said,
       record {
@@ -18,4 +19,8 @@ returns-clause-served g c =
     )
 
 pub returns-clause-runs : goal.returns-clause-runs
-returns-clause-runs g c = c.serve_at_once-machine.ensures.runs
+returns-clause-runs g c = c.serve_at_once-service.ensures.runs
+
+-- no connection was served
+pub returns-in-Err-clause-runs : goal.returns-in-Err-clause-runs
+returns-in-Err-clause-runs g c = ([], runs_none _ _ (stays _))

@@ -3,7 +3,7 @@ use Rattle.book_desk_app.proofs.Ending.{not_done}
 use Rattle.book_desk_app.proofs.tasks.pipe_after.Goals as goal
 
 pub returns-in-Ok-clause-ends : goal.returns-in-Ok-clause-ends
-returns-in-Ok-clause-ends g c = inr (_, c.in-Ok.ensures.adopted, (c.pipe.ensures.ended, c.pipe.ensures.stopped))
+returns-in-Ok-clause-ends g c = inr (_, c.in-Ok.ensures.adopted, (λ other. (c.pipe.ensures.ended other, c.pipe.ensures.sound other), c.pipe.ensures.stopped))
 
 pub returns-in-Ok-clause-silent : goal.returns-in-Ok-clause-silent
 returns-in-Ok-clause-silent g c = λ done. c.pipe.ensures.silent (λ stopped. omega (arith, done, stopped))

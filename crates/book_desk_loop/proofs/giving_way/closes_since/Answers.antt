@@ -1,4 +1,4 @@
-use Rattle.std.proofs.Common.{◌≡◌, inl, inr, true, false, is_some, get_or, Option, None, Some, ap, arith, rules}
+use Rattle.std.proofs.Common.{◌≡◌, inl, true, is_some, get_or, Option, None, Some, ap, arith, rules}
 use Rattle.std.proofs.lemmas.Grind.{common_steps}
 use Rattle.book_desk_loop.specs.Serving.{Line, line_at, line_of}
 use Rattle.book_desk_loop.specs.declared.sockets.Socket.{Socket}

@@ -1,6 +1,6 @@
-use Rattle.book_desk_loop.proofs.Common.{ℕ, List, [], ◌++◌, map, sym, subst, History, Entry, AreServed, entries, receives}
+use Rattle.book_desk_loop.proofs.Common.{ℕ, List, [], ◌++◌, map, sym, subst, AreServed, entries, receives}
 use Rattle.std.proofs.Common.{refl}
-use Rattle.book_wire.specs.Serving.{Runs}
+use Rattle.book_wire_serving.specs.Serving.{Runs}
 use Rattle.book_wire.specs.Stream.{Exchange, answered_of}
 use Rattle.book_desk_loop.proofs.Histories.{number_held}
 use Rattle.book_desk_loop.proofs.Streams.{still_held}
@@ -12,7 +12,7 @@ returns-in-Ok-clause-served g c histories log s =
     let places = c.args.connections.now.places.items in
     let Q : ℕ → Type 0 = λ k. (more : List Exchange)
     × AreServed (receives histories k []) (log ++ entries k more) c.feed.new.self.opened c.feed.new.self.places.items
-    × Runs (g.K.Keeper.standing c.args.connections.now.machine.keeper) (g.K.Keeper.standing c.feed.new.self.machine.keeper) (map answered_of more) in
+    × Runs (g.M.Service.serving c.args.connections.now.service) (g.M.Service.serving c.feed.new.self.service) (map answered_of more) in
     subst Q (sym (number_held places c.args.place r.0 r.1)) (c.feed.ensures.served r.0 r.1 histories log s)
 
 pub returns-in-Err-clause-served : goal.returns-in-Err-clause-served
@@ -21,7 +21,7 @@ returns-in-Err-clause-served g c histories log s =
     let places = c.args.connections.now.places.items in
     let Q : ℕ → Type 0 = λ k. (more : List Exchange)
     × AreServed (receives histories k []) (log ++ entries k more) c.feed.new.self.opened c.feed.new.self.places.items
-    × Runs (g.K.Keeper.standing c.args.connections.now.machine.keeper) (g.K.Keeper.standing c.feed.new.self.machine.keeper) (map answered_of more) in
+    × Runs (g.M.Service.serving c.args.connections.now.service) (g.M.Service.serving c.feed.new.self.service) (map answered_of more) in
     subst Q (sym (number_held places c.args.place r.0 r.1)) (c.feed.ensures.served r.0 r.1 histories log s)
 
 pub returns-in-Ok-clause-there : goal.returns-in-Ok-clause-there

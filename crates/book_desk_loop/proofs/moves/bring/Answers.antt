@@ -1,4 +1,4 @@
-use Rattle.std.proofs.Common.{[], refl, true, inl, inr, sym, ◌∙◌}
+use Rattle.std.proofs.Common.{[], refl, inr, sym, ◌∙◌}
 use Rattle.std.proofs.lemmas.Bool.{false≢true}
 use Rattle.book_desk_loop.proofs.Streams.{serves_more, serves_none, still}
 use Rattle.book_desk_loop.proofs.moves.bring.Goals as goal
@@ -7,7 +7,7 @@ pub returns-then-is_stalled-clause-served : goal.returns-then-is_stalled-clause-
 returns-then-is_stalled-clause-served g c =
     let a = c.answer_more.ensures in (
       [],
-      serves_more g.K.Keeper.standing g.S.Read.remaining g.S.Write.contents c.args.place c.args.connections.now c.answer_more.new.connections c.args.stream.now
+      serves_more g.M.Service.serving g.S.Read.remaining g.S.Write.contents c.args.place c.args.connections.now c.answer_more.new.connections c.args.stream.now
           a.opened a.others a.served,
       λ e. refl,
     )
@@ -20,7 +20,7 @@ returns-then-is_stalled-clause-still g c e = absurd (c.answer_more.ensures.ended
 
 pub returns-then-at_end-clause-served : goal.returns-then-at_end-clause-served
 returns-then-at_end-clause-served g c =
-    ([], serves_none g.K.Keeper.standing g.S.Read.remaining g.S.Write.contents c.args.place c.args.connections.now c.args.stream.now, λ e. refl)
+    ([], serves_none g.M.Service.serving g.S.Read.remaining g.S.Write.contents c.args.place c.args.connections.now c.args.stream.now, λ e. refl)
 
 pub returns-then-at_end-clause-there : goal.returns-then-at_end-clause-there
 returns-then-at_end-clause-there g c sound = still c.args.place c.args.connections.now.places.items

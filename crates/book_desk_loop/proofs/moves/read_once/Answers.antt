@@ -1,7 +1,7 @@
 use Rattle.book_desk_loop.proofs.Common.{ℕ, List, [], ◌++◌, take, map, ap, sym, subst, History, Entry, AreServed, entries, receives}
 use Rattle.std.specs.Io.KnownBytes.{Consumes}
 use Rattle.std.proofs.KnownBytes.{Consumes-kept, Consumes-nil}
-use Rattle.book_wire.specs.Serving.{Runs}
+use Rattle.book_wire_serving.specs.Serving.{Runs}
 use Rattle.book_wire.specs.Stream.{Exchange, answered_of}
 use Rattle.std.proofs.Common.{refl}
 use Rattle.book_desk_loop.proofs.Histories.{receives_none, number_held}
@@ -27,7 +27,7 @@ returns-in-Ok-feed-clause-served g c =
     let bytes : List ℕ = take c.in-Ok.count c.read.new.buf in
     let Q : ℕ → Type 0 = λ k. (histories : ℕ → History) (log : List Entry) → AreServed histories log c.args.connections.now.opened places
     → (more : List Exchange) × AreServed (receives histories k bytes) (log ++ entries k more) c.feed.new.self.opened c.feed.new.self.places.items
-    × Runs (g.K.Keeper.standing c.args.connections.now.machine.keeper) (g.K.Keeper.standing c.feed.new.self.machine.keeper) (map answered_of more) in (
+    × Runs (g.M.Service.serving c.args.connections.now.service) (g.M.Service.serving c.feed.new.self.service) (map answered_of more) in (
       bytes,
       c.in-Ok.ensures.bytes.0,
       subst Q (sym (number_held places c.args.place r.0 r.1)) (λ histories log s. c.feed.ensures.served r.0 r.1 histories log s),
@@ -40,7 +40,7 @@ returns-in-Err-feed-clause-served g c =
     let bytes : List ℕ = take c.in-Ok.count c.read.new.buf in
     let Q : ℕ → Type 0 = λ k. (histories : ℕ → History) (log : List Entry) → AreServed histories log c.args.connections.now.opened places
     → (more : List Exchange) × AreServed (receives histories k bytes) (log ++ entries k more) c.feed.new.self.opened c.feed.new.self.places.items
-    × Runs (g.K.Keeper.standing c.args.connections.now.machine.keeper) (g.K.Keeper.standing c.feed.new.self.machine.keeper) (map answered_of more) in (
+    × Runs (g.M.Service.serving c.args.connections.now.service) (g.M.Service.serving c.feed.new.self.service) (map answered_of more) in (
       bytes,
       c.in-Ok.ensures.bytes.0,
       subst Q (sym (number_held places c.args.place r.0 r.1)) (λ histories log s. c.feed.ensures.served r.0 r.1 histories log s),

@@ -7,6 +7,6 @@ returns-clause-served g c =
     let old = c.args.connections.now in
     let new = c.write_once.new.connections in (
       w.sent.0,
-      serves_sent g.K.Keeper.standing g.S.Read.remaining g.S.Write.contents c.args.place old new c.args.stream.now c.write_once.new.writer w.sent.0
-          w.sent.1 w.opened w.others w.machine w.sent.2,
+      serves_sent g.M.Service.serving g.S.Read.remaining g.S.Write.contents c.args.place old new c.args.stream.now c.write_once.new.writer w.sent.0
+          w.sent.1 w.opened w.others w.service w.sent.2,
     )

@@ -7,6 +7,6 @@ returns-clause-served g c =
     let old = c.args.connections.now in
     let new = c.read_once.new.connections in (
       r.served.0,
-      serves_read g.K.Keeper.standing g.S.Read.remaining g.S.Write.contents c.args.place old new c.args.stream.now c.read_once.new.reader r.served.0
+      serves_read g.M.Service.serving g.S.Read.remaining g.S.Write.contents c.args.place old new c.args.stream.now c.read_once.new.reader r.served.0
           r.served.1 r.opened r.others r.served.2,
     )

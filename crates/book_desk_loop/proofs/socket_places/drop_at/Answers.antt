@@ -1,10 +1,8 @@
-use Rattle.std.proofs.Common.{◌≡◌, ◌<◌, inl, inr, true, false, is_some, length, get_or, Option, None, Some, refl, sym, ap, subst, ◌∙◌, arith, rules}
+use Rattle.std.proofs.Common.{◌≡◌, true, is_some, Some, refl, subst, arith, rules}
 use Rattle.std.proofs.lemmas.Grind.{common_steps}
 use Rattle.book_desk_loop.specs.Closing.{DropsSome}
-use Rattle.book_desk_loop.specs.Serving.{Line, line_at, line_of}
-use Rattle.book_desk_loop.specs.Streams.{TakesATurn, WasAtEnd}
-use Rattle.book_desk_loop.specs.declared.sockets.Socket.{Socket}
-use Rattle.book_desk_loop.proofs.Serving.{same_line, set_lines}
+use Rattle.book_desk_loop.specs.Serving.{Line, line_at}
+use Rattle.book_desk_loop.proofs.Serving.{same_line}
 use Rattle.book_desk_loop.proofs.socket_places.drop_at.Goals as goal
 
 pub returns-in-Some-there-clause-there : goal.returns-in-Some-there-clause-there

@@ -8,4 +8,4 @@ pub release-requires : goal.release-requires
 release-requires g c = c.requires.ended c.in-Ended.is
 
 pub returns-in-Done : goal.returns-in-Done
-returns-in-Done g c = keeps_then g.S.Read.remaining g.S.Write.contents g.K.Keeper.standing c.args.self.now c.begin_to_close.new.self c.queue-in-Done.new.self c.begin_to_close.ensures c.queue-in-Done.ensures
+returns-in-Done g c = keeps_then g.S.Read.remaining g.S.Write.contents g.M.Service.serving c.args.self.now c.begin_to_close.new.self c.queue-in-Done.new.self c.begin_to_close.ensures c.queue-in-Done.ensures

@@ -6,5 +6,5 @@ pub returns : goal.returns
 returns g c =
     let s = c.args.self.now in
     let r = c.shows_nothing.ensures in
-    keeps_read g.S.Read.remaining g.S.Write.contents g.K.Keeper.standing s (record s { connections = c.shows_nothing.new.self; failures = c.failures-failures.result })
+    keeps_read g.S.Read.remaining g.S.Write.contents g.M.Service.serving s (record s { connections = c.shows_nothing.new.self; failures = c.failures-failures.result })
     (record { limits = refl; left = refl; held = refl }) r.runs r.places.0 r.places.1 refl

@@ -5,4 +5,4 @@ pub after_turn-requires-clause-done : goal.after_turn-requires-clause-done
 after_turn-requires-clause-done g c e = absurd (c.linger-turn.ensures.done e)
 
 pub returns : goal.returns
-returns g c = keeps_then g.S.Read.remaining g.S.Write.contents g.K.Keeper.standing c.args.self.now c.linger-turn.new.self c.after_turn.new.self c.linger-turn.ensures.keeps c.after_turn.ensures
+returns g c = keeps_then g.S.Read.remaining g.S.Write.contents g.M.Service.serving c.args.self.now c.linger-turn.new.self c.after_turn.new.self c.linger-turn.ensures.keeps c.after_turn.ensures

@@ -1,10 +1,7 @@
-use Rattle.std.proofs.Common.{◌≡◌, ◌<◌, inl, inr, true, false, is_some, length, get_or, Option, None, Some, refl, sym, ap, subst, ◌∙◌, arith, rules}
+use Rattle.std.proofs.Common.{◌≡◌, inl, inr, true, false, is_some, get_or, Option, None, Some, ap, arith, rules}
 use Rattle.std.proofs.lemmas.Grind.{common_steps}
-use Rattle.book_desk_loop.specs.Closing.{DropsSome}
 use Rattle.book_desk_loop.specs.Serving.{Line, line_at, line_of}
-use Rattle.book_desk_loop.specs.Streams.{TakesATurn, WasAtEnd}
 use Rattle.book_desk_loop.specs.declared.sockets.Socket.{Socket}
-use Rattle.book_desk_loop.proofs.Serving.{same_line, set_lines}
 use Rattle.book_desk_loop.proofs.looping.Server.is_over.Goals as goal
 
 pub returns-then-is_some : goal.returns-then-is_some

@@ -1,4 +1,4 @@
-use Rattle.std.proofs.Common.{List, Option, sym, subst}
+use Rattle.std.proofs.Common.{List, Option, subst}
 use Rattle.book_desk_loop.specs.Serving.{MayGiveWayAt}
 use Rattle.book_desk_loop.specs.declared.sockets.Socket.{Socket}
 use Rattle.book_desk_loop.proofs.Serving.{way_goes}

@@ -5,5 +5,5 @@ pub returns-in-Ok : goal.returns-in-Ok
 returns-in-Ok g c limits first faults y =
     let s = c.args.self.now in (
       y.0,
-      kept_take g.S.Read.remaining g.S.Write.contents g.K.Keeper.standing limits first faults s.connections s.sockets.items s.left c.fewer-self.result s.held c.in-Ok.stream y.1 c.requires.none_held c.fewer-self.ensures,
+      kept_take g.S.Read.remaining g.S.Write.contents g.M.Service.serving limits first faults s.connections s.sockets.items s.left c.fewer-self.result s.held c.in-Ok.stream y.1 c.requires.none_held c.fewer-self.ensures,
     )

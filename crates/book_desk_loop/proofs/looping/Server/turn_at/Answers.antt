@@ -1,10 +1,8 @@
-use Rattle.std.proofs.Common.{◌≡◌, ◌<◌, inl, inr, true, false, is_some, length, get_or, Option, None, Some, refl, sym, ap, subst, ◌∙◌, arith, rules}
+use Rattle.std.proofs.Common.{◌≡◌, true, is_some, Some, refl, ap, subst, arith, rules}
 use Rattle.std.proofs.lemmas.Grind.{common_steps}
-use Rattle.book_desk_loop.specs.Closing.{DropsSome}
-use Rattle.book_desk_loop.specs.Serving.{Line, line_at, line_of}
+use Rattle.book_desk_loop.specs.Serving.{Line, line_at}
 use Rattle.book_desk_loop.specs.Streams.{TakesATurn, WasAtEnd}
-use Rattle.book_desk_loop.specs.declared.sockets.Socket.{Socket}
-use Rattle.book_desk_loop.proofs.Serving.{same_line, set_lines}
+use Rattle.book_desk_loop.proofs.Serving.{same_line}
 use Rattle.book_desk_loop.proofs.looping.Server.turn_at.Goals as goal
 
 pub returns-in-Some-there-clause-turns : goal.returns-in-Some-there-clause-turns
@@ -13,7 +11,7 @@ returns-in-Some-there-clause-turns g c line at =
     let before : Line g.row.S.Denot = record { stream = s.stream; at_end = s.at_end; lingers = is_some s.dropped } in
     let was : line_at c.args.self.now.sockets.items c.args.place ≡ Some before = first_of (search rules, grind (arith, common_steps)) in
     let same : before ≡ line = same_line before line (line_at c.args.self.now.sockets.items c.args.place) was at in
-    let T : Line g.row.S.Denot → Type 0 = λ t. TakesATurn g.K.Keeper.standing g.S.Read.remaining g.S.Write.contents c.args.place c.args.self.now.connections c.take_turn.new.connections
+    let T : Line g.row.S.Denot → Type 0 = λ t. TakesATurn g.M.Service.serving g.S.Read.remaining g.S.Write.contents c.args.place c.args.self.now.connections c.take_turn.new.connections
     t.stream c.take_turn.new.stream t.at_end in
     let A : Line g.row.S.Denot → Type 0 = λ t. c.take_turn.new.at_end ≡ true → (t.at_end ≡ true → WasAtEnd g.S.Read.remaining g.S.Write.contents t.stream)
     → WasAtEnd g.S.Read.remaining g.S.Write.contents c.take_turn.new.stream in (

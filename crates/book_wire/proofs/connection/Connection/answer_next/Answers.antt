@@ -1,8 +1,9 @@
 use Rattle.book_wire.proofs.Common.{◌≡◌, ℕ, List, [], ◌++◌, length, refl, sym, ap, ◌∙◌, subst, append-nil, arith}
 use Rattle.book_wire.specs.Connection.{View, MayWait}
+use Rattle.book_wire.specs.Sending.{IsBegun}
 use Rattle.book_wire.specs.Stream.{IsPartial, WaitsFor}
 use Rattle.book_wire.specs.Turn.{IsPending, IsTurn}
-use Rattle.book_wire.proofs.Servings.{stays}
+use Rattle.book_wire_serving.proofs.Servings.{stays}
 use Rattle.book_wire.proofs.Streams.{waits_still, may_wait_after}
 use Rattle.book_wire.proofs.connection.Connection.answer_next.Goals as goal
 
@@ -19,7 +20,7 @@ returns-clause-ok g c =
     let t = c.in-Ok.ensures.ok in
     let same : c.self.inside.buffer ≡ c.args.self.now.unread = ap (λ (v : View). v.unread) c.self.view_is in
     let unsent : c.self.inside.outgoing ≡ c.args.self.now.unsent = ap (λ (v : View). v.unsent) c.self.view_is in
-    let P : List ℕ → Type 0 = λ u. IsTurn (g.K.Keeper.standing c.args.machine.now.keeper) u t.0 c.in-Ok.turn (g.K.Keeper.standing c.answer_one.new.machine.keeper) c.answer_one.new.buffer in
+    let P : List ℕ → Type 0 = λ u. IsTurn (g.M.Service.serving c.args.service.now) u t.0 c.in-Ok.turn (g.M.Service.serving c.answer_one.new.service) c.answer_one.new.buffer in
     (t.0, t.1 ∙ ap (λ (u : List ℕ). u ++ t.0) unsent, subst P same t.2, c.closes-self-inside.ensures)
 
 pub returns-in-Err-clause-err : goal.returns-in-Err-clause-err
@@ -28,8 +29,9 @@ returns-in-Err-clause-err g c =
     let x = e.1 in
     let same : c.self.inside.buffer ≡ c.args.self.now.unread = ap (λ (v : View). v.unread) c.self.view_is in
     let unsent : c.self.inside.outgoing ≡ c.args.self.now.unsent = ap (λ (v : View). v.unsent) c.self.view_is in
-    let P : List ℕ → Type 0 = λ u. IsPending (g.K.Keeper.standing c.args.machine.now.keeper) u x.0 (g.K.Keeper.standing c.answer_one.new.machine.keeper) in
-    (e.0, (x.0, [], x.0, subst P same x.1, refl, x.2 ∙ unsent ∙ sym (append-nil _)))
+    let P : List ℕ → Type 0 = λ u. IsPending (g.M.Service.serving c.args.service.now) u x.0 (g.M.Service.serving c.answer_one.new.service) in
+    let Q : List ℕ → Type 0 = λ u. IsBegun u x.0 c.answer_one.new.out in
+    (e.0, (x.0, subst P same x.1, subst Q unsent x.2))
 
 pub invariant_of-self-2 : goal.invariant_of-self-2
 invariant_of-self-2 g c =

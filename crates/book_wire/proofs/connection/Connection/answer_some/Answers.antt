@@ -6,7 +6,7 @@ use Rattle.book_wire.proofs.connection.Connection.answer_some.Goals as goal
 
 pub loop-alloc-init : goal.loop-alloc-init
 loop-alloc-init g c =
-    let s = g.K.Keeper.standing c.args.machine.now.keeper in
+    let s = g.M.Service.serving c.args.service.now in
     let u = c.args.self.now.unread in
     let same : c.self.inside.buffer ≡ u = ap (λ (v : View). v.unread) c.self.view_is in
     let P : List ℕ → Type 0 = λ t. SoFar s u [] 0 s t in (
@@ -65,11 +65,13 @@ returns-in-Refused-clause-ok g c =
       fed_refused _ _ _ _ x.0 t.0 _ _ t.2.0 t.2.1 _ x.4 t.2.2 t.2.3 t.2.4 t.3,
     )
 
-pub returns-in-Err-clause-write : goal.returns-in-Err-clause-write
-returns-in-Err-clause-write g c = λ _.
+pub returns-in-Err-clause-stops : goal.returns-in-Err-clause-stops
+returns-in-Err-clause-stops g c =
     let x = c.loop-alloc.invariant in
+    let stops = c.in-Err.ensures.err.0 in
     let e = c.in-Err.ensures.err.1 in (
-      x.0 ++ e.1,
-      more_then _ x.0 e.1 _ _ x.3 e.5,
-      stops_writing _ _ _ _ x.0 _ e.0 e.1 e.2 _ x.4 e.3 e.4,
+      stops,
+      x.0 ++ e.2.front,
+      more_then _ x.0 e.2.front _ _ x.3 e.2.added,
+      stops_writing _ _ _ _ x.0 _ e.0 e.2.front e.2.left _ x.4 e.1 e.2.cut,
     )

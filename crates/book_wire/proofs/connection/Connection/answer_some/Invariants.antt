@@ -5,7 +5,7 @@ use Rattle.book_wire.proofs.connection.Connection.answer_some.Given as goal
 abbrev pub invariant-loop-alloc : goal.invariant-loop-alloc
 invariant-loop-alloc g l =
     (more : List ℕ) × (count : ℕ) × (l.answered ≡ min count (2 ^ 64 - 1)) × (l.self.unsent ≡ l.fn.self.unsent ++ more)
-    × SoFar (g.K.Keeper.standing l.fn.machine.keeper) l.fn.self.unread more count (g.K.Keeper.standing l.machine.keeper) l.self.unread
+    × SoFar (g.M.Service.serving l.fn.service) l.fn.self.unread more count (g.M.Service.serving l.service) l.self.unread
     × (l.self.closing ≡ false) × (l.self.stalled ≡ false)
 
 abbrev pub decreases-loop-alloc : goal.decreases-loop-alloc
