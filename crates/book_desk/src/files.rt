@@ -109,7 +109,11 @@ fn open_policy(rt: &HostRuntime, name: &str) -> Result<Vec<u8>, Failure> {
 }
 
 /// The bytes of the policy's file, if one is named.
-fn read_policy_file(rt: &HostRuntime, name: Option<&str>) -> Result<Option<Vec<u8>>, Failure> {
+///
+/// # Errors
+///
+/// `Input` where it can't be read.
+pub fn read_policy_file(rt: &HostRuntime, name: Option<&str>) -> Result<Option<Vec<u8>>, Failure> {
     let Some(name) = name else {
         return Ok(None);
     };
@@ -324,12 +328,33 @@ fn open_store_file(
     open_at(rt, name, seed(rt)?)
 }
 
+/// Opens the store's file, if one is named.
+///
+/// # Errors
+///
+/// `Store` where it can't be opened, is missing or empty beside a log that holds a commit, or has to be there already and is
+/// missing or empty.
+pub fn open_store_named(
+    rt: &HostRuntime,
+    name: Option<&str>,
+    existing: bool,
+) -> Result<Option<FileConnection>, Failure> {
+    let wanted = if existing {
+        Wanted::Existing
+    } else {
+        Wanted::Any
+    };
+    match name {
+        Some(name) => Ok(Some(open_store_file(rt, name, wanted)?)),
+        None => Ok(None),
+    }
+}
+
 /// Reads the policy's file, and then opens the store's file, where they are named.
 ///
 /// # Errors
 ///
-/// `Input` where the policy's file can't be read, and `Store` where the store's can't be opened, is missing or empty beside
-/// a log that holds a commit, or has to be there already and is missing or empty.
+/// `Input` where the policy's file can't be read, and `Store` as `open_store_named`.
 pub fn open_inputs(
     rt: &HostRuntime,
     store: Option<&str>,
@@ -337,15 +362,7 @@ pub fn open_inputs(
     existing: bool,
 ) -> Result<Opened, Failure> {
     let policy = read_policy_file(rt, policy)?;
-    let wanted = if existing {
-        Wanted::Existing
-    } else {
-        Wanted::Any
-    };
-    let store = match store {
-        Some(name) => Some(open_store_file(rt, name, wanted)?),
-        None => None,
-    };
+    let store = open_store_named(rt, store, existing)?;
     Ok(Opened { store, policy })
 }
 

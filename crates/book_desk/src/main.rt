@@ -1,12 +1,14 @@
 //! The program `book_desk` of the shared contact books. Its words are read by `book_desk_words`. `book_desk_app` does
 //! the rest, over any store, reader and writers: `run_text` what `explain`, `card` and help do, `run` what `import`,
 //! `audit` and `pipe` do, `run_migration` and `serve` what the commands of their names do, and `prepare` what `serve`
-//! does before it listens, and `begin` what `init` does in a folder. `run_question` of `book_desk_questions` does what
+//! does before it listens, and `begin` what `init` does in a folder. `Logged` of `book_log_service` serves where a log is
+//! named, and `run_denials` of `book_desk_denials` does what `denials` does. `run_question` of `book_desk_questions` does what
 //! `why`, `who`, `rights`, `ask`, `show` and the `audit` of a part do, `run_dump` what `dump` does, and `run_differs` what
 //! `differs` does; `check` and `check_over` of `book_desk_checks` do what `check` does. Their contracts say what is
 //! written where these tell their bytes. Nothing stands above it: `main` joins them to the process, to the files
 //! (`files`, `folders`) and to the port, and tells each stage before it calls it, where standard error is a terminal
-//! (`progress`). The commands that make stores are in `keeping`, over `book_desk_keeping`.
+//! (`progress`). The commands that make stores are in `keeping`, over `book_desk_keeping`; those that serve are in `serving`, and
+//! the log's file and `denials` in `logs`, over `book_desk_logs`.
 #![tactic(auto)]
 
 ghost use Rattle.std.specs.Prelude.{◌≡◌};
@@ -21,23 +23,22 @@ mod examining;
 mod files;
 mod folders;
 mod keeping;
+mod logs;
 mod progress;
+mod serving;
 
 use beginnings::BEGINNING;
 use book_desk_app::{
-    Failure, InputFault, Lines, Noting, Prepared, StoreFailure, TextCommand, Work, begin, prepare,
-    run, run_migration, run_text, serve, serve_many, tell, tell_line,
+    Failure, InputFault, Lines, Noting, StoreFailure, TextCommand, Work, begin, run, run_migration,
+    run_text, tell, tell_line,
 };
 use book_desk_checks::{check, check_over};
 use book_desk_keeping::tell_fault;
-use book_desk_loop::{Limits, Polled};
 use book_desk_questions::{
     DecisionWords, PartWords, RightsWords, WhoWords, WhyWords, Words, run_differs, run_dump,
     run_question,
 };
 use book_desk_words::{Command, WordsFault, command_of, words_not_text};
-use book_machine::Machine;
-use book_office::Keeper;
 use book_questions_audit::Wanted;
 use book_tables_schema::Unopened;
 use builds::BUILD;
@@ -46,15 +47,14 @@ use examining::examine;
 use files::{FileConnection, Opened, close, open_former, open_inputs};
 use folders::{DiskFolder, make_folder, remove_folder};
 use keeping::{backup, check_backup, compact, load, restore};
+use logs::denials;
 use progress::{Stage, tell_stage};
+use serving::{Listening, Served, serve_named};
 use sqlite::{Alter, Connection};
 use std::env;
 use std::io::{self, BufReader, Write};
-use std::net::{Ipv4Addr, Net, SocketAddr, TcpListener};
-use std::os::fd::AsFd;
 use std::process::ExitCode;
-use std::rt::{Clock, Env};
-use std::time::Duration;
+use std::rt::Env;
 
 /// The version of the stores that the program makes.
 const STORE_VERSION: u8 = 2;
@@ -341,166 +341,6 @@ fn tell_differences<W: Write, E: Lines>(
     status
 }
 
-/// Where `serve` listens, how many connections it serves, and how.
-#[derive(Clone, Copy)]
-struct Service {
-    /// The port.
-    port: u16,
-    /// How many connections; none where there is no end.
-    connections: Option<u16>,
-    /// How many at once; none where they are served one after the other.
-    at_once: Option<u16>,
-    /// After how many seconds in which it moves no byte a connection is closed.
-    idle: Option<u16>,
-}
-
-/// How connections are served by the loop: so many at once, or one after the other, of which none gives its place away.
-fn limits_of(service: Service) -> Limits {
-    let idle = match service.idle {
-        Some(seconds) => Some(Duration::from_secs(u64::from(seconds))),
-        None => None,
-    };
-    Limits {
-        at_once: usize::from(service.at_once.unwrap_or(1)),
-        total: service.connections,
-        idle,
-        gives_way: service.at_once.is_some(),
-    }
-}
-
-/// Serves the connections of a listener by the loop.
-fn serve_at_once_on<K: Keeper, N: Net + Clock + AllocGlobal, W: Write, E: Lines>(
-    rt: &N,
-    machine: Machine<K>,
-    listener: &TcpListener,
-    limits: Limits,
-    writer: &mut W,
-    errors: &mut E,
-) -> (Machine<K>, u8) {
-    let alloc = rt.alloc();
-    if listener.set_nonblocking(true).is_err() {
-        return (machine, tell(errors, &Failure::Listen));
-    }
-    match Polled::new(rt, alloc, listener) {
-        Ok(mut readiness) => {
-            let (machine, _, status) = serve_many(
-                alloc,
-                machine,
-                listener,
-                &mut readiness,
-                limits,
-                writer,
-                errors,
-            );
-            (machine, status)
-        }
-        Err(_) => (machine, tell(errors, &Failure::Listen)),
-    }
-}
-
-/// Serves the connections of a listener: by the loop where many are served at once, or where there is no end of them.
-fn serve_all<K: Keeper, N: Net + Clock + AllocGlobal, W: Write, E: Lines>(
-    rt: &N,
-    mut machine: Machine<K>,
-    listener: &TcpListener,
-    service: Service,
-    writer: &mut W,
-    errors: &mut E,
-) -> (Machine<K>, u8) {
-    match (service.at_once, service.connections) {
-        (None, Some(connections)) => {
-            let status = serve(
-                rt,
-                rt.alloc(),
-                &mut machine,
-                listener,
-                u64::from(connections),
-                writer,
-                errors,
-            );
-            (machine, status)
-        }
-        _ => serve_at_once_on(rt, machine, listener, limits_of(service), writer, errors),
-    }
-}
-
-/// A listener of this host at the port, which waits, with the longest backlog that the system allows.
-fn listener_at<N: Net>(rt: &N, port: u16) -> io::Result<TcpListener> {
-    let address = SocketAddr::from((Ipv4Addr::LOCALHOST, port));
-    let listener = mio::net::TcpListener::bind(rt, address)?;
-    let listener = TcpListener::from(listener.as_fd().try_clone_to_owned()?);
-    listener.set_nonblocking(false)?;
-    Ok(listener)
-}
-
-/// Listens on the port, and serves the connections.
-fn serve_on<K: Keeper, N: Net + Clock + AllocGlobal, W: Write, E: Lines>(
-    rt: &N,
-    machine: Machine<K>,
-    service: Service,
-    writer: &mut W,
-    errors: &mut E,
-) -> (Machine<K>, u8) {
-    match listener_at(rt, service.port) {
-        Ok(listener) => serve_all(rt, machine, &listener, service, writer, errors),
-        Err(_) => (machine, tell(errors, &Failure::Listen)),
-    }
-}
-
-/// Serves the Office of a machine that is ready, and gives its store back, if there is one.
-fn serve_prepared<S: Alter + Drop, N: Net + Clock + AllocGlobal, W: Write, E: Lines>(
-    rt: &N,
-    prepared: Prepared<S>,
-    service: Service,
-    writer: &mut W,
-    errors: &mut E,
-) -> (u8, Option<Connection<S>>) {
-    match prepared {
-        Prepared::Memory(machine) => {
-            let (machine, status) = serve_on(rt, machine, service, writer, errors);
-            (status, Prepared::Memory(machine).release())
-        }
-        Prepared::Store(machine) => {
-            let (machine, status) = serve_on(rt, machine, service, writer, errors);
-            (status, Prepared::Store(machine).release())
-        }
-    }
-}
-
-/// The command `serve`: the policy's file is read, the store's file is opened, and connections are served.
-fn serve_with<W: Write, E: Lines>(
-    rt: &HostRuntime,
-    named: Named<'_>,
-    service: Service,
-    writer: &mut W,
-    errors: &mut E,
-) -> u8 {
-    let Opened { store, policy } = match open_inputs(
-        rt,
-        named.store,
-        named.policy,
-        named.existing,
-    ) {
-        Ok(opened) => opened,
-        Err(failure) => return tell(errors, &failure),
-    };
-    if policy.is_some() {
-        tell_stage(rt, Stage::Adopting);
-    }
-    let (status, store) = match prepare(rt.alloc(), store, policy) {
-        Ok(prepared) => serve_prepared(rt, prepared, service, writer, errors),
-        // A store whose tables were not had is let go as it is.
-        Err((Failure::Store(failure), store)) => {
-            drop(store);
-            (tell(errors, &Failure::Store(failure)), None)
-        }
-        Err((failure, Some(left))) => (tell(errors, &failure), connection_of(left)),
-        Err((failure, None)) => (tell(errors, &failure), None),
-    };
-    close(store);
-    status
-}
-
 /// Prints the help that the words ask for.
 fn print_help<W: Write, E: Write>(
     rt: &HostRuntime,
@@ -575,13 +415,19 @@ fn perform<W: Write, E: Lines>(
             let words = words_of_part(at.as_deref(), wanted);
             ask(rt, store.as_str(), &words, writer, errors)
         }
-        Command::Pipe { store, policy } => {
+        Command::Pipe { store, policy, log } => {
             let named = Named {
                 store: store.as_deref(),
                 policy: policy.as_deref(),
                 existing: false,
             };
-            work(rt, Work::Pipe, named, writer, errors)
+            match log.as_deref() {
+                None => work(rt, Work::Pipe, named, writer, errors),
+                log => serve_named(rt, named, log, Served::Requests, writer, errors),
+            }
+        }
+        Command::Denials { log, since, json } => {
+            denials(rt, log.as_str(), since.as_deref(), *json, writer, errors)
         }
         Command::Migrate { store } => migrate(rt, store.as_str(), writer, errors),
         Command::Why {
@@ -702,19 +548,20 @@ fn perform<W: Write, E: Lines>(
             store,
             policy,
             existing,
+            log,
         } => {
             let named = Named {
                 store: store.as_deref(),
                 policy: policy.as_deref(),
                 existing: *existing,
             };
-            let service = Service {
+            let served = Served::Connections(Listening {
                 port: *port,
                 connections: *connections,
                 at_once: *at_once,
                 idle: *idle,
-            };
-            serve_with(rt, named, service, writer, errors)
+            });
+            serve_named(rt, named, log.as_deref(), served, writer, errors)
         }
     }
 }

@@ -7,7 +7,7 @@ use Rattle.clap.specs.Words.{Kinds, Row, Text, first_of, one_text, rows_of}
 use Rattle.clap.specs.declared.parser.matches.Found.{Found}
 use Rattle.clap.proofs.WalkLemmas.{one_text-rows}
 use Rattle.book_desk_words.specs.CommandLine.{HasCounts, HasNumber, IsRefused, MatchesNone, MayHaveNumber, ReadsAs, ReadsNone}
-use Rattle.book_desk_words.specs.declared.commands.Command.TheVariants.{Explain, Card, Init, Import, Check, Audit, Migrate, Why, Who, Rights, Ask, Differs, Dump, Show, Load, Compact, Backup, CheckBackup, Restore, Doctor, Pipe, Serve, Help, Version}
+use Rattle.book_desk_words.specs.declared.commands.Command.TheVariants.{Explain, Card, Init, Import, Check, Audit, Migrate, Why, Who, Rights, Ask, Differs, Dump, Show, Load, Compact, Backup, CheckBackup, Restore, Doctor, Denials, Pipe, Serve, Help, Version}
 use Rattle.book_desk_words.specs.declared.commands.WordsFault.{WordsFault}
 use Rattle.book_desk_words.specs.declared.commands.WordsFault.TheVariants.{Usage, Memory}
 use Rattle.book_desk_words.specs.WordsFaults.{IsUsage, serve_wants}
@@ -94,10 +94,13 @@ is_not_restore e = let first : slice_index (codes "serve") 0 ≡ slice_index (co
 is_not_doctor : codes "serve" ≡ codes "doctor" → ⊥
 is_not_doctor e = cc (e)
 
+is_not_denials : codes "serve" ≡ codes "denials" → ⊥
+is_not_denials e = let first : slice_index (codes "serve") 0 ≡ slice_index (codes "denials") 0 = ap (λ (t : Text). slice_index t 0) e in omega arith
+
 module _ (rows : List Row) where
   -- no command `serve` is read of the matches
-  serve_lacks : ((port : ℕ) (connections at_once idle : Option ℕ) (store policy : Option (String Global)) (existing : Bool)
-      → ReadsAs (codes "serve") rows (Serve port connections at_once idle store policy existing) → ⊥) → ReadsNone (codes "serve") rows
+  serve_lacks : ((port : ℕ) (connections at_once idle : Option ℕ) (store policy log : Option (String Global)) (existing : Bool)
+      → ReadsAs (codes "serve") rows (Serve port connections at_once idle store policy existing log) → ⊥) → ReadsNone (codes "serve") rows
   serve_lacks none Explain e = cc (e)
   serve_lacks none Card e = cc (e)
   serve_lacks none (Init folder) r = is_not_init r.0
@@ -118,16 +121,17 @@ module _ (rows : List Row) where
   serve_lacks none (CheckBackup store copy) r = is_not_backup r.0
   serve_lacks none (Restore store from paths) r = is_not_restore r.0
   serve_lacks none (Doctor store) r = is_not_doctor r.0
-  serve_lacks none (Pipe store policy) r = is_not_pipe r.0
-  serve_lacks none (Serve port connections at_once idle store policy existing) r = none port connections at_once idle store policy existing r
+  serve_lacks none (Denials log since json) r = is_not_denials r.0
+  serve_lacks none (Pipe store policy log) r = is_not_pipe r.0
+  serve_lacks none (Serve port connections at_once idle store policy existing log) r = none port connections at_once idle store policy log existing r
   serve_lacks none (Help text) r = r
   serve_lacks none (Version text) r = r
 
   pub without_port : HasNoNumber rows (codes "port") → ReadsNone (codes "serve") rows
-  without_port none = serve_lacks (λ port connections at_once idle store policy existing r. none port r.2 r.1)
+  without_port none = serve_lacks (λ port connections at_once idle store policy log existing r. none port r.2 r.1)
 
   pub without_counts : ((connections at_once idle : Option ℕ) → HasCounts rows connections at_once idle → ⊥) → ReadsNone (codes "serve") rows
-  without_counts none = serve_lacks (λ port connections at_once idle store policy existing r. none connections at_once idle r.3)
+  without_counts none = serve_lacks (λ port connections at_once idle store policy log existing r. none connections at_once idle r.3)
 
 -- clap lets the words pass, no command is read of their matches, and that is told
 pub none_told : (found : Option (Text × List Row)) (kinds : Kinds) (fault : WordsFault)

@@ -13,7 +13,7 @@ use Rattle.clap.specs.declared.builder.value_parser.ValueParser.TheVariants as p
 use Rattle.clap.specs.declared.error.kind.ErrorKind.{ErrorKind}
 use Rattle.clap.specs.declared.error.kind.ErrorKind.TheVariants as kind
 use Rattle.book_desk_words.specs.declared.commands.Command.{Command}
-use Rattle.book_desk_words.specs.declared.commands.Command.TheVariants.{Explain, Card, Init, Import, Check, Audit, Migrate, Why, Who, Rights, Ask, Differs, Dump, Show, Load, Compact, Backup, CheckBackup, Restore, Doctor, Pipe, Serve, Help, Version}
+use Rattle.book_desk_words.specs.declared.commands.Command.TheVariants.{Explain, Card, Init, Import, Check, Audit, Migrate, Why, Who, Rights, Ask, Differs, Dump, Show, Load, Compact, Backup, CheckBackup, Restore, Doctor, Denials, Pipe, Serve, Help, Version}
 use Rattle.book_desk_words.specs.declared.commands.WordsFault.{WordsFault}
 use Rattle.book_desk_words.specs.declared.commands.WordsFault.TheVariants.{Usage, Memory}
 use Rattle.book_desk_words.specs.WordsFaults.{IsUsage, serve_wants}
@@ -163,9 +163,16 @@ restore_app =
 abbrev pub doctor_app : App
 doctor_app = with_rule (new_app (codes "doctor")) (required_rule (codes "store"))
 
--- the options that name the files of the store and of the policy
+-- a log, and what of it is told, and how
+abbrev pub denials_app : App
+denials_app =
+    with_rule (with_rule (with_rule (new_app (codes "denials")) (word_rule (codes "log"))) (option_rule (codes "since"))) (flag_rule (codes "json"))
+
+-- the options that name the files of the store, of the policy and of the log
 abbrev pub with_files : App → App
-with_files app = with_rule (with_rule (with_rule app (option_rule (codes "store"))) (option_rule (codes "policy"))) (flag_rule (codes "cause"))
+with_files app =
+    with_rule (with_rule (with_rule (with_rule app (option_rule (codes "store"))) (option_rule (codes "policy"))) (flag_rule (codes "cause")))
+    (option_rule (codes "log"))
 
 abbrev pub pipe_app : App
 pipe_app = with_files (new_app (codes "pipe"))
@@ -198,11 +205,11 @@ with_serving app =
     with_subcommand (with_subcommand (with_subcommand (with_subcommand (with_subcommand app migrate_app.top)
     why_app.top) pipe_app.top) serve_app.top) check_app.top
 
--- those that ask a store
+-- those that ask a store, and the one that asks a log
 abbrev pub with_asking : App → App
 with_asking app =
-    with_subcommand (with_subcommand (with_subcommand (with_subcommand (with_subcommand (with_subcommand app
-    who_app.top) rights_app.top) dump_app.top) show_app.top) ask_app.top) differs_app.top
+    with_subcommand (with_subcommand (with_subcommand (with_subcommand (with_subcommand (with_subcommand (with_subcommand app
+    who_app.top) rights_app.top) dump_app.top) show_app.top) ask_app.top) differs_app.top) denials_app.top
 
 -- those that make and keep stores
 abbrev pub with_keeping : App → App
@@ -319,13 +326,18 @@ ReadsAs name rows (Restore store from paths) =
     (name ≡ codes "restore") × NamesFile rows (codes "store") (Some store) × NamesFile rows (codes "from") (Some from)
     × HasTexts rows (codes "path") (Some paths)
 ReadsAs name rows (Doctor store) = (name ≡ codes "doctor") × NamesFile rows (codes "store") (Some store)
-ReadsAs name rows (Pipe store policy) =
+ReadsAs name rows (Denials log since json) =
+    (name ≡ codes "denials") × NamesFile rows (codes "log") (Some log) × NamesFile rows (codes "since") since
+    × (json ≡ has_flag rows (codes "json"))
+ReadsAs name rows (Pipe store policy log) =
     (name ≡ codes "pipe") × NamesFile rows (codes "store") store × NamesFile rows (codes "policy") policy
-ReadsAs name rows (Serve port connections at_once idle store policy existing) =
+    × NamesFile rows (codes "log") log
+ReadsAs name rows (Serve port connections at_once idle store policy existing log) =
     (name ≡ codes "serve") × HasNumber rows (codes "port") port × (port ≤ 65535)
     × HasCounts rows connections at_once idle
     × NamesFile rows (codes "store") store × NamesFile rows (codes "policy") policy
     × (existing ≡ has_flag rows (codes "existing")) × (existing ≡ true → is_some store ≡ true)
+    × NamesFile rows (codes "log") log
 ReadsAs name rows (Help text) = ⊥
 ReadsAs name rows (Version text) = ⊥
 

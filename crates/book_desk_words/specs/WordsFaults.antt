@@ -19,6 +19,9 @@ usage_text wrong = codes "error: " ++ wrong ++ codes "\n\nUsage: book_desk <COMM
 abbrev pub not_text : List ℕ
 not_text = codes "invalid UTF-8 was detected in one or more arguments"
 
+abbrev pub not_time : List ℕ
+not_time = codes "denials wants '--since <TIME>' as 2026-11-29T00:45:58.123Z"
+
 -- what the options of serve want of each other, and the words of why
 abbrev pub serve_wants : List ℕ
 serve_wants = codes "serve wants one of '--connections <N>' and '--forever', with '--idle <N>' also '--at-once <N>', and with '--existing' also '--store <FILE>'; why wants DESTINATION with COPY and MOVE; backup wants one of '--to <NEW>' and '--check <COPY>'"

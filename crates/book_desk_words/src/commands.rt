@@ -5,12 +5,14 @@ ghost use Rattle.clap.specs.Faults.{fault_of};
 ghost use Rattle.clap.specs.Values.{kind_of};
 ghost use Rattle.clap.specs.Words.{first_of, found_of, rows_of, subcommand_of, subcommand_rows_of};
 ghost use Rattle.book_desk_words.specs.CommandLine.{program_app, has_flag, HasCounts, HasNumber, HasTexts, IsAskedBy, IsMatched, IsRefused, MatchesNone, MayHaveNumber, NamesFile, Reads, ReadsAs, ReadsNone};
-ghost use Rattle.book_desk_words.specs.WordsFaults.{IsUsage, not_text, usage_text, words_status};
+ghost use Rattle.book_desk_words.specs.WordsFaults.{IsUsage, not_text, not_time, usage_text, words_status};
 
-use crate::helps::{NOT_TEXT, SERVE_WANTS, USAGE_LINES};
+use crate::helps::{NOT_TEXT, NOT_TIME, SERVE_WANTS, USAGE_LINES};
 use crate::keeping::{backup_of, compact_of, doctor_of, load_of, restore_of};
 use crate::programs::program;
-use crate::questions::{ask_of, differs_of, dump_of, rights_of, show_of, who_of, why_of};
+use crate::questions::{
+    ask_of, denials_of, differs_of, dump_of, rights_of, show_of, who_of, why_of,
+};
 use clap::ArgMatches;
 use clap::error::ErrorKind;
 use std::alloc::{AllocError, Global};
@@ -206,12 +208,23 @@ pub enum Command {
         /// The file of the store.
         store: String,
     },
+    /// Tell who was refused what, from a log.
+    Denials {
+        /// The file of the log.
+        log: String,
+        /// A text that is to be a time in the form that a log has: what was before it is not told.
+        since: Option<String>,
+        /// Whether each line is an object.
+        json: bool,
+    },
     /// Serve the requests on standard input.
     Pipe {
         /// The file of the store; without one it is in memory.
         store: Option<String>,
         /// The file of a policy that is adopted first.
         policy: Option<String>,
+        /// The file of the log; without one there is none.
+        log: Option<String>,
     },
     /// Serve connections.
     Serve {
@@ -229,6 +242,8 @@ pub enum Command {
         policy: Option<String>,
         /// Whether the store has to be there already: a file that is missing or empty is no store. Never without one.
         existing: bool,
+        /// The file of the log; without one there is none.
+        log: Option<String>,
     },
     /// Print this text, the help that the words ask for.
     Help(String),
@@ -424,6 +439,7 @@ fn serve_of(alloc: Global, found: &ArgMatches<'_>) -> Result<Option<Command>, Al
     if existing && store.is_none() {
         return Ok(None);
     }
+    let log = file_in(alloc, found, "log")?;
     Ok(Some(Command::Serve {
         port,
         connections: counts.connections,
@@ -432,6 +448,7 @@ fn serve_of(alloc: Global, found: &ArgMatches<'_>) -> Result<Option<Command>, Al
         store,
         policy,
         existing,
+        log,
     }))
 }
 
@@ -443,7 +460,8 @@ fn pipe_of(alloc: Global, found: &ArgMatches<'_>) -> Result<Option<Command>, All
 {
     let store = file_in(alloc, found, "store")?;
     let policy = file_in(alloc, found, "policy")?;
-    Ok(Some(Command::Pipe { store, policy }))
+    let log = file_in(alloc, found, "log")?;
+    Ok(Some(Command::Pipe { store, policy, log }))
 }
 
 /// The command `init` with what the words give it; none where the folder is missing.
@@ -569,6 +587,7 @@ fn command_named(
         "backup" => backup_of(alloc, found),
         "restore" => restore_of(alloc, found),
         "doctor" => doctor_of(alloc, found),
+        "denials" => denials_of(alloc, found),
         "pipe" => pipe_of(alloc, found),
         "serve" => serve_of(alloc, found),
         _ => Ok(None),
@@ -623,6 +642,14 @@ fn usage(alloc: Global, wrong: &str) -> WordsFault
     }
 }
 
+/// A text of `denials` that is no time makes the words no command: `Usage` with the text that tells it, or `Memory` where
+/// memory was refused.
+pub fn words_not_time(alloc: Global) -> WordsFault
+    ensures { IsUsage not_time result }
+{
+    usage(alloc, NOT_TIME)
+}
+
 /// Words that are not UTF-8 are no command: `Usage` with the text that tells it, or `Memory` where memory was refused.
 pub fn words_not_text(alloc: Global) -> WordsFault
     ensures { IsUsage not_text result }
@@ -634,8 +661,8 @@ pub fn words_not_text(alloc: Global) -> WordsFault
 ///
 /// A command that it answers is the one that clap's matches of the words give: the subcommand that was met, its port
 /// from 0 to 65,535, its number of connections from 1 to 10,000 or that there is no end, how many at once from 1 to 1,000
-/// and the seconds from 1 to 3,600 after which an idle one is closed, if they are given, the files of its store and its
-/// policy, if they name them, whether the store has to be there already, and the folder of `init`. Help, or the version, is
+/// and the seconds from 1 to 3,600 after which an idle one is closed, if they are given, the files of its store, its
+/// policy and its log, if they name them, whether the store has to be there already, and the folder of `init`. Help, or the version, is
 /// answered only where clap takes the words to ask for it.
 ///
 /// # Errors

@@ -4,7 +4,7 @@ pub(crate) const ABOUT: &str =
     "Shared contact books of an office: WebDAV access lists (RFC 3744) and vCards (RFC 6350)";
 
 /// The number of VERSION, at the top of the repository, which `tools/check-streams` compares.
-pub(crate) const VERSION: &str = "0.6.0";
+pub(crate) const VERSION: &str = "0.7.0";
 
 /// What follows a text of what is wrong with the words.
 pub(crate) const USAGE_LINES: &str =
@@ -12,6 +12,9 @@ pub(crate) const USAGE_LINES: &str =
 
 /// What is wrong with words that are not UTF-8.
 pub(crate) const NOT_TEXT: &str = "invalid UTF-8 was detected in one or more arguments";
+
+/// What is wrong with a time that is none.
+pub(crate) const NOT_TIME: &str = "denials wants '--since <TIME>' as 2026-11-29T00:45:58.123Z";
 
 /// What the options of `serve` want of each other, and the words of `why` and `backup`.
 pub(crate) const SERVE_WANTS: &str =
@@ -560,6 +563,32 @@ Told on standard error, on a line
 Status: 0 sound; 2 usage; 3 the store, memory, or a failed write.
 ";
 
+pub(crate) const DENIALS: &str = "Tells who was refused what, from a log";
+
+pub(crate) const LOG_WORD: &str = "The file of a log that --log of serve or pipe wrote";
+
+pub(crate) const SINCE: &str = "Only denials that are not before this time";
+
+pub(crate) const DENIALS_TEXT: &str = "\
+It reads FILE line by line. As in: book_desk denials --since 2026-11-29T00:00:00.000Z office.log
+
+Output, a line for each caller, method and path, and what was denied there by which entry, in byte order of what follows LAST
+  N FIRST LAST CALLER METHOD PATH: RESOURCE PRIVILEGE by own|protected entry M at FROM: ENTRY
+  N FIRST LAST CALLER METHOD PATH: RESOURCE PRIVILEGE, no entry grants it
+N is how often, FIRST and LAST are when, and - stands for nobody, and for what was not read. ENTRY is JSON, as ACL takes it.
+With --json each line is an object; the manual has its keys.
+
+Told on standard error, on a line
+  input: read           FILE could not be read, or memory was refused
+  line N: bad-line      the line is none of a log, to the letter; nothing was printed
+  output: write         it could not be written
+
+Status: 0 printed; 1 a line is none; 2 usage, or TIME is none; 3 memory, or a failed read or write.
+";
+
+pub(crate) const LOG: &str =
+    "A file to which a line of JSON is added for each reply; it is made where it is missing";
+
 pub(crate) const PIPE: &str = "Serves the requests on standard input";
 
 pub(crate) const PIPE_TEXT: &str = "\
@@ -578,6 +607,7 @@ Told on standard error, each on a line
   policy: FAULT         the policy is refused: not-toml, other-version, bad-key, bad-name, name-twice,
                         unknown-principal, unknown-resource, unknown-privilege, too-many, or memory
   adopt: FAULT          the policy was not adopted: full, or unavailable
+  log: open             the log can't be opened
   stream: FAULT         serving ended: memory, read, or write
 
 Status: 0 each request was answered, or the stream closed after a reply; 1 the input ends within a request, or the

@@ -13,4 +13,4 @@ mod keeping;
 mod programs;
 mod questions;
 
-pub use commands::{Command, WordsFault, command_of, words_not_text};
+pub use commands::{Command, WordsFault, command_of, words_not_text, words_not_time};

@@ -2,19 +2,19 @@
 
 ghost use Rattle.std.specs.Prelude.{◌≡◌, IfOk, false, codes};
 ghost use Rattle.clap.specs.Words.{App, Rule, new_app, rule_of, with_rule, with_subcommand};
-ghost use Rattle.book_desk_words.specs.CommandLine.{IsMade, IsProgram, program_app, top_app, ask_app, audit_app, backup_app, check_app, compact_app, differs_app, doctor_app, dump_app, import_app, init_app, load_app, migrate_app, pipe_app, restore_app, rights_app, serve_app, show_app, who_app, why_app, flag_rule, last_word_rule, option_rule, options_rule, counted_rule, number_rule, required_rule, with_asking, with_checked, with_decision, with_ends, with_files, with_first, with_keeping, with_owners, with_pace, with_part, with_past, with_places, with_privilege, with_question, with_scope, with_serving, with_store, whole_rule, word_rule, words_rule};
+ghost use Rattle.book_desk_words.specs.CommandLine.{IsMade, IsProgram, program_app, top_app, ask_app, audit_app, backup_app, check_app, compact_app, denials_app, differs_app, doctor_app, dump_app, import_app, init_app, load_app, migrate_app, pipe_app, restore_app, rights_app, serve_app, show_app, who_app, why_app, flag_rule, last_word_rule, option_rule, options_rule, counted_rule, number_rule, required_rule, with_asking, with_checked, with_decision, with_ends, with_files, with_first, with_keeping, with_owners, with_pace, with_part, with_past, with_places, with_privilege, with_question, with_scope, with_serving, with_store, whole_rule, word_rule, words_rule};
 
 use crate::helps::{
     ABOUT, ABOVE, ASK, ASK_TEXT, ASKED_STORE, AT_ONCE, AUDIT, AUDIT_TEXT, BACKUP, BACKUP_CHECK,
     BACKUP_TEXT, BACKUP_TO, BELOW, BOOKS, CALLER, CARD, CARD_TEXT, CAUSE, CHECK, CHECK_TEXT,
-    CHECKED_STORE, COMPACT, COMPACT_TEXT, CONNECTIONS, DENIED, DESTINATION, DIFFERS,
-    DIFFERS_STRICT, DIFFERS_TEXT, DOCTOR, DOCTOR_TEXT, DUMP, DUMP_TEXT, DUMP_WORD, EXISTING,
-    EXPLAIN, FIRST_STORE, FOLDER, FOREVER, FORGET_REMOVED, FOUNDED_STORE, HEIR, IDLE, IMPORT,
-    IMPORT_TEXT, INIT, INIT_TEXT, JSON, KEPT_STORE, LABELS, LOAD, LOAD_TEXT, MIGRATE, MIGRATE_TEXT,
-    NEW_EPOCH, NEW_STORE, OWNED_AT, OWNER, PERSON, PIPE, PIPE_TEXT, POLICY, POLICY_WORD, PORT,
-    PRIVILEGE, QUESTION, RESOURCE, RESTORE, RESTORE_FROM, RESTORE_TEXT, RESTORED, RIGHTS,
-    RIGHTS_TEXT, SERVE, SERVE_TEXT, SHARED, SHOW, SHOW_TEXT, STRICT, VERSION, WHAT, WHO, WHO_TEXT,
-    WHY, WHY_TEXT, WITHOUT,
+    CHECKED_STORE, COMPACT, COMPACT_TEXT, CONNECTIONS, DENIALS, DENIALS_TEXT, DENIED, DESTINATION,
+    DIFFERS, DIFFERS_STRICT, DIFFERS_TEXT, DOCTOR, DOCTOR_TEXT, DUMP, DUMP_TEXT, DUMP_WORD,
+    EXISTING, EXPLAIN, FIRST_STORE, FOLDER, FOREVER, FORGET_REMOVED, FOUNDED_STORE, HEIR, IDLE,
+    IMPORT, IMPORT_TEXT, INIT, INIT_TEXT, JSON, KEPT_STORE, LABELS, LOAD, LOAD_TEXT, LOG, LOG_WORD,
+    MIGRATE, MIGRATE_TEXT, NEW_EPOCH, NEW_STORE, OWNED_AT, OWNER, PERSON, PIPE, PIPE_TEXT, POLICY,
+    POLICY_WORD, PORT, PRIVILEGE, QUESTION, RESOURCE, RESTORE, RESTORE_FROM, RESTORE_TEXT,
+    RESTORED, RIGHTS, RIGHTS_TEXT, SERVE, SERVE_TEXT, SHARED, SHOW, SHOW_TEXT, SINCE, STRICT,
+    VERSION, WHAT, WHO, WHO_TEXT, WHY, WHY_TEXT, WITHOUT,
 };
 use clap::{Arg, ArgAction, value_parser};
 use std::alloc::{AllocError, Global};
@@ -407,13 +407,23 @@ fn doctor<'a>(alloc: Global) -> Made<'a>
     with_word(made, file_needed(alloc, "store", ASKED_STORE))
 }
 
-/// The command with the options that name the files of the store and of the policy.
+/// The command with the options that name the files of the store, of the policy and of the log.
 fn with_files<'a>(alloc: Global, made: Made<'a>) -> Made<'a>
     ensures { (app : App) → IsMade app made.entry → IsMade (with_files app) result }
 {
     let made = with_word(made, value_option(alloc, "store", "FILE", KEPT_STORE));
     let made = with_word(made, value_option(alloc, "policy", "FILE", POLICY));
-    with_word(made, flag_option(alloc, "cause", CAUSE))
+    let made = with_word(made, flag_option(alloc, "cause", CAUSE));
+    with_word(made, value_option(alloc, "log", "FILE", LOG))
+}
+
+fn denials<'a>(alloc: Global) -> Made<'a>
+    ensures { IsMade denials_app result }
+{
+    let made = begun(alloc, "denials", DENIALS, DENIALS_TEXT);
+    let made = with_word(made, word_needed(alloc, "log", "FILE", LOG_WORD));
+    let made = with_word(made, value_option(alloc, "since", "TIME", SINCE));
+    with_word(made, flag_option(alloc, "json", JSON))
 }
 
 fn pipe<'a>(alloc: Global) -> Made<'a>
@@ -496,7 +506,7 @@ fn with_serving<'a>(alloc: Global, program: Made<'a>) -> Made<'a>
     added(program, check(alloc))
 }
 
-/// The program with the commands that ask a store.
+/// The program with the commands that ask a store, and the one that asks a log.
 fn with_asking<'a>(alloc: Global, program: Made<'a>) -> Made<'a>
     ensures { (app : App) → IsProgram app program.entry → IsProgram (with_asking app) result }
 {
@@ -505,7 +515,8 @@ fn with_asking<'a>(alloc: Global, program: Made<'a>) -> Made<'a>
     let program = added(program, dump(alloc));
     let program = added(program, show(alloc));
     let program = added(program, ask(alloc));
-    added(program, differs(alloc))
+    let program = added(program, differs(alloc));
+    added(program, denials(alloc))
 }
 
 /// The program with the commands that make and keep stores.

@@ -1,4 +1,4 @@
-//! Commands that ask about a store.
+//! Commands that ask about a store, and the one that asks about a log.
 
 ghost use Rattle.std.specs.Prelude.{◌≡◌, IfNone, IfOk, IfSome, codes};
 ghost use Rattle.clap.specs.Words.{found_of, rows_of};
@@ -181,4 +181,22 @@ pub(crate) fn show_of(alloc: Global, found: &ArgMatches<'_>) -> Result<Option<Co
         return Ok(None);
     };
     Ok(Some(Command::Show { store, path }))
+}
+
+/// The command `denials` with what the words give it; none where the file is missing.
+pub(crate) fn denials_of(
+    alloc: Global,
+    found: &ArgMatches<'_>,
+) -> Result<Option<Command>, AllocError>
+    ensures read { IfOk result (λ command. IfSome command
+        (ReadsAs (codes "denials") (rows_of (found_of found.now)))) }
+    ensures none { IfOk result (λ command. IfNone command
+        (ReadsNone (codes "denials") (rows_of (found_of found.now)))) }
+{
+    let Some(log) = file_in(alloc, found, "log")? else {
+        return Ok(None);
+    };
+    let since = file_in(alloc, found, "since")?;
+    let json = flag_in(found, "json");
+    Ok(Some(Command::Denials { log, since, json }))
 }

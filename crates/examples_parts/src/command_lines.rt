@@ -1,7 +1,7 @@
 //! The command that the words name, or what is wrong with them.
 
 use crate::checks::{check_fact, check_text};
-use book_desk_words::{Command, WordsFault, command_of, words_not_text};
+use book_desk_words::{Command, WordsFault, command_of, words_not_text, words_not_time};
 use std::alloc::{AllocError, Global};
 
 /// What the words after the program's name are read as (own profile).
@@ -148,30 +148,46 @@ const COMMANDS: &[(&str, &str)] = &[
         "show --store office.db /books/a",
         "Show { store: \"office.db\", path: \"/books/a\" }",
     ),
-    ("pipe", "Pipe { store: None, policy: None }"),
+    (
+        "denials office.log",
+        "Denials { log: \"office.log\", since: None, json: false }",
+    ),
+    (
+        "denials --json office.log --since 2026-11-29T00:45:58.123Z",
+        "Denials { log: \"office.log\", since: Some(\"2026-11-29T00:45:58.123Z\"), json: true }",
+    ),
+    ("pipe", "Pipe { store: None, policy: None, log: None }"),
     (
         "pipe --policy office.toml --store office.db",
-        "Pipe { store: Some(\"office.db\"), policy: Some(\"office.toml\") }",
+        "Pipe { store: Some(\"office.db\"), policy: Some(\"office.toml\"), log: None }",
+    ),
+    (
+        "pipe --log office.log",
+        "Pipe { store: None, policy: None, log: Some(\"office.log\") }",
     ),
     (
         "serve --port 0 --connections 1",
-        "Serve { port: 0, connections: Some(1), at_once: None, idle: None, store: None, policy: None, existing: false }",
+        "Serve { port: 0, connections: Some(1), at_once: None, idle: None, store: None, policy: None, existing: false, log: None }",
     ),
     (
         "serve --port 65535 --connections 10000 --store office.db --policy office.toml --existing",
-        "Serve { port: 65535, connections: Some(10000), at_once: None, idle: None, store: Some(\"office.db\"), policy: Some(\"office.toml\"), existing: true }",
+        "Serve { port: 65535, connections: Some(10000), at_once: None, idle: None, store: Some(\"office.db\"), policy: Some(\"office.toml\"), existing: true, log: None }",
     ),
     (
         "serve --forever --port 80",
-        "Serve { port: 80, connections: None, at_once: None, idle: None, store: None, policy: None, existing: false }",
+        "Serve { port: 80, connections: None, at_once: None, idle: None, store: None, policy: None, existing: false, log: None }",
     ),
     (
         "serve --port 80 --forever --at-once 1 --idle 1",
-        "Serve { port: 80, connections: None, at_once: Some(1), idle: Some(1), store: None, policy: None, existing: false }",
+        "Serve { port: 80, connections: None, at_once: Some(1), idle: Some(1), store: None, policy: None, existing: false, log: None }",
     ),
     (
         "serve --port 80 --connections 7 --at-once 1000 --idle 3600 --store office.db",
-        "Serve { port: 80, connections: Some(7), at_once: Some(1000), idle: Some(3600), store: Some(\"office.db\"), policy: None, existing: false }",
+        "Serve { port: 80, connections: Some(7), at_once: Some(1000), idle: Some(3600), store: Some(\"office.db\"), policy: None, existing: false, log: None }",
+    ),
+    (
+        "serve --port 80 --forever --log office.log --at-once 64",
+        "Serve { port: 80, connections: None, at_once: Some(64), idle: None, store: None, policy: None, existing: false, log: Some(\"office.log\") }",
     ),
     ("--help", "Help"),
     ("--version", "Version"),
@@ -247,6 +263,10 @@ const REFUSED: &[(&str, &str)] = &[
     ),
     (
         "doctor",
+        "2 error: the following required arguments were not provided:",
+    ),
+    (
+        "denials --since 2026-11-29T00:45:58.123Z",
         "2 error: the following required arguments were not provided:",
     ),
     (
@@ -339,5 +359,8 @@ fn other_words_are_refused(rt: HostRuntime) {
     let answer = first_line(rt.alloc(), &words_not_text(rt.alloc())).expect(&rt, "memory");
     let wanted = "2 error: invalid UTF-8 was detected in one or more arguments";
     check_text(&rt, answer.as_str(), wanted, "no text");
+    let answer = first_line(rt.alloc(), &words_not_time(rt.alloc())).expect(&rt, "memory");
+    let wanted = "2 error: denials wants '--since <TIME>' as 2026-11-29T00:45:58.123Z";
+    check_text(&rt, answer.as_str(), wanted, "no time");
     check_fact(&rt, WordsFault::Memory.status() == 3, "memory");
 }

@@ -1,0 +1,331 @@
+//! The commands that serve: `pipe` with a log, and `serve`.
+
+use crate::files::{FileConnection, close, open_store_named, read_policy_file};
+use crate::logs::{open_log, refuse_log};
+use crate::progress::{Stage, tell_stage};
+use crate::{Named, connection_of};
+use book_desk_app::{
+    Failure, Lines, Prepared, StreamFailure, adopt_or_fail, given_policy, pipe, prepare, serve,
+    serve_many, tell,
+};
+use book_desk_logs::{LogFile, Pace, SystemClock};
+use book_desk_loop::{Limits, Polled};
+use book_log_lines::Adoption;
+use book_log_service::Logged;
+use book_machine::{AdoptFault, Machine};
+use book_office::{Keeper, Policy};
+use book_tables_schema::Unopened;
+use book_wire::StreamFault;
+use book_wire_serving::Service;
+use sqlite::{File as DiskFile, FileStore};
+use std::alloc::Global;
+use std::io::{self, Write};
+use std::net::{Ipv4Addr, Net, SocketAddr, TcpListener};
+use std::os::fd::AsFd;
+use std::rt::Clock;
+use std::time::Duration;
+
+/// Where `serve` listens, how many connections it serves, and how.
+#[derive(Clone, Copy)]
+pub struct Listening {
+    /// The port.
+    pub port: u16,
+    /// How many connections; none where there is no end.
+    pub connections: Option<u16>,
+    /// How many at once; none where they are served one after the other.
+    pub at_once: Option<u16>,
+    /// After how many seconds in which it moves no byte a connection is closed.
+    pub idle: Option<u16>,
+}
+
+/// How connections are served by the loop: so many at once, or one after the other, of which none gives its place away.
+fn limits_of(listening: Listening) -> Limits {
+    let idle = match listening.idle {
+        Some(seconds) => Some(Duration::from_secs(u64::from(seconds))),
+        None => None,
+    };
+    Limits {
+        at_once: usize::from(listening.at_once.unwrap_or(1)),
+        total: listening.connections,
+        idle,
+        gives_way: listening.at_once.is_some(),
+    }
+}
+
+/// Serves the connections of a listener by the loop.
+fn serve_at_once_on<M: Service, N: Net + Clock + AllocGlobal, W: Write, E: Lines>(
+    rt: &N,
+    service: M,
+    listener: &TcpListener,
+    limits: Limits,
+    writer: &mut W,
+    errors: &mut E,
+) -> (M, u8) {
+    let alloc = rt.alloc();
+    if listener.set_nonblocking(true).is_err() {
+        return (service, tell(errors, &Failure::Listen));
+    }
+    match Polled::new(rt, alloc, listener) {
+        Ok(mut readiness) => {
+            let (service, _, status) = serve_many(
+                alloc,
+                service,
+                listener,
+                &mut readiness,
+                limits,
+                writer,
+                errors,
+            );
+            (service, status)
+        }
+        Err(_) => (service, tell(errors, &Failure::Listen)),
+    }
+}
+
+/// Serves the connections of a listener: by the loop where many are served at once, or where there is no end of them.
+fn serve_all<M: Service, N: Net + Clock + AllocGlobal, W: Write, E: Lines>(
+    rt: &N,
+    mut service: M,
+    listener: &TcpListener,
+    listening: Listening,
+    writer: &mut W,
+    errors: &mut E,
+) -> (M, u8) {
+    match (listening.at_once, listening.connections) {
+        (None, Some(connections)) => {
+            let status = serve(
+                rt,
+                rt.alloc(),
+                &mut service,
+                listener,
+                u64::from(connections),
+                writer,
+                errors,
+            );
+            (service, status)
+        }
+        _ => serve_at_once_on(rt, service, listener, limits_of(listening), writer, errors),
+    }
+}
+
+/// A listener of this host at the port, which waits, with the longest backlog that the system allows.
+fn listener_at<N: Net>(rt: &N, port: u16) -> io::Result<TcpListener> {
+    let address = SocketAddr::from((Ipv4Addr::LOCALHOST, port));
+    let listener = mio::net::TcpListener::bind(rt, address)?;
+    let listener = TcpListener::from(listener.as_fd().try_clone_to_owned()?);
+    listener.set_nonblocking(false)?;
+    Ok(listener)
+}
+
+/// Listens on the port, and serves the connections.
+fn serve_on<M: Service, N: Net + Clock + AllocGlobal, W: Write, E: Lines>(
+    rt: &N,
+    service: M,
+    listening: Listening,
+    writer: &mut W,
+    errors: &mut E,
+) -> (M, u8) {
+    match listener_at(rt, listening.port) {
+        Ok(listener) => serve_all(rt, service, &listener, listening, writer, errors),
+        Err(_) => (service, tell(errors, &Failure::Listen)),
+    }
+}
+
+/// What is served.
+#[derive(Clone, Copy)]
+pub enum Served {
+    /// The requests on standard input.
+    Requests,
+    /// Connections.
+    Connections(Listening),
+}
+
+/// When the name of the log is looked at: each second where connections are served at once, and else before each line.
+fn pace_of(served: Served) -> Pace {
+    match served {
+        Served::Connections(listening) if listening.at_once.is_some() => Pace::EachSecond,
+        Served::Requests | Served::Connections(_) => Pace::EachLine,
+    }
+}
+
+/// Serves what is to be served, and gives the service back.
+fn serve_by<M: Service, W: Write, E: Lines>(
+    rt: &HostRuntime,
+    mut service: M,
+    served: Served,
+    writer: &mut W,
+    errors: &mut E,
+) -> (M, u8) {
+    match served {
+        Served::Requests => {
+            let mut reader = rt.reader();
+            let status = pipe(rt.alloc(), &mut service, &mut reader, writer, errors);
+            (service, status)
+        }
+        Served::Connections(listening) => serve_on(rt, service, listening, writer, errors),
+    }
+}
+
+/// A machine that keeps a log in a file.
+type LoggedMachine<'r, K> = Logged<K, LogFile<'r, HostRuntime>, SystemClock<'r, HostRuntime>>;
+
+/// The failure of a line of the log that could not be written.
+fn log_failure() -> Failure {
+    Failure::Stream(StreamFailure {
+        fault: StreamFault::Log,
+    })
+}
+
+/// Adopts a policy, if there is one, and notes in the log what came of it.
+///
+/// # Errors
+///
+/// `Adoption` where it was not adopted; `Stream` where the line could not be written.
+fn adopt_logged<K: Keeper>(
+    alloc: Global,
+    logged: &mut LoggedMachine<'_, K>,
+    policy: &Option<Policy>,
+) -> Result<(), Failure> {
+    let Some(policy) = policy else {
+        return Ok(());
+    };
+    let adopted = adopt_or_fail(alloc, &mut logged.machine, policy);
+    let (adoption, epoch) = match &adopted {
+        Ok(adopted) if adopted.changed => (Adoption::Changed, adopted.epoch),
+        Ok(adopted) => (Adoption::Unchanged, adopted.epoch),
+        Err(failure) => (
+            match failure.fault {
+                AdoptFault::Full => Adoption::Full,
+                AdoptFault::Unavailable => Adoption::Unavailable,
+            },
+            logged.machine.keeper.epoch().unwrap_or(0),
+        ),
+    };
+    let noted = logged.note_adoption(alloc, adoption, epoch);
+    match adopted {
+        Ok(_) if noted.is_err() => Err(log_failure()),
+        Ok(_) => Ok(()),
+        Err(failure) => Err(Failure::Adoption(failure)),
+    }
+}
+
+/// Adopts a policy over a machine, if there is one, and serves what is to be served, with a log, and gives the machine
+/// back.
+fn serve_logged<K: Keeper, W: Write, E: Lines>(
+    rt: &HostRuntime,
+    machine: Machine<K>,
+    log: LogFile<'_, HostRuntime>,
+    policy: &Option<Policy>,
+    served: Served,
+    writer: &mut W,
+    errors: &mut E,
+) -> (Machine<K>, u8) {
+    let alloc = rt.alloc();
+    let mut logged = Logged::new(alloc, machine, log, SystemClock::new(rt));
+    let (logged, status) = match adopt_logged(alloc, &mut logged, policy) {
+        Ok(()) => serve_by(rt, logged, served, writer, errors),
+        Err(failure) => (logged, tell(errors, &failure)),
+    };
+    let (machine, log) = logged.release();
+    drop(log);
+    (machine, status)
+}
+
+/// Serves the Office of a machine that is ready, and gives its store back, if there is one. With a log a policy is
+/// adopted first.
+fn serve_prepared<W: Write, E: Lines>(
+    rt: &HostRuntime,
+    prepared: Prepared<FileStore<DiskFile>>,
+    log: Option<(LogFile<'_, HostRuntime>, Option<Policy>)>,
+    served: Served,
+    writer: &mut W,
+    errors: &mut E,
+) -> (u8, Option<FileConnection>) {
+    match (prepared, log) {
+        (Prepared::Memory(machine), None) => {
+            let (machine, status) = serve_by(rt, machine, served, writer, errors);
+            (status, Prepared::Memory(machine).release())
+        }
+        (Prepared::Store(machine), None) => {
+            let (machine, status) = serve_by(rt, machine, served, writer, errors);
+            (status, Prepared::Store(machine).release())
+        }
+        (Prepared::Memory(machine), Some((log, policy))) => {
+            let (machine, status) = serve_logged(rt, machine, log, &policy, served, writer, errors);
+            (status, Prepared::Memory(machine).release())
+        }
+        (Prepared::Store(machine), Some((log, policy))) => {
+            let (machine, status) = serve_logged(rt, machine, log, &policy, served, writer, errors);
+            (status, Prepared::Store(machine).release())
+        }
+    }
+}
+
+/// The connection that is left where nothing could be prepared. A store whose tables were not had is let go as it is.
+fn left_of(
+    failure: &Failure,
+    left: Option<Unopened<FileStore<DiskFile>>>,
+) -> Option<FileConnection> {
+    match (failure, left) {
+        (Failure::Store(_), left) => {
+            drop(left);
+            None
+        }
+        (_, Some(left)) => connection_of(left),
+        (_, None) => None,
+    }
+}
+
+/// Prepares an Office, serves it, and gives its store back, if there is one.
+fn serve_opened<W: Write, E: Lines>(
+    rt: &HostRuntime,
+    store: Option<FileConnection>,
+    policy: Option<Vec<u8>>,
+    log: Option<LogFile<'_, HostRuntime>>,
+    served: Served,
+    writer: &mut W,
+    errors: &mut E,
+) -> (u8, Option<FileConnection>) {
+    let alloc = rt.alloc();
+    // With a log the policy is adopted by the machine that keeps it.
+    let (policy, log) = match log {
+        Some(log) => match given_policy(alloc, policy) {
+            Ok(given) => (None, Some((log, given))),
+            Err(failure) => return (tell(errors, &failure), store),
+        },
+        None => (policy, None),
+    };
+    match prepare(alloc, store, policy) {
+        Ok(prepared) => serve_prepared(rt, prepared, log, served, writer, errors),
+        Err((failure, left)) => (tell(errors, &failure), left_of(&failure, left)),
+    }
+}
+
+/// The commands `serve`, and `pipe` with a log: the policy's file is read, the log and the store's file are opened,
+/// and what is to be served is.
+pub fn serve_named<W: Write, E: Lines>(
+    rt: &HostRuntime,
+    named: Named<'_>,
+    log: Option<&str>,
+    served: Served,
+    writer: &mut W,
+    errors: &mut E,
+) -> u8 {
+    let policy = match read_policy_file(rt, named.policy) {
+        Ok(policy) => policy,
+        Err(failure) => return tell(errors, &failure),
+    };
+    let Ok(log) = open_log(rt, log, pace_of(served)) else {
+        return refuse_log(errors);
+    };
+    let store = match open_store_named(rt, named.store, named.existing) {
+        Ok(store) => store,
+        Err(failure) => return tell(errors, &failure),
+    };
+    if policy.is_some() {
+        tell_stage(rt, Stage::Adopting);
+    }
+    let (status, store) = serve_opened(rt, store, policy, log, served, writer, errors);
+    close(store);
+    status
+}

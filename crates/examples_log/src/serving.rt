@@ -1,0 +1,203 @@
+//! A machine that keeps a log: what is noted of each reply, and a log that fails.
+
+use book_log_lines::{Adoption, Time};
+use book_log_service::{Clock, Logged};
+use book_machine::{Body, Depth, Flag, Machine, Reply, Request};
+use book_office::{MemoryKeeper, Path};
+use book_office_values::Text;
+use book_policy::read_policy;
+use book_rights::Method;
+use book_wire_serving::{LogFault, Service};
+use std::alloc::{AllocError, Global};
+use std::io;
+use std::io::{ErrorKind, Write};
+use std::process::Abort;
+
+/// Ann owns the book of sales and may do all there. All may read it, but bob may read no book.
+const POLICY: &str = "\
+version = 1
+[[person]]
+name = \"ann\"
+[[person]]
+name = \"bob\"
+[[book]]
+name = \"sales\"
+owner = \"/people/ann\"
+[[entry]]
+at = \"/books\"
+who = \"/people/bob\"
+deny = [\"read\"]
+protected = true
+[[entry]]
+at = \"/books/sales\"
+who = \"/people/ann\"
+grant = [\"all\"]
+protected = true
+[[entry]]
+at = \"/books/sales\"
+who = \"all\"
+grant = [\"read\"]
+";
+
+const CARD: &str = "BEGIN:VCARD\r\nVERSION:4.0\r\nFN:Bo\r\nEND:VCARD\r\n";
+
+/// Tells one time.
+#[derive(Drop)]
+struct Stopped {
+    time: Time,
+}
+
+impl Clock for Stopped {
+    fn now(&mut self, _alloc: Global) -> Result<Time, AllocError> {
+        self.time.clone()
+    }
+}
+
+/// Takes at most so many bytes a write; after so many writes each one fails.
+#[derive(Drop)]
+struct Output {
+    taken: Vec<u8>,
+    size: usize,
+    writes: u64,
+}
+
+impl Write for Output {
+    fn write(&mut self, buf: &[u8]) -> io::Result<usize> {
+        if self.writes == 0 {
+            return Err(ErrorKind::BrokenPipe.into());
+        }
+        self.writes -= 1;
+        let count = self.size.min(buf.len());
+        self.taken.extend_from_slice(&buf[..count])?;
+        Ok(count)
+    }
+
+    fn flush(&mut self) -> io::Result<()> {
+        Ok(())
+    }
+}
+
+type Kept = Logged<MemoryKeeper, Output, Stopped>;
+
+/// A machine that has adopted the policy, with a log of its own.
+fn kept(rt: &impl Abort, alloc: Global, size: usize, writes: u64) -> Kept {
+    let policy = read_policy(alloc, POLICY).ok().expect(rt, "a policy");
+    let mut machine = Machine::new(MemoryKeeper::new(alloc));
+    machine
+        .adopt(alloc, &policy)
+        .ok()
+        .expect(rt, "room for the policy");
+    drop(policy);
+    let found = Time::parse(alloc, "2026-11-29T09:00:00.000Z").expect(rt, "memory");
+    let clock = Stopped {
+        time: found.expect(rt, "a time"),
+    };
+    let output = Output {
+        taken: Vec::new(alloc),
+        size,
+        writes,
+    };
+    Logged::new(alloc, machine, output, clock)
+}
+
+fn request(rt: &impl Abort, alloc: Global, method: Method, path: &str, body: Body) -> Request {
+    Request {
+        method,
+        path: Some(Path::parse(alloc, path).ok().expect(rt, "a path")),
+        destination: None,
+        overwrite: Flag::Yes,
+        depth: Depth::Zero,
+        body,
+    }
+}
+
+/// Ann puts a card.
+fn put(rt: &impl Abort, alloc: Global, kept: &mut Kept) -> Reply {
+    let text = Text::copy_of(alloc, CARD).expect(rt, "memory");
+    let asked = request(
+        rt,
+        alloc,
+        Method::Put,
+        "/books/sales/a.vcf",
+        Body::Text(text),
+    );
+    kept.serve(alloc, Some("ann"), &asked)
+}
+
+/// A caller asks for a card.
+fn get(rt: &impl Abort, alloc: Global, kept: &mut Kept, name: Option<&str>, path: &str) -> Reply {
+    let asked = request(rt, alloc, Method::Get, path, Body::Empty);
+    kept.serve(alloc, name, &asked)
+}
+
+fn check(rt: &impl Abort, reply: Reply, status: u16) {
+    let told = reply.status;
+    drop(reply);
+    assert_eq!(rt; told, status);
+}
+
+/// An edit, a denial with its entry, a refusal, a reply that could not be sent, a name that is none, a request that
+/// could not be read, and an adoption.
+const LOG: &str =
+    "{\"time\":\"2026-11-29T09:00:00.000Z\",\"connection\":7,\"caller\":\"ann\",\"method\":\"PUT\",\"path\":\"/books/sales/a.vcf\",\"status\":201}\n\
+    {\"time\":\"2026-11-29T09:00:00.000Z\",\"connection\":7,\"caller\":\"bob\",\"method\":\"GET\",\"path\":\"/books/sales/a.vcf\",\"status\":403,\"error\":\"need-privileges\",\"resource\":\"/books/sales/a.vcf\",\"privilege\":\"read\",\"from\":\"/books\",\"protected\":true,\"place\":1,\"number\":2,\"entry\":{\"deny\":[\"read\"],\"principal\":\"/people/bob\"}}\n\
+    {\"time\":\"2026-11-29T09:00:00.000Z\",\"connection\":8,\"method\":\"GET\",\"path\":\"/books/sales/b.vcf\",\"status\":404,\"error\":\"not-found\"}\n\
+    {\"time\":\"2026-11-29T09:00:00.000Z\",\"connection\":8,\"status\":503,\"error\":\"unavailable\"}\n\
+    {\"time\":\"2026-11-29T09:00:00.000Z\",\"connection\":8,\"caller\":\"a\\\"b\\\\c\\n\",\"method\":\"GET\",\"path\":\"/books/sales/a.vcf\",\"status\":400,\"error\":\"unknown-caller\"}\n\
+    {\"time\":\"2026-11-29T09:00:00.000Z\",\"connection\":8,\"status\":431,\"error\":\"head-too-large\"}\n\
+    {\"time\":\"2026-11-29T09:00:00.000Z\",\"epoch\":1,\"adopted\":\"unchanged\"}\n";
+
+/// Each reply has its line. The card that is asked for without a name is read by all, and its reply is not sent.
+#[test]
+fn each_reply_has_its_line(rt: HostRuntime) {
+    let alloc = rt.alloc();
+    let mut kept = kept(&rt, alloc, 50, 1_000);
+    kept.turn_to(7);
+    check(&rt, put(&rt, alloc, &mut kept), 201);
+    assert_eq!(rt; kept.note(true), Ok(()));
+    let reply = get(&rt, alloc, &mut kept, Some("bob"), "/books/sales/a.vcf");
+    check(&rt, reply, 403);
+    assert_eq!(rt; kept.note(true), Ok(()));
+    kept.turn_to(8);
+    let reply = get(&rt, alloc, &mut kept, None, "/books/sales/b.vcf");
+    check(&rt, reply, 404);
+    assert_eq!(rt; kept.note(true), Ok(()));
+    let reply = get(&rt, alloc, &mut kept, None, "/books/sales/a.vcf");
+    check(&rt, reply, 200);
+    assert_eq!(rt; kept.note(false), Ok(()));
+    let reply = get(
+        &rt,
+        alloc,
+        &mut kept,
+        Some("a\"b\\c\n"),
+        "/books/sales/a.vcf",
+    );
+    check(&rt, reply, 400);
+    assert_eq!(rt; kept.note(true), Ok(()));
+    assert_eq!(rt; kept.note_refusal(431, "head-too-large"), Ok(()));
+    assert_eq!(rt; kept.note_adoption(alloc, Adoption::Unchanged, 1), Ok(()));
+    assert!(rt; !kept.has_failed_log());
+    let (machine, output) = kept.release();
+    drop(machine);
+    assert_eq!(rt; output.taken.as_slice(), LOG.as_bytes());
+}
+
+/// A write that fails is told, and nothing is written after it, though later writes would be taken.
+#[test]
+fn a_log_that_fails_stays_so(rt: HostRuntime) {
+    let alloc = rt.alloc();
+    let mut kept = kept(&rt, alloc, 50, 1);
+    kept.turn_to(7);
+    check(&rt, put(&rt, alloc, &mut kept), 201);
+    assert_eq!(rt; kept.note(true), Err(LogFault));
+    assert!(rt; kept.has_failed_log());
+    kept.writer.writes = 1_000;
+    let reply = get(&rt, alloc, &mut kept, None, "/books/sales/a.vcf");
+    check(&rt, reply, 200);
+    assert_eq!(rt; kept.note(true), Err(LogFault));
+    assert_eq!(rt; kept.note_refusal(400, "bad-head"), Err(LogFault));
+    assert_eq!(rt; kept.failures(), 0);
+    let (machine, output) = kept.release();
+    drop(machine);
+    assert_eq!(rt; output.taken.as_slice(), &LOG.as_bytes()[..50]);
+}
