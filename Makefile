@@ -24,6 +24,8 @@
 #                through nginx; prints what an honest client waits for beside clients that take places or turns
 #   make loads   builds the program, and compares what load, compact, backup and restore make of random stores, also where they
 #                are killed, and what doctor tells
+#   make logs    builds the program, and compares each line of its log with what was asked and answered, also where it is
+#                killed, the disk is full, or the log is renamed
 #   make clients tests the gateway with clients as they are: vdirsyncer, khard, curl, nginx, Chromium (gateway/packages.txt)
 #   make first-hour plays the first hour of the README from a clean clone, with the program of make try, and compares
 #   make gateway-demo runs the server and the gateway with two persons, for at most an hour
@@ -32,7 +34,7 @@
 # They need rt, the command of the Rattle toolchain: on PATH, or in the kit whose folder RATTLE_KIT names; and python3, which
 # rt needs too.
 
-.PHONY: try build install demo tour streams test quick wrong turned faults bench figures many loads clients gateway-demo \
+.PHONY: try build install demo tour streams test quick wrong turned faults bench figures many loads logs clients gateway-demo \
 	package try-package first-hour clean
 
 try:
@@ -97,6 +99,9 @@ many: build
 
 loads: build
 	@tools/check-loads build/book_desk
+
+logs: build
+	@tools/check-logs build/book_desk
 
 clients:
 	@gateway/clients

@@ -2,6 +2,8 @@
 connection. What imports this is run by `python3 -B`, so that nothing is left in tools/."""
 
 import contextlib
+import importlib.machinery
+import importlib.util
 import os
 import pathlib
 import re
@@ -24,6 +26,14 @@ def want(file, how="make build"):
     """Ends the tool where a program that it asks is not there."""
     if not os.access(file, os.X_OK):
         sys.exit(f"{file} was not found: run '{how}' first")
+
+
+def script(name):
+    """A script of tools/ as a module."""
+    loader = importlib.machinery.SourceFileLoader(name.replace("-", "_"), str(TOP / "tools" / name))
+    module = importlib.util.module_from_spec(importlib.util.spec_from_loader(loader.name, loader))
+    loader.exec_module(module)
+    return module
 
 
 def policy(at="/books/all"):
@@ -80,6 +90,21 @@ class Reply:
         return repr((self.status, self.body))
 
 
+def read_reply(stream, bare=False):
+    """The next reply of a stream, which has no body where it is to a HEAD and does not close; nothing where the stream ends before it does."""
+    head = b""
+    while not head.endswith(b"\r\n\r\n"):
+        line = stream.readline()
+        if not line:
+            return None
+        head += line
+    if bare:
+        return Reply(head, stream.read() if b"\r\nconnection: close\r\n" in head.lower() else b"")
+    length = re.search(rb"\r\ncontent-length: *(\d+)\r\n", head.lower())
+    body = stream.read(int(length[1]) if length else 0)
+    return Reply(head, body) if length is None or len(body) == int(length[1]) else None
+
+
 class Line:
     """A connection to a port of loopback, over which one reply is read after the other."""
 
@@ -94,15 +119,7 @@ class Line:
 
     def reply(self):
         """The next reply; nothing where the connection ends before its end."""
-        head = b""
-        while not head.endswith(b"\r\n\r\n"):
-            line = self.replies.readline()
-            if not line:
-                return None
-            head += line
-        length = re.search(rb"\r\ncontent-length: *(\d+)\r\n", head.lower())
-        body = self.replies.read(int(length[1]) if length else 0)
-        return Reply(head, body) if length is None or len(body) == int(length[1]) else None
+        return read_reply(self.replies)
 
     def close(self):
         self.replies.close()
