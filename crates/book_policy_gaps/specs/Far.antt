@@ -1,7 +1,6 @@
 -- Facts of books that others reach (own profile; the decisions are those of RFC 3744, section 6).
 use Rattle.std.specs.Prelude.{ℕ, Bool, true, false, not, ◌&&◌, ◌||◌, is_some, List, [], ◌∷◌, ◌++◌, Option, Some, None, if◌then◌else◌}
 use Rattle.std.specs.List.{find, flat_map, list_any}
-use Rattle.std.specs.Option.{option_map_or}
 use Rattle.book_rights.specs.Leaves.{every_leaf, same_leaves}
 use Rattle.book_lists.specs.declared.entries.Entry.{Entry}
 use Rattle.book_lists.specs.declared.entries.Who.{Who}
@@ -13,7 +12,7 @@ use Rattle.book_policy_gaps.specs.Places.{may_read, reads_from_above, stands_at_
 use Rattle.book_policy_gaps.specs.declared.askers.Asker.{Asker}
 use Rattle.book_policy_gaps.specs.declared.askers.Everybody.{Everybody}
 use Rattle.book_policy_gaps.specs.declared.gaps.Gap.{Gap}
-use Rattle.book_policy_gaps.specs.declared.gaps.Gap.TheVariants.{OpenedAbove, KeptByOwners, ReadByListing}
+use Rattle.book_policy_gaps.specs.declared.gaps.Gap.TheVariants.{OpenedAbove, KeptByOwners, KeptByProtected, ReadByListing}
 use Rattle.book_policy_gaps.specs.declared.places.Place.{Place}
 
 -- ---- a book that somebody reads by an entry above it, and that no entry of its lists closes
@@ -59,7 +58,8 @@ opened_gap everybody book =
 abbrev pub opened_gaps : Everybody → List Place → List Gap
 opened_gaps everybody books = flat_map (opened_gap everybody) books
 
--- ---- a book in whose own list an entry grants to `owner`, and no entry in force before it closes
+-- ---- a book at which an entry of its own list, or a protected one wherever it stands, grants to `owner`, and no entry in force before
+-- it closes
 abbrev pub is_owner_form : Who → Bool
 is_owner_form (Href principal) = false
 is_owner_form Everyone = false
@@ -69,17 +69,21 @@ is_owner_form Owner = true
 is_owner_form Own = false
 
 abbrev pub grants_owners : EffectiveEntry → Bool
-grants_owners e = stands_at_book e && (not e.protected && (not e.entry.deny && (not e.entry.invert && is_owner_form e.entry.who)))
+grants_owners e = (e.protected || stands_at_book e) && (not e.entry.deny && (not e.entry.invert && is_owner_form e.entry.who))
 
 abbrev pub settles_owners : EffectiveEntry → Bool
 settles_owners e = closes e.entry || grants_owners e
 
--- the first entry that closes or grants to owners grants to them
-abbrev pub keeps_owners : Place → Bool
-keeps_owners book = option_map_or grants_owners (find settles_owners book.list) false
+abbrev pub kept_by : Path → EffectiveEntry → Gap
+kept_by book e = if e.protected then KeptByProtected book e.path else KeptByOwners book
+
+-- told where the first entry that closes or grants to owners grants to them
+abbrev pub told_kept : Path → Option EffectiveEntry → List Gap
+told_kept book None = []
+told_kept book (Some e) = told_if (grants_owners e) (kept_by book e)
 
 abbrev pub kept_gap : Place → List Gap
-kept_gap book = told_if (keeps_owners book) (KeptByOwners book.path)
+kept_gap book = told_kept book.path (find settles_owners book.list)
 
 abbrev pub kept_gaps : List Place → List Gap
 kept_gaps books = flat_map kept_gap books

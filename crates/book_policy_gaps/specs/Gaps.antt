@@ -1,7 +1,6 @@
 -- Plain facts that a sound policy leaves open (own profile; the decisions are those of RFC 3744, section 6).
 use Rattle.std.specs.Prelude.{ℕ, Bool, false, not, ◌&&◌, List, [], ◌∷◌, ◌++◌, Option, Some, None, if◌then◌else◌}
 use Rattle.std.specs.List.{flat_map, list_any}
-use Rattle.std.specs.Str.{bytes_eq}
 use Rattle.book_rights.specs.declared.privileges.Leaf.TheVariants.{WriteAcl}
 use Rattle.book_lists.specs.Circles.{CircleOf, belongs}
 use Rattle.book_lists.specs.Principals.{group_path}
@@ -68,27 +67,28 @@ closed_gap judged = told_if judged.closed (ClosedList judged.path)
 abbrev pub closed_gaps : List Judged → List Gap
 closed_gaps judged = flat_map closed_gap judged
 
--- ---- a book whose owner is a person who may not read it
-abbrev pub is_owner_of : Option (List ℕ) → List ℕ → Bool
-is_owner_of None principal = false
-is_owner_of (Some owner) principal = bytes_eq owner principal
+-- ---- a book that nobody may read who belongs to its owner, a person or a group; and somebody does
+abbrev pub reads_for : Place → List ℕ → Asker → Bool
+reads_for book owner person = belongs person.circle owner && may_read book person.circle
 
-abbrev pub is_owner : Place → Asker → Bool
-is_owner book person = is_owner_of book.here.owner person.principal
+abbrev pub is_read_for : List Asker → Place → List ℕ → Bool
+is_read_for persons book owner = list_any (reads_for book owner) persons
 
-abbrev pub is_shut_out : Place → Asker → Bool
-is_shut_out book person = is_owner book person && not (may_read book person.circle)
+abbrev pub is_shut_out : List Asker → Place → List ℕ → Bool
+is_shut_out persons book owner = has_person persons owner && not (is_read_for persons book owner)
 
-abbrev pub owner_gap : Place → Asker → List Gap
-owner_gap book person = told_if (is_shut_out book person) (UnreadByOwner book.path person.principal)
+-- none where the book has no owner
+abbrev pub unread_gap : List Asker → Place → Option (List ℕ) → List Gap
+unread_gap persons book None = []
+unread_gap persons book (Some owner) = told_if (is_shut_out persons book owner) (UnreadByOwner book.path owner)
 
-abbrev pub owner_gaps : List Asker → Place → List Gap
-owner_gaps persons book = flat_map (owner_gap book) persons
+abbrev pub owner_gap : List Asker → Place → List Gap
+owner_gap persons book = unread_gap persons book book.here.owner
 
-abbrev pub owners_gaps : List Asker → List Place → List Gap
-owners_gaps persons books = flat_map (owner_gaps persons) books
+abbrev pub owner_gaps : List Asker → List Place → List Gap
+owner_gaps persons books = flat_map (owner_gap persons) books
 
 -- ---- of each group, of each person, of each resource that is no card, and of the owner of each book
 abbrev pub plain_gaps : List Listed → List Asker → List Judged → List Place → List Gap
 plain_gaps groups persons judged books =
-    empty_gaps persons groups ++ (right_gaps books persons ++ (closed_gaps judged ++ owners_gaps persons books))
+    empty_gaps persons groups ++ (right_gaps books persons ++ (closed_gaps judged ++ owner_gaps persons books))

@@ -3,7 +3,7 @@
 ghost use Rattle.std.specs.Prelude.{◌≡◌, ◌++◌, Some, IfOk, OnOk};
 ghost use Rattle.std.specs.List.{find};
 ghost use Rattle.std.specs.Option.{option_copied};
-ghost use Rattle.book_policy_gaps.specs.Far.{closes, closes_book, closes_who, far_gaps, first_reader, grants_owners, is_closed_itself, is_owner_form, is_read_by, keeps_owners, kept_gap, kept_gaps, listing_gap, listing_gaps, opened_gap, opened_gaps, reads_book, settles_owners, told_from, told_listed, told_reader};
+ghost use Rattle.book_policy_gaps.specs.Far.{closes, closes_book, closes_who, far_gaps, first_reader, grants_owners, is_closed_itself, is_owner_form, is_read_by, kept_by, kept_gap, kept_gaps, listing_gap, listing_gaps, opened_gap, opened_gaps, reads_book, settles_owners, told_from, told_kept, told_listed, told_reader};
 ghost use Rattle.book_policy_gaps.specs.declared.gaps.Gap.TheVariants.{OpenedAbove};
 
 use crate::askers::{Asker, Everybody};
@@ -196,18 +196,17 @@ fn is_owner_form(who: &Who) -> bool
     }
 }
 
-/// Whether an entry of the own list of a book grants to `owner`.
+/// Whether an entry of the own list of a book, or a protected one wherever it stands, grants to `owner`.
 fn grants_owners(entry: &EffectiveEntry) -> bool
     ensures { result ≡ grants_owners entry.now }
 {
-    stands_at_book(entry)
-        && !entry.protected
+    (entry.protected || stands_at_book(entry))
         && !entry.entry.deny
         && !entry.entry.invert
         && is_owner_form(&entry.entry.who)
 }
 
-/// Whether an entry closes, or is one of the own list of a book that grants to `owner`.
+/// Whether an entry closes, or grants to `owner`.
 fn settles_owners(entry: &EffectiveEntry) -> bool
     ensures { result ≡ settles_owners entry.now }
 {
@@ -224,29 +223,46 @@ fn settling(book: &Place) -> Option<&EffectiveEntry>
         .find(|entry| settles_owners(entry))
 }
 
-/// Whether owners keep what the own list of a book grants to them.
-fn keeps_owners(book: &Place) -> bool
-    ensures { result ≡ keeps_owners book.now }
+/// That owners keep what an entry grants to them.
+fn kept_by(book: &Path, entry: &EffectiveEntry) -> Result<Gap, AllocError>
+    ensures { IfOk result (λ gap. gap ≡ kept_by book.now entry.now) }
 {
-    match settling(book) {
-        Some(entry) => grants_owners(entry),
-        None => false,
+    let book = copy_of_path(book)?;
+    if entry.protected {
+        let at = copy_of_path(&entry.path)?;
+        return Ok(Gap::KeptByProtected(book, at));
     }
+    Ok(Gap::KeptByOwners(book))
 }
 
-/// Tells of a book that owners keep what it grants to them, where that is so.
-fn push_kept(gaps: &mut Vec<Gap>, book: &Place) -> Result<(), AllocError>
-    ensures { OnOk result (gaps.new.items ≡ gaps.old.items ++ kept_gap book.now) }
+/// Tells that owners keep what this entry grants to them, if there is one and it does.
+fn push_settled(
+    gaps: &mut Vec<Gap>,
+    book: &Path,
+    entry: Option<&EffectiveEntry>,
+) -> Result<(), AllocError>
+    ensures { OnOk result (gaps.new.items ≡ gaps.old.items
+        ++ told_kept book.now (option_copied entry.entry)) }
 {
-    if !keeps_owners(book) {
+    let Some(entry) = entry else {
+        return Ok(());
+    };
+    if !grants_owners(entry) {
         return Ok(());
     }
-    let path = book.path.clone()?;
-    gaps.push(Gap::KeptByOwners(path))?;
+    let gap = kept_by(book, entry)?;
+    gaps.push(gap)?;
     Ok(())
 }
 
-/// Tells of each book in which owners keep what it grants to them.
+/// Tells of a book that owners keep what is granted to them there, where that is so.
+fn push_kept(gaps: &mut Vec<Gap>, book: &Place) -> Result<(), AllocError>
+    ensures { OnOk result (gaps.new.items ≡ gaps.old.items ++ kept_gap book.now) }
+{
+    push_settled(gaps, &book.path, settling(book))
+}
+
+/// Tells of each book in which owners keep what is granted to them.
 fn push_kept_books(gaps: &mut Vec<Gap>, books: &[Place]) -> Result<(), AllocError>
     ensures { OnOk result (gaps.new.items ≡ gaps.old.items ++ kept_gaps books.now) }
 {

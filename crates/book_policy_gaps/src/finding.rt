@@ -292,10 +292,11 @@ fn gaps_in(alloc: Global, homes: &Homes, found: &Found) -> Result<Items<Gap>, Al
 /// - of each person, that no leaf is granted to it at any book;
 /// - of the root, of each home, person, group and book, that `write-acl` is granted there to no person and not to nobody,
 ///   where somebody has it at what is above;
-/// - of each book, that its owner is a person to whom `read` is not granted there;
+/// - of each book, that `read` is granted there to nobody who belongs to its owner, and somebody does;
 /// - of each book, the first caller who reads it by an entry above it, nobody first, where no entry of its own and its
 ///   protected list denies `all` to all or to who does not belong to a principal;
-/// - of each book, that an entry of its own list grants to `owner` and no entry in force before it denies so;
+/// - of each book, that an entry of its own list, or a protected one, grants to `owner` and no entry in force before it
+///   denies so;
 /// - of each person who may read `/books`, the first book that they read by an entry above it.
 ///
 /// Names are in byte order. Nothing changes.

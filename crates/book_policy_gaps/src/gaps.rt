@@ -1,7 +1,7 @@
 //! The facts that are told of one resource or one caller, each with where it holds.
 
 ghost use Rattle.std.specs.Prelude.{◌≡◌, ◌++◌, OnOk};
-ghost use Rattle.book_policy_gaps.specs.Gaps.{closed_gap, closed_gaps, empty_gap, empty_gaps, has_person, has_right, is_closed, is_owner, is_shut_out, owner_gap, owner_gaps, owners_gaps, persons_change_list, plain_gaps, right_gap, right_gaps};
+ghost use Rattle.book_policy_gaps.specs.Gaps.{closed_gap, closed_gaps, empty_gap, empty_gaps, has_person, has_right, is_closed, is_read_for, is_shut_out, owner_gaps, persons_change_list, plain_gaps, reads_for, right_gap, right_gaps, unread_gap};
 
 use crate::askers::{Asker, Everybody};
 use crate::places::{Place, may, may_anything, may_read};
@@ -20,7 +20,7 @@ pub enum Gap {
     NoRight(Name),
     /// At the resource `write-acl` is granted to no person and not to nobody.
     ClosedList(Path),
-    /// The owner of the book is this person, to whom `read` is not granted there.
+    /// The owner of the book is this person or group, and `read` is granted there to nobody who belongs to it; somebody does.
     UnreadByOwner(Path, Principal),
     /// The book is read by a caller, who is nobody where no person is told, by an entry that stands at the second path, above
     /// it; and no entry of its own and its protected list denies `all` to all or to who does not belong to a principal.
@@ -28,6 +28,9 @@ pub enum Gap {
     /// In the own list of the book an entry grants to `owner`, and no entry in force before it denies `all` to all or to who
     /// does not belong to a principal.
     KeptByOwners(Path),
+    /// A protected entry in force at the book grants to `owner`: the second path is where it stands. No entry in force before
+    /// it denies so.
+    KeptByProtected(Path, Path),
     /// The person may read `/books`, and reads the book by an entry that stands above it.
     ReadByListing(Name, Path),
 }
@@ -147,52 +150,55 @@ fn push_closed_lists(gaps: &mut Vec<Gap>, judged: &[Judged]) -> Result<(), Alloc
     Ok(())
 }
 
-/// Whether the person is the owner of the resource at a place.
-fn is_owner(book: &Place, person: &Asker) -> bool
-    ensures { result ≡ is_owner book.now person.now }
+/// Whether the person belongs to the owner of a book, and may read it.
+fn reads_for(book: &Place, owner: &Principal, person: &Asker) -> bool
+    ensures { result ≡ reads_for book.now owner.now person.now }
 {
-    match &book.here.owner {
-        Some(owner) => *owner == person.principal,
-        None => false,
-    }
+    person.circle.has(owner) && may_read(book, &person.circle)
 }
 
-/// Whether the person is the owner of a book, and may not read it.
-fn is_shut_out(book: &Place, person: &Asker) -> bool
-    ensures { result ≡ is_shut_out book.now person.now }
+/// Whether one of these persons belongs to the owner of a book, and may read it.
+fn is_read_for(persons: &[Asker], book: &Place, owner: &Principal) -> bool
+    ensures { result ≡ is_read_for persons.now book.now owner.now }
 {
-    is_owner(book, person) && !may_read(book, &person.circle)
+    persons.iter().any(|person| reads_for(book, owner, person))
 }
 
-/// Tells of a person who owns a book and may not read it.
-fn push_owner(gaps: &mut Vec<Gap>, book: &Place, person: &Asker) -> Result<(), AllocError>
-    ensures { OnOk result (gaps.new.items ≡ gaps.old.items ++ owner_gap book.now person.now) }
+/// Whether somebody belongs to the owner of a book, and nobody who does may read it.
+fn is_shut_out(persons: &[Asker], book: &Place, owner: &Principal) -> bool
+    ensures { result ≡ is_shut_out persons.now book.now owner.now }
 {
-    if !is_shut_out(book, person) {
+    has_person(persons, owner) && !is_read_for(persons, book, owner)
+}
+
+/// Tells of the owner of a book, if it has one, who may not read it.
+fn push_unread(
+    gaps: &mut Vec<Gap>,
+    persons: &[Asker],
+    book: &Place,
+    owner: &Option<Principal>,
+) -> Result<(), AllocError>
+    ensures { OnOk result (gaps.new.items ≡ gaps.old.items
+        ++ unread_gap persons.now book.now owner.now) }
+{
+    let Some(owner) = owner else {
+        return Ok(());
+    };
+    if !is_shut_out(persons, book, owner) {
         return Ok(());
     }
     let path = book.path.clone()?;
-    let owner = person.principal.clone()?;
+    let owner = owner.clone()?;
     gaps.push(Gap::UnreadByOwner(path, owner))?;
     Ok(())
 }
 
-/// Tells of the owner of a book, where that is a person who may not read it.
-fn push_owner_of(gaps: &mut Vec<Gap>, persons: &[Asker], book: &Place) -> Result<(), AllocError>
-    ensures { OnOk result (gaps.new.items ≡ gaps.old.items ++ owner_gaps persons.now book.now) }
-{
-    for person in persons {
-        push_owner(gaps, book, person)?;
-    }
-    Ok(())
-}
-
-/// Tells of the owner of each book.
+/// Tells of the owner of each book who may not read it.
 fn push_owners(gaps: &mut Vec<Gap>, persons: &[Asker], books: &[Place]) -> Result<(), AllocError>
-    ensures { OnOk result (gaps.new.items ≡ gaps.old.items ++ owners_gaps persons.now books.now) }
+    ensures { OnOk result (gaps.new.items ≡ gaps.old.items ++ owner_gaps persons.now books.now) }
 {
     for book in books {
-        push_owner_of(gaps, persons, book)?;
+        push_unread(gaps, persons, book, &book.here.owner)?;
     }
     Ok(())
 }

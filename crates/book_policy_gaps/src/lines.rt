@@ -2,7 +2,7 @@
 
 ghost use Rattle.std.specs.Prelude.{◌≡◌, ◌++◌, codes, IfOk, OnOk, string_bytes};
 ghost use Rattle.book_office_values.specs.Paths.{path_text};
-ghost use Rattle.book_policy_gaps.specs.Lines.{gap_line, listing_line, opened_line, reader_text, unread_line};
+ghost use Rattle.book_policy_gaps.specs.Lines.{gap_line, listing_line, opened_line, protected_line, reader_text, unread_line};
 
 use crate::gaps::Gap;
 use book_lists::{Name, Principal};
@@ -70,6 +70,19 @@ fn push_opened(
     push_from(text, from)
 }
 
+/// Adds that owners keep what a protected entry grants to them.
+fn push_protected(text: &mut String, book: &Path, at: &Path) -> Result<(), AllocError>
+    ensures { OnOk result (string_bytes text.new ≡ string_bytes text.old
+        ++ protected_line book.now at.now) }
+{
+    push_at(text, book, ": what a protected entry at ")?;
+    push_at(
+        text,
+        at,
+        " grants to owners stays with who leaves a group\n",
+    )
+}
+
 /// Adds that who lists the books reads one.
 fn push_listing(text: &mut String, name: &Name, book: &Path) -> Result<(), AllocError>
     ensures { OnOk result (string_bytes text.new ≡ string_bytes text.old
@@ -104,6 +117,7 @@ pub fn push_gap_line(text: &mut String, gap: &Gap) -> Result<(), AllocError>
             book,
             ": what it grants to owners stays with who leaves a group\n",
         ),
+        Gap::KeptByProtected(book, at) => push_protected(text, book, at),
         Gap::ReadByListing(name, book) => push_listing(text, name, book),
     }
 }

@@ -22,8 +22,8 @@ const OPENED: &str = "version = 1\n\
     [[entry]]\nat = \"/books/i\"\nwho = \"all\"\ndeny = [\"x-read-names\"]\n";
 
 /// Of the books, `a` grants to owners before it closes; `b` closes before, `c` in its protected list, and `h` to all; `d`
-/// closes the reading alone; `e` denies, and `f` grants to who is not the owner; `g` grants in its protected list; `i`
-/// grants to who is not staff before.
+/// closes the reading alone; `e` denies, and `f` grants to who is not the owner; `g` grants in its protected list before it
+/// closes; `i` grants to who is not staff before.
 const KEPT: &str = "version = 1\n\
     [[person]]\nname = \"ann\"\n[[group]]\nname = \"staff\"\nmembers = [\"/people/ann\"]\n\
     [[book]]\nname = \"a\"\n[[book]]\nname = \"b\"\n[[book]]\nname = \"c\"\n[[book]]\nname = \"d\"\n[[book]]\nname = \"e\"\n\
@@ -42,8 +42,26 @@ const KEPT: &str = "version = 1\n\
     [[entry]]\nat = \"/books/e\"\nwho = \"owner\"\ndeny = [\"bind\"]\n\
     [[entry]]\nat = \"/books/f\"\nwho = \"owner\"\ninvert = true\ngrant = [\"read\"]\n\
     [[entry]]\nat = \"/books/g\"\nwho = \"owner\"\ngrant = [\"read\"]\nprotected = true\n\
+    [[entry]]\nat = \"/books/g\"\nwho = \"/groups/staff\"\ninvert = true\ndeny = [\"all\"]\nprotected = true\n\
     [[entry]]\nat = \"/books/h\"\nwho = \"all\"\ndeny = [\"all\"]\n\
     [[entry]]\nat = \"/books/h\"\nwho = \"owner\"\ngrant = [\"read\"]\n";
+
+/// At `/books` a protected entry grants to owners, and an own one. Of the books, `a` closes in its own list, which comes
+/// behind; `b` in its protected list, before.
+const PROTECTED: &str = "version = 1\n\
+    [[person]]\nname = \"ann\"\n[[group]]\nname = \"staff\"\nmembers = [\"/people/ann\"]\n\
+    [[book]]\nname = \"a\"\n[[book]]\nname = \"b\"\n\
+    [[entry]]\nat = \"/\"\nwho = \"/groups/staff\"\ngrant = [\"write-acl\"]\nprotected = true\n\
+    [[entry]]\nat = \"/books\"\nwho = \"owner\"\ngrant = [\"read\"]\nprotected = true\n\
+    [[entry]]\nat = \"/books\"\nwho = \"owner\"\ngrant = [\"bind\"]\n\
+    [[entry]]\nat = \"/books/a\"\nwho = \"/groups/staff\"\ninvert = true\ndeny = [\"all\"]\n\
+    [[entry]]\nat = \"/books/b\"\nwho = \"/groups/staff\"\ninvert = true\ndeny = [\"all\"]\nprotected = true\n";
+
+/// At `/books` an own entry grants to owners, and no entry closes the book: that is told of books' own lists alone.
+const ABOVE: &str = "version = 1\n\
+    [[person]]\nname = \"ann\"\n[[book]]\nname = \"a\"\n\
+    [[entry]]\nat = \"/\"\nwho = \"/people/ann\"\ngrant = [\"write-acl\"]\nprotected = true\n\
+    [[entry]]\nat = \"/books\"\nwho = \"owner\"\ngrant = [\"read\"]\n";
 
 /// The gateway lists the books, and two of three deny it. Ann reads what she owns by an entry at `/books`, and lists none.
 /// Zoe lists the books, and each lets her read it.
@@ -74,8 +92,14 @@ const TOLD: &[(&str, &str)] = &[
         KEPT,
         "/books/a: what it grants to owners stays with who leaves a group\n\
          /books/d: what it grants to owners stays with who leaves a group\n\
+         /books/g: what a protected entry at /books/g grants to owners stays with who leaves a group\n\
          /books/i: what it grants to owners stays with who leaves a group\n",
     ),
+    (
+        PROTECTED,
+        "/books/a: what a protected entry at /books grants to owners stays with who leaves a group\n",
+    ),
+    (ABOVE, ""),
     (
         LISTED,
         "/books/reception: /people/ann reads it by an entry at /books, and no entry of its lists closes it\n\

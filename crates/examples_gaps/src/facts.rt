@@ -47,15 +47,19 @@ const LISTS: &str = "version = 1\n\
     [[entry]]\nat = \"/books/fair\"\nwho = \"all\"\ndeny = [\"write-acl\"]\n\
     [[entry]]\nat = \"/books/law\"\nwho = \"all\"\ndeny = [\"write-acl\"]\nprotected = true\n";
 
-/// Ann may read what she owns. Dan may read texts and no names, bob may see names alone, and accounts is owned by a group
-/// that may not read it.
+/// Ann may read what she owns. Dan may read texts and no names, bob may see names alone. Accounts is owned by a group of which
+/// nobody may read it, minutes by one of which ann does, and old by a group of nobody.
 const OWNERS: &str = "version = 1\n\
     [[person]]\nname = \"ann\"\n[[person]]\nname = \"bob\"\n[[person]]\nname = \"dan\"\n\
     [[group]]\nname = \"clerks\"\nmembers = [\"/people/bob\"]\n\
+    [[group]]\nname = \"staff\"\nmembers = [\"/people/ann\", \"/groups/clerks\"]\n[[group]]\nname = \"none\"\n\
     [[book]]\nname = \"sales\"\nowner = \"/people/ann\"\n[[book]]\nname = \"law\"\nowner = \"/people/dan\"\n\
     [[book]]\nname = \"fair\"\nowner = \"/people/bob\"\n[[book]]\nname = \"accounts\"\nowner = \"/groups/clerks\"\n\
+    [[book]]\nname = \"minutes\"\nowner = \"/groups/staff\"\n[[book]]\nname = \"old\"\nowner = \"/groups/none\"\n\
     [[entry]]\nat = \"/\"\nwho = \"/people/ann\"\ngrant = [\"write-acl\"]\n\
     [[entry]]\nat = \"/books/sales\"\nwho = \"/people/ann\"\ngrant = [\"all\"]\n\
+    [[entry]]\nat = \"/books/accounts\"\nwho = \"/people/ann\"\ngrant = [\"read\"]\n\
+    [[entry]]\nat = \"/books/minutes\"\nwho = \"/people/ann\"\ngrant = [\"read\"]\n\
     [[entry]]\nat = \"/books/law\"\nwho = \"/people/dan\"\ndeny = [\"x-read-names\"]\n\
     [[entry]]\nat = \"/books/law\"\nwho = \"/people/dan\"\ngrant = [\"read\"]\n\
     [[entry]]\nat = \"/books/fair\"\nwho = \"/people/bob\"\ngrant = [\"x-read-names\"]\n";
@@ -89,7 +93,9 @@ const TOLD: &[(&str, &str)] = &[
     ),
     (
         OWNERS,
-        "/books/fair: its owner /people/bob may not read it\n\
+        "group none: nobody is in it\n\
+         /books/accounts: its owner /groups/clerks may not read it\n\
+         /books/fair: its owner /people/bob may not read it\n\
          /books/law: its owner /people/dan may not read it\n",
     ),
     (

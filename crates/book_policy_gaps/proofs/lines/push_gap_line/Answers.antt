@@ -19,6 +19,10 @@ pub returns-in-KeptByOwners : goal.returns-in-KeptByOwners
 returns-in-KeptByOwners c =
     subst (λ gap. OnOk c.push_at-in-KeptByOwners.result (string_bytes c.push_at-in-KeptByOwners.new.text ≡ string_bytes c.args.text.now ++ gap_line gap)) (sym c.in-KeptByOwners.is) c.push_at-in-KeptByOwners.ensures
 
+pub returns-in-KeptByProtected : goal.returns-in-KeptByProtected
+returns-in-KeptByProtected c =
+    subst (λ gap. OnOk c.push_protected.result (string_bytes c.push_protected.new.text ≡ string_bytes c.args.text.now ++ gap_line gap)) (sym c.in-KeptByProtected.is) c.push_protected.ensures
+
 pub returns-in-ReadByListing : goal.returns-in-ReadByListing
 returns-in-ReadByListing c =
     subst (λ gap. OnOk c.push_listing.result (string_bytes c.push_listing.new.text ≡ string_bytes c.args.text.now ++ gap_line gap)) (sym c.in-ReadByListing.is) c.push_listing.ensures
