@@ -1,6 +1,6 @@
 -- Cards and books that pass from one owner to another (RFC 3744, section 5.1).
 use Rattle.std.specs.Prelude.{ℕ, Bool, false, true, not, ◌&&◌, if◌then◌else◌, List, [], ◌++◌, map, codes, Option, Some, None, is_some}
-use Rattle.std.specs.List.{flat_map}
+use Rattle.std.specs.List.{flat_map, list_any}
 use Rattle.std.specs.Str.{bytes_eq}
 use Rattle.book_dumps.specs.declared.lines.Line.{Line}
 use Rattle.book_dumps_reading.specs.declared.dumped.Dumped.{Dumped}
@@ -14,6 +14,28 @@ use Rattle.book_dumps_changes.specs.declared.changed.Changed.{Changed}
 abbrev pub in_book : Option (List ℕ) → List ℕ → Bool
 in_book None book = true
 in_book (Some wanted) book = bytes_eq wanted book
+
+-- whether a path is that of a book
+abbrev pub is_path_of_book : List ℕ → Path → Bool
+is_path_of_book book path.Root = false
+is_path_of_book book path.People = false
+is_path_of_book book path.Groups = false
+is_path_of_book book path.Books = false
+is_path_of_book book (path.Person name) = false
+is_path_of_book book (path.Group name) = false
+is_path_of_book book (path.Book name) = bytes_eq name book
+is_path_of_book book (path.Card home name) = false
+
+abbrev pub is_of_book : List ℕ → Line → Bool
+is_of_book book line = is_path_of_book book line.path
+
+abbrev pub has_line_of : List Line → List ℕ → Bool
+has_line_of lines book = list_any (is_of_book book) lines
+
+-- whether the book that is given has a line, if one is given
+abbrev pub has_book : List Line → Option (List ℕ) → Bool
+has_book lines None = true
+has_book lines (Some book) = has_line_of lines book
 
 -- whether what stands at a path may pass: a card of the book that is given; each card and each book where none is
 abbrev pub may_pass : Option (List ℕ) → Path → Bool

@@ -23,7 +23,7 @@ pub struct Changed {
 /// Why a change is not made.
 #[derive(Clone, Copy, Debug, PartialEq, Eq)]
 pub enum ChangeFault {
-    /// A person or group that is named has no line; or the heir of a person is that person.
+    /// A person, group or book that is named has no line; or the heir of a person is that person.
     UnknownPrincipal,
     /// The epoch would be above 2^53 - 1.
     LastNumber,

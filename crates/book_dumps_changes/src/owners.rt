@@ -3,7 +3,7 @@
 ghost use Rattle.std.specs.Prelude.{◌≡◌, ◌≢◌, ◌≤◌, ◌++◌, ◌⊎◌, false, true, [], IfErr, IfOk, OnOk, map, string_bytes};
 ghost use Rattle.book_limits.specs.declared.TheConstants.{LAST_NUMBER};
 ghost use Rattle.book_dumps_changes.specs.Changing.{has_principal};
-ghost use Rattle.book_dumps_changes.specs.Owners.{in_book, is_owner, may_pass, owner_line, passed, passes, told_owners, told_passing, with_owner};
+ghost use Rattle.book_dumps_changes.specs.Owners.{has_book, has_line_of, in_book, is_of_book, is_owner, may_pass, owner_line, passed, passes, told_owners, told_passing, with_owner};
 
 use crate::changed::{ChangeFault, Changed, check_principal, raised};
 use book_dumps::Line;
@@ -21,6 +21,51 @@ fn in_book(at: &Option<Name>, book: &Name) -> bool
         None => true,
         Some(wanted) => *wanted == *book,
     }
+}
+
+/// Whether a line is that of a book.
+fn is_of_book(book: &Name, line: &Line) -> bool
+    ensures { result ≡ is_of_book book.now line.now }
+{
+    match &line.path {
+        Path::Book(name) => *name == *book,
+        Path::Root
+        | Path::People
+        | Path::Groups
+        | Path::Books
+        | Path::Person(_)
+        | Path::Group(_)
+        | Path::Card(_, _) => false,
+    }
+}
+
+/// Whether a book has a line.
+fn has_line_of(lines: &[Line], book: &Name) -> bool
+    ensures { result ≡ has_line_of lines.now book.now }
+{
+    lines.iter().any(|line| is_of_book(book, line))
+}
+
+/// Whether the book that is given has a line, if one is given.
+fn has_book(lines: &[Line], at: &Option<Name>) -> bool
+    ensures { result ≡ has_book lines.now at.now }
+{
+    match at {
+        None => true,
+        Some(book) => has_line_of(lines, book),
+    }
+}
+
+/// The book that is given has a line, if one is given. It is `UnknownPrincipal` else.
+fn check_book(lines: &[Line], at: &Option<Name>) -> Result<(), ChangeFault>
+    ensures ok { OnOk result (has_book lines.now at.now ≡ true) }
+    ensures err { IfErr result (λ fault. (fault ≡ ChangeFault.UnknownPrincipal)
+        × (has_book lines.now at.now ≡ false)) }
+{
+    if !has_book(lines, at) {
+        return Err(ChangeFault::UnknownPrincipal);
+    }
+    Ok(())
 }
 
 /// Whether what stands at a path may pass: a card of the book that is given; each card and each book where none is.
@@ -133,7 +178,7 @@ fn pass_all(
 ///
 /// # Errors
 ///
-/// `UnknownPrincipal` where `from` or `to` has no line. `LastNumber` where the epoch was the last. `Memory` where
+/// `UnknownPrincipal` where `from`, `to` or the book has no line. `LastNumber` where the epoch was the last. `Memory` where
 /// memory was refused, in place of any other answer.
 pub fn own_by(
     alloc: Global,
@@ -144,18 +189,20 @@ pub fn own_by(
 ) -> Result<Changed, ChangeFault>
     ensures ok { IfOk result (λ changed. changed ≡ with_owner from.now to.now at.now dumped) }
     ensures known { OnOk result ((has_principal dumped.lines from.now ≡ true)
-        × (has_principal dumped.lines to.now ≡ true)) }
+        × (has_principal dumped.lines to.now ≡ true) × (has_book dumped.lines at.now ≡ true)) }
     ensures within { IfOk result (λ changed. dumped.epoch ≤ LAST_NUMBER
         → changed.dumped.epoch ≤ LAST_NUMBER) }
     ensures unknown { IfErr result (λ fault. fault ≡ ChangeFault.UnknownPrincipal
         → (has_principal dumped.lines from.now ≡ false)
-        ⊎ (has_principal dumped.lines to.now ≡ false)) }
+        ⊎ ((has_principal dumped.lines to.now ≡ false)
+        ⊎ (has_book dumped.lines at.now ≡ false))) }
     ensures last { IfErr result (λ fault. fault ≡ ChangeFault.LastNumber
         → (told_owners from.now to.now at.now dumped.lines ≢ [])
         × (LAST_NUMBER ≤ dumped.epoch)) }
 {
     check_principal(alloc, dumped.lines.as_slice(), from)?;
     check_principal(alloc, dumped.lines.as_slice(), to)?;
+    check_book(dumped.lines.as_slice(), at)?;
     let Dumped { epoch, lines } = dumped;
     let mut told = String::new(alloc);
     let lines = pass_all(alloc, &mut told, from, to, at, lines)?;

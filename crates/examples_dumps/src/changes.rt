@@ -159,6 +159,10 @@ fn an_unknown_principal_is_told(rt: HostRuntime) {
     let refused = own_by(alloc, dumped, &eve, &ann, &None).err();
     assert!(rt; refused == unknown, "from nobody");
     let dumped = read(&rt, alloc, text(&rt, alloc).as_str());
+    let book = Some(name(&rt, alloc, "b"));
+    let refused = own_by(alloc, dumped, &ann, &ann, &book).err();
+    assert!(rt; refused == unknown, "at no book");
+    let dumped = read(&rt, alloc, text(&rt, alloc).as_str());
     let refused = without(alloc, dumped, &eve, &None).err();
     assert!(rt; refused == unknown, "nobody is gone");
     let dumped = read(&rt, alloc, text(&rt, alloc).as_str());
