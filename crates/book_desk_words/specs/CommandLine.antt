@@ -158,7 +158,7 @@ backup_app =
 
 abbrev pub restore_app : App
 restore_app =
-    with_rule (with_rule (with_rule (new_app (codes "restore")) (required_rule (codes "store"))) (required_rule (codes "from"))) (words_rule (codes "path"))
+    with_rule (with_rule (with_store (new_app (codes "restore"))) (required_rule (codes "from"))) (words_rule (codes "path"))
 
 abbrev pub doctor_app : App
 doctor_app = with_rule (new_app (codes "doctor")) (required_rule (codes "store"))
@@ -314,6 +314,8 @@ ReadsAs name rows (Load store dump owners at without heir forget_removed new_epo
     × HasTexts rows (codes "without") without × NamesFile rows (codes "heir") heir
     × (forget_removed ≡ has_flag rows (codes "forget-removed")) × (new_epoch ≡ has_flag rows (codes "new-epoch"))
     × NamesFile rows (codes "above") above
+    × (is_some at ≡ true → is_some owners ≡ true) × (is_some heir ≡ true → is_some without ≡ true)
+    × (is_some above ≡ true → new_epoch ≡ true)
 ReadsAs name rows (Compact store forget_removed) =
     (name ≡ codes "compact") × NamesFile rows (codes "store") (Some store) × (forget_removed ≡ has_flag rows (codes "forget-removed"))
 ReadsAs name rows (Backup store to) =

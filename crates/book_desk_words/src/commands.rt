@@ -594,8 +594,8 @@ fn command_named(
     }
 }
 
-/// The command that the matches give; none where they give none, which clap lets come where the options of `serve` lack
-/// what they want of each other, `why` its destination or `backup` its file, and nowhere else.
+/// The command that the matches give; none where they give none, which clap lets come where the options of `serve` or
+/// `load` lack what they want of each other, `why` its destination or `backup` its file, and nowhere else.
 fn read_command(alloc: Global, matches: &ArgMatches<'_>) -> Result<Option<Command>, AllocError>
     ensures read { IfOk result (λ command. IfSome command
         (IsMatched (subcommand_rows_of matches.now))) }

@@ -16,9 +16,9 @@ pub(crate) const NOT_TEXT: &str = "invalid UTF-8 was detected in one or more arg
 /// What is wrong with a time that is none.
 pub(crate) const NOT_TIME: &str = "denials wants '--since <TIME>' as 2026-11-29T00:45:58.123Z";
 
-/// What the options of `serve` want of each other, and the words of `why` and `backup`.
+/// What the options of `serve` and `load` want of each other, and the words of `why` and `backup`.
 pub(crate) const SERVE_WANTS: &str =
-    "serve wants one of '--connections <N>' and '--forever', with '--idle <N>' also '--at-once <N>', and with '--existing' also '--store <FILE>'; why wants DESTINATION with COPY and MOVE; backup wants one of '--to <NEW>' and '--check <COPY>'";
+    "serve wants one of '--connections <N>' and '--forever', with '--idle <N>' also '--at-once <N>', and with '--existing' also '--store <FILE>'; why wants DESTINATION with COPY and MOVE; backup wants one of '--to <NEW>' and '--check <COPY>'; load wants with '--at <BOOK>' also '--owner <FROM=TO>', with '--heir <PRINCIPAL>' also '--without <PERSON>', and with '--above <N>' also '--new-epoch'";
 
 pub(crate) const EXPLAIN: &str = "Reads a question from standard input and prints its decision";
 

@@ -1,6 +1,6 @@
 //! Commands that make stores of texts and of stores, and the one that tells how a store is.
 
-ghost use Rattle.std.specs.Prelude.{IfNone, IfOk, IfSome, codes};
+ghost use Rattle.std.specs.Prelude.{◌≡◌, ◌↔◌, IfNone, IfOk, IfSome, codes, true};
 ghost use Rattle.clap.specs.Words.{found_of, rows_of};
 ghost use Rattle.book_desk_words.specs.CommandLine.{ReadsAs, ReadsNone};
 
@@ -8,7 +8,15 @@ use crate::commands::{Command, file_in, flag_in, texts_in};
 use clap::ArgMatches;
 use std::alloc::{AllocError, Global};
 
-/// The command `load` with what the words give it; none where the file is missing.
+/// Whether an option that says more of another one comes with that one, where it is given.
+fn comes_with(is_given: bool, has_other: bool) -> bool
+    ensures { result ≡ true ↔ (is_given ≡ true → has_other ≡ true) }
+{
+    !is_given || has_other
+}
+
+/// The command `load` with what the words give it; none where the file is missing, or where the words have `--at` without
+/// `--owner`, `--heir` without `--without`, or `--above` without `--new-epoch`.
 pub(crate) fn load_of(alloc: Global, found: &ArgMatches<'_>) -> Result<Option<Command>, AllocError>
     ensures read { IfOk result (λ command. IfSome command
         (ReadsAs (codes "load") (rows_of (found_of found.now)))) }
@@ -26,7 +34,10 @@ pub(crate) fn load_of(alloc: Global, found: &ArgMatches<'_>) -> Result<Option<Co
     let forget_removed = flag_in(found, "forget-removed");
     let new_epoch = flag_in(found, "new-epoch");
     let above = file_in(alloc, found, "above")?;
-    Ok(Some(Command::Load {
+    let fits = comes_with(at.is_some(), owners.is_some())
+        && comes_with(heir.is_some(), without.is_some())
+        && comes_with(above.is_some(), new_epoch);
+    let command = Command::Load {
         store,
         dump,
         owners,
@@ -36,7 +47,12 @@ pub(crate) fn load_of(alloc: Global, found: &ArgMatches<'_>) -> Result<Option<Co
         forget_removed,
         new_epoch,
         above,
-    }))
+    };
+    if !fits {
+        drop(command);
+        return Ok(None);
+    }
+    Ok(Some(command))
 }
 
 /// The command `compact` with what the words give it; none where the file is missing.

@@ -395,7 +395,7 @@ fn restore<'a>(alloc: Global) -> Made<'a>
     ensures { IsMade restore_app result }
 {
     let made = begun(alloc, "restore", RESTORE, RESTORE_TEXT);
-    let made = with_word(made, file_needed(alloc, "store", ASKED_STORE));
+    let made = with_store(alloc, made, ASKED_STORE);
     let made = with_word(made, file_needed(alloc, "from", RESTORE_FROM));
     with_word(made, words_needed(alloc, "path", "PATH", RESTORED))
 }

@@ -61,6 +61,9 @@ const COMMANDS: &[(&str, &str)] = &[
         "load --store new.db --without /people/ann --heir /people/bo --new-epoch --above 7 --forget-removed office.jsonl",
         "Load { store: \"new.db\", dump: Some(\"office.jsonl\"), owners: None, at: None, without: Some([\"/people/ann\"]), heir: Some(\"/people/bo\"), forget_removed: true, new_epoch: true, above: Some(\"7\") }",
     ),
+    ("load --store new.db --at sales", SERVE_WANTS),
+    ("load --store new.db --heir /people/bo", SERVE_WANTS),
+    ("load --store new.db --above 7", SERVE_WANTS),
     (
         "compact --store office.db",
         "Compact { store: \"office.db\", forget_removed: false }",
@@ -87,7 +90,7 @@ const COMMANDS: &[(&str, &str)] = &[
         "Restore { store: \"office.db\", from: \"monday.db\", paths: [\"/books/a/b.vcf\"] }",
     ),
     (
-        "restore /books/a /books/c/d.vcf --from monday.db --store office.db",
+        "restore /books/a /books/c/d.vcf --from monday.db --cause --store office.db",
         "Restore { store: \"office.db\", from: \"monday.db\", paths: [\"/books/a\", \"/books/c/d.vcf\"] }",
     ),
     (
@@ -317,9 +320,9 @@ const REFUSED: &[(&str, &str)] = &[
     ("serve --port 0 --connections 1 --existing", SERVE_WANTS),
 ];
 
-/// What is told where the options of `serve` lack what they want of each other.
+/// What is told where the options of `serve` or `load` lack what they want of each other.
 const SERVE_WANTS: &str =
-    "2 error: serve wants one of '--connections <N>' and '--forever', with '--idle <N>' also '--at-once <N>', and with '--existing' also '--store <FILE>'; why wants DESTINATION with COPY and MOVE; backup wants one of '--to <NEW>' and '--check <COPY>'";
+    "2 error: serve wants one of '--connections <N>' and '--forever', with '--idle <N>' also '--at-once <N>', and with '--existing' also '--store <FILE>'; why wants DESTINATION with COPY and MOVE; backup wants one of '--to <NEW>' and '--check <COPY>'; load wants with '--at <BOOK>' also '--owner <FROM=TO>', with '--heir <PRINCIPAL>' also '--without <PERSON>', and with '--above <N>' also '--new-epoch'";
 
 /// The status, and the first line of what is told.
 fn first_line(alloc: Global, fault: &WordsFault) -> Result<String, AllocError> {
