@@ -1,10 +1,10 @@
 -- From a reply of the machine to what is owed for it.
 use Rattle.std.proofs.Common.{◌≡◌, ◌≢◌, ℕ, Bool, true, false, List, [], Option, Some, None, Ok, Err, refl, sym, ap, ◌∙◌, subst, inl, inr}
 use Rattle.book_log_replies.specs.Replies.{denial_in}
-use Rattle.book_log_service.specs.Kept.{owed_text}
-use Rattle.book_log_service.specs.Settling.{IsUnavailableText, Settles, Withdraws}
+use Rattle.book_log_service.specs.Kept.{IsSpared, owed_text, spare_text}
+use Rattle.book_log_service.specs.Settling.{Settles, Withdraws}
 use Rattle.book_log_service.specs.Spelling.{IsDenial, Spells}
-use Rattle.book_log_service.specs.Texts.{IsTextBy}
+use Rattle.book_log_service.specs.Texts.{IsTextBy, IsUnavailableText}
 use Rattle.book_machine.specs.Asking.{IsWellFormed}
 use Rattle.book_machine.specs.Laws.{TellingRepliesChangeNothing}
 use Rattle.book_machine.specs.Promises.{ServePromise}
@@ -55,17 +55,21 @@ unavailable_text old new name request text is = record {
   by_force = λ h o stands denial told. absurd (no_denial denial told);
 }
 
-pub owes_unasked : (old new : Serving) (other : List ℕ) (name : Option (List ℕ)) (request : Request)
+spared : (spare : Option (List ℕ)) → IsSpared spare → IsUnavailableText (spare_text spare)
+spared None is = absurd is
+spared (Some text) is = is
+
+pub owes_unasked : (old new : Serving) (spare : Option (List ℕ)) (name : Option (List ℕ)) (request : Request)
     → StandsStill old.standing new.standing → IsWellFormed request
     → (new.log.failed ≡ false → old.log.failed ≡ false) → new.log.held ≡ old.log.held
-    → (new.log.failed ≡ false → IsUnavailableText other) → Owes old new (owed_text None other) name request (refused Unavailable)
-owes_unasked old new other name request still known was_sound held is = record {
+    → (new.log.failed ≡ false → IsSpared spare) → Owes old new (owed_text None spare) name request (refused Unavailable)
+owes_unasked old new spare name request still known was_sound held is = record {
   served = not_asked old.standing new.standing name request still;
   well_formed = known;
   was_sound = was_sound;
   held = held;
-  text = λ sound bytes holds. unavailable_text old.standing new.standing name request other (is sound);
-  other = λ sound bytes holds. is sound;
+  text = λ sound bytes holds. unavailable_text old.standing new.standing name request (spare_text spare) (spared spare (is sound));
+  other = λ sound bytes holds. spared spare (is sound);
 }
 
 -- ---- the reply is sent
@@ -82,21 +86,21 @@ told_by_force law old mid new name request reply text p s t = record {
       subst P same (t.by_force h a.0 a.1 denial is);
 }
 
-owes_sent : TellingRepliesChangeNothing → (old new : Serving) (mid : Standing) (made : Option (List ℕ)) (other : List ℕ) (name : Option (List ℕ)) (request : Request) (reply : Reply)
+owes_sent : TellingRepliesChangeNothing → (old new : Serving) (mid : Standing) (made spare : Option (List ℕ)) (name : Option (List ℕ)) (request : Request) (reply : Reply)
     → ServePromise old.standing mid name request reply → IsWellFormed request
-    → (new.log.failed ≡ false → old.log.failed ≡ false) → new.log.held ≡ old.log.held → IsUnavailableText other
+    → (new.log.failed ≡ false → old.log.failed ≡ false) → new.log.held ≡ old.log.held → (new.log.failed ≡ false → IsSpared spare)
     → StandsStill mid new.standing → (new.log.failed ≡ false → (text : List ℕ) × (made ≡ Some text) × IsTextOf mid new.standing name request reply text)
-    → Owes old new (owed_text made other) name request reply
-owes_sent law old new mid made other name request reply p known was_sound held is still told = record {
+    → Owes old new (owed_text made spare) name request reply
+owes_sent law old new mid made spare name request reply p known was_sound held is still told = record {
   served = promise_still old.standing mid new.standing name request reply p still;
   well_formed = known;
   was_sound = was_sound;
   held = held;
   text = λ sound bytes holds.
       let t = told sound in
-      let P : Option (List ℕ) → Type 0 = λ m. IsTextOf old.standing new.standing name request reply (owed_text m other true) in
+      let P : Option (List ℕ) → Type 0 = λ m. IsTextOf old.standing new.standing name request reply (owed_text m spare true) in
       subst P (sym t.1) (told_by_force law old.standing mid new.standing name request reply t.0 p still t.2);
-  other = λ sound bytes holds. is;
+  other = λ sound bytes holds. spared spare (is sound);
 }
 
 -- ---- `unavailable` is sent in its place
@@ -119,25 +123,25 @@ withdrawn law old mid new name request reply sent made p w = record {
   ];
 }
 
-pub owes_settled : TellingRepliesChangeNothing → (old new : Serving) (mid : Standing) (made : Option (List ℕ)) (other : List ℕ) (name : Option (List ℕ)) (request : Request) (reply sent : Reply)
+pub owes_settled : TellingRepliesChangeNothing → (old new : Serving) (mid : Standing) (made spare : Option (List ℕ)) (name : Option (List ℕ)) (request : Request) (reply sent : Reply)
     → ServePromise old.standing mid name request reply → IsWellFormed request
-    → (new.log.failed ≡ false → old.log.failed ≡ false) → new.log.held ≡ old.log.held → IsUnavailableText other
+    → (new.log.failed ≡ false → old.log.failed ≡ false) → new.log.held ≡ old.log.held → (new.log.failed ≡ false → IsSpared spare)
     → Settles mid new.standing name request reply sent new.log.failed made
-    → Owes old new (owed_text made other) name request sent
-owes_settled law old new mid made other name request reply sent p known was_sound held is (inl s) =
-    let P : Reply → Type 0 = λ r. Owes old new (owed_text made other) name request r in
-    subst P (sym s.same) (owes_sent law old new mid made other name request reply p known was_sound held is s.still s.told)
-owes_settled law old new mid made other name request reply sent p known was_sound held is (inr w) =
-    let P : Reply → Type 0 = λ r. Owes old new (owed_text made other) name request r in
-    let Q : Option (List ℕ) → Type 0 = λ m. Owes old new (owed_text m other) name request (refused Unavailable) in
+    → Owes old new (owed_text made spare) name request sent
+owes_settled law old new mid made spare name request reply sent p known was_sound held is (inl s) =
+    let P : Reply → Type 0 = λ r. Owes old new (owed_text made spare) name request r in
+    subst P (sym s.same) (owes_sent law old new mid made spare name request reply p known was_sound held is s.still s.told)
+owes_settled law old new mid made spare name request reply sent p known was_sound held is (inr w) =
+    let P : Reply → Type 0 = λ r. Owes old new (owed_text made spare) name request r in
+    let Q : Option (List ℕ) → Type 0 = λ m. Owes old new (owed_text m spare) name request (refused Unavailable) in
     subst P (sym w.unavailable)
     (subst Q (sym w.none) (record {
       served = withdrawn law old.standing mid new.standing name request reply sent made p w;
       well_formed = known;
       was_sound = was_sound;
       held = held;
-      text = λ sound bytes holds. unavailable_text old.standing new.standing name request other is;
-      other = λ sound bytes holds. is;
+      text = λ sound bytes holds. unavailable_text old.standing new.standing name request (spare_text spare) (spared spare (is sound));
+      other = λ sound bytes holds. spared spare (is sound);
     }))
 
 -- ---- the cases of a reply
@@ -152,14 +156,14 @@ served_from {K} standing old begun mid name request reply same p =
     let P : Machine K → Type 0 = λ m. ServePromise (standing m.keeper) mid name request reply in
     subst P same p
 
-pub owes_at_once : (old new : Serving) (made : Option (List ℕ)) (other : List ℕ) (name : Option (List ℕ)) (request : Request) (sent : Reply)
+pub owes_at_once : (old new : Serving) (made spare : Option (List ℕ)) (name : Option (List ℕ)) (request : Request) (sent : Reply)
     → sent ≡ refused Unavailable → made ≡ None → StandsStill old.standing new.standing → IsWellFormed request
     → (new.log.failed ≡ false → old.log.failed ≡ false) → new.log.held ≡ old.log.held
-    → (new.log.failed ≡ false → IsUnavailableText other) → Owes old new (owed_text made other) name request sent
-owes_at_once old new made other name request sent is_sent none s known was_sound held is =
-    let P : Reply → Type 0 = λ r. Owes old new (owed_text made other) name request r in
-    let Q : Option (List ℕ) → Type 0 = λ m. Owes old new (owed_text m other) name request (refused Unavailable) in
-    subst P (sym is_sent) (subst Q (sym none) (owes_unasked old new other name request s known was_sound held is))
+    → (new.log.failed ≡ false → IsSpared spare) → Owes old new (owed_text made spare) name request sent
+owes_at_once old new made spare name request sent is_sent none s known was_sound held is =
+    let P : Reply → Type 0 = λ r. Owes old new (owed_text made spare) name request r in
+    let Q : Option (List ℕ) → Type 0 = λ m. Owes old new (owed_text m spare) name request (refused Unavailable) in
+    subst P (sym is_sent) (subst Q (sym none) (owes_unasked old new spare name request s known was_sound held is))
 
 -- a reply without a content
 told_empty : (old new : Standing) (name : Option (List ℕ)) (request : Request) (reply : Reply) (text : List ℕ)

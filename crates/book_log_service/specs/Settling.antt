@@ -1,5 +1,5 @@
 -- What is sent of a reply of the machine, and what is owed for it.
-use Rattle.std.specs.Prelude.{◌≡◌, ◌≢◌, ◌⊎◌, ℕ, Bool, false, List, codes, Option, Some, None}
+use Rattle.std.specs.Prelude.{◌≡◌, ◌≢◌, ◌⊎◌, ℕ, Bool, false, List, Option, Some, None}
 use Rattle.book_machine.specs.Refusals.{refused}
 use Rattle.book_machine.specs.declared.messages.Content.TheVariants as content
 use Rattle.book_machine.specs.declared.messages.Reply.{Reply}
@@ -9,11 +9,6 @@ use Rattle.book_office.specs.Keeping.{Leftover, Standing, one_more}
 use Rattle.book_office_values.specs.declared.offices.Office.{Office}
 use Rattle.book_wire_serving.specs.Serving.{IsTextOf, StandsStill}
 use Rattle.book_log_service.specs.Spelling.{IsDenial}
-use Rattle.book_log_service.specs.Texts.{IsBareText}
-
--- the text that tells that a request is unavailable
-abbrev pub IsUnavailableText : List ℕ → Type 0
-IsUnavailableText text = IsBareText 503 (codes "unavailable") text
 
 -- the reply is sent, and its line is owed, unless the log has failed
 pub record Sends (old new : Standing) (name : Option (List ℕ)) (request : Request) (reply sent : Reply) (failed : Bool) (made : Option (List ℕ)) : Type 0 where

@@ -1,5 +1,5 @@
 -- Texts of lines of a log.
-use Rattle.std.specs.Prelude.{◌≡◌, ℕ, List, Option}
+use Rattle.std.specs.Prelude.{◌≡◌, ℕ, List, Option, codes}
 use Rattle.book_log_lines.specs.Lines.{line_text}
 use Rattle.book_log_lines.specs.declared.lines.Adoption.{Adoption}
 use Rattle.book_log_lines.specs.declared.lines.Line.{Line}
@@ -20,6 +20,10 @@ IsTextBy name request reply levels text = IsTextWith (IsLineBy name request repl
 -- the text of a line that tells a refusal, and nothing of a request
 abbrev pub IsBareText : ℕ → List ℕ → List ℕ → Type 0
 IsBareText status error text = IsTextWith (IsBare status error) text
+
+-- the text that tells that a request is unavailable
+abbrev pub IsUnavailableText : List ℕ → Type 0
+IsUnavailableText text = IsBareText 503 (codes "unavailable") text
 
 -- a line that tells what came of adopting a policy, and the epoch after it
 abbrev pub IsAdoption : Adoption → ℕ → Line → Type 0

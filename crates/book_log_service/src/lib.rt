@@ -6,7 +6,7 @@
 //! the line of a denial has the entry that denied, by the lists in force (`IsTextOf`).
 //!
 //! Read `clocks` first, then `texts`, which makes the lines, `drafts`, which makes those of edits before the edits,
-//! `spelling`, which asks the keeper for the lists at a denial, and `logged`.
+//! `spelling`, which asks the keeper for the lists at a denial, `spares`, and `logged`.
 #![tactic(auto)]
 
 mod appending;
@@ -14,6 +14,7 @@ mod clocks;
 mod drafts;
 mod known;
 mod logged;
+mod spares;
 mod spelling;
 mod texts;
 

@@ -1,20 +1,21 @@
 //! A machine that keeps a log.
 
-ghost use Rattle.std.specs.Prelude.{◌≡◌, ◌≢◌, true, false, List, [], ℕ, None, Some, IfOk, OnErr, OnOk, option_copied};
+ghost use Rattle.std.specs.Prelude.{◌≡◌, ◌≢◌, true, false, List, [], ℕ, None, Some, IfOk, OnErr, OnOk, codes, option_copied};
 ghost use Rattle.book_log_service.specs.Adoptions.{NotesAdoption};
 ghost use Rattle.book_log_service.specs.Drafts.{AreDrafts};
-ghost use Rattle.book_log_service.specs.Kept.{AppendsFront, Grows, owed_text, serving_of};
-ghost use Rattle.book_log_service.specs.Settling.{IsUnavailableText, Settles};
+ghost use Rattle.book_log_service.specs.Kept.{AppendsFront, Grows, IsSpared, Survives, owed_text, serving_of};
+ghost use Rattle.book_log_service.specs.Settling.{Settles};
 ghost use Rattle.book_log_service.specs.Texts.{IsAdoptionText, IsBareText, IsTextBy};
 ghost use Rattle.book_machine.specs.Refusals.{refused};
 ghost use Rattle.book_machine.specs.declared.messages.Content.TheVariants as content;
 ghost use Rattle.book_machine.specs.declared.refusals.Refusal.TheVariants.{Unavailable};
-ghost use Rattle.book_wire_serving.specs.Serving.{NotesOwed, NotesRefusal};
+ghost use Rattle.book_wire_serving.specs.Serving.{NotesOwed, NotesRefusal, Owes};
 
 use crate::appending::append;
 use crate::clocks::Clock;
 use crate::drafts::{Drafts, drafts_of, edit_text};
 use crate::known::known;
+use crate::spares::{Spare, stamp};
 use crate::spelling::spelled;
 use crate::texts::{adoption_text, bare_text};
 use book_log_lines::{Adoption, Time};
@@ -30,6 +31,8 @@ use std::io::Write;
 /// Before the machine is asked, what a line needs of memory is asked for: the time, and for a request that may edit also
 /// its line. Where that is refused the reply is `unavailable`, and the machine is not asked. A reply that changed nothing
 /// becomes `unavailable` where its line wants more memory than there is, or where the lists at a denial can't be read.
+/// The line that tells so is there before: where it can't be made anew it is the one that was made last, with its time
+/// and its connection.
 #[derive(Drop)]
 pub struct Logged<K, W, C> {
     /// What serves.
@@ -46,8 +49,8 @@ pub struct Logged<K, W, C> {
     connection: u64,
     /// The line of the reply to the request that was served last; none where the reply is `unavailable`.
     made: Option<Items<u8>>,
-    /// The line that the request is unavailable.
-    other: Items<u8>,
+    /// The line that the request is unavailable, which was made last; none where there was no memory for one yet.
+    spare: Option<Spare>,
 }
 
 /// That memory was refused or the store failed.
@@ -69,20 +72,6 @@ fn is_empty(reply: &Reply) -> bool
         Content::Empty => true,
         _ => false,
     }
-}
-
-/// The time, and the line that a request at that time is unavailable. An error is want of memory.
-fn stamp<C: Clock>(
-    clock: &mut C,
-    alloc: Global,
-    connection: u64,
-) -> Result<(Time, Items<u8>), AllocError>
-    ensures { IfOk result (λ stamp. IsUnavailableText stamp.1) }
-{
-    let time = clock.now(alloc)?;
-    let copy = time.clone()?;
-    let text = bare_text(alloc, copy, connection, 503, "unavailable")?;
-    Ok((time, text))
 }
 
 /// The line of a refusal. An error is want of memory.
@@ -112,23 +101,50 @@ fn adoption_line<C: Clock>(
     adoption_text(alloc, time, adopted, epoch)
 }
 
-/// The line that is owed, where the reply is sent as it was made, or else where `unavailable` is sent.
-fn owed_in<'t>(made: &'t Option<Items<u8>>, other: &'t Items<u8>, as_made: bool) -> &'t [u8]
-    ensures { result.now ≡ owed_text made.now other.now as_made }
+/// Whether a refusal is that memory was refused or the store failed.
+fn is_unavailable(status: u16, error: &str) -> bool
+    ensures { result ≡ true → (status ≡ 503) × (error.now ≡ codes "unavailable") }
 {
-    match made {
-        Some(text) if as_made => text.as_slice(),
-        _ => other.as_slice(),
+    status == 503 && error == "unavailable"
+}
+
+/// The line that a request is unavailable, if there is one.
+fn spare_in(spare: &Option<Spare>) -> Option<&[u8]>
+    ensures some { option_copied result ≡ spare.now }
+    ensures known { spare.now ≢ None → IsSpared spare.now }
+{
+    match spare {
+        Some(spare) => Some(spare.text()),
+        None => None,
+    }
+}
+
+/// The line that is owed, where the reply is sent as it was made, or else where `unavailable` is sent.
+fn owed_in<'t>(made: &'t Option<Items<u8>>, spare: &'t Option<Spare>, as_made: bool) -> &'t [u8]
+    ensures { result.now ≡ owed_text made.now spare.now as_made }
+{
+    match (made, spare) {
+        (Some(text), _) if as_made => text.as_slice(),
+        (_, Some(spare)) => spare.text(),
+        (_, None) => &[],
     }
 }
 
 impl<K: Keeper, W: Write, C: Clock> Logged<K, W, C> {
-    /// A machine that keeps its log with the writer. Takes no memory.
-    pub fn new(alloc: Global, machine: Machine<K>, writer: W, clock: C) -> Logged<K, W, C>
+    /// A machine that keeps its log with the writer. Where there is memory for it, the line that a request is unavailable
+    /// is made now, so that it is there for each request of which memory is refused.
+    pub fn new(alloc: Global, machine: Machine<K>, writer: W, mut clock: C) -> Logged<K, W, C>
         ensures machine { result.machine ≡ machine }
         ensures writer { result.writer ≡ writer }
         ensures failed { result.failed ≡ false }
     {
+        let spare = match stamp(&mut clock, alloc, 0) {
+            Ok((time, spare)) => {
+                drop(time);
+                Some(spare)
+            }
+            Err(_) => None,
+        };
         Logged {
             machine,
             writer,
@@ -137,7 +153,7 @@ impl<K: Keeper, W: Write, C: Clock> Logged<K, W, C> {
             alloc,
             connection: 0,
             made: None,
-            other: Items::new(alloc),
+            spare,
         }
     }
 
@@ -181,26 +197,53 @@ impl<K: Keeper, W: Write, C: Clock> Logged<K, W, C> {
         }
     }
 
-    /// Gets the line ready that a request is unavailable. An error is want of memory; the log has failed then.
+    /// Gets the line ready that a request is unavailable. An error is want of memory: the line that was made last is ready
+    /// then, or where there is none the log has failed.
     fn begin(&mut self, alloc: Global) -> Result<Time, AllocError>
         ensures machine { self.new.machine ≡ self.old.machine }
         ensures writer { self.new.writer ≡ self.old.writer }
         ensures made { self.new.made ≡ None }
         ensures was_sound { self.new.failed ≡ false → self.old.failed ≡ false }
-        ensures ok { OnOk result (IsUnavailableText self.new.other) }
-        ensures err { OnErr result (self.new.failed ≡ true) }
+        ensures spared { self.new.failed ≡ false → IsSpared self.new.spare }
+        ensures survives { self.old.spare ≢ None
+            → (self.new.failed ≡ self.old.failed) × (self.new.spare ≢ None) }
+        ensures ok { OnOk result (self.new.failed ≡ self.old.failed) }
     {
         self.made = None;
         match stamp(&mut self.clock, alloc, self.connection) {
-            Ok((time, text)) => {
-                self.other = text;
+            Ok((time, spare)) => {
+                self.spare = Some(spare);
                 Ok(time)
             }
             Err(error) => {
-                self.failed = true;
+                if spare_in(&self.spare).is_none() {
+                    self.failed = true;
+                }
                 Err(error)
             }
         }
+    }
+
+    /// Notes a refusal for whose line there is no memory: the line that a request is unavailable, where that was refused.
+    ///
+    /// # Errors
+    ///
+    /// There is no such line, or it could not be written.
+    #[tactic(auto, using(crate::proofs::Fronts::grows_front, crate::proofs::Fronts::grows_none))]
+    fn note_spare(&mut self, status: u16, error: &str) -> Result<(), LogFault>
+        ensures noted { NotesRefusal (serving_of K.standing W.contents self.old)
+            (serving_of K.standing W.contents self.new) status error.now }
+        ensures sound { OnOk result (self.new.failed ≡ false) }
+        ensures failed { OnErr result (self.new.failed ≡ true) }
+        ensures kept { Grows (W.contents self.old.writer) (W.contents self.new.writer) }
+    {
+        if is_unavailable(status, error) {
+            if let Some(text) = spare_in(&self.spare) {
+                return append(&mut self.writer, &mut self.failed, text);
+            }
+        }
+        self.failed = true;
+        Err(LogFault)
     }
 
     /// The line of a reply that has no content. Where it can't be made the log has failed.
@@ -217,7 +260,7 @@ impl<K: Keeper, W: Write, C: Clock> Logged<K, W, C> {
         requires drafts { AreDrafts (option_copied name) request.now drafts }
         ensures machine { self.new.machine ≡ self.old.machine }
         ensures writer { self.new.writer ≡ self.old.writer }
-        ensures other { self.new.other ≡ self.old.other }
+        ensures spare { self.new.spare ≡ self.old.spare }
         ensures was_sound { self.new.failed ≡ false → self.old.failed ≡ false }
         ensures made { self.new.failed ≡ false → (text : List ℕ) × (self.new.made ≡ Some text)
             × IsTextBy (option_copied name.entry) request.now reply.now [] text }
@@ -241,8 +284,9 @@ impl<K: Keeper, W: Write, C: Clock> Logged<K, W, C> {
         requires made { self.old.made ≡ None }
         requires drafts { AreDrafts (option_copied name) request.now drafts }
         ensures writer { self.new.writer ≡ self.old.writer }
-        ensures other { self.new.other ≡ self.old.other }
+        ensures spare { self.new.spare ≡ self.old.spare }
         ensures was_sound { self.new.failed ≡ false → self.old.failed ≡ false }
+        ensures survives { result.content ≢ content.Empty → self.new.failed ≡ self.old.failed }
         ensures settles { Settles (K.standing self.old.machine.keeper)
             (K.standing self.new.machine.keeper) (option_copied name.entry) request.now reply result
             self.new.failed self.new.made }
@@ -268,13 +312,19 @@ impl<K: Keeper, W: Write, C: Clock> Logged<K, W, C> {
 impl<K: Keeper, W: Write, C: Clock> Service for Logged<K, W, C> {
     ghost serving = { serving_of K.standing W.contents };
 
-    ghost owed = { λ l. owed_text l.made l.other };
+    ghost owed = { λ l. owed_text l.made l.spare };
 
     fn turn_to(&mut self, connection: u64) {
         self.connection = connection;
     }
 
-    fn serve(&mut self, alloc: Global, name: Option<&str>, request: &Request) -> Reply {
+    fn serve(&mut self, alloc: Global, name: Option<&str>, request: &Request) -> Reply
+        ensures owes { Owes (serving_of K.standing W.contents self.old)
+            (serving_of K.standing W.contents self.new) (owed_text self.new.made self.new.spare)
+            (option_copied name.entry) request.now result }
+        ensures survives { Survives self.old.spare self.new.spare self.old.failed self.new.failed
+            result }
+    {
         known(request);
         refusals_change_nothing();
         let Ok(time) = self.begin(alloc) else {
@@ -290,13 +340,13 @@ impl<K: Keeper, W: Write, C: Clock> Service for Logged<K, W, C> {
     fn note(&mut self, as_made: bool) -> Result<(), LogFault>
         ensures noted { NotesOwed (serving_of K.standing W.contents self.old)
             (serving_of K.standing W.contents self.new)
-            (owed_text self.old.made self.old.other as_made) }
+            (owed_text self.old.made self.old.spare as_made) }
         ensures sound { OnOk result (self.new.failed ≡ false) }
         ensures failed { OnErr result (self.new.failed ≡ true) }
         ensures front { AppendsFront (W.contents self.old.writer) (W.contents self.new.writer)
-            (owed_text self.old.made self.old.other as_made) }
+            (owed_text self.old.made self.old.spare as_made) }
     {
-        let text = owed_in(&self.made, &self.other, as_made);
+        let text = owed_in(&self.made, &self.spare, as_made);
         append(&mut self.writer, &mut self.failed, text)
     }
 
@@ -310,10 +360,7 @@ impl<K: Keeper, W: Write, C: Clock> Service for Logged<K, W, C> {
     {
         match refusal_text(&mut self.clock, self.alloc, self.connection, status, error) {
             Ok(text) => append(&mut self.writer, &mut self.failed, text.as_slice()),
-            Err(_) => {
-                self.failed = true;
-                Err(LogFault)
-            }
+            Err(_) => self.note_spare(status, error),
         }
     }
 

@@ -41,14 +41,22 @@ grant = [\"read\"]
 
 const CARD: &str = "BEGIN:VCARD\r\nVERSION:4.0\r\nFN:Bo\r\nEND:VCARD\r\n";
 
-/// Tells one time.
+/// Tells one time. After so many times, so many more are refused memory.
 #[derive(Drop)]
 struct Stopped {
     time: Time,
+    told: u64,
+    refused: u64,
 }
 
 impl Clock for Stopped {
     fn now(&mut self, _alloc: Global) -> Result<Time, AllocError> {
+        if self.told > 0 {
+            self.told -= 1;
+        } else if self.refused > 0 {
+            self.refused -= 1;
+            return Err(AllocError);
+        }
         self.time.clone()
     }
 }
@@ -79,8 +87,17 @@ impl Write for Output {
 
 type Kept = Logged<MemoryKeeper, Output, Stopped>;
 
-/// A machine that has adopted the policy, with a log of its own.
-fn kept(rt: &impl Abort, alloc: Global, size: usize, writes: u64) -> Kept {
+/// What a log is written to.
+fn output(alloc: Global, size: usize, writes: u64) -> Output {
+    Output {
+        taken: Vec::new(alloc),
+        size,
+        writes,
+    }
+}
+
+/// A machine that has adopted the policy, with a log of its own; after so many times, so many more are refused memory.
+fn kept_with(rt: &impl Abort, alloc: Global, output: Output, told: u64, refused: u64) -> Kept {
     let policy = read_policy(alloc, POLICY).ok().expect(rt, "a policy");
     let mut machine = Machine::new(MemoryKeeper::new(alloc));
     machine
@@ -91,13 +108,15 @@ fn kept(rt: &impl Abort, alloc: Global, size: usize, writes: u64) -> Kept {
     let found = Time::parse(alloc, "2026-11-29T09:00:00.000Z").expect(rt, "memory");
     let clock = Stopped {
         time: found.expect(rt, "a time"),
-    };
-    let output = Output {
-        taken: Vec::new(alloc),
-        size,
-        writes,
+        told,
+        refused,
     };
     Logged::new(alloc, machine, output, clock)
+}
+
+/// A machine that has adopted the policy, with a log of its own.
+fn kept(rt: &impl Abort, alloc: Global, size: usize, writes: u64) -> Kept {
+    kept_with(rt, alloc, output(alloc, size, writes), 0, 0)
 }
 
 fn request(rt: &impl Abort, alloc: Global, method: Method, path: &str, body: Body) -> Request {
@@ -200,4 +219,49 @@ fn a_log_that_fails_stays_so(rt: HostRuntime) {
     let (machine, output) = kept.release();
     drop(machine);
     assert_eq!(rt; output.taken.as_slice(), &LOG.as_bytes()[..50]);
+}
+
+/// An edit, a request for which memory was refused, one for which it was refused before it was read, and one that was
+/// served again. The lines in between have the connection of the request before.
+const REFUSED_LOG: &str =
+    "{\"time\":\"2026-11-29T09:00:00.000Z\",\"connection\":7,\"caller\":\"ann\",\"method\":\"PUT\",\"path\":\"/books/sales/a.vcf\",\"status\":201}\n\
+    {\"time\":\"2026-11-29T09:00:00.000Z\",\"connection\":7,\"status\":503,\"error\":\"unavailable\"}\n\
+    {\"time\":\"2026-11-29T09:00:00.000Z\",\"connection\":7,\"status\":503,\"error\":\"unavailable\"}\n\
+    {\"time\":\"2026-11-29T09:00:00.000Z\",\"connection\":8,\"method\":\"GET\",\"path\":\"/books/sales/b.vcf\",\"status\":404,\"error\":\"not-found\"}\n";
+
+/// Where memory is refused for a time the reply is `unavailable`, its line is the one that was made before, and the next
+/// request is served.
+#[test]
+fn refused_memory_fails_no_log(rt: HostRuntime) {
+    let alloc = rt.alloc();
+    let mut kept = kept_with(&rt, alloc, output(alloc, 50, 1_000), 2, 2);
+    kept.turn_to(7);
+    check(&rt, put(&rt, alloc, &mut kept), 201);
+    assert_eq!(rt; kept.note(true), Ok(()));
+    kept.turn_to(8);
+    let reply = get(&rt, alloc, &mut kept, None, "/books/sales/b.vcf");
+    check(&rt, reply, 503);
+    assert_eq!(rt; kept.note(true), Ok(()));
+    assert_eq!(rt; kept.note_refusal(503, "unavailable"), Ok(()));
+    let reply = get(&rt, alloc, &mut kept, None, "/books/sales/b.vcf");
+    check(&rt, reply, 404);
+    assert_eq!(rt; kept.note(true), Ok(()));
+    assert!(rt; !kept.has_failed_log());
+    let (machine, output) = kept.release();
+    drop(machine);
+    assert_eq!(rt; output.taken.as_slice(), REFUSED_LOG.as_bytes());
+}
+
+/// No other line stands for that of a refusal, and before a line could be made there is none for a request.
+#[test]
+fn a_line_without_memory_fails_the_log(rt: HostRuntime) {
+    let alloc = rt.alloc();
+    let mut kept = kept_with(&rt, alloc, output(alloc, 50, 1_000), 1, 1);
+    assert_eq!(rt; kept.note_refusal(431, "head-too-large"), Err(LogFault));
+    assert!(rt; kept.has_failed_log());
+    drop(kept);
+    let mut kept = kept_with(&rt, alloc, output(alloc, 50, 1_000), 0, 2);
+    let reply = get(&rt, alloc, &mut kept, None, "/books/sales/b.vcf");
+    check(&rt, reply, 503);
+    assert!(rt; kept.has_failed_log());
 }
