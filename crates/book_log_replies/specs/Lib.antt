@@ -1,3 +1,4 @@
 pub mod Standing
 pub mod Replies
+pub mod Effects
 pub mod Laws

@@ -1,6 +1,6 @@
 //! What the definitions imply.
 
-ghost use Rattle.book_log_replies.specs.Laws.{DenialsNameTheEntry, LinesTellNoContents, PlacesAreInForce};
+ghost use Rattle.book_log_replies.specs.Laws.{DenialsNameTheEntry, EditsTellTheirChanges, LinesTellNoContents, PlacesAreInForce};
 
 /// A line tells of a request its method, its path and its destination, and of a reply its status and its refusal, and
 /// nothing more: requests and replies that differ in anything else, as the text of a card or a label, have the same line.
@@ -13,4 +13,10 @@ pub fn lines_tell_no_contents()
 pub fn denials_name_the_entry()
     ensures in_force { PlacesAreInForce }
     ensures named { DenialsNameTheEntry }
+{}
+
+/// What a line tells of an edit is what changed: each number is that of its card's last change in the Office after the edit,
+/// and in a book that is there before and after, no other name changed.
+pub fn edits_tell_their_changes()
+    ensures { EditsTellTheirChanges }
 {}

@@ -2,8 +2,9 @@
 //!
 //! It stands on `book_machine`, which says what is asked and answered, on `book_office`, which says which entries are in
 //! force, and on `book_log_lines`, which writes the line. The crate above uses that `reply_line` tells of a request and its
-//! reply what a log tells and nothing more (`reply_of`, `lines_tell_no_contents`), and that the entry which it names of a
-//! denial is the entry in force that denied (`decided_in`, `denials_name_the_entry`).
+//! reply what a log tells and nothing more (`reply_of`, `lines_tell_no_contents`), that the entry which it names of a
+//! denial is the entry in force that denied (`decided_in`, `denials_name_the_entry`), and that the cards which it names of
+//! an edit are those that changed (`effect_of`, `edits_tell_their_changes`).
 //!
 //! Read `standing` first, which finds the entry of a denial, then `replies`, and `laws`.
 #![tactic(auto)]
@@ -12,6 +13,6 @@ mod laws;
 mod replies;
 mod standing;
 
-pub use laws::{denials_name_the_entry, lines_tell_no_contents};
-pub use replies::{Exchange, denial_in, reply_line};
+pub use laws::{denials_name_the_entry, edits_tell_their_changes, lines_tell_no_contents};
+pub use replies::{Effect, Exchange, denial_in, reply_line};
 pub use standing::decided_in;

@@ -10,6 +10,15 @@ use book_office::Level;
 use book_office_values::{Items, Path, Text};
 use std::alloc::{AllocError, Global};
 
+/// What an edit did.
+#[derive(Debug, Drop)]
+pub struct Effect {
+    /// The cards that it touched, each with the number of that change; at most two.
+    pub touched: Items<Touched>,
+    /// The epoch after it; none where nothing was edited.
+    pub epoch: Option<u64>,
+}
+
 /// When a reply was made, on which connection, for whom, and what an edit did.
 #[derive(Debug, Drop)]
 pub struct Exchange {
