@@ -22,6 +22,9 @@ ODD_CALLERS = ["zoe", 'q"uote', "back\\slash", "tab\tstop", "</script>&'", "Ã© Ã
                "", "\x7f", "\udcff\udcfe", "adm\udce9", "%61dm", "/people/adm"]
 METHODS = ["GET", "GET", "HEAD", "OPTIONS", "PUT", "PUT", "PUT", "PUT", "PROPFIND", "PROPFIND", "PROPPATCH", "ACL", "ACL", "COPY", "MOVE",
            "DELETE", "MKCOL", "REPORT", "REPORT"]
+# Each method that edits, with the paths that are touched where they are those of cards.
+EDITS = {"PUT": lambda path, to: [path], "COPY": lambda path, to: [to], "MOVE": lambda path, to: [path, to], "DELETE": lambda path, to: [path],
+         "PROPPATCH": lambda path, to: [path], "ACL": lambda path, to: [], "MKCOL": lambda path, to: []}
 BAD_HEADS = [b"GET\r\n\r\n", b"LOCK / HTTP/1.1\r\n\r\n", b"GET / HTTP/1.1\r\nTransfer-Encoding: chunked\r\n\r\n",
              b"PUT /books HTTP/1.1\r\nContent-Length: 262145\r\n\r\n", b"GET / HTTP/1.1\r\nContent-Length: zq\r\n\r\n",
              b"GET / HTTP/1.1\r\nContent-Length: 1\r\nContent-Length: 1\r\n\r\n", b"GET / HTTP/1.1\r\n" + 65 * b"f: v\r\n" + b"\r\n",
@@ -148,7 +151,7 @@ def policy_of(rng):
 
 
 class Model:
-    """The Office of a policy and the edits since, as far as verdicts rest on it."""
+    """The Office of a policy and the edits since, as far as verdicts and numbers rest on it."""
 
     def __init__(self, policy):
         self.office = decisions.adopted(decisions.Office(0, {home: decisions.Resource() for home in decisions.HOMES}), policy)
@@ -175,9 +178,22 @@ class Model:
         spelled = {"grant" if entry.grants else "deny": decisions.short(entry.leaves), "invert" if entry.inverted else "principal": entry.who}
         return {"from": place, "protected": protected, "place": there, "number": number, "entry": spelled}
 
+    def touch(self, path):
+        """The next number of its book is that of a card's last change, or of a removed name's; as a line tells it."""
+        there, (book, name) = self.office.resources, path.rsplit("/", 1)
+        number, removed = there[book].number + 1, {key: value for key, value in there[book].removed if key != name}
+        if path in there:
+            there[path] = decisions.dataclasses.replace(there[path], number=number)
+        else:
+            removed[name] = number
+        there[book] = decisions.dataclasses.replace(there[book], number=number, removed=tuple(sorted(removed.items())))
+        return {"path": path, "number": number}
+
     def follow(self, asked, status):
-        """Takes over what an edit with this reply did."""
+        """Takes over what an edit with this reply did, and tells the cards that it touched and the epoch after it."""
         there, method, path, to = self.office.resources, asked.method, asked.path, asked.destination
+        if method not in EDITS:
+            return {}
         made = decisions.Resource(owner=asked.caller and f"/people/{asked.caller}")
         if (method, status) in (("PUT", 201), ("MKCOL", 201)):
             there[path] = made
@@ -195,6 +211,10 @@ class Model:
             members = frozenset(asked.body["set"]["group-member-set"])
             there[path] = decisions.dataclasses.replace(there[path], members=members)
             self.office.circles.clear()
+        self.office.epoch += method == "ACL" or (method == "PROPPATCH" and "group-member-set" in asked.body["set"]) or (
+            method == "DELETE" and not decisions.is_card(path))
+        touched = [self.touch(one) for one in EDITS[method](path, to) if decisions.is_card(one)]
+        return {**({"touched": touched} if touched else {}), "epoch": self.office.epoch}
 
 
 def compact(value):
@@ -266,9 +286,8 @@ def compare(count, name, text, talks, model, began):
             count.judge(f"{name}: connection {number} of {len(left)} has a reply", "one", raw)
             continue
         asked, reply = left[number].popleft()
-        told = {key: value for key, value in line.items() if key not in ("time", "touched", "epoch")}
-        count.judge(f"{name}: {asked.sent[:400]!r} {reply!r:.300}", compact(wanted(asked, reply, line, number, model)), compact(told))
-        if reply.status < 300:
-            model.follow(asked, reply.status)
+        told, want = {key: value for key, value in line.items() if key != "time"}, wanted(asked, reply, line, number, model)
+        want.update(model.follow(asked, reply.status) if reply.status < 300 else {})
+        count.judge(f"{name}: {asked.sent[:400]!r} {reply!r:.300}", compact(want), compact(told))
     for number, talk in enumerate(left):
         count.judge(f"{name}: replies of connection {number} without a line", [], [(asked.sent[:200], reply) for asked, reply in list(talk)[:2]])

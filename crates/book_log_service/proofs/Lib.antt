@@ -1,3 +1,5 @@
 pub mod Spelled
 pub mod Appended
 pub mod Fronts
+pub mod Foreseen
+pub mod ReadTurns

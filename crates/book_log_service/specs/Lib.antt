@@ -1,4 +1,5 @@
 pub mod Texts
+pub mod Foreseeing
 pub mod Drafts
 pub mod Kept
 pub mod Spelling

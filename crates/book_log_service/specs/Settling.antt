@@ -8,13 +8,20 @@ use Rattle.book_machine.specs.declared.refusals.Refusal.TheVariants.{Unavailable
 use Rattle.book_office.specs.Keeping.{Leftover, Standing, one_more}
 use Rattle.book_office_values.specs.declared.offices.Office.{Office}
 use Rattle.book_wire_serving.specs.Serving.{IsTextOf, StandsStill}
+use Rattle.book_log_service.specs.Drafts.{IsOfDrafts}
 use Rattle.book_log_service.specs.Spelling.{IsDenial}
+use Rattle.book_log_service.specs.declared.drafts.Drafts.{Drafts}
+
+-- a text of a reply with a content, or that of a draft
+abbrev pub IsMadeText : Standing → Standing → Option (List ℕ) → Request → Option Drafts → Reply → List ℕ → Type 0
+IsMadeText old new name request drafts reply text =
+    ((reply.content ≢ content.Empty) × IsTextOf old new name request reply text) ⊎ ((reply.content ≡ content.Empty) × IsOfDrafts drafts reply text)
 
 -- the reply is sent, and its line is owed, unless the log has failed
-pub record Sends (old new : Standing) (name : Option (List ℕ)) (request : Request) (reply sent : Reply) (failed : Bool) (made : Option (List ℕ)) : Type 0 where
+pub record Sends (old new : Standing) (name : Option (List ℕ)) (request : Request) (drafts : Option Drafts) (reply sent : Reply) (failed : Bool) (made : Option (List ℕ)) : Type 0 where
   pub same : sent ≡ reply
   pub still : StandsStill old new
-  pub told : failed ≡ false → (text : List ℕ) × (made ≡ Some text) × IsTextOf old new name request reply text
+  pub told : failed ≡ false → (text : List ℕ) × (made ≡ Some text) × IsMadeText old new name request drafts reply text
 
 -- `unavailable` is sent in place of a reply that changed nothing. The store may have failed once, where that is a denial.
 pub record Withdraws (old new : Standing) (reply sent : Reply) (made : Option (List ℕ)) : Type 0 where
@@ -26,5 +33,6 @@ pub record Withdraws (old new : Standing) (reply sent : Reply) (made : Option (L
   pub failed : (new.failures ≡ old.failures) ⊎ (IsDenial reply × (new.failures ≡ one_more old.failures))
   pub none : made ≡ None
 
-abbrev pub Settles : Standing → Standing → Option (List ℕ) → Request → Reply → Reply → Bool → Option (List ℕ) → Type 0
-Settles old new name request reply sent failed made = Sends old new name request reply sent failed made ⊎ Withdraws old new reply sent made
+abbrev pub Settles : Standing → Standing → Option (List ℕ) → Request → Option Drafts → Reply → Reply → Bool → Option (List ℕ) → Type 0
+Settles old new name request drafts reply sent failed made =
+    Sends old new name request drafts reply sent failed made ⊎ Withdraws old new reply sent made

@@ -4,6 +4,7 @@ use Rattle.book_log_lines.specs.Lines.{line_text}
 use Rattle.book_log_lines.specs.declared.lines.Adoption.{Adoption}
 use Rattle.book_log_lines.specs.declared.lines.Line.{Line}
 use Rattle.book_log_lines.specs.declared.lines.Line.TheVariants as line
+use Rattle.book_log_replies.specs.declared.replies.Effect.{Effect}
 use Rattle.book_machine.specs.declared.messages.Reply.{Reply}
 use Rattle.book_machine.specs.declared.messages.Request.{Request}
 use Rattle.book_office.specs.declared.nodes.Level.{Level}
@@ -13,9 +14,14 @@ use Rattle.book_wire_serving.specs.Logs.{IsBare, IsLineBy}
 abbrev pub IsTextWith : (Line → Type 0) → List ℕ → Type 0
 IsTextWith IsSo text = (l : Line) × (text ≡ line_text l) × IsSo l
 
--- the text of the line of a request of that caller and its reply, by the lists in force at the resource of a denial
-abbrev pub IsTextBy : Option (List ℕ) → Request → Reply → List Level → List ℕ → Type 0
-IsTextBy name request reply levels text = IsTextWith (IsLineBy name request reply levels) text
+-- the text of the line of a request of that caller and its reply, with that effect, by the lists in force at the resource of a denial
+abbrev pub IsTextBy : Option (List ℕ) → Request → Reply → Effect → List Level → List ℕ → Type 0
+IsTextBy name request reply effect levels text = IsTextWith (IsLineBy name request reply effect levels) text
+
+-- the line with another status
+abbrev pub with_status : Line → ℕ → Line
+with_status (line.Reply l) status = line.Reply (record l { status = status })
+with_status (line.Adoption l) status = line.Adoption l
 
 -- the text of a line that tells a refusal, and nothing of a request
 abbrev pub IsBareText : ℕ → List ℕ → List ℕ → Type 0

@@ -1,14 +1,18 @@
 //! The lines of replies to edits, made before the edits: after an edit no memory is asked for.
 
-ghost use Rattle.std.specs.Prelude.{◌≡◌, IfOk, IfSome, List, [], ℕ, Option, option_copied};
+ghost use Rattle.std.specs.Prelude.{◌≡◌, IfOk, IfSome, Some, option_copied};
 ghost use Rattle.book_machine.specs.declared.messages.Content.TheVariants as content;
-ghost use Rattle.book_machine.specs.declared.messages.Request.{Request as RequestOf};
-ghost use Rattle.book_log_service.specs.Drafts.{AreDrafts, IsDraft, empty_reply};
-ghost use Rattle.book_log_service.specs.Texts.{IsTextBy};
+ghost use Rattle.book_log_replies.specs.declared.replies.Effect.{Effect as EffectOf};
+ghost use Rattle.book_log_service.specs.Drafts.{AreDrafts, IsOfDrafts};
+ghost use Rattle.book_log_service.specs.Foreseeing.{foreseen};
+ghost use Rattle.book_office.specs.Keeping.{Reads};
 
-use crate::texts::reply_text;
+use crate::foreseeing::foreseen;
+use crate::texts::edit_texts;
 use book_log_lines::Time;
-use book_machine::{Content, Reply, Request};
+use book_log_replies::Effect;
+use book_machine::{Reply, Request};
+use book_office::{Keeper, StoreFault};
 use book_office_values::Items;
 use book_rights::Method;
 use std::alloc::{AllocError, Global};
@@ -43,84 +47,73 @@ fn edit_statuses(method: Method) -> Option<(u16, u16)> {
     }
 }
 
-/// The line of a request, where its reply has no content and this status. An error is want of memory.
-fn draft_with(
+/// The lines of a request whose method edits, of what its edit is to do. An error is want of memory.
+fn drafts_with(
     alloc: Global,
     time: &Time,
     connection: u64,
     name: Option<&str>,
     request: &Request,
-    status: u16,
-) -> Result<Draft, AllocError>
-    ensures { IfOk result (λ draft. IsDraft (option_copied name.entry) request.now draft) }
+    effect: Effect,
+    first: u16,
+    second: u16,
+) -> Result<Drafts, AllocError>
+    ensures { IfOk result (λ drafts. AreDrafts (option_copied name.entry) request.now effect
+        (Some drafts)) }
 {
-    let reply = Reply {
-        status,
-        content: Content::Empty,
-    };
-    let text = reply_text(alloc, time, connection, name, request, &reply, &[]);
-    drop(reply);
-    Ok(Draft {
-        status,
-        text: text?,
+    let texts = edit_texts(
+        alloc, time, connection, name, request, effect, first, second,
+    )?;
+    Ok(Drafts {
+        first: Draft {
+            status: first,
+            text: texts.0,
+        },
+        second: Draft {
+            status: second,
+            text: texts.1,
+        },
     })
 }
 
-/// The lines of a request whose method edits. An error is want of memory.
-pub(crate) fn drafts_of(
+/// The lines of a request whose method edits, of what its edit is to do. The keeper is asked for that.
+pub(crate) fn drafts_of<K: Keeper>(
+    keeper: &mut K,
     alloc: Global,
     time: &Time,
     connection: u64,
     name: Option<&str>,
     request: &Request,
-) -> Result<Option<Drafts>, AllocError>
-    ensures { IfOk result (λ drafts. AreDrafts (option_copied name.entry) request.now drafts) }
+) -> Result<Option<Drafts>, StoreFault>
+    ensures foreseen { Reads (K.standing keeper.old) (K.standing keeper.new) result
+        (λ o drafts. AreDrafts (option_copied name.entry) request.now (foreseen o request.now)
+        drafts) }
+    ensures drafts { IfOk result (λ drafts. (effect : EffectOf)
+        × AreDrafts (option_copied name.entry) request.now effect drafts) }
 {
-    match edit_statuses(request.method) {
-        Some((first, second)) => Ok(Some(Drafts {
-            first: draft_with(alloc, time, connection, name, request, first)?,
-            second: draft_with(alloc, time, connection, name, request, second)?,
-        })),
-        None => Ok(None),
-    }
+    let Some((first, second)) = edit_statuses(request.method) else {
+        return Ok(None);
+    };
+    let effect = foreseen(keeper, alloc, request)?;
+    let drafts = drafts_with(
+        alloc, time, connection, name, request, effect, first, second,
+    )?;
+    Ok(Some(drafts))
 }
 
-/// The line of that status, if there is one. Takes no memory.
-fn drafted(drafts: Option<Drafts>, status: u16) -> Option<Items<u8>>
-    ensures { IfSome result (λ text. (name : Option (List ℕ)) (request : RequestOf)
-        → AreDrafts name request drafts
-        → IsTextBy name request (empty_reply status) [] text) }
+/// The line of that reply, which has no content, if there is one of its status. Takes no memory.
+pub(crate) fn drafted(drafts: Option<Drafts>, reply: &Reply) -> Option<Items<u8>>
+    requires empty { reply.now.content ≡ content.Empty }
+    ensures { IfSome result (λ text. IsOfDrafts drafts reply.now text) }
 {
     let Some(Drafts { first, second }) = drafts else {
         return None;
     };
-    if first.status == status {
+    if first.status == reply.status {
         return Some(first.text);
     }
-    if second.status == status {
+    if second.status == reply.status {
         return Some(second.text);
     }
     None
-}
-
-/// The line of a request and its reply, which has no content: a draft, or else it is made now. An error is want of
-/// memory.
-pub(crate) fn edit_text(
-    alloc: Global,
-    time: &Time,
-    connection: u64,
-    name: Option<&str>,
-    request: &Request,
-    drafts: Option<Drafts>,
-    reply: &Reply,
-) -> Result<Items<u8>, AllocError>
-    requires empty { reply.now.content ≡ content.Empty }
-    requires drafts { AreDrafts (option_copied name) request.now drafts }
-    ensures { IfOk result (λ text. IsTextBy (option_copied name.entry) request.now reply.now []
-        text) }
-{
-    match drafted(drafts, reply.status) {
-        Some(text) => Ok(text),
-        None => reply_text(alloc, time, connection, name, request, reply, &[]),
-    }
 }

@@ -5,13 +5,15 @@
 //! are those of the machine (`Owes`), that their lines are in the log unless a write has failed (`NotesOwed`), and that
 //! the line of a denial has the entry that denied, by the lists in force (`IsTextOf`).
 //!
-//! Read `clocks` first, then `texts`, which makes the lines, `drafts`, which makes those of edits before the edits,
+//! Read `clocks` first, then `texts`, which makes the lines, `drafts`, which makes those of edits before the edits, by what
+//! `foreseeing` finds out,
 //! `spelling`, which asks the keeper for the lists at a denial, `spares`, and `logged`.
 #![tactic(auto)]
 
 mod appending;
 mod clocks;
 mod drafts;
+mod foreseeing;
 mod known;
 mod logged;
 mod spares;

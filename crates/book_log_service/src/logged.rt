@@ -2,7 +2,7 @@
 
 ghost use Rattle.std.specs.Prelude.{◌≡◌, ◌≢◌, true, false, List, [], ℕ, None, Some, IfOk, OnErr, OnOk, codes, option_copied};
 ghost use Rattle.book_log_service.specs.Adoptions.{NotesAdoption};
-ghost use Rattle.book_log_service.specs.Drafts.{AreDrafts};
+ghost use Rattle.book_log_service.specs.Drafts.{IsOfDrafts};
 ghost use Rattle.book_log_service.specs.Kept.{AppendsFront, Grows, IsSpared, Survives, owed_text, serving_of};
 ghost use Rattle.book_log_service.specs.Settling.{Settles};
 ghost use Rattle.book_log_service.specs.Texts.{IsAdoptionText, IsBareText, IsTextBy};
@@ -13,7 +13,7 @@ ghost use Rattle.book_wire_serving.specs.Serving.{NotesOwed, NotesRefusal, Owes}
 
 use crate::appending::append;
 use crate::clocks::Clock;
-use crate::drafts::{Drafts, drafts_of, edit_text};
+use crate::drafts::{Drafts, drafted, drafts_of};
 use crate::known::known;
 use crate::spares::{Spare, stamp};
 use crate::spelling::spelled;
@@ -28,8 +28,9 @@ use std::io::Write;
 
 /// A machine that keeps a log: a line for each reply, in the order in which they are made.
 ///
-/// Before the machine is asked, what a line needs of memory is asked for: the time, and for a request that may edit also
-/// its line. Where that is refused the reply is `unavailable`, and the machine is not asked. A reply that changed nothing
+/// Before the machine is asked, what a line needs is asked for: the time, and for a request that may edit also its line,
+/// with the numbers that its cards will have and the epoch after it. Where memory or a read for that is refused the reply is
+/// `unavailable`, and the machine is not asked. A reply that changed nothing
 /// becomes `unavailable` where its line wants more memory than there is, or where the lists at a denial can't be read.
 /// The line that tells so is there before: where it can't be made anew it is the one that was made last, with its time
 /// and its connection.
@@ -246,28 +247,19 @@ impl<K: Keeper, W: Write, C: Clock> Logged<K, W, C> {
         Err(LogFault)
     }
 
-    /// The line of a reply that has no content. Where it can't be made the log has failed.
-    fn settle_empty(
-        &mut self,
-        alloc: Global,
-        time: &Time,
-        name: Option<&str>,
-        request: &Request,
-        drafts: Option<Drafts>,
-        reply: &Reply,
-    )
+    /// The line of a reply that has no content. Where there is none the log has failed.
+    fn settle_empty(&mut self, drafts: Option<Drafts>, reply: &Reply)
         requires empty { reply.now.content ≡ content.Empty }
-        requires drafts { AreDrafts (option_copied name) request.now drafts }
         ensures machine { self.new.machine ≡ self.old.machine }
         ensures writer { self.new.writer ≡ self.old.writer }
         ensures spare { self.new.spare ≡ self.old.spare }
         ensures was_sound { self.new.failed ≡ false → self.old.failed ≡ false }
         ensures made { self.new.failed ≡ false → (text : List ℕ) × (self.new.made ≡ Some text)
-            × IsTextBy (option_copied name.entry) request.now reply.now [] text }
+            × IsOfDrafts drafts reply.now text }
     {
-        match edit_text(alloc, time, self.connection, name, request, drafts, reply) {
-            Ok(text) => self.made = Some(text),
-            Err(_) => self.failed = true,
+        match drafted(drafts, reply) {
+            Some(text) => self.made = Some(text),
+            None => self.failed = true,
         }
     }
 
@@ -282,17 +274,16 @@ impl<K: Keeper, W: Write, C: Clock> Logged<K, W, C> {
         reply: Reply,
     ) -> Reply
         requires made { self.old.made ≡ None }
-        requires drafts { AreDrafts (option_copied name) request.now drafts }
         ensures writer { self.new.writer ≡ self.old.writer }
         ensures spare { self.new.spare ≡ self.old.spare }
         ensures was_sound { self.new.failed ≡ false → self.old.failed ≡ false }
         ensures survives { result.content ≢ content.Empty → self.new.failed ≡ self.old.failed }
         ensures settles { Settles (K.standing self.old.machine.keeper)
-            (K.standing self.new.machine.keeper) (option_copied name.entry) request.now reply result
-            self.new.failed self.new.made }
+            (K.standing self.new.machine.keeper) (option_copied name.entry) request.now drafts reply
+            result self.new.failed self.new.made }
     {
         if is_empty(&reply) {
-            self.settle_empty(alloc, time, name, request, drafts, &reply);
+            self.settle_empty(drafts, &reply);
             return reply;
         }
         let keeper = &mut self.machine.keeper;
@@ -330,7 +321,8 @@ impl<K: Keeper, W: Write, C: Clock> Service for Logged<K, W, C> {
         let Ok(time) = self.begin(alloc) else {
             return unavailable();
         };
-        let Ok(drafts) = drafts_of(alloc, &time, self.connection, name, request) else {
+        let keeper = &mut self.machine.keeper;
+        let Ok(drafts) = drafts_of(keeper, alloc, &time, self.connection, name, request) else {
             return unavailable();
         };
         let reply = self.machine.serve(alloc, name, request);

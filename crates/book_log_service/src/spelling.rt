@@ -1,8 +1,9 @@
 //! The line of a reply that has a content.
 
-ghost use Rattle.std.specs.Prelude.{◌≡◌, Some, option_copied};
+ghost use Rattle.std.specs.Prelude.{◌≡◌, ◌≢◌, Some, option_copied};
 ghost use Rattle.book_log_replies.specs.Replies.{denial_in};
 ghost use Rattle.book_log_service.specs.Spelling.{Spells};
+ghost use Rattle.book_machine.specs.declared.messages.Content.TheVariants as content;
 
 use crate::texts::reply_text;
 use book_log_lines::Time;
@@ -34,7 +35,7 @@ fn spelled_denial<K: Keeper>(
     Ok(text?)
 }
 
-/// The line of a reply. Where it is a denial, the keeper is asked for the lists at its resource.
+/// The line of a reply with a content. Where it is a denial, the keeper is asked for the lists at its resource.
 pub(crate) fn spelled<K: Keeper>(
     keeper: &mut K,
     alloc: Global,
@@ -44,6 +45,7 @@ pub(crate) fn spelled<K: Keeper>(
     request: &Request,
     reply: &Reply,
 ) -> Result<Items<u8>, StoreFault>
+    requires { reply.now.content ≢ content.Empty }
     ensures { Spells (K.standing keeper.old) (K.standing keeper.new) (option_copied name.entry)
         request.now reply.now result }
 {

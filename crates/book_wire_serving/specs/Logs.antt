@@ -1,13 +1,16 @@
 -- The log of what is served: a line for each reply, in the order in which they were made (own profile).
-use Rattle.std.specs.Prelude.{◌≡◌, ◌⊎◌, ℕ, Bool, true, false, List, [], ◌∷◌, ◌++◌, codes, Option, Some, None}
+use Rattle.std.specs.Prelude.{◌≡◌, ◌≢◌, ◌⊎◌, ℕ, Bool, true, false, List, [], ◌∷◌, ◌++◌, codes, Option, Some, None}
 use Rattle.std.specs.List.{flat_map}
 use Rattle.book_log_lines.specs.Lines.{line_text}
 use Rattle.book_log_lines.specs.declared.lines.Line.{Line}
 use Rattle.book_log_lines.specs.declared.lines.Line.TheVariants as line
 use Rattle.book_log_lines.specs.declared.lines.ReplyLine.{ReplyLine}
+use Rattle.book_log_replies.specs.Effects.{no_effect}
 use Rattle.book_log_replies.specs.Replies.{reply_of}
+use Rattle.book_log_replies.specs.declared.replies.Effect.{Effect}
 use Rattle.book_log_replies.specs.declared.replies.Exchange.{Exchange}
 use Rattle.book_machine.specs.Refusals.{refused}
+use Rattle.book_machine.specs.declared.messages.Content.TheVariants as content
 use Rattle.book_machine.specs.declared.messages.Reply.{Reply}
 use Rattle.book_machine.specs.declared.messages.Request.{Request}
 use Rattle.book_machine.specs.declared.refusals.Refusal.TheVariants.{Unavailable}
@@ -59,15 +62,23 @@ IsBare status error l = (time : List ℕ) × (connection : ℕ) × (l ≡ line.R
 abbrev pub IsUnavailable : Line → Type 0
 IsUnavailable l = IsBare 503 (codes "unavailable") l
 
--- when a reply is made, on which connection and for whom; of what an edit touched nothing is told
-abbrev pub made_at : List ℕ → ℕ → Option (List ℕ) → Exchange
-made_at time connection name = record { time = time; connection = connection; caller = name; touched = []; epoch = None }
+-- when a reply is made, on which connection, for whom, and what an edit did
+abbrev pub made_at : List ℕ → ℕ → Option (List ℕ) → Effect → Exchange
+made_at time connection name effect =
+    record { time = time; connection = connection; caller = name; touched = effect.touched; epoch = effect.epoch }
 
--- the line of a request of that caller and its reply, by the lists in force at the resource of a denial, at some time on some connection
-abbrev pub IsLineBy : Option (List ℕ) → Request → Reply → List Level → Line → Type 0
-IsLineBy name request reply levels l =
-    (time : List ℕ) × (connection : ℕ) × (l ≡ line.Reply (reply_of (made_at time connection name) request reply levels))
+-- the line of a request of that caller and its reply, with what an edit did, by the lists in force at the resource of a denial, at some
+-- time on some connection
+abbrev pub IsLineBy : Option (List ℕ) → Request → Reply → Effect → List Level → Line → Type 0
+IsLineBy name request reply effect levels l =
+    (time : List ℕ) × (connection : ℕ) × (l ≡ line.Reply (reply_of (made_at time connection name effect) request reply levels))
+
+-- a reply with a content is told without an effect
+abbrev pub IsEffectIn : Reply → Effect → Type 0
+IsEffectIn reply effect = reply.content ≢ content.Empty → effect ≡ no_effect
 
 -- the line of a request of that caller and its reply, or that it is unavailable
 abbrev pub IsLineOf : Option (List ℕ) → Request → Reply → Line → Type 0
-IsLineOf name request reply l = ((levels : List Level) × IsLineBy name request reply levels l) ⊎ ((reply ≡ refused Unavailable) × IsUnavailable l)
+IsLineOf name request reply l =
+    ((effect : Effect) × (levels : List Level) × IsEffectIn reply effect × IsLineBy name request reply effect levels l)
+    ⊎ ((reply ≡ refused Unavailable) × IsUnavailable l)

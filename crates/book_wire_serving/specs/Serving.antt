@@ -6,6 +6,7 @@ use Rattle.book_log_lines.specs.declared.lines.Line.{Line}
 use Rattle.book_office.specs.Keeping.{Leftover, Standing}
 use Rattle.book_office.specs.Levels.{lists_at}
 use Rattle.book_office_values.specs.declared.offices.Office.{Office}
+use Rattle.book_log_replies.specs.Effects.{effect_of, no_effect}
 use Rattle.book_log_replies.specs.Replies.{denial_in}
 use Rattle.book_office_listings.specs.declared.messages.Denial.{Denial}
 use Rattle.book_machine.specs.Asking.{IsWellFormed}
@@ -14,7 +15,9 @@ use Rattle.book_machine.specs.LeadingRuns.{AreWellFormed}
 use Rattle.book_machine.specs.Promises.{ServePromise}
 use Rattle.book_machine.specs.Refusals.{refused}
 use Rattle.book_machine.specs.Runs.{Call, Run, last_office, MayLeaveAfter}
+use Rattle.book_machine.specs.Steps.{Serves}
 use Rattle.book_machine.specs.SyncedCopies.{Synced}
+use Rattle.book_machine.specs.declared.messages.Content.TheVariants as content
 use Rattle.book_machine.specs.declared.messages.Reply.{Reply}
 use Rattle.book_machine.specs.declared.messages.Request.{Request}
 use Rattle.book_machine.specs.declared.refusals.Refusal.TheVariants.{Unavailable}
@@ -48,13 +51,24 @@ pub record Answered : Type 0 where
   pub request : Option Request
   pub reply : Reply
 
--- The text is a line of the request and its reply. Where the reply is a denial, its entry is told by the lists that are in force then.
+-- what is told of an edit, by the Office that it made
+pub record IsToldBy (o : Office) (new : Standing) (name : Option (List ℕ)) (request : Request) (reply : Reply) (text : List ℕ) : Type 0 where
+  pub after : Office
+  pub stands : new.stands after
+  pub served : Serves o name request reply after
+  pub l : Line
+  pub text_is : text ≡ line_text l
+  pub is_line : IsLineBy name request reply (effect_of after request) [] l
+
+-- The text is a line of the request and its reply. Where the reply is a denial, its entry is told by the lists that are in force then; where
+-- it is that of an edit, the cards that were touched are told with the numbers that they have afterwards, and the epoch of that Office.
 pub record IsTextOf (old new : Standing) (name : Option (List ℕ)) (request : Request) (reply : Reply) (text : List ℕ) : Type 0 where
   pub l : Line
   pub text_is : text ≡ line_text l
   pub is_line : IsLineOf name request reply l
   pub by_force : new.honest → (o : Office) → old.stands o → (denial : Denial) → denial_in reply.content ≡ Some denial
-      → IsLineBy name request reply (lists_at o denial.resource).levels l
+      → IsLineBy name request reply no_effect (lists_at o denial.resource).levels l
+  pub of_edit : new.honest → (o : Office) → old.stands o → reply.content ≡ content.Empty → IsToldBy o new name request reply text
 
 -- The machine served a well-formed request, and nothing is noted of it yet. Unless the log has failed, a text is owed: one where the
 -- reply is sent, and another where `unavailable` is sent in its place.

@@ -6,6 +6,8 @@
 #[cfg(test)]
 mod denials;
 #[cfg(test)]
+mod edits;
+#[cfg(test)]
 mod instants;
 #[cfg(test)]
 mod serving;

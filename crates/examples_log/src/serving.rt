@@ -39,11 +39,11 @@ who = \"all\"
 grant = [\"read\"]
 ";
 
-const CARD: &str = "BEGIN:VCARD\r\nVERSION:4.0\r\nFN:Bo\r\nEND:VCARD\r\n";
+pub(crate) const CARD: &str = "BEGIN:VCARD\r\nVERSION:4.0\r\nFN:Bo\r\nEND:VCARD\r\n";
 
 /// Tells one time. After so many times, so many more are refused memory.
 #[derive(Drop)]
-struct Stopped {
+pub(crate) struct Stopped {
     time: Time,
     told: u64,
     refused: u64,
@@ -63,8 +63,8 @@ impl Clock for Stopped {
 
 /// Takes at most so many bytes a write; after so many writes each one fails.
 #[derive(Drop)]
-struct Output {
-    taken: Vec<u8>,
+pub(crate) struct Output {
+    pub(crate) taken: Vec<u8>,
     size: usize,
     writes: u64,
 }
@@ -85,10 +85,10 @@ impl Write for Output {
     }
 }
 
-type Kept = Logged<MemoryKeeper, Output, Stopped>;
+pub(crate) type Kept = Logged<MemoryKeeper, Output, Stopped>;
 
 /// What a log is written to.
-fn output(alloc: Global, size: usize, writes: u64) -> Output {
+pub(crate) fn output(alloc: Global, size: usize, writes: u64) -> Output {
     Output {
         taken: Vec::new(alloc),
         size,
@@ -96,9 +96,16 @@ fn output(alloc: Global, size: usize, writes: u64) -> Output {
     }
 }
 
-/// A machine that has adopted the policy, with a log of its own; after so many times, so many more are refused memory.
-fn kept_with(rt: &impl Abort, alloc: Global, output: Output, told: u64, refused: u64) -> Kept {
-    let policy = read_policy(alloc, POLICY).ok().expect(rt, "a policy");
+/// A machine that has adopted a policy, with a log of its own; after so many times, so many more are refused memory.
+pub(crate) fn kept_by(
+    rt: &impl Abort,
+    alloc: Global,
+    policy: &str,
+    output: Output,
+    told: u64,
+    refused: u64,
+) -> Kept {
+    let policy = read_policy(alloc, policy).ok().expect(rt, "a policy");
     let mut machine = Machine::new(MemoryKeeper::new(alloc));
     machine
         .adopt(alloc, &policy)
@@ -114,12 +121,23 @@ fn kept_with(rt: &impl Abort, alloc: Global, output: Output, told: u64, refused:
     Logged::new(alloc, machine, output, clock)
 }
 
+/// A machine that has adopted the policy, with a log of its own; after so many times, so many more are refused memory.
+fn kept_with(rt: &impl Abort, alloc: Global, output: Output, told: u64, refused: u64) -> Kept {
+    kept_by(rt, alloc, POLICY, output, told, refused)
+}
+
 /// A machine that has adopted the policy, with a log of its own.
 fn kept(rt: &impl Abort, alloc: Global, size: usize, writes: u64) -> Kept {
     kept_with(rt, alloc, output(alloc, size, writes), 0, 0)
 }
 
-fn request(rt: &impl Abort, alloc: Global, method: Method, path: &str, body: Body) -> Request {
+pub(crate) fn request(
+    rt: &impl Abort,
+    alloc: Global,
+    method: Method,
+    path: &str,
+    body: Body,
+) -> Request {
     Request {
         method,
         path: Some(Path::parse(alloc, path).ok().expect(rt, "a path")),
@@ -149,7 +167,7 @@ fn get(rt: &impl Abort, alloc: Global, kept: &mut Kept, name: Option<&str>, path
     kept.serve(alloc, name, &asked)
 }
 
-fn check(rt: &impl Abort, reply: Reply, status: u16) {
+pub(crate) fn check(rt: &impl Abort, reply: Reply, status: u16) {
     let told = reply.status;
     drop(reply);
     assert_eq!(rt; told, status);
@@ -158,7 +176,7 @@ fn check(rt: &impl Abort, reply: Reply, status: u16) {
 /// An edit, a denial with its entry, a refusal, a reply that could not be sent, a name that is none, a request that
 /// could not be read, and an adoption.
 const LOG: &str =
-    "{\"time\":\"2026-11-29T09:00:00.000Z\",\"connection\":7,\"caller\":\"ann\",\"method\":\"PUT\",\"path\":\"/books/sales/a.vcf\",\"status\":201}\n\
+    "{\"time\":\"2026-11-29T09:00:00.000Z\",\"connection\":7,\"caller\":\"ann\",\"method\":\"PUT\",\"path\":\"/books/sales/a.vcf\",\"status\":201,\"touched\":[{\"path\":\"/books/sales/a.vcf\",\"number\":1}],\"epoch\":1}\n\
     {\"time\":\"2026-11-29T09:00:00.000Z\",\"connection\":7,\"caller\":\"bob\",\"method\":\"GET\",\"path\":\"/books/sales/a.vcf\",\"status\":403,\"error\":\"need-privileges\",\"resource\":\"/books/sales/a.vcf\",\"privilege\":\"read\",\"from\":\"/books\",\"protected\":true,\"place\":1,\"number\":2,\"entry\":{\"deny\":[\"read\"],\"principal\":\"/people/bob\"}}\n\
     {\"time\":\"2026-11-29T09:00:00.000Z\",\"connection\":8,\"method\":\"GET\",\"path\":\"/books/sales/b.vcf\",\"status\":404,\"error\":\"not-found\"}\n\
     {\"time\":\"2026-11-29T09:00:00.000Z\",\"connection\":8,\"status\":503,\"error\":\"unavailable\"}\n\
@@ -224,7 +242,7 @@ fn a_log_that_fails_stays_so(rt: HostRuntime) {
 /// An edit, a request for which memory was refused, one for which it was refused before it was read, and one that was
 /// served again. The lines in between have the connection of the request before.
 const REFUSED_LOG: &str =
-    "{\"time\":\"2026-11-29T09:00:00.000Z\",\"connection\":7,\"caller\":\"ann\",\"method\":\"PUT\",\"path\":\"/books/sales/a.vcf\",\"status\":201}\n\
+    "{\"time\":\"2026-11-29T09:00:00.000Z\",\"connection\":7,\"caller\":\"ann\",\"method\":\"PUT\",\"path\":\"/books/sales/a.vcf\",\"status\":201,\"touched\":[{\"path\":\"/books/sales/a.vcf\",\"number\":1}],\"epoch\":1}\n\
     {\"time\":\"2026-11-29T09:00:00.000Z\",\"connection\":7,\"status\":503,\"error\":\"unavailable\"}\n\
     {\"time\":\"2026-11-29T09:00:00.000Z\",\"connection\":7,\"status\":503,\"error\":\"unavailable\"}\n\
     {\"time\":\"2026-11-29T09:00:00.000Z\",\"connection\":8,\"method\":\"GET\",\"path\":\"/books/sales/b.vcf\",\"status\":404,\"error\":\"not-found\"}\n";
