@@ -1,5 +1,5 @@
 -- What a reply with a content leaves as it was.
-use Rattle.std.proofs.Common.{◌≡◌, ◌≢◌, ℕ, Bool, true, false, List, Option, Some, sym, ap, ap₂, ◌∙◌, subst, ⊎_elim}
+use Rattle.std.proofs.Common.{◌≡◌, ◌≢◌, ℕ, Bool, true, false, List, Option, sym, ap, ap₂, ◌∙◌, subst, ⊎_elim}
 use Rattle.book_office_values.specs.declared.offices.Office.{Office}
 use Rattle.book_office_listings.specs.declared.messages.Denial.{Denial}
 use Rattle.book_machine.specs.Laws.{TellingRepliesChangeNothing}
@@ -25,16 +25,16 @@ stays : TellingRepliesChangeNothing → (o after : Office) (name : Option (List 
 stays law o after name request reply told serves = ⊎_elim (λ steps. law o name request reply after steps told) (λ left. left.1) serves
 
 -- a read leaves the Office, and is one of it
-pub read_kept : TellingRepliesChangeNothing → (o after : Office) (person book : List ℕ) (request : Request) (reply : Reply) (may : Bool)
-    → request ≡ read_card book → AnswersRead reply may → Serves o (Some person) request reply after → after ≡ o
-read_kept law o after person book request reply may is answers serves = stays law o after (Some person) request reply (told_content reply may answers) serves
+pub read_kept : TellingRepliesChangeNothing → (o after : Office) (caller : Option (List ℕ)) (book : List ℕ) (request : Request) (reply : Reply) (may : Bool)
+    → request ≡ read_card book → AnswersRead reply may → Serves o caller request reply after → after ≡ o
+read_kept law o after caller book request reply may is answers serves = stays law o after caller request reply (told_content reply may answers) serves
 
-pub read_told : TellingRepliesChangeNothing → (o after : Office) (person book : List ℕ) (request : Request) (reply : Reply) (may : Bool)
-    → request ≡ read_card book → AnswersRead reply may → Serves o (Some person) request reply after → Reads o person book may
-read_told law o after person book request reply may is answers serves =
-    let same : after ≡ o = read_kept law o after person book request reply may is answers serves in
-    let there : Serves o (Some person) request reply o = subst (λ (a : Office). Serves o (Some person) request reply a) same serves in
-    (reply, answers, subst (λ (r : Request). Serves o (Some person) r reply o) is there)
+pub read_told : TellingRepliesChangeNothing → (o after : Office) (caller : Option (List ℕ)) (book : List ℕ) (request : Request) (reply : Reply) (may : Bool)
+    → request ≡ read_card book → AnswersRead reply may → Serves o caller request reply after → Reads o caller book may
+read_told law o after caller book request reply may is answers serves =
+    let same : after ≡ o = read_kept law o after caller book request reply may is answers serves in
+    let there : Serves o caller request reply o = subst (λ (a : Office). Serves o caller request reply a) same serves in
+    (reply, answers, subst (λ (r : Request). Serves o caller r reply o) is there)
 
 abbrev reply_of : ℕ → Content → Reply
 reply_of status carried = record { status = status; content = carried }

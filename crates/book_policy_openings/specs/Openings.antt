@@ -1,4 +1,5 @@
--- A person who may open a book that is closed to them: the requests, served one after the other over the policy.
+-- A caller who may open a book that is closed to them: the requests, served one after the other over the policy. A caller is a
+-- person, by the bare name, or nobody, who is not known.
 use Rattle.std.specs.Prelude.{◌≡◌, ◌<◌, ℕ, Bool, true, false, List, codes, Option, Some, None, All}
 use Rattle.std.specs.FinMap.{get, len}
 use Rattle.book_limits.specs.declared.TheConstants.{LAST_NUMBER, MAX_CARDS}
@@ -63,26 +64,26 @@ abbrev pub AnswersRead : Reply → Bool → Type 0
 AnswersRead reply true = (text : List ℕ) × (reply ≡ record { status = 200; content = content.Card text })
 AnswersRead reply false = (denial : Denial) × (reply ≡ refused (NeedPrivileges denial))
 
--- a person may read the card of a book, or may not; the reply is what the machine answers
-abbrev pub Reads : Office → List ℕ → List ℕ → Bool → Type 0
-Reads o person book may = (reply : Reply) × AnswersRead reply may × Serves o (Some person) (read_card book) reply o
+-- a caller may read the card of a book, or may not; the reply is what the machine answers
+abbrev pub Reads : Office → Option (List ℕ) → List ℕ → Bool → Type 0
+Reads o caller book may = (reply : Reply) × AnswersRead reply may × Serves o caller (read_card book) reply o
 
 -- the request of a step is served with success
-abbrev pub Acts : Office → List ℕ → Step → Office → Type 0
-Acts o person step after =
-    (request : Request) × (reply : Reply) × IsRequestOf o person step request × (reply.status < 300) × Serves o (Some person) request reply after
+abbrev pub Acts : Office → Option (List ℕ) → Step → Office → Type 0
+Acts o caller step after =
+    (request : Request) × (reply : Reply) × IsRequestOf o caller step request × (reply.status < 300) × Serves o caller request reply after
 
 -- so is each of one or two, one after the other
-abbrev pub Leads : Office → List ℕ → Step → Option Step → Office → Type 0
-Leads o person first None after = Acts o person first after
-Leads o person first (Some second) after = (between : Office) × Acts o person first between × Acts between person second after
+abbrev pub Leads : Office → Option (List ℕ) → Step → Option Step → Office → Type 0
+Leads o caller first None after = Acts o caller first after
+Leads o caller first (Some second) after = (between : Office) × Acts o caller first between × Acts between caller second after
 
--- from an Office: the person may not read the book; their requests are served; then they may
+-- from an Office: the caller may not read the book; their requests are served; then they may
 pub record IsOpeningFrom (o : Office) (opening : Opening) : Type 0 where
   pub after : Office
-  pub closed : Reads o opening.person opening.book false
-  pub led : Leads o opening.person opening.first opening.second after
-  pub opened : Reads after opening.person opening.book true
+  pub closed : Reads o opening.caller opening.book false
+  pub led : Leads o opening.caller opening.first opening.second after
+  pub opened : Reads after opening.caller opening.book true
 
 -- in an Office, of which the cards have no part
 abbrev pub IsOpeningIn : Office → Opening → Type 0

@@ -7,15 +7,15 @@ ghost use Rattle.book_policy_openings.specs.Gains.{AddsGains, IsGainIn};
 use crate::gaining::is_gain;
 use crate::gains::Gain;
 use crate::in_memory::bare_in;
-use crate::lists::OfficeLists;
-use crate::office_places::{OfficePlaces, State};
-use crate::spots::{Spot, spots_of};
+use crate::moves::{Move, Moves, World, allowed_to, moves_among, step_of, touched_by};
+use crate::office_places::State;
+use crate::senders::{Sender, senders_of};
 use crate::steps::Step;
-use book_lists::{Name, Principal};
 use book_office::{MemoryKeeper, StoreFault};
-use book_office_values::{Items, Office, Path};
-use book_rights::{Leaf, LeafSet};
+use book_office_values::{Items, Office};
+use book_rights::LeafSet;
 use std::alloc::{AllocError, Global};
+use std::collections::BTreeMap;
 
 /// The most gains that are looked for.
 const MOST_GAINS: usize = 1_000;
@@ -23,73 +23,65 @@ const MOST_GAINS: usize = 1_000;
 /// The most decisions that are taken to find gains by one request, and by two.
 const MOST_DECISIONS: usize = 1_000_000;
 
-/// What the search looks at.
-#[derive(Drop)]
-struct World {
-    lists: OfficeLists,
-    places: OfficePlaces,
-    spots: Vec<Spot>,
+/// Requests of a caller.
+#[derive(Clone, Copy)]
+struct Asked {
+    first: Move,
+    second: Option<Move>,
 }
 
-/// What a person may get at a resource.
+/// What a caller may get at a resource.
 #[derive(Drop)]
 struct Sought {
-    /// The leaves that the person holds there.
+    /// The leaves that the caller holds there.
     held: LeafSet,
     /// The most leaves that were found beside these, and by which requests.
     best: LeafSet,
-    first: Option<Step>,
-    second: Option<Step>,
+    by: Option<Asked>,
 }
 
-/// A person who looks for gains.
+/// A caller who looks for gains.
 #[derive(Drop)]
-struct Seeker {
-    /// The bare name.
-    person: Name,
-    /// The path.
-    principal: Principal,
-    /// The person before any request.
+struct Seeker<'a> {
+    /// The caller.
+    sender: &'a Sender,
+    /// The caller before any request.
     start: State,
-    /// What is sought at each spot, in order.
-    sought: Vec<Sought>,
 }
 
-/// Requests of a person, and the person after them.
+/// What a caller may get, by the index of the resource, where a request may change what they hold.
+#[derive(Drop)]
+struct Chances {
+    by_index: BTreeMap<usize, Sought>,
+}
+
+/// How many decisions are left for one request and for two.
 #[derive(Clone, Copy)]
-struct Asked<'a> {
-    first: &'a Step,
-    second: Option<&'a Step>,
-    after: &'a State,
+struct Left {
+    one: usize,
+    two: usize,
 }
 
 impl Sought {
     /// Whether one request is known to get leaves.
     fn is_found_by_one(&self) -> bool {
-        self.first.is_some() && self.second.is_none()
+        match self.by {
+            Some(asked) => asked.second.is_none(),
+            None => false,
+        }
     }
 
     /// Keeps the requests where they get more leaves than those that are known. By two requests nothing is kept where one
     /// is known to get leaves.
-    fn improve(&mut self, leaves: LeafSet, asked: Asked<'_>) -> Result<(), AllocError> {
+    fn improve(&mut self, leaves: LeafSet, asked: Asked) {
         if asked.second.is_some() && self.is_found_by_one() {
-            return Ok(());
+            return;
         }
         let gained = leaves.minus(self.held);
         if gained.mask().count_ones() > self.best.mask().count_ones() {
-            self.first = Some(asked.first.clone()?);
-            self.second = copy_of(asked.second)?;
+            self.by = Some(asked);
             self.best = gained;
         }
-        Ok(())
-    }
-}
-
-/// A copy of a step, if there is one.
-fn copy_of(step: Option<&Step>) -> Result<Option<Step>, AllocError> {
-    match step {
-        Some(step) => Ok(Some(step.clone()?)),
-        None => Ok(None),
     }
 }
 
@@ -102,294 +94,399 @@ fn spend(left: &mut usize, count: usize) -> bool {
     true
 }
 
-impl Seeker {
-    /// Tries requests at each spot.
-    fn try_each(&mut self, world: &World, asked: Asked<'_>) -> Result<(), AllocError> {
-        let after = asked.after;
-        for (index, spot) in world.spots.iter().enumerate() {
-            let leaves = spot
-                .place
-                .leaves(&world.lists, &after.circle, after.replaced.as_slice());
-            if let Some(sought) = self.sought.get_mut(index) {
-                sought.improve(leaves, asked)?;
+/// The leaves that a caller holds at the resource with an index, after requests.
+fn leaves_at(world: &World, state: &State, index: usize) -> LeafSet {
+    match world.spots.all.get(index) {
+        Some(spot) => spot
+            .place
+            .leaves(&world.lists, &state.circle, state.replaced.as_slice()),
+        None => LeafSet::empty(),
+    }
+}
+
+impl Chances {
+    /// Looks at the resource with an index, where it was not looked at before.
+    fn look_at(&mut self, world: &World, start: &State, index: usize) -> Result<(), AllocError> {
+        if self.by_index.contains_key(&index) {
+            return Ok(());
+        }
+        let sought = Sought {
+            held: leaves_at(world, start, index),
+            best: LeafSet::empty(),
+            by: None,
+        };
+        drop(self.by_index.insert(index, sought)?);
+        Ok(())
+    }
+
+    /// Tries requests, after which the caller is so, at each of these resources.
+    fn try_each(
+        &mut self,
+        world: &World,
+        start: &State,
+        asked: Asked,
+        after: &State,
+        touched: &[usize],
+    ) -> Result<(), AllocError> {
+        for index in touched {
+            self.look_at(world, start, *index)?;
+            if let Some(sought) = self.by_index.get_mut(index) {
+                sought.improve(leaves_at(world, after, *index), asked);
             }
         }
         Ok(())
     }
-
-    /// Whether one request is known to get leaves at each spot.
-    fn is_done(&self) -> bool {
-        for sought in &self.sought {
-            if !sought.is_found_by_one() {
-                return false;
-            }
-        }
-        true
-    }
 }
 
-/// The requests by which a person may get leaves: to be a member of a group, and to replace a list.
-fn steps_of(alloc: Global, world: &World, state: &State) -> Result<Vec<Step>, AllocError> {
-    let mut steps = Vec::new(alloc);
-    world.places.add_joins(&world.lists, state, &mut steps)?;
-    let set = LeafSet::empty().with(Leaf::WriteAcl);
-    for spot in &world.spots {
-        let replaced = state.replaced.as_slice();
-        if spot
-            .place
-            .grants(&world.lists, &state.circle, set, replaced)
-        {
-            steps.push(Step::Grant(spot.path.clone()?))?;
-        }
-    }
-    Ok(steps)
-}
-
-/// Tries requests after which the person is so.
-fn try_after(
+/// The caller after one request more; none where there is no such resource.
+fn after_move(
+    alloc: Global,
     world: &World,
-    seeker: &mut Seeker,
-    first: &Step,
-    second: Option<&Step>,
-    after: State,
+    sender: &Sender,
+    from: &State,
+    one: Move,
+) -> Result<Option<State>, AllocError> {
+    match step_of(world, sender, one)? {
+        Some(step) => Ok(Some(world.places.after(alloc, sender, from, &step)?)),
+        None => Ok(None),
+    }
+}
+
+/// Tries requests, the last of which is sent in a state, at each of these resources.
+fn try_last(
+    alloc: Global,
+    world: &World,
+    seeker: &Seeker<'_>,
+    from: &State,
+    asked: Asked,
+    touched: &[usize],
+    chances: &mut Chances,
 ) -> Result<(), AllocError> {
-    let asked = Asked {
-        first,
-        second,
-        after: &after,
+    if touched.is_empty() {
+        return Ok(());
+    }
+    let last = asked.second.unwrap_or(asked.first);
+    let Some(after) = after_move(alloc, world, seeker.sender, from, last)? else {
+        return Ok(());
     };
-    let tried = seeker.try_each(world, asked);
+    let tried = chances.try_each(world, &seeker.start, asked, &after, touched);
     drop(after);
     tried
 }
 
-/// Tries each request.
+/// Tries a request by itself, and tells whether there were decisions left for it.
 fn by_one(
     alloc: Global,
     world: &World,
-    seeker: &mut Seeker,
-    steps: &[Step],
+    seeker: &Seeker<'_>,
+    first: Move,
     left: &mut usize,
+    chances: &mut Chances,
+) -> Result<bool, AllocError> {
+    let touched = touched_by(alloc, world, &seeker.start, first)?;
+    if !spend(left, world.cost_of(first, touched.len())) {
+        return Ok(false);
+    }
+    let asked = Asked {
+        first,
+        second: None,
+    };
+    try_last(
+        alloc,
+        world,
+        seeker,
+        &seeker.start,
+        asked,
+        touched.as_slice(),
+        chances,
+    )?;
+    Ok(true)
+}
+
+/// Tries each request by itself.
+fn by_each(
+    alloc: Global,
+    world: &World,
+    seeker: &Seeker<'_>,
+    moves: &Moves,
+    left: &mut usize,
+    chances: &mut Chances,
 ) -> Result<(), AllocError> {
-    for step in steps {
-        if !spend(left, world.spots.len()) {
+    for first in &moves.list(alloc)? {
+        if !by_one(alloc, world, seeker, *first, left, chances)? {
             return Ok(());
         }
-        let after = world
-            .places
-            .after(alloc, &seeker.principal, &seeker.start, step)?;
-        try_after(world, seeker, step, None, after)?;
     }
     Ok(())
 }
 
-/// Tries each request after the first, which led to a state.
+/// The resources at which requests are looked for after the first, which led to a state.
+fn looked_at_then(
+    alloc: Global,
+    world: &World,
+    sender: &Sender,
+    first: Move,
+    between: &State,
+) -> Result<Vec<usize>, AllocError> {
+    match first {
+        Move::Join(_) => allowed_to(alloc, world, sender, between),
+        Move::Grant(_) => touched_by(alloc, world, between, first),
+    }
+}
+
+/// The requests that may be sent at these resources after the first, which led to a state: after a list was replaced, those
+/// alone that could not be sent before, since the others get no more by it.
+fn moves_then(
+    alloc: Global,
+    world: &World,
+    sender: &Sender,
+    moves: &Moves,
+    first: Move,
+    between: &State,
+    indices: &[usize],
+) -> Result<Moves, AllocError> {
+    let then = moves_among(alloc, world, sender, between, indices)?;
+    match first {
+        Move::Join(_) => Ok(then),
+        Move::Grant(_) => then.without(alloc, moves),
+    }
+}
+
+/// The resources at which a second request may change what the caller holds after the first and not by itself.
+fn touched_then(
+    alloc: Global,
+    world: &World,
+    moves: &Moves,
+    between: &State,
+    near: &[usize],
+    second: Move,
+) -> Result<Vec<usize>, AllocError> {
+    let touched = touched_by(alloc, world, between, second)?;
+    if !moves.has(second) {
+        return Ok(touched);
+    }
+    let mut both = Vec::new(alloc);
+    for index in touched {
+        if near.binary_search(&index).is_ok() {
+            both.push(index)?;
+        }
+    }
+    Ok(both)
+}
+
+/// Tries each request after the first, which led to a state, and tells whether there were decisions left for them.
 fn by_last(
     alloc: Global,
     world: &World,
-    seeker: &mut Seeker,
-    first: &Step,
+    seeker: &Seeker<'_>,
+    moves: &Moves,
+    first: Move,
     between: &State,
     left: &mut usize,
-) -> Result<(), AllocError> {
-    let steps = steps_of(alloc, world, between)?;
-    for step in &steps {
-        if !spend(left, world.spots.len()) {
-            break;
-        }
-        let after = world.places.after(alloc, &seeker.principal, between, step)?;
-        try_after(world, seeker, first, Some(step), after)?;
+    chances: &mut Chances,
+) -> Result<bool, AllocError> {
+    let near = touched_by(alloc, world, &seeker.start, first)?;
+    let indices = looked_at_then(alloc, world, seeker.sender, first, between)?;
+    if !spend(left, indices.len()) {
+        return Ok(false);
     }
-    Ok(())
+    let then = moves_then(
+        alloc,
+        world,
+        seeker.sender,
+        moves,
+        first,
+        between,
+        indices.as_slice(),
+    )?;
+    for second in &then.list(alloc)? {
+        let touched = touched_then(alloc, world, moves, between, near.as_slice(), *second)?;
+        if !spend(left, world.cost_of(*second, touched.len())) {
+            return Ok(false);
+        }
+        let asked = Asked {
+            first,
+            second: Some(*second),
+        };
+        try_last(
+            alloc,
+            world,
+            seeker,
+            between,
+            asked,
+            touched.as_slice(),
+            chances,
+        )?;
+    }
+    Ok(true)
 }
 
-/// Tries each request after the first.
+/// Tries each request after the first, and tells whether there were decisions left for them.
 fn by_second(
     alloc: Global,
     world: &World,
-    seeker: &mut Seeker,
-    first: &Step,
+    seeker: &Seeker<'_>,
+    moves: &Moves,
+    first: Move,
     left: &mut usize,
-) -> Result<(), AllocError> {
-    let between = world
-        .places
-        .after(alloc, &seeker.principal, &seeker.start, first)?;
-    let tried = by_last(alloc, world, seeker, first, &between, left);
+    chances: &mut Chances,
+) -> Result<bool, AllocError> {
+    let Some(between) = after_move(alloc, world, seeker.sender, &seeker.start, first)? else {
+        return Ok(true);
+    };
+    let tried = by_last(alloc, world, seeker, moves, first, &between, left, chances);
     drop(between);
     tried
 }
 
-/// Tries each two requests, where one is not known to get leaves at each spot.
+/// Tries each two requests.
 fn by_two(
     alloc: Global,
     world: &World,
-    seeker: &mut Seeker,
-    steps: &[Step],
+    seeker: &Seeker<'_>,
+    moves: &Moves,
     left: &mut usize,
+    chances: &mut Chances,
 ) -> Result<(), AllocError> {
-    for step in steps {
-        if seeker.is_done() || !spend(left, world.spots.len()) {
+    for first in &moves.list(alloc)? {
+        if !by_second(alloc, world, seeker, moves, *first, left, chances)? {
             return Ok(());
         }
-        by_second(alloc, world, seeker, step, left)?;
     }
     Ok(())
 }
 
-/// What a person holds at each spot.
-fn sought_by(alloc: Global, world: &World, start: &State) -> Result<Vec<Sought>, AllocError> {
-    let mut sought = Vec::new(alloc);
-    for spot in &world.spots {
-        sought.push(Sought {
-            held: spot
-                .place
-                .leaves(&world.lists, &start.circle, start.replaced.as_slice()),
-            best: LeafSet::empty(),
-            first: None,
-            second: None,
-        })?;
+/// The step of the second request, if there is one.
+fn second_of(
+    world: &World,
+    sender: &Sender,
+    second: Option<Move>,
+) -> Result<Option<Step>, AllocError> {
+    match second {
+        Some(second) => step_of(world, sender, second),
+        None => Ok(None),
     }
-    Ok(sought)
 }
 
-/// The gain at a path, if requests were found.
-fn gain_of(person: &Name, at: &Path, sought: Sought) -> Result<Option<Gain>, AllocError> {
-    let Sought {
-        held: _,
-        best,
-        first,
-        second,
-    } = sought;
-    let Some(first) = first else {
+/// The gain at the resource with an index, if requests were found.
+fn gain_of(
+    world: &World,
+    sender: &Sender,
+    index: usize,
+    sought: Sought,
+) -> Result<Option<Gain>, AllocError> {
+    let Some(asked) = sought.by else {
         return Ok(None);
     };
+    let Some(spot) = world.spots.all.get(index) else {
+        return Ok(None);
+    };
+    let Some(first) = step_of(world, sender, asked.first)? else {
+        return Ok(None);
+    };
+    let second = second_of(world, sender, asked.second)?;
     Ok(Some(Gain {
-        person: person.clone()?,
+        caller: sender.copy_of_name()?,
         first,
         second,
-        at: at.clone()?,
-        leaves: best,
+        at: spot.path.clone()?,
+        leaves: sought.best,
     }))
 }
 
-/// Adds what was found for a person at the spot of an index, where there are not as many already as are looked for.
+/// Adds the gain at the resource with an index, if requests were found, and there are not as many already as are looked for.
 fn add_gain(
     world: &World,
-    person: &Name,
+    sender: &Sender,
     index: usize,
     sought: Sought,
     found: &mut Vec<Gain>,
 ) -> Result<(), AllocError> {
-    let Some(spot) = world.spots.get(index) else {
-        return Ok(());
-    };
     if found.len() >= MOST_GAINS {
         return Ok(());
     }
-    match gain_of(person, &spot.path, sought)? {
+    match gain_of(world, sender, index, sought)? {
         Some(gain) => Ok(found.push(gain)?),
         None => Ok(()),
     }
 }
 
-/// Adds what was found for a person, spot by spot.
-fn add_found(world: &World, seeker: Seeker, found: &mut Vec<Gain>) -> Result<(), AllocError> {
-    let Seeker {
-        person,
-        principal,
-        start,
-        sought,
-    } = seeker;
-    drop(principal);
-    drop(start);
-    for (index, one) in sought.into_iter().enumerate() {
-        add_gain(world, &person, index, one, found)?;
+/// Adds what was found for a caller, resource by resource.
+fn add_found(
+    world: &World,
+    sender: &Sender,
+    chances: Chances,
+    found: &mut Vec<Gain>,
+) -> Result<(), AllocError> {
+    for (index, sought) in chances.by_index.into_iter() {
+        add_gain(world, sender, index, sought, found)?;
     }
     Ok(())
 }
 
-/// How many decisions are left for one request and for two.
-#[derive(Clone, Copy)]
-struct Left {
-    one: usize,
-    two: usize,
-}
-
-/// A person who looks for gains, and nothing yet.
-fn seeker_of(alloc: Global, world: &World, name: &Name) -> Result<Seeker, AllocError> {
-    let person = name.clone()?;
-    let principal = Principal::person(alloc, name)?;
-    let start = world.places.start(alloc, &principal)?;
-    Ok(Seeker {
-        person,
-        principal,
-        start,
-        sought: Vec::new(alloc),
-    })
-}
-
-/// Tries one request, and then two, at each spot, where there is a request by which the person may get leaves.
-fn try_all(
+/// What a caller may get by one request, and else by two.
+fn chances_of(
     alloc: Global,
     world: &World,
-    seeker: &mut Seeker,
+    seeker: &Seeker<'_>,
     left: &mut Left,
-) -> Result<(), AllocError> {
-    let steps = steps_of(alloc, world, &seeker.start)?;
-    if steps.is_empty() {
-        return Ok(());
+) -> Result<Chances, AllocError> {
+    let indices = allowed_to(alloc, world, seeker.sender, &seeker.start)?;
+    let mut chances = Chances {
+        by_index: BTreeMap::new(alloc),
+    };
+    if !spend(&mut left.one, indices.len()) {
+        return Ok(chances);
     }
-    seeker.sought = sought_by(alloc, world, &seeker.start)?;
-    by_one(alloc, world, seeker, steps.as_slice(), &mut left.one)?;
-    by_two(alloc, world, seeker, steps.as_slice(), &mut left.two)
+    let moves = moves_among(
+        alloc,
+        world,
+        seeker.sender,
+        &seeker.start,
+        indices.as_slice(),
+    )?;
+    by_each(alloc, world, seeker, &moves, &mut left.one, &mut chances)?;
+    by_two(alloc, world, seeker, &moves, &mut left.two, &mut chances)?;
+    Ok(chances)
 }
 
-/// Looks for what a person may get.
+/// Looks for what a caller may get.
 fn seek(
     alloc: Global,
     world: &World,
-    name: &Name,
+    sender: &Sender,
     left: &mut Left,
     found: &mut Vec<Gain>,
 ) -> Result<(), AllocError> {
-    let mut seeker = seeker_of(alloc, world, name)?;
-    match try_all(alloc, world, &mut seeker, left) {
-        Ok(()) => add_found(world, seeker, found),
-        Err(refused) => {
-            drop(seeker);
-            Err(refused)
-        }
-    }
+    let seeker = Seeker {
+        sender,
+        start: world.places.start(alloc, sender)?,
+    };
+    let chances = chances_of(alloc, world, &seeker, left);
+    drop(seeker);
+    add_found(world, sender, chances?, found)
 }
 
-/// What is looked at in an Office.
-fn world_of(alloc: Global, office: &Office) -> Result<World, AllocError> {
-    let spots = spots_of(alloc, office)?;
-    let lists = OfficeLists::of(alloc, office)?;
-    let places = OfficePlaces::of(alloc, office)?;
-    Ok(World {
-        lists,
-        places,
-        spots,
-    })
-}
-
-/// What lists say are gains, person by person.
+/// What lists say are gains, caller by caller, until there are as many as are looked for.
 fn found_at(alloc: Global, world: &World) -> Result<Vec<Gain>, AllocError> {
     let mut left = Left {
         one: MOST_DECISIONS,
         two: MOST_DECISIONS,
     };
     let mut found = Vec::new(alloc);
-    for name in &world.places.persons {
-        seek(alloc, world, name, &mut left, &mut found)?;
+    let senders = senders_of(alloc, world.places.persons.as_slice())?;
+    for sender in &senders {
+        if found.len() >= MOST_GAINS {
+            break;
+        }
+        seek(alloc, world, sender, &mut left, &mut found)?;
     }
     Ok(found)
 }
 
 /// What the lists of an Office say are gains.
 fn found_of(alloc: Global, office: &Office) -> Result<Vec<Gain>, AllocError> {
-    let world = world_of(alloc, office)?;
+    let world = World::of(alloc, office)?;
     let found = found_at(alloc, &world);
     drop(world);
     found
@@ -428,15 +525,18 @@ fn add_served(
     }
 }
 
-/// What persons may get in an Office in memory (own profile): for each person and each resource that is no card at most one
-/// gain, person by person, and resource by resource. That none is told of a person and a resource is no promise. The
-/// Office stays as it is.
+/// What callers may get in an Office in memory (own profile): for each caller and each resource that is no card at most one
+/// gain, first of a caller who is not known, then person by person, and resource by resource. That none is told of a caller
+/// and a resource is no promise. The Office stays as it is.
 ///
-/// One request is looked for first, and where none gets a leaf, two: PROPPATCH of a group's members, to which the person
-/// adds themselves, and ACL at any resource that is no card. Of those that are found at a resource the first is told that
-/// gets the most leaves. At most 1,000 gains are looked for, and for one request and for two each at most 1,000,000
-/// decisions are taken, so that more may be left. Each is served over a copy of the Office without its cards before it is
-/// told.
+/// One request is looked for first, and where none gets a leaf, two: PROPPATCH of a group's members, to which a person adds
+/// themselves, and ACL at any resource that is no card, which grants the caller whatever no protected entry of the same form
+/// denies. Of those that are found at a resource the first is told that gets the most leaves. At most 1,000 gains are looked
+/// for, and for one request and for two each at most 1,000,000 decisions are taken, so that more may be left. Each is served
+/// over a copy of the Office without its cards before it is told.
+///
+/// A request is looked for where an entry in force is for the caller, and is tried where it may change what they hold: what
+/// it takes does not rest on the other resources.
 ///
 /// # Errors
 ///

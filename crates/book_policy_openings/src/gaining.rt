@@ -1,4 +1,4 @@
-//! Trials of gains: requests are served over a copy of an Office in memory, and what a person holds is asked before and
+//! Trials of gains: requests are served over a copy of an Office in memory, and what a caller holds is asked before and
 //! after.
 
 ghost use Rattle.std.specs.Prelude.{◌≡◌, IfOk, IsTrue};
@@ -25,18 +25,18 @@ fn is_there(alloc: Global, keeper: &mut MemoryKeeper, path: &Path) -> Result<boo
     Ok(node.is_some())
 }
 
-/// The leaves that a person holds at a resource.
+/// The leaves that a caller holds at a resource.
 fn held_by(
     alloc: Global,
     keeper: &mut MemoryKeeper,
-    person: &Name,
+    caller: &Option<Name>,
     path: &Path,
 ) -> Result<LeafSet, StoreFault>
     ensures held { IfOk result (λ set. IsSound keeper.old
-        → Holds keeper.old person.now path.now set) }
+        → Holds keeper.old caller.now path.now set) }
     ensures kept { IsSound keeper.old → keeper.new ≡ keeper.old }
 {
-    let circle = circle_in(alloc, keeper, person)?;
+    let circle = circle_in(alloc, keeper, caller)?;
     held_in(alloc, keeper, &circle, path)
 }
 
@@ -63,16 +63,16 @@ fn gains_from(
     if !there {
         return Ok(false);
     }
-    let before = held_by(alloc, &mut machine.keeper, &gain.person, &gain.at)?;
-    let led = leads(alloc, machine, &gain.person, &gain.first, &gain.second)?;
+    let before = held_by(alloc, &mut machine.keeper, &gain.caller, &gain.at)?;
+    let led = leads(alloc, machine, &gain.caller, &gain.first, &gain.second)?;
     if !led {
         return Ok(false);
     }
-    let after = held_by(alloc, &mut machine.keeper, &gain.person, &gain.at)?;
+    let after = held_by(alloc, &mut machine.keeper, &gain.caller, &gain.at)?;
     Ok(are_gained(before, after, gain.leaves))
 }
 
-/// Whether a gain is one in the Office: the resource is there, the person's requests are served with success, and then they
+/// Whether a gain is one in the Office: the resource is there, the caller's requests are served with success, and then they
 /// hold exactly these leaves beside those that they held before. The Office stays as it is.
 pub(crate) fn is_gain(
     alloc: Global,

@@ -1,11 +1,10 @@
 //! A keeper in memory, and a machine over it, in the words of the Office that it has. Where that is sound, a read leaves it
 //! as it is and a request is served.
 
-ghost use Rattle.std.specs.Prelude.{◌≡◌, IfErr, IfOk, OnOk, Some};
+ghost use Rattle.std.specs.Prelude.{◌≡◌, IfErr, IfOk, OnOk};
+ghost use Rattle.std.specs.Option.{option_copied};
 ghost use Rattle.book_lists.specs.Callers.{IsCircle};
 ghost use Rattle.book_lists.specs.Memberships.{members_of};
-ghost use Rattle.book_lists.specs.Principals.{person_path};
-ghost use Rattle.book_lists.specs.declared.circles.Caller.TheVariants.{Known};
 ghost use Rattle.book_office.specs.Edits.{apply, empty_office};
 ghost use Rattle.book_office.specs.Resources.{count_at, node_at};
 ghost use Rattle.book_office.specs.Sound.{Fits, IsSound};
@@ -14,8 +13,10 @@ ghost use Rattle.book_office_adopting.specs.TakingOver.{bare};
 ghost use Rattle.book_machine.specs.Steps.{Serves};
 ghost use Rattle.book_policy_gaps.specs.Places.{AreHeld};
 ghost use Rattle.book_policy_openings.specs.Openings.{IsRefused};
+ghost use Rattle.book_policy_openings.specs.Steps.{caller_of};
 
-use book_lists::{Caller, Circle, Name, Pairs, Principal};
+use crate::steps::caller_of;
+use book_lists::{Circle, Name, Pairs, Principal};
 use book_machine::{AdoptFault, Adopted, Machine, Reply, Request};
 use book_office::{Edit, Keeper, MemoryKeeper, Node, StoreFault};
 use book_office_copies::copy_without_cards;
@@ -71,18 +72,17 @@ pub(crate) fn bare_in(alloc: Global, keeper: &mut MemoryKeeper) -> Result<Office
     copy_without_cards(alloc, keeper)
 }
 
-/// The principals to which a person belongs.
+/// The principals to which a caller belongs.
 pub(crate) fn circle_in(
     alloc: Global,
     keeper: &mut MemoryKeeper,
-    person: &Name,
+    name: &Option<Name>,
 ) -> Result<Circle, StoreFault>
     ensures circle { IfOk result (λ circle. IsSound keeper.old
-        → IsCircle keeper.old.pairs (Known (person_path person.now)) circle) }
+        → IsCircle keeper.old.pairs (caller_of name.now) circle) }
     ensures kept { IsSound keeper.old → keeper.new ≡ keeper.old }
 {
-    let principal = Principal::person(alloc, person)?;
-    let caller = Caller::Known(principal);
+    let caller = caller_of(alloc, name)?;
     keeper.circle(alloc, &caller)
 }
 
@@ -114,18 +114,28 @@ pub(crate) fn act_in(
     keeper.act(alloc, edit)
 }
 
-/// Serves a request of a person.
+/// The name of a caller, if it has one, as a text.
+fn name_text(caller: &Option<Name>) -> Option<&str>
+    ensures { option_copied result ≡ caller.now }
+{
+    match caller {
+        Some(name) => Some(name.text()),
+        None => None,
+    }
+}
+
+/// Serves a request of a caller.
 pub(crate) fn serve_in(
     alloc: Global,
     machine: &mut Machine<MemoryKeeper>,
-    person: &Name,
+    caller: &Option<Name>,
     request: &Request,
 ) -> Reply
     ensures served { IsSound machine.old.keeper → Serves machine.old.keeper
-        (Some person.now) request.now result machine.new.keeper }
+        caller.now request.now result machine.new.keeper }
     ensures sound { IsSound machine.old.keeper → IsSound machine.new.keeper }
 {
-    machine.serve(alloc, Some(person.text()), request)
+    machine.serve(alloc, name_text(caller), request)
 }
 
 /// Adopts a policy.

@@ -2,12 +2,13 @@
 //!
 //! It stands on `book_policy_values`, on `book_office_copies`, and on `book_machine` over a keeper in memory. The crate
 //! above uses that each opening that `openings_in` tells of a sound Office is one (`IsOpeningIn`): over a copy of it the
-//! machine refused the person to read a card of the book, served their requests with success, and then answered with the
+//! machine refused the caller to read a card of the book, served their requests with success, and then answered with the
 //! card; that `openings_of` tells those of the Office that a policy makes of an empty one; and that `adopted_over` makes
 //! another adopt it. That none is told is no promise.
 //!
-//! Read `steps`, `openings`, `in_memory` and `trials` first; then `lists`, `places`, `office_places` and `searching`, which
-//! look for openings.
+//! Read `steps`, `openings`, `in_memory` and `trials` first; then `lists`, `senders`, `places`, `office_places` and
+//! `searching`, which look for openings, and `spots`, `moves` and `gain_search`, which look
+//! for gains.
 #![tactic(auto)]
 
 mod gain_search;
@@ -15,10 +16,12 @@ mod gaining;
 mod gains;
 mod in_memory;
 mod lists;
+mod moves;
 mod office_places;
 mod openings;
 mod places;
 mod searching;
+mod senders;
 mod spots;
 mod steps;
 mod trials;

@@ -2,10 +2,11 @@
 
 use crate::lists::OfficeLists;
 use crate::places::{Place, Replaced};
+use crate::senders::Sender;
 use crate::steps::Step;
-use book_lists::{Caller, Circle, Entry, Name, Pairs, Principal, Who, closure, reached_in};
+use book_lists::{Circle, Entry, Name, Pairs, Principal, Who, closure, reached_in};
 use book_office_values::{Items, Office, Path, Properties, Text};
-use book_rights::{Leaf, LeafSet, Privilege};
+use book_rights::{Leaf, LeafSet};
 use std::alloc::{AllocError, Global};
 
 /// A group.
@@ -49,10 +50,10 @@ pub(crate) struct OfficePlaces {
     books_home: Place,
 }
 
-/// A person after some requests.
+/// A caller after some requests.
 #[derive(Drop)]
 pub(crate) struct State {
-    /// To what the person belongs.
+    /// To what the caller belongs.
     pub(crate) circle: Circle,
     /// The lists that stand in place of own lists.
     pub(crate) replaced: Vec<Replaced>,
@@ -143,14 +144,14 @@ fn only(leaf: Leaf) -> LeafSet {
     LeafSet::empty().with(leaf)
 }
 
-/// A list of one entry, which grants the person everything.
-fn granting_list(alloc: Global, person: &Principal) -> Result<Items<Entry>, AllocError> {
+/// A list of one entry of a form, which grants leaves.
+fn granting_list(alloc: Global, form: &Who, leaves: LeafSet) -> Result<Items<Entry>, AllocError> {
     let mut list = Items::new(alloc);
     list.push(Entry {
-        who: Who::Href(person.clone()?),
+        who: form.clone()?,
         invert: false,
         deny: false,
-        set: Privilege::All.leaves(),
+        set: leaves,
     })?;
     Ok(list)
 }
@@ -192,38 +193,42 @@ impl OfficePlaces {
         self.groups.len().saturating_add(self.books.len())
     }
 
-    /// A person before any request. An error is want of memory.
-    pub(crate) fn start(&self, alloc: Global, person: &Principal) -> Result<State, AllocError> {
-        let caller = Caller::Known(person.clone()?);
+    /// A caller before any request. An error is want of memory.
+    pub(crate) fn start(&self, alloc: Global, sender: &Sender) -> Result<State, AllocError> {
         Ok(State {
-            circle: reached_in(&self.reach, &caller)?,
+            circle: reached_in(&self.reach, &sender.caller)?,
             replaced: Vec::new(alloc),
         })
     }
 
-    /// To what a person belongs who was added to a group. Each group is looked up once.
+    /// Whether who is added to a group belongs to another by that.
+    pub(crate) fn leads_to(&self, group: &Principal, to: &Principal) -> bool {
+        group == to || self.reach.has(group, to)
+    }
+
+    /// To what a caller belongs who was added to a group. Each group is looked up once.
     fn joined(
         &self,
         alloc: Global,
-        person: &Principal,
+        sender: &Sender,
         circle: &Circle,
         to: &Principal,
     ) -> Result<Circle, AllocError> {
         let mut groups = Vec::new(alloc);
         for group in &self.groups {
             let one = &group.principal;
-            if circle.has(one) || one == to || self.reach.has(one, to) {
+            if circle.has(one) || self.leads_to(one, to) {
                 groups.push(one.clone()?)?;
             }
         }
-        Circle::of(alloc, &Caller::Known(person.clone()?), groups)
+        Circle::of(alloc, &sender.caller, groups)
     }
 
-    /// The person after one step more. An error is want of memory.
+    /// The caller after one step more. An error is want of memory.
     pub(crate) fn after(
         &self,
         alloc: Global,
-        person: &Principal,
+        sender: &Sender,
         state: &State,
         step: &Step,
     ) -> Result<State, AllocError> {
@@ -232,16 +237,16 @@ impl OfficePlaces {
             Step::Join(name) => {
                 let group = Principal::group(alloc, name)?;
                 Ok(State {
-                    circle: self.joined(alloc, person, &state.circle, &group)?,
+                    circle: self.joined(alloc, sender, &state.circle, &group)?,
                     replaced,
                 })
             }
-            Step::Grant(path) => {
+            Step::Grant(path, leaves) => {
                 replaced.insert(
                     0,
                     Replaced {
                         at: Text::from_string(path.text(alloc)?),
-                        list: granting_list(alloc, person)?,
+                        list: granting_list(alloc, &sender.form, *leaves)?,
                     },
                 )?;
                 Ok(State {
@@ -252,18 +257,22 @@ impl OfficePlaces {
         }
     }
 
-    /// Adds the step that replaces a list, where the person may.
+    /// Adds the step that replaces a list, where the caller may, and may grant themselves something by it.
     fn add_grant(
         &self,
         lists: &OfficeLists,
+        form: &Who,
         state: &State,
         place: &Place,
         path: Path,
         steps: &mut Vec<Step>,
     ) -> Result<(), AllocError> {
         let set = only(Leaf::WriteAcl);
-        if place.grants(lists, &state.circle, set, state.replaced.as_slice()) {
-            steps.push(Step::Grant(path))?;
+        let leaves = place.open_to(lists, form);
+        if leaves != LeafSet::empty()
+            && place.grants(lists, &state.circle, set, state.replaced.as_slice())
+        {
+            steps.push(Step::Grant(path, leaves))?;
         }
         Ok(())
     }
@@ -272,38 +281,43 @@ impl OfficePlaces {
     fn add_book_grants(
         &self,
         lists: &OfficeLists,
+        form: &Who,
         state: &State,
         steps: &mut Vec<Step>,
     ) -> Result<(), AllocError> {
         for book in &self.books {
             let path = Path::Book(book.name.clone()?);
-            self.add_grant(lists, state, &book.place, path, steps)?;
+            self.add_grant(lists, form, state, &book.place, path, steps)?;
         }
-        self.add_grant(lists, state, &self.books_home, Path::Books, steps)?;
-        self.add_grant(lists, state, &self.root, Path::Root, steps)
+        self.add_grant(lists, form, state, &self.books_home, Path::Books, steps)?;
+        self.add_grant(lists, form, state, &self.root, Path::Root, steps)
     }
 
     /// Adds the steps that replace lists at groups and at their home.
     fn add_group_grants(
         &self,
         lists: &OfficeLists,
+        form: &Who,
         state: &State,
         steps: &mut Vec<Step>,
     ) -> Result<(), AllocError> {
         for group in &self.groups {
             let path = Path::Group(group.name.clone()?);
-            self.add_grant(lists, state, &group.place, path, steps)?;
+            self.add_grant(lists, form, state, &group.place, path, steps)?;
         }
-        self.add_grant(lists, state, &self.groups_home, Path::Groups, steps)
+        self.add_grant(lists, form, state, &self.groups_home, Path::Groups, steps)
     }
 
-    /// Adds the steps that add the person to a group.
+    /// Adds the steps that add the caller to a group.
     pub(crate) fn add_joins(
         &self,
         lists: &OfficeLists,
         state: &State,
         steps: &mut Vec<Step>,
     ) -> Result<(), AllocError> {
+        if !state.circle.is_known() {
+            return Ok(());
+        }
         let set = only(Leaf::WriteProperties);
         for group in &self.groups {
             let replaced = state.replaced.as_slice();
@@ -316,28 +330,30 @@ impl OfficePlaces {
         Ok(())
     }
 
-    /// The steps by which the person may get a right at once. An error is want of memory.
+    /// The steps by which the caller may get a right at once. An error is want of memory.
     pub(crate) fn last_steps(
         &self,
         alloc: Global,
         lists: &OfficeLists,
+        form: &Who,
         state: &State,
     ) -> Result<Vec<Step>, AllocError> {
         let mut steps = Vec::new(alloc);
         self.add_joins(lists, state, &mut steps)?;
-        self.add_book_grants(lists, state, &mut steps)?;
+        self.add_book_grants(lists, form, state, &mut steps)?;
         Ok(steps)
     }
 
-    /// The steps by which the person may get a right, at once or by another step. An error is want of memory.
+    /// The steps by which the caller may get a right, at once or by another step. An error is want of memory.
     pub(crate) fn first_steps(
         &self,
         alloc: Global,
         lists: &OfficeLists,
+        form: &Who,
         state: &State,
     ) -> Result<Vec<Step>, AllocError> {
-        let mut steps = self.last_steps(alloc, lists, state)?;
-        self.add_group_grants(lists, state, &mut steps)?;
+        let mut steps = self.last_steps(alloc, lists, form, state)?;
+        self.add_group_grants(lists, form, state, &mut steps)?;
         Ok(steps)
     }
 }

@@ -1,13 +1,13 @@
-//! A person who may open a book that is closed to them.
+//! A caller who may open a book that is closed to them.
 
 use crate::steps::Step;
 use book_lists::Name;
 
-/// A person may open a book that is closed to them: by one request, or by two, in this order.
+/// A caller may open a book that is closed to them: by one request, or by two, in this order.
 #[derive(Debug, Drop)]
 pub struct Opening {
-    /// The bare name of the person.
-    pub person: Name,
+    /// The bare name of the person; none of a caller who is not known.
+    pub caller: Option<Name>,
     /// The request, or the first of two.
     pub first: Step,
     /// The second, if there are two.

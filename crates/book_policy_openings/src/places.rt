@@ -1,7 +1,7 @@
 //! Decisions by the entries of an Office's lists. No contract tells them: what they lead to is served before it is told.
 
 use crate::lists::OfficeLists;
-use book_lists::{Circle, Deciders, Entry, Here, Outcome, Principal};
+use book_lists::{Circle, Deciders, Entry, Here, Outcome, Principal, Who};
 use book_office_values::{Items, Path, Text};
 use book_rights::LeafSet;
 use std::alloc::{AllocError, Global};
@@ -21,7 +21,7 @@ pub(crate) struct Place {
     /// The texts of its path and of those above it, up to the root's.
     levels: Vec<Text>,
     /// What entries ask of it.
-    here: Here,
+    pub(crate) here: Here,
 }
 
 /// The list that stands in place of the own list at a path, or else the own list; none where there is neither.
@@ -36,6 +36,17 @@ fn own_at<'a>(
         }
     }
     lists.own_at(at)
+}
+
+/// The leaves that entries of a form deny.
+fn denied_to(entries: &[Entry], form: &Who) -> LeafSet {
+    let mut denied = LeafSet::empty();
+    for entry in entries {
+        if entry.deny && !entry.invert && entry.who == *form {
+            denied = denied.union(entry.set);
+        }
+    }
+    denied
 }
 
 impl Place {
@@ -93,6 +104,36 @@ impl Place {
         self.judge_protected(lists, circle, &mut scan);
         self.judge_own(lists, circle, replaced, &mut scan);
         matches!(scan.outcome(), Outcome::Allowed)
+    }
+
+    /// The lists in force, in any order. An error is want of memory.
+    pub(crate) fn in_force<'a>(
+        &self,
+        alloc: Global,
+        lists: &'a OfficeLists,
+    ) -> Result<Vec<&'a [Entry]>, AllocError> {
+        let mut found = Vec::new(alloc);
+        for level in &self.levels {
+            if let Some(list) = lists.protected_at(level) {
+                found.push(list.as_slice())?;
+            }
+            if let Some(list) = lists.own_at(level) {
+                found.push(list.as_slice())?;
+            }
+        }
+        Ok(found)
+    }
+
+    /// The leaves that an own list here may grant by an entry of a form: those that no protected entry of this form denies,
+    /// here or above, since that is refused (RFC 3744, section 8.1.1). What such an entry denies no own list would grant.
+    pub(crate) fn open_to(&self, lists: &OfficeLists, form: &Who) -> LeafSet {
+        let mut open = LeafSet::all();
+        for level in &self.levels {
+            if let Some(list) = lists.protected_at(level) {
+                open = open.minus(denied_to(list.as_slice(), form));
+            }
+        }
+        open
     }
 
     /// Goes over each protected entry.

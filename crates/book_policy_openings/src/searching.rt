@@ -8,9 +8,9 @@ use crate::in_memory::{adopted, bare_in};
 use crate::lists::OfficeLists;
 use crate::office_places::{OfficePlaces, State};
 use crate::openings::Opening;
+use crate::senders::{Sender, senders_of};
 use crate::steps::Step;
 use crate::trials::is_opening;
-use book_lists::{Name, Principal};
 use book_office::{MemoryKeeper, StoreFault};
 use book_office_values::{Items, Office};
 use book_policy_values::Policy;
@@ -23,14 +23,12 @@ const MOST_OPENINGS: usize = 1_000;
 /// The most decisions that are taken to find openings by one request, and by two.
 const MOST_DECISIONS: usize = 1_000_000;
 
-/// A person to whom books are closed.
+/// A caller to whom books are closed.
 #[derive(Drop)]
-struct Task {
-    /// The bare name.
-    person: Name,
-    /// The path.
-    principal: Principal,
-    /// The person before any request.
+struct Task<'a> {
+    /// The caller.
+    sender: &'a Sender,
+    /// The caller before any request.
     start: State,
     /// Which books are closed.
     closed: Vec<usize>,
@@ -44,10 +42,10 @@ struct Search {
     left_for_two: usize,
 }
 
-/// Requests of a person, and the person after them.
+/// Requests of a caller, and the caller after them.
 #[derive(Clone, Copy)]
 struct Made<'a> {
-    person: &'a Name,
+    sender: &'a Sender,
     first: &'a Step,
     second: Option<&'a Step>,
     after: &'a State,
@@ -98,7 +96,7 @@ fn opening_by(
         return Ok(None);
     }
     Ok(Some(Opening {
-        person: made.person.clone()?,
+        caller: made.sender.copy_of_name()?,
         first: made.first.clone()?,
         second: copy_of(made.second)?,
         book: book.name.clone()?,
@@ -140,12 +138,12 @@ fn opens_each(
     Ok(still)
 }
 
-/// Which of the books stay closed to a person after the last of the steps, which is made from a state. The others are found.
+/// Which of the books stay closed to a caller after the last of the steps, which is made from a state. The others are found.
 fn opens_after(
     alloc: Global,
     lists: &OfficeLists,
     places: &OfficePlaces,
-    task: &Task,
+    task: &Task<'_>,
     from: &State,
     first: &Step,
     second: Option<&Step>,
@@ -153,9 +151,9 @@ fn opens_after(
     found: &mut Vec<Opening>,
 ) -> Result<Vec<usize>, AllocError> {
     let last = second.unwrap_or(first);
-    let after = places.after(alloc, &task.principal, from, last)?;
+    let after = places.after(alloc, task.sender, from, last)?;
     let made = Made {
-        person: &task.person,
+        sender: task.sender,
         first,
         second,
         after: &after,
@@ -165,16 +163,16 @@ fn opens_after(
     still
 }
 
-/// Which of the books stay closed to a person after any one step. The others are found.
+/// Which of the books stay closed to a caller after any one step. The others are found.
 fn by_one(
     alloc: Global,
     lists: &OfficeLists,
     places: &OfficePlaces,
-    task: &Task,
+    task: &Task<'_>,
     search: &mut Search,
 ) -> Result<Vec<usize>, AllocError> {
     let mut still = copies_of(alloc, task.closed.as_slice())?;
-    let steps = places.last_steps(alloc, lists, &task.start)?;
+    let steps = places.last_steps(alloc, lists, &task.sender.form, &task.start)?;
     for step in &steps {
         if still.is_empty() || !spend(&mut search.left_for_one, places.size()) {
             break;
@@ -194,20 +192,20 @@ fn by_one(
     Ok(still)
 }
 
-/// Which of the books stay closed to a person after the first step, which led to a state, and any other. The others are
+/// Which of the books stay closed to a caller after the first step, which led to a state, and any other. The others are
 /// found.
 fn by_last(
     alloc: Global,
     lists: &OfficeLists,
     places: &OfficePlaces,
-    task: &Task,
+    task: &Task<'_>,
     first: &Step,
     between: &State,
     closed: &[usize],
     search: &mut Search,
 ) -> Result<Vec<usize>, AllocError> {
     let mut still = copies_of(alloc, closed)?;
-    let steps = places.last_steps(alloc, lists, between)?;
+    let steps = places.last_steps(alloc, lists, &task.sender.form, between)?;
     for step in &steps {
         if still.is_empty() || !spend(&mut search.left_for_two, places.size()) {
             break;
@@ -227,17 +225,17 @@ fn by_last(
     Ok(still)
 }
 
-/// Which of the books stay closed to a person after the first step and any other. The others are found.
+/// Which of the books stay closed to a caller after the first step and any other. The others are found.
 fn by_second(
     alloc: Global,
     lists: &OfficeLists,
     places: &OfficePlaces,
-    task: &Task,
+    task: &Task<'_>,
     first: &Step,
     closed: &[usize],
     search: &mut Search,
 ) -> Result<Vec<usize>, AllocError> {
-    let between = places.after(alloc, &task.principal, &task.start, first)?;
+    let between = places.after(alloc, task.sender, &task.start, first)?;
     let still = by_last(alloc, lists, places, task, first, &between, closed, search);
     drop(between);
     still
@@ -248,12 +246,12 @@ fn by_two(
     alloc: Global,
     lists: &OfficeLists,
     places: &OfficePlaces,
-    task: &Task,
+    task: &Task<'_>,
     closed: Vec<usize>,
     search: &mut Search,
 ) -> Result<(), AllocError> {
     let mut still = closed;
-    let steps = places.first_steps(alloc, lists, &task.start)?;
+    let steps = places.first_steps(alloc, lists, &task.sender.form, &task.start)?;
     for step in &steps {
         if still.is_empty() || !spend(&mut search.left_for_two, places.size()) {
             return Ok(());
@@ -263,7 +261,7 @@ fn by_two(
     Ok(())
 }
 
-/// Which books are closed to a person before any request.
+/// Which books are closed to a caller before any request.
 fn closed_to(
     alloc: Global,
     lists: &OfficeLists,
@@ -283,20 +281,17 @@ fn closed_to(
     Ok(closed)
 }
 
-/// A person, and the books that are closed to them.
-fn task_of(
+/// A caller, and the books that are closed to them.
+fn task_of<'a>(
     alloc: Global,
     lists: &OfficeLists,
     places: &OfficePlaces,
-    name: &Name,
-) -> Result<Task, AllocError> {
-    let person = name.clone()?;
-    let principal = Principal::person(alloc, name)?;
-    let start = places.start(alloc, &principal)?;
+    sender: &'a Sender,
+) -> Result<Task<'a>, AllocError> {
+    let start = places.start(alloc, sender)?;
     let closed = closed_to(alloc, lists, places, &start)?;
     Ok(Task {
-        person,
-        principal,
+        sender,
         start,
         closed,
     })
@@ -307,28 +302,28 @@ fn by_one_or_two(
     alloc: Global,
     lists: &OfficeLists,
     places: &OfficePlaces,
-    task: &Task,
+    task: &Task<'_>,
     search: &mut Search,
 ) -> Result<(), AllocError> {
     let closed = by_one(alloc, lists, places, task, search)?;
     by_two(alloc, lists, places, task, closed, search)
 }
 
-/// Looks for the openings of a person.
+/// Looks for the openings of a caller.
 fn seek(
     alloc: Global,
     lists: &OfficeLists,
     places: &OfficePlaces,
-    name: &Name,
+    sender: &Sender,
     search: &mut Search,
 ) -> Result<(), AllocError> {
-    let task = task_of(alloc, lists, places, name)?;
+    let task = task_of(alloc, lists, places, sender)?;
     let sought = by_one_or_two(alloc, lists, places, &task, search);
     drop(task);
     sought
 }
 
-/// What lists say are openings, person by person: by one request, and then by two.
+/// What lists say are openings, caller by caller: by one request, and then by two.
 fn found_at(
     alloc: Global,
     lists: &OfficeLists,
@@ -339,8 +334,9 @@ fn found_at(
         left_for_one: MOST_DECISIONS,
         left_for_two: MOST_DECISIONS,
     };
-    for name in &places.persons {
-        seek(alloc, lists, places, name, &mut search)?;
+    let senders = senders_of(alloc, places.persons.as_slice())?;
+    for sender in &senders {
+        seek(alloc, lists, places, sender, &mut search)?;
     }
     Ok(search.found)
 }
@@ -388,11 +384,12 @@ fn add_served(
     }
 }
 
-/// Openings in an Office in memory (own profile): for each person and each book that is closed to them one, where it is
-/// found, person by person. That none is told of a person and a book is no promise. The Office stays as it is.
+/// Openings in an Office in memory (own profile): for each caller and each book that is closed to them one, where it is
+/// found: first of a caller who is not known, and then person by person. That none is told of a caller and a book is no
+/// promise. The Office stays as it is.
 ///
-/// One request is looked for first, and then two: PROPPATCH of a group's members, to which the person adds themselves, and
-/// ACL at a book, at the home of the books, at the root, and as the first of two at a group or at their home. At most 1,000
+/// One request is looked for first, and then two: PROPPATCH of a group's members, to which a person adds themselves, and ACL,
+/// which grants the caller whatever no protected entry of the same form denies, at a book, at the home of the books, at the root, and as the first of two at a group or at their home. At most 1,000
 /// openings are looked for, and for one request and for two each at most 1,000,000 decisions are taken, so that more may be
 /// left. Each is served over a copy of the Office without its cards before it is told.
 ///

@@ -1,25 +1,26 @@
-//! Requests by which a person may get a right.
+//! Requests by which a caller may get a right.
 
 ghost use Rattle.std.specs.Prelude.{◌≡◌, ◌∷◌, [], IfOk, map};
 ghost use Rattle.book_lists.specs.declared.memberships.Membership.{Membership as MembershipOf};
 ghost use Rattle.book_office.specs.Sound.{IsSound};
-ghost use Rattle.book_policy_openings.specs.Steps.{AreListedAnd, AreMembersAnd, IsJoin, IsRequestOf, grant_all, grant_request, plain};
+ghost use Rattle.book_policy_openings.specs.Steps.{AreListedAnd, AreMembersAnd, IsJoin, IsJoinOf, IsRequestOf, caller_of, form_of, grant_request, granting, plain};
 
 use crate::in_memory::members_in;
-use book_lists::{Membership, Name, Pairs, Principal, Submitted, Who};
+use book_lists::{Caller, Membership, Name, Pairs, Principal, Submitted, Who};
 use book_machine::{Body, Depth, Flag, Patch, Request};
 use book_office::{MemoryKeeper, StoreFault};
 use book_office_values::{Items, Path};
-use book_rights::{Method, Privilege};
+use book_rights::{LeafSet, Method};
 use std::alloc::{AllocError, Global};
 
-/// A request of a person, by which they may get a right.
+/// A request of a caller, by which they may get a right.
 #[derive(Clone, Debug, Drop)]
 pub enum Step {
     /// PROPPATCH of the members of a group (RFC 3744, section 4.3): to those that it has, the person.
     Join(Name),
-    /// ACL (RFC 3744, section 8.1): in place of the own list of a resource one entry, which grants the person everything.
-    Grant(Path),
+    /// ACL (RFC 3744, section 8.1): in place of the own list of a resource one entry, which grants the caller these leaves: a
+    /// person by their path, and who is not known by `unauthenticated`.
+    Grant(Path, LeafSet),
 }
 
 /// A request that names no destination.
@@ -76,16 +77,36 @@ fn members_and(
     Ok(listed_and(alloc, &pairs, person)?)
 }
 
-/// A list of one entry, which grants the person everything.
-fn grant_all(alloc: Global, person: Principal) -> Result<Items<Submitted>, AllocError>
-    ensures { IfOk result (λ list. list ≡ grant_all person ∷ []) }
+/// A caller, by the bare name of the person; nobody without one.
+pub(crate) fn caller_of(alloc: Global, name: &Option<Name>) -> Result<Caller, AllocError>
+    ensures { IfOk result (λ caller. caller ≡ caller_of name.now) }
+{
+    match name {
+        Some(name) => Ok(Caller::Known(Principal::person(alloc, name)?)),
+        None => Ok(Caller::Nobody),
+    }
+}
+
+/// The form of an entry that is for a caller alone.
+pub(crate) fn form_of(alloc: Global, caller: &Option<Name>) -> Result<Who, AllocError>
+    ensures { IfOk result (λ form. form ≡ form_of caller.now) }
+{
+    match caller {
+        Some(name) => Ok(Who::Href(Principal::person(alloc, name)?)),
+        None => Ok(Who::Unauthenticated),
+    }
+}
+
+/// A list of one entry of a form, which grants leaves.
+fn granting(alloc: Global, form: Who, leaves: LeafSet) -> Result<Items<Submitted>, AllocError>
+    ensures { IfOk result (λ list. list ≡ granting form leaves ∷ []) }
 {
     let mut list = Items::new(alloc);
     list.push(Submitted {
-        who: Some(Who::Href(person)),
+        who: Some(form),
         invert: false,
         deny: false,
-        set: Some(Privilege::All.leaves()),
+        set: Some(leaves),
         protected: false,
         inherited: false,
     })?;
@@ -114,11 +135,34 @@ fn join_request(
     ))
 }
 
-/// The request that grants the person everything at a path.
-fn grant_request(alloc: Global, person: &Name, path: &Path) -> Result<Request, AllocError>
-    ensures { IfOk result (λ request. request ≡ grant_request person.now path.now) }
+/// The request that adds the caller to a group. The search asks it of no caller who is not known: of one it is an error.
+fn join_of(
+    alloc: Global,
+    keeper: &mut MemoryKeeper,
+    caller: &Option<Name>,
+    group: &Name,
+) -> Result<Request, StoreFault>
+    ensures request { IfOk result (λ request. IsSound keeper.old
+        → IsJoinOf keeper.old caller.now group.now request) }
+    ensures kept { IsSound keeper.old → keeper.new ≡ keeper.old }
 {
-    let list = grant_all(alloc, Principal::person(alloc, person)?)?;
+    match caller {
+        Some(person) => join_request(alloc, keeper, person, group),
+        None => Err(StoreFault::Memory),
+    }
+}
+
+/// The request that grants the caller leaves at a path.
+fn grant_request(
+    alloc: Global,
+    caller: &Option<Name>,
+    path: &Path,
+    leaves: LeafSet,
+) -> Result<Request, AllocError>
+    ensures { IfOk result (λ request. request ≡ grant_request caller.now path.now leaves) }
+{
+    let form = form_of(alloc, caller)?;
+    let list = granting(alloc, form, leaves)?;
     Ok(plain(Method::Acl, path.clone()?, Body::List(list)))
 }
 
@@ -126,15 +170,15 @@ fn grant_request(alloc: Global, person: &Name, path: &Path) -> Result<Request, A
 pub(crate) fn request_of(
     alloc: Global,
     keeper: &mut MemoryKeeper,
-    person: &Name,
+    caller: &Option<Name>,
     step: &Step,
 ) -> Result<Request, StoreFault>
     ensures request { IfOk result (λ request. IsSound keeper.old
-        → IsRequestOf keeper.old person.now step.now request) }
+        → IsRequestOf keeper.old caller.now step.now request) }
     ensures kept { IsSound keeper.old → keeper.new ≡ keeper.old }
 {
     match step {
-        Step::Join(group) => join_request(alloc, keeper, person, group),
-        Step::Grant(path) => Ok(grant_request(alloc, person, path)?),
+        Step::Join(group) => join_of(alloc, keeper, caller, group),
+        Step::Grant(path, leaves) => Ok(grant_request(alloc, caller, path, *leaves)?),
     }
 }

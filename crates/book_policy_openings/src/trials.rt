@@ -197,21 +197,21 @@ fn reading(reply: &Reply) -> Option<bool>
     None
 }
 
-/// Whether a person may read the card of a book. Nothing changes.
+/// Whether a caller may read the card of a book. Nothing changes.
 fn may_read(
     alloc: Global,
     machine: &mut Machine<MemoryKeeper>,
-    person: &Name,
+    caller: &Option<Name>,
     book: &Name,
 ) -> Result<bool, StoreFault>
     ensures told { IfOk result (λ may. IsSound machine.old.keeper
-        → Reads machine.old.keeper person.now book.now may) }
+        → Reads machine.old.keeper caller.now book.now may) }
     ensures kept { OnOk result (IsSound machine.old.keeper
         → machine.new.keeper ≡ machine.old.keeper) }
 {
     refusals_change_nothing();
     let request = read_card(alloc, book)?;
-    let reply = serve_in(alloc, machine, person, &request);
+    let reply = serve_in(alloc, machine, caller, &request);
     drop(request);
     let told = reading(&reply);
     drop(reply);
@@ -225,15 +225,15 @@ fn may_read(
 fn acts(
     alloc: Global,
     machine: &mut Machine<MemoryKeeper>,
-    person: &Name,
+    caller: &Option<Name>,
     step: &Step,
 ) -> Result<bool, StoreFault>
     ensures acted { IfOk result (λ acted. IsTrue acted → IsSound machine.old.keeper
-        → Acts machine.old.keeper person.now step.now machine.new.keeper) }
+        → Acts machine.old.keeper caller.now step.now machine.new.keeper) }
     ensures sound { OnOk result (IsSound machine.old.keeper → IsSound machine.new.keeper) }
 {
-    let request = request_of(alloc, &mut machine.keeper, person, step)?;
-    let reply = serve_in(alloc, machine, person, &request);
+    let request = request_of(alloc, &mut machine.keeper, caller, step)?;
+    let reply = serve_in(alloc, machine, caller, &request);
     drop(request);
     let status = reply.status;
     drop(reply);
@@ -247,20 +247,20 @@ fn acts(
 pub(crate) fn leads(
     alloc: Global,
     machine: &mut Machine<MemoryKeeper>,
-    person: &Name,
+    caller: &Option<Name>,
     first: &Step,
     second: &Option<Step>,
 ) -> Result<bool, StoreFault>
     ensures led { IfOk result (λ led. IsTrue led → IsSound machine.old.keeper
-        → Leads machine.old.keeper person.now first.now second.now machine.new.keeper) }
+        → Leads machine.old.keeper caller.now first.now second.now machine.new.keeper) }
     ensures sound { OnOk result (IsSound machine.old.keeper → IsSound machine.new.keeper) }
 {
-    let acted = acts(alloc, machine, person, first)?;
+    let acted = acts(alloc, machine, caller, first)?;
     if !acted {
         return Ok(false);
     }
     match second {
-        Some(second) => acts(alloc, machine, person, second),
+        Some(second) => acts(alloc, machine, caller, second),
         None => Ok(true),
     }
 }
@@ -274,24 +274,24 @@ fn opens_from(
     ensures { IfOk result (λ opens. IsTrue opens → IsSound machine.old.keeper
         → IsOpeningFrom machine.old.keeper opening.now) }
 {
-    let open = may_read(alloc, machine, &opening.person, &opening.book)?;
+    let open = may_read(alloc, machine, &opening.caller, &opening.book)?;
     if open {
         return Ok(false);
     }
     let led = leads(
         alloc,
         machine,
-        &opening.person,
+        &opening.caller,
         &opening.first,
         &opening.second,
     )?;
     if !led {
         return Ok(false);
     }
-    may_read(alloc, machine, &opening.person, &opening.book)
+    may_read(alloc, machine, &opening.caller, &opening.book)
 }
 
-/// Whether an opening is one in the Office: the person may not read the card of the book, their requests are served with
+/// Whether an opening is one in the Office: the caller may not read the card of the book, their requests are served with
 /// success, and then they may. The Office stays as it is.
 pub(crate) fn is_opening(
     alloc: Global,

@@ -21,14 +21,35 @@ use Rattle.book_policy_openings.specs.declared.steps.Step.TheVariants.{Join, Gra
 use Rattle.book_policy_warnings.specs.declared.warnings.Warning.{Warning}
 use Rattle.book_policy_warnings.specs.declared.warnings.Warning.TheVariants.{NeverDecides, LeavesOpen, Opens, Gets}
 
--- the request of a step: whom it adds to a group, or what it grants
-abbrev pub step_text : List ℕ → Step → List ℕ
-step_text person (Join group) = codes "PROPPATCH " ++ (group_path group ++ (codes " (+ " ++ (person_path person ++ codes ")")))
-step_text person (Grant p) = codes "ACL " ++ (path_text p ++ (codes " (grant " ++ (person_path person ++ codes " all)")))
+-- a caller, by the bare name of the person, if it is one
+abbrev pub caller_text : Option (List ℕ) → List ℕ
+caller_text None = codes "a caller who is not known"
+caller_text (Some person) = person
 
-abbrev pub second_text : List ℕ → Option Step → List ℕ
-second_text person None = []
-second_text person (Some step) = codes "; " ++ step_text person step
+-- the form of an entry that is for a caller alone
+abbrev pub form_text : Option (List ℕ) → List ℕ
+form_text None = codes "unauthenticated"
+form_text (Some person) = person_path person
+
+-- leaves by their short names, each after a space
+abbrev pub short_text : (Leaf → Bool) → List ℕ
+short_text leaves = flat_map spaced (short_list leaves)
+
+abbrev pub join_text : Option (List ℕ) → List ℕ → List ℕ
+join_text caller group = codes "PROPPATCH " ++ (group_path group ++ (codes " (+ " ++ (form_text caller ++ codes ")")))
+
+abbrev pub grant_text : Option (List ℕ) → Path → (Leaf → Bool) → List ℕ
+grant_text caller p leaves =
+    codes "ACL " ++ (path_text p ++ (codes " (grant " ++ (form_text caller ++ (short_text leaves ++ codes ")"))))
+
+-- the request of a step: whom it adds to a group, or what it grants to whom
+abbrev pub step_text : Option (List ℕ) → Step → List ℕ
+step_text caller (Join group) = join_text caller group
+step_text caller (Grant p leaves) = grant_text caller p leaves
+
+abbrev pub second_text : Option (List ℕ) → Option Step → List ℕ
+second_text caller None = []
+second_text caller (Some step) = codes "; " ++ step_text caller step
 
 abbrev pub granted_text : List ℕ → List ℕ
 granted_text book = codes "; then GET /books/" ++ (book ++ codes "/* is granted\n")
@@ -36,12 +57,12 @@ granted_text book = codes "; then GET /books/" ++ (book ++ codes "/* is granted\
 -- who, by which requests, and what is granted then
 abbrev pub opening_line : Opening → List ℕ
 opening_line opening =
-    opening.person ++ (codes ": " ++ (step_text opening.person opening.first ++ (second_text opening.person opening.second
+    caller_text opening.caller ++ (codes ": " ++ (step_text opening.caller opening.first ++ (second_text opening.caller opening.second
     ++ granted_text opening.book)))
 
 -- leaves by their short names, to the end of the line
 abbrev pub leaves_text : (Leaf → Bool) → List ℕ
-leaves_text leaves = flat_map spaced (short_list leaves) ++ codes "\n"
+leaves_text leaves = short_text leaves ++ codes "\n"
 
 -- where they are granted then
 abbrev pub then_text : Path → List ℕ
@@ -54,7 +75,7 @@ gained_text p leaves = then_text p ++ leaves_text leaves
 -- who, by which requests, and what is granted then
 abbrev pub gain_line : Gain → List ℕ
 gain_line gain =
-    gain.person ++ (codes ": " ++ (step_text gain.person gain.first ++ (second_text gain.person gain.second
+    caller_text gain.caller ++ (codes ": " ++ (step_text gain.caller gain.first ++ (second_text gain.caller gain.second
     ++ gained_text gain.at gain.leaves)))
 
 -- the text of a principal form

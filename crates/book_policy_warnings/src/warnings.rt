@@ -7,7 +7,7 @@ ghost use Rattle.book_office_values.specs.Paths.{path_text};
 ghost use Rattle.book_policy_gaps.specs.Finding.{AreGaps};
 ghost use Rattle.book_policy_openings.specs.Openings.{IsRefused};
 ghost use Rattle.book_policy_warnings.specs.Warnings.{AreWarningsIn, AreWarningsOf, AreWarningsOver, gain_warnings, gap_warnings, idle_warnings, opening_warnings};
-ghost use Rattle.book_policy_warnings.specs.Sentences.{ahead_text, gain_line, gained_text, granted_text, idle_line, leaves_text, list_text, more_line, opening_line, place_text, reason_text, second_text, step_text, then_text, warning_line, warning_lines, warnings_text, who_text};
+ghost use Rattle.book_policy_warnings.specs.Sentences.{ahead_text, caller_text, form_text, gain_line, gained_text, grant_text, granted_text, idle_line, join_text, leaves_text, list_text, more_line, opening_line, place_text, reason_text, second_text, short_text, step_text, then_text, warning_line, warning_lines, warnings_text, who_text};
 
 use book_lists::{Name, Who};
 use book_lists_explain::short_privileges;
@@ -32,9 +32,9 @@ pub enum Warning {
     NeverDecides(IdleEntry),
     /// A plain fact of the Office that the policy makes.
     LeavesOpen(Gap),
-    /// A person may open a book that is closed to them.
+    /// A caller may open a book that is closed to them.
     Opens(Opening),
-    /// A person may get leaves at a resource.
+    /// A caller may get leaves at a resource.
     Gets(Gain),
 }
 
@@ -62,38 +62,96 @@ fn push_group(text: &mut String, group: &Name) -> Result<(), AllocError>
     push_both(text, "/groups/", group.text())
 }
 
-/// Adds what a step asks.
-fn push_step(text: &mut String, person: &Name, step: &Step) -> Result<(), AllocError>
+/// A caller, as it is told.
+fn caller_text(caller: &Option<Name>) -> &str
+    ensures { result.now ≡ caller_text caller.now }
+{
+    match caller {
+        Some(person) => person.text(),
+        None => "a caller who is not known",
+    }
+}
+
+/// Adds the form of an entry that is for a caller alone.
+fn push_form(text: &mut String, caller: &Option<Name>) -> Result<(), AllocError>
     ensures { OnOk result (string_bytes text.new ≡
-        string_bytes text.old ++ step_text person.now step.now) }
+        string_bytes text.old ++ form_text caller.now) }
+{
+    match caller {
+        Some(person) => push_person(text, person),
+        None => text.push_str("unauthenticated"),
+    }
+}
+
+/// Adds the short names of leaves, each after a space.
+fn push_short(alloc: Global, text: &mut String, leaves: LeafSet) -> Result<(), AllocError>
+    ensures { OnOk result (string_bytes text.new ≡ string_bytes text.old ++ short_text leaves) }
+{
+    let names = short_privileges(alloc, leaves)?;
+    push_names(text, names.as_slice())
+}
+
+/// Adds the request by which a caller is a member of a group.
+fn push_join(text: &mut String, caller: &Option<Name>, group: &Name) -> Result<(), AllocError>
+    ensures { OnOk result (string_bytes text.new ≡
+        string_bytes text.old ++ join_text caller.now group.now) }
+{
+    text.push_str("PROPPATCH ")?;
+    push_group(text, group)?;
+    text.push_str(" (+ ")?;
+    push_form(text, caller)?;
+    text.push_str(")")
+}
+
+/// Adds the request by which a caller is granted leaves at a path.
+fn push_grant(
+    alloc: Global,
+    text: &mut String,
+    caller: &Option<Name>,
+    path: &Path,
+    leaves: LeafSet,
+) -> Result<(), AllocError>
+    ensures { OnOk result (string_bytes text.new ≡
+        string_bytes text.old ++ grant_text caller.now path.now leaves) }
+{
+    text.push_str("ACL ")?;
+    path.push_text(text)?;
+    text.push_str(" (grant ")?;
+    push_form(text, caller)?;
+    push_short(alloc, text, leaves)?;
+    text.push_str(")")
+}
+
+/// Adds what a step asks.
+fn push_step(
+    alloc: Global,
+    text: &mut String,
+    caller: &Option<Name>,
+    step: &Step,
+) -> Result<(), AllocError>
+    ensures { OnOk result (string_bytes text.new ≡
+        string_bytes text.old ++ step_text caller.now step.now) }
 {
     match step {
-        Step::Join(group) => {
-            text.push_str("PROPPATCH ")?;
-            push_group(text, group)?;
-            text.push_str(" (+ ")?;
-            push_person(text, person)?;
-            text.push_str(")")
-        }
-        Step::Grant(path) => {
-            text.push_str("ACL ")?;
-            path.push_text(text)?;
-            text.push_str(" (grant ")?;
-            push_person(text, person)?;
-            text.push_str(" all)")
-        }
+        Step::Join(group) => push_join(text, caller, group),
+        Step::Grant(path, leaves) => push_grant(alloc, text, caller, path, *leaves),
     }
 }
 
 /// Adds what a second step asks, if there is one.
-fn push_second(text: &mut String, person: &Name, step: &Option<Step>) -> Result<(), AllocError>
+fn push_second(
+    alloc: Global,
+    text: &mut String,
+    caller: &Option<Name>,
+    step: &Option<Step>,
+) -> Result<(), AllocError>
     ensures { OnOk result (string_bytes text.new ≡
-        string_bytes text.old ++ second_text person.now step.now) }
+        string_bytes text.old ++ second_text caller.now step.now) }
 {
     match step {
         Some(step) => {
             text.push_str("; ")?;
-            push_step(text, person, step)
+            push_step(alloc, text, caller, step)
         }
         None => Ok(()),
     }
@@ -109,14 +167,14 @@ fn push_granted(text: &mut String, book: &Name) -> Result<(), AllocError>
 }
 
 /// Adds the line of an opening.
-fn push_opening(text: &mut String, opening: &Opening) -> Result<(), AllocError>
+fn push_opening(alloc: Global, text: &mut String, opening: &Opening) -> Result<(), AllocError>
     ensures { OnOk result (string_bytes text.new ≡
         string_bytes text.old ++ opening_line opening.now) }
 {
-    text.push_str(opening.person.text())?;
+    text.push_str(caller_text(&opening.caller))?;
     text.push_str(": ")?;
-    push_step(text, &opening.person, &opening.first)?;
-    push_second(text, &opening.person, &opening.second)?;
+    push_step(alloc, text, &opening.caller, &opening.first)?;
+    push_second(alloc, text, &opening.caller, &opening.second)?;
     push_granted(text, &opening.book)
 }
 
@@ -124,8 +182,7 @@ fn push_opening(text: &mut String, opening: &Opening) -> Result<(), AllocError>
 fn push_leaves(alloc: Global, text: &mut String, leaves: LeafSet) -> Result<(), AllocError>
     ensures { OnOk result (string_bytes text.new ≡ string_bytes text.old ++ leaves_text leaves) }
 {
-    let names = short_privileges(alloc, leaves)?;
-    push_names(text, names.as_slice())?;
+    push_short(alloc, text, leaves)?;
     text.push_str("\n")
 }
 
@@ -164,10 +221,10 @@ fn push_gained(
 fn push_gain(alloc: Global, text: &mut String, gain: &Gain) -> Result<(), AllocError>
     ensures { OnOk result (string_bytes text.new ≡ string_bytes text.old ++ gain_line gain.now) }
 {
-    text.push_str(gain.person.text())?;
+    text.push_str(caller_text(&gain.caller))?;
     text.push_str(": ")?;
-    push_step(text, &gain.person, &gain.first)?;
-    push_second(text, &gain.person, &gain.second)?;
+    push_step(alloc, text, &gain.caller, &gain.first)?;
+    push_second(alloc, text, &gain.caller, &gain.second)?;
     push_gained(alloc, text, &gain.at, gain.leaves)
 }
 
@@ -257,7 +314,7 @@ impl Warning {
         match self {
             Warning::NeverDecides(idle) => push_idle(alloc, text, idle),
             Warning::LeavesOpen(gap) => push_gap_line(text, gap),
-            Warning::Opens(opening) => push_opening(text, opening),
+            Warning::Opens(opening) => push_opening(alloc, text, opening),
             Warning::Gets(gain) => push_gain(alloc, text, gain),
         }
     }

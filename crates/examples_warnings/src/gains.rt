@@ -32,11 +32,13 @@ const EXAMPLES: &[Example] = &[
          dan: ACL /books/law (grant /people/dan all); then at /books/law is granted: write read-acl \
          read-current-user-privilege-set\n",
     ),
-    // A list that clashes with a protected entry is refused (RFC 3744, section 8.1.1).
+    // A list that clashes with a protected entry is refused (RFC 3744, section 8.1.1): hers grants what that does not deny.
     (
         "[[entry]]\nat = \"/books/law\"\nwho = \"/people/ada\"\ndeny = [\"write-content\"]\nprotected = true\n\
          [[entry]]\nat = \"/books/law\"\nwho = \"/people/ada\"\ngrant = [\"write-acl\"]\n",
-        "",
+        "ada: ACL /books/law (grant /people/ada read write-properties bind unbind read-acl write-acl \
+         read-current-user-privilege-set); then at /books/law is granted: read write-properties bind unbind read-acl \
+         read-current-user-privilege-set\n",
     ),
     // What a protected entry denies to others too is not got.
     (
@@ -68,6 +70,24 @@ const EXAMPLES: &[Example] = &[
         "dan: ACL /people (grant /people/dan all); then at /people is granted: read-current-user-privilege-set\n\
          dan: ACL /people (grant /people/dan all); then at /people/ada is granted: read-current-user-privilege-set\n\
          dan: ACL /people (grant /people/dan all); then at /people/dan is granted: read-current-user-privilege-set\n",
+    ),
+    // A caller who is not known replaces the list too, and can't be a member.
+    (
+        "[[entry]]\nat = \"/books/law\"\nwho = \"unauthenticated\"\ngrant = [\"write-acl\"]\n\
+         [[entry]]\nat = \"/groups/law\"\nwho = \"unauthenticated\"\ngrant = [\"write-properties\"]\n",
+        "a caller who is not known: ACL /books/law (grant unauthenticated all); then at /books/law is granted: read write \
+         read-acl read-current-user-privilege-set\n",
+    ),
+    // Two groups together: the one is denied nothing, the other is granted something.
+    (
+        "[[group]]\nname = \"clerks\"\n[[book]]\nname = \"files\"\n\
+         [[entry]]\nat = \"/books/files\"\nwho = \"/groups/law\"\ninvert = true\ndeny = [\"bind\"]\n\
+         [[entry]]\nat = \"/books/files\"\nwho = \"/groups/clerks\"\ngrant = [\"bind\"]\n\
+         [[entry]]\nat = \"/groups/clerks\"\nwho = \"/people/ada\"\ngrant = [\"write-properties\"]\n\
+         [[entry]]\nat = \"/groups/partners\"\nwho = \"/people/ada\"\ngrant = [\"write-properties\"]\n",
+        "ada: PROPPATCH /groups/clerks (+ /people/ada); PROPPATCH /groups/partners (+ /people/ada); \
+         then at /books/files is granted: bind\n\
+         ada: PROPPATCH /groups/partners (+ /people/ada); then at /books/law is granted: read\n",
     ),
     // Who holds everything gets nothing.
     (

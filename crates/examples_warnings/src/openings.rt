@@ -36,6 +36,26 @@ const EXAMPLES: &[Example] = &[
         "[[entry]]\nat = \"/books/law\"\nwho = \"authenticated\"\ngrant = [\"write-acl\"]\n",
         "ada: ACL /books/law (grant /people/ada all); then GET /books/law/* is granted\n",
     ),
+    // She may not grant herself what a protected entry denies her (RFC 3744, section 8.1.1), and grants the rest.
+    (
+        "[[entry]]\nat = \"/books/law\"\nwho = \"/people/ada\"\ndeny = [\"bind\"]\nprotected = true\n\
+         [[entry]]\nat = \"/books/law\"\nwho = \"/people/ada\"\ngrant = [\"write-acl\"]\n",
+        "ada: ACL /books/law (grant /people/ada read write-content write-properties unbind read-acl write-acl \
+         read-current-user-privilege-set); then GET /books/law/* is granted\n",
+    ),
+    // Who is not known may do so too, but where a protected entry denies it.
+    (
+        "[[entry]]\nat = \"/books/law\"\nwho = \"all\"\ngrant = [\"write-acl\"]\n\
+         [[entry]]\nat = \"/books/law\"\nwho = \"unauthenticated\"\ndeny = [\"write-acl\"]\nprotected = true\n",
+        "ada: ACL /books/law (grant /people/ada all); then GET /books/law/* is granted\n",
+    ),
+    (
+        "[[entry]]\nat = \"/books/law\"\nwho = \"all\"\ngrant = [\"write-acl\"]\n\
+         [[entry]]\nat = \"/books/law\"\nwho = \"unauthenticated\"\ndeny = [\"unbind\"]\nprotected = true\n",
+        "a caller who is not known: ACL /books/law (grant unauthenticated read write-content write-properties bind read-acl \
+         write-acl read-current-user-privilege-set); then GET /books/law/* is granted\n\
+         ada: ACL /books/law (grant /people/ada all); then GET /books/law/* is granted\n",
+    ),
     // What she grants above the book comes behind the closing entry there.
     (
         "[[entry]]\nat = \"/books\"\nwho = \"/people/ada\"\ngrant = [\"write-acl\"]\n\

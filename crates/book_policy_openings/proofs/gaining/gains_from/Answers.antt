@@ -17,8 +17,8 @@ returns c = λ agreed sound.
       before = c.in_ok-before.before;
       after = c.in_ok-after.after;
       there = c.in_ok-there.ensures.there c.if-not-there.false sound;
-      held = subst (λ (o : Office). Holds o gain.person gain.at c.in_ok-before.before) first (c.in_ok-before.ensures.held still);
-      led = subst (λ (start : Office). Leads start gain.person gain.first gain.second c.leads.new.machine.keeper) (second ∙ first)
+      held = subst (λ (o : Office). Holds o gain.caller gain.at c.in_ok-before.before) first (c.in_ok-before.ensures.held still);
+      led = subst (λ (start : Office). Leads start gain.caller gain.first gain.second c.leads.new.machine.keeper) (second ∙ first)
           (c.in_ok-led.ensures.led c.if-not-led.false then);
       holds = c.in_ok-after.ensures.held (c.in_ok-led.ensures.sound then);
       gained = c.are_gained.ensures agreed;

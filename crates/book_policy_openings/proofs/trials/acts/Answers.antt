@@ -1,4 +1,4 @@
-use Rattle.std.proofs.Common.{Some, sym, subst}
+use Rattle.std.proofs.Common.{sym, subst}
 use Rattle.book_machine.specs.Steps.{Serves}
 use Rattle.book_office.specs.Sound.{IsSound}
 use Rattle.book_office_values.specs.declared.offices.Office.{Office}
@@ -11,7 +11,7 @@ returns-clause-acted c = λ agreed sound.
       c.serve_in-reply.result,
       c.in_ok-request.ensures.request sound,
       c.if-status-ge300.false,
-      subst (λ (o : Office). Serves o (Some c.args.person.now) c.in_ok-request.request c.serve_in-reply.result c.serve_in-reply.new.machine.keeper) same
+      subst (λ (o : Office). Serves o c.args.caller.now c.in_ok-request.request c.serve_in-reply.result c.serve_in-reply.new.machine.keeper) same
           (c.serve_in-reply.ensures.served (subst IsSound (sym same) sound)),
     )
 

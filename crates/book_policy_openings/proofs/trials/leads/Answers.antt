@@ -9,7 +9,7 @@ pub returns-in-Some-clause-led : goal.returns-in-Some-clause-led
 returns-in-Some-clause-led c =
     IfOk-weaker c.acts-in-Some.result _ _
     (λ led acted agreed sound.
-    subst (λ (second : Option Step). Leads c.args.machine.now.keeper c.args.person.now c.args.first.now second c.acts-in-Some.new.machine.keeper) (sym c.in-Some.is)
+    subst (λ (second : Option Step). Leads c.args.machine.now.keeper c.args.caller.now c.args.first.now second c.acts-in-Some.new.machine.keeper) (sym c.in-Some.is)
     (c.acts.new.machine.keeper, c.in_ok-acted.ensures.acted c.if-not-acted.false sound, acted agreed (c.in_ok-acted.ensures.sound sound)))
     c.acts-in-Some.ensures.acted
 
@@ -20,5 +20,5 @@ returns-in-Some-clause-sound c =
 
 pub returns-in-None-clause-led : goal.returns-in-None-clause-led
 returns-in-None-clause-led c = λ agreed sound.
-    subst (λ (second : Option Step). Leads c.args.machine.now.keeper c.args.person.now c.args.first.now second c.acts.new.machine.keeper) (sym c.in-None.is)
+    subst (λ (second : Option Step). Leads c.args.machine.now.keeper c.args.caller.now c.args.first.now second c.acts.new.machine.keeper) (sym c.in-None.is)
     (c.in_ok-acted.ensures.acted c.if-not-acted.false sound)
