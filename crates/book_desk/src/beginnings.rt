@@ -3,14 +3,6 @@
 use book_desk_app::Beginning;
 
 /// The policy.
-const POLICY` in crates/book_desk/src/beginnings.rt, so that `check` draws two lines of it, both of which its
-comments own up to, in place of seven. The seven came of this: the only one of the staff was the administrator, for whom the
-protected entry at "/" decides all, so that five entries never decided. With a colleague in the group each entry decides.
-`book_desk check policy.toml` then tells exactly
-    person lister: has no right at any book
-    person admin: lists /books, and so reads /books/office
-Put `check --strict`'s two lines into tools/try-first-hour or where `init` is tried, so that they stay two.
-
 const POLICY: &str = "\
 # A policy to begin with: an administrator, a colleague, their group, its book, and the person as whom the gateway asks.
 # Change the names, and adopt it: book_desk import --store office.db policy.toml. POLICY in the manual page has every key,
