@@ -16,11 +16,9 @@ mod policies;
 mod stops;
 
 use anyhow::Result;
-use disks::{Disks, MemoryDisks};
 use faults::try_faults;
 use measures::{print_store_times, serve_echo};
 use pairs::compare_all;
-use sqlite::{Alter, Connection};
 use std::alloc::Global;
 use std::env;
 use std::io::Write;
@@ -39,51 +37,37 @@ const WITHOUT_WORDS: [&[&str]; 3] = [
     &["stops", "put-new", "put-over", "remove-card", "adopt-other"],
 ];
 
-/// Tries what the first word names over these disks, with the words after it: whether nothing is wrong; none where it
-/// names nothing.
-fn tried<S: Alter + Drop, D: Disks<Store = Connection<S>, Bare = S>, R: AllocGlobal + Print>(
-    rt: &R,
-    disks: &D,
-    first: &str,
-    others: &[&str],
-) -> Result<Option<bool>> {
+/// Does what the first word names, with the words after it: whether nothing is wrong; none where it names nothing.
+fn tried(rt: &HostRuntime, first: &str, others: &[&str]) -> Result<Option<bool>> {
     let is_right = match first {
         "pairs" => {
-            compare_all(rt, disks)?;
+            compare_all(rt)?;
             true
         }
         "faults" => try_faults(rt, others),
-        "stops" => try_stops(rt, disks, others)?,
+        "stops" => try_stops(rt, others)?,
+        "store" => {
+            print_store_times(rt, others.first())?;
+            true
+        }
+        "echo" => {
+            serve_echo(rt, others)?;
+            true
+        }
         _ => return Ok(None),
     };
     Ok(Some(is_right))
 }
 
 /// Does what is done without a word: whether nothing is wrong.
-fn tried_without_words<
-    S: Alter + Drop,
-    D: Disks<Store = Connection<S>, Bare = S>,
-    R: AllocGlobal + Print,
->(rt: &R, disks: &D) -> Result<Option<bool>> {
+fn tried_without_words(rt: &HostRuntime) -> Result<Option<bool>> {
     let mut is_right = true;
     for words in WITHOUT_WORDS {
         if let Some((first, others)) = words.split_first() {
-            is_right = tried(rt, disks, first, others)? == Some(true) && is_right;
+            is_right = tried(rt, first, others)? == Some(true) && is_right;
         }
     }
     Ok(Some(is_right))
-}
-
-/// Does what these words name, or what is done without one.
-fn tried_of<S: Alter + Drop, D: Disks<Store = Connection<S>, Bare = S>, R: AllocGlobal + Print>(
-    rt: &R,
-    disks: &D,
-    words: &[&str],
-) -> Result<Option<bool>> {
-    match words.split_first() {
-        Some((first, others)) => tried(rt, disks, first, others),
-        None => tried_without_words(rt, disks),
-    }
 }
 
 /// The words as texts.
@@ -98,17 +82,9 @@ fn texts(alloc: Global, words: &[String]) -> Result<Vec<&str>> {
 /// Does what the words name.
 fn tried_by(rt: &HostRuntime, words: &[String]) -> Result<Option<bool>> {
     let texts = texts(rt.alloc(), words)?;
-    let words = texts.as_slice();
-    match words.split_first() {
-        Some((&"store", others)) => {
-            print_store_times(rt, others.first())?;
-            Ok(Some(true))
-        }
-        Some((&"echo", others)) => {
-            serve_echo(rt, others)?;
-            Ok(Some(true))
-        }
-        _ => tried_of(rt, &MemoryDisks, words),
+    match texts.as_slice().split_first() {
+        Some((first, others)) => tried(rt, first, others),
+        None => tried_without_words(rt),
     }
 }
 

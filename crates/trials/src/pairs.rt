@@ -15,12 +15,10 @@ mod requests;
 mod steps;
 mod worked;
 
-use crate::disks::Disks;
 use anyhow::Result;
 use chosen::chosen_steps;
 use comparing::{compare, count_of};
 use keepers::{Told, told_by_disks, told_by_memory, told_by_tables};
-use sqlite::{Alter, Connection};
 use std::alloc::Global;
 use steps::{Step, steps_of};
 use worked::{BOOKS, CARDS, MEMBERS, Part};
@@ -63,42 +61,27 @@ fn print_statuses(rt: &impl Print, told: &str) -> Result<()> {
 }
 
 /// Takes the steps over each keeper, and prints how what they tell compares.
-fn compare_keepers<S: Alter + Drop, D: Disks<Store = Connection<S>>, R: Print>(
-    rt: &R,
-    disks: &D,
-    alloc: Global,
-    name: &str,
-    steps: &[Step],
-) -> Result<()> {
+fn compare_keepers(rt: &impl Print, alloc: Global, name: &str, steps: &[Step]) -> Result<()> {
     println!(rt; "{name}")?;
     let memory = told_by_memory(alloc, steps)?;
     print_statuses(rt, memory.steps.as_str())?;
     let tables = told_by_tables(alloc, steps)?;
     print_comparison(rt, "tables in memory", &memory, &tables)?;
-    let told = told_by_disks(disks, alloc, steps)?;
-    print_comparison(rt, "tables on disks behind a cache", &memory, &told)
+    let disks = told_by_disks(alloc, steps)?;
+    print_comparison(rt, "tables on disks behind a cache", &memory, &disks)
 }
 
-fn compare_worked<S: Alter + Drop, D: Disks<Store = Connection<S>>, R: Print>(
-    rt: &R,
-    disks: &D,
-    alloc: Global,
-    name: &str,
-    parts: &[Part<'_>],
-) -> Result<()> {
+fn compare_worked(rt: &impl Print, alloc: Global, name: &str, parts: &[Part<'_>]) -> Result<()> {
     let steps = steps_of(alloc, parts)?;
-    compare_keepers(rt, disks, alloc, name, steps.as_slice())
+    compare_keepers(rt, alloc, name, steps.as_slice())
 }
 
 /// Takes the worked steps and those that are chosen by numbers over each keeper, and prints how what they tell compares.
-pub(crate) fn compare_all<S: Alter + Drop, D: Disks<Store = Connection<S>>, R: AllocGlobal + Print>(
-    rt: &R,
-    disks: &D,
-) -> Result<()> {
+pub(crate) fn compare_all(rt: &(impl AllocGlobal + Print)) -> Result<()> {
     let alloc = rt.alloc();
-    compare_worked(rt, disks, alloc, "cards, lists and reports", CARDS)?;
-    compare_worked(rt, disks, alloc, "a book that comes and goes", BOOKS)?;
-    compare_worked(rt, disks, alloc, "lists and members", MEMBERS)?;
+    compare_worked(rt, alloc, "cards, lists and reports", CARDS)?;
+    compare_worked(rt, alloc, "a book that comes and goes", BOOKS)?;
+    compare_worked(rt, alloc, "lists and members", MEMBERS)?;
     let steps = chosen_steps(alloc)?;
-    compare_keepers(rt, disks, alloc, "chosen by numbers", steps.as_slice())
+    compare_keepers(rt, alloc, "chosen by numbers", steps.as_slice())
 }

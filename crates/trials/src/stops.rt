@@ -24,13 +24,13 @@ mod renewals;
 mod texts;
 mod trials;
 
-use crate::disks::Disks;
+use crate::disks::Disk;
 use anyhow::{Context, Result};
 use beginnings::stops_of_first_open;
 use cases::{CASES, Case};
 use counts::Count;
 use renewals::{Renewal, stops_of_renewal};
-use sqlite::{Alter, Connection};
+use sqlite_disk::Files;
 use std::alloc::Global;
 use trials::{start_files, stops_of};
 
@@ -59,13 +59,8 @@ fn asked_cases(alloc: Global, words: &[&str]) -> Result<Vec<Case>> {
 }
 
 /// Tries the stops of a kind, and prints their line.
-fn print_stops<S: Alter + Drop, D: Disks<Store = Connection<S>>, R: AllocGlobal + Print>(
-    rt: &R,
-    disks: &D,
-    start: &D::Files,
-    case: Case,
-) -> Result<Count> {
-    let count = stops_of(disks, rt.alloc(), start, case.plan)?;
+fn print_stops(rt: &(impl AllocGlobal + Print), start: &Files<Disk>, case: Case) -> Result<Count> {
+    let count = stops_of(rt.alloc(), start, case.plan)?;
     let name = case.name;
     let Count {
         stops,
@@ -78,26 +73,24 @@ fn print_stops<S: Alter + Drop, D: Disks<Store = Connection<S>>, R: AllocGlobal 
 }
 
 /// Tries the stops of the first open, and prints their line.
-fn print_first_stops<S: Alter + Drop, D: Disks<Store = Connection<S>>, R: AllocGlobal + Print>(
-    rt: &R,
-    disks: &D,
-) -> Result<Count> {
-    let count = stops_of_first_open(disks, rt.alloc())?;
+fn print_first_stops(rt: &(impl AllocGlobal + Print)) -> Result<Count> {
+    let count = stops_of_first_open(rt.alloc())?;
     let (stops, taken, wrong) = (count.stops, count.after, count.wrong);
     println!(rt; "first open: {stops} stops, {taken} taken, {wrong} wrong")?;
     Ok(count)
 }
 
 /// Tries the stops of a renewal where the words ask for it, and prints their line.
-fn print_renewal_stops<
-    S: Alter + Drop,
-    D: Disks<Store = Connection<S>, Bare = S>,
-    R: AllocGlobal + Print,
->(rt: &R, disks: &D, words: &[&str], word: &str, renewal: Renewal) -> Result<Count> {
+fn print_renewal_stops(
+    rt: &(impl AllocGlobal + Print),
+    words: &[&str],
+    word: &str,
+    renewal: Renewal,
+) -> Result<Count> {
     if !words.is_empty() && !words.contains(&word) {
         return Ok(Count::none());
     }
-    let count = stops_of_renewal(disks, rt.alloc(), renewal)?;
+    let count = stops_of_renewal(rt.alloc(), renewal)?;
     let Count {
         stops,
         before,
@@ -109,57 +102,43 @@ fn print_renewal_stops<
 }
 
 /// Tries the stops of each renewal where the words ask for it.
-fn print_renewals<
-    S: Alter + Drop,
-    D: Disks<Store = Connection<S>, Bare = S>,
-    R: AllocGlobal + Print,
->(rt: &R, disks: &D, words: &[&str]) -> Result<Count> {
+fn print_renewals(rt: &(impl AllocGlobal + Print), words: &[&str]) -> Result<Count> {
     let mut all = Count::none();
     for (word, renewal) in RENEWALS {
-        all = all.plus(print_renewal_stops(rt, disks, words, word, *renewal)?);
+        all = all.plus(print_renewal_stops(rt, words, word, *renewal)?);
     }
     Ok(all)
 }
 
 /// Tries the stops of each of these kinds.
-fn print_each<S: Alter + Drop, D: Disks<Store = Connection<S>>, R: AllocGlobal + Print>(
-    rt: &R,
-    disks: &D,
-    start: &D::Files,
+fn print_each(
+    rt: &(impl AllocGlobal + Print),
+    start: &Files<Disk>,
     cases: &[Case],
 ) -> Result<Count> {
     let mut all = Count::none();
     for case in cases {
-        all = all.plus(print_stops(rt, disks, start, *case)?);
+        all = all.plus(print_stops(rt, start, *case)?);
     }
     Ok(all)
 }
 
 /// Tries the stops of the kinds that are asked for, or of all where there is no word.
-fn print_asked<S: Alter + Drop, D: Disks<Store = Connection<S>>, R: AllocGlobal + Print>(
-    rt: &R,
-    disks: &D,
-    words: &[&str],
-    asked: &[Case],
-) -> Result<Count> {
+fn print_asked(rt: &(impl AllocGlobal + Print), words: &[&str], asked: &[Case]) -> Result<Count> {
     let cases = if words.is_empty() { CASES } else { asked };
-    let start = start_files(disks, rt.alloc())?;
-    let count = print_each(rt, disks, &start, cases);
+    let start = start_files(rt.alloc())?;
+    let count = print_each(rt, &start, cases);
     drop(start);
     count
 }
 
 /// Tries the stops of the kinds that the words name, or of all where there is no word, and prints what they left:
 /// whether nothing is wrong.
-pub(crate) fn try_stops<
-    S: Alter + Drop,
-    D: Disks<Store = Connection<S>, Bare = S>,
-    R: AllocGlobal + Print,
->(rt: &R, disks: &D, words: &[&str]) -> Result<bool> {
+pub(crate) fn try_stops(rt: &(impl AllocGlobal + Print), words: &[&str]) -> Result<bool> {
     let asked = asked_cases(rt.alloc(), words)?;
-    let first = print_first_stops(rt, disks)?;
-    let renewals = print_renewals(rt, disks, words)?;
-    let asked = print_asked(rt, disks, words, asked.as_slice())?;
+    let first = print_first_stops(rt)?;
+    let renewals = print_renewals(rt, words)?;
+    let asked = print_asked(rt, words, asked.as_slice())?;
     let all = first.plus(renewals).plus(asked);
     let (stops, wrong) = (all.stops, all.wrong);
     println!(rt; "{stops} stops, {wrong} wrong")?;

@@ -1,6 +1,6 @@
 //! The keepers: in memory, in tables in memory, and in tables on two disks behind a cache, as the program serves.
 
-use crate::disks::{Disks, created, files_of, new_store, opened, store_of};
+use crate::disks::{Store, created, files_of, new_store, opened, store_of};
 use crate::pairs::questions::questions;
 use crate::pairs::steps::{Step, replies_to, run};
 use anyhow::{Result, bail};
@@ -79,19 +79,14 @@ fn left_behind_cache<S: Alter + Drop>(alloc: Global, store: Connection<S>) -> Re
 }
 
 /// The store after its disks were closed, and opened again.
-fn reopened<D: Disks>(disks: &D, alloc: Global, store: D::Store) -> Result<D::Store> {
-    store_of(disks, alloc, files_of(disks, store)?, SEEDS[1])
+fn reopened(alloc: Global, store: Connection<Store>) -> Result<Connection<Store>> {
+    store_of(alloc, files_of(store)?, SEEDS[1])
 }
 
 /// What tables on two disks behind a cache tell; of the Office that they left, after the disks were closed and opened
 /// again.
-pub(crate) fn told_by_disks<S: Alter + Drop, D: Disks<Store = Connection<S>>>(
-    disks: &D,
-    alloc: Global,
-    steps: &[Step],
-) -> Result<Told> {
-    let store = new_store(disks, alloc, SEEDS[0])?;
-    let (steps, store) = run_behind_cache(alloc, store, steps)?;
-    let left = left_behind_cache(alloc, reopened(disks, alloc, store)?)?;
+pub(crate) fn told_by_disks(alloc: Global, steps: &[Step]) -> Result<Told> {
+    let (steps, store) = run_behind_cache(alloc, new_store(alloc, SEEDS[0])?, steps)?;
+    let left = left_behind_cache(alloc, reopened(alloc, store)?)?;
     Ok(Told { steps, left })
 }

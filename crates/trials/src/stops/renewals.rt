@@ -1,7 +1,10 @@
 //! The stops of a migration of a store of version 1 or in the former order, and of the open of a store without `reach` or
 //! without its own indexes: what is left tells the wanted Office, at once or once it is migrated.
 
-use crate::disks::{Disks, Side, files_of, kept_files, new_store, store_of};
+use crate::disks::{
+    Disk, Side, Store, close, connect, crash, files_of, fused_files, is_spent, kept_files,
+    new_store, store_of,
+};
 use crate::offices::office_text;
 use crate::stops::counts::{Count, Left};
 use crate::stops::trials::{MOST_CALLS, SEEDS, start_files};
@@ -11,6 +14,7 @@ use book_tables_migrating::migrate;
 use book_tables_opening::open;
 use book_tables_schema::{Unopened, is_book_schema};
 use sqlite::{Alter, Connection};
+use sqlite_disk::Files;
 use std::alloc::Global;
 
 /// The tables of version 1, and rows of an Office: a person, a group, a book with a card and a removed name, and
@@ -72,8 +76,8 @@ pub(crate) enum Renewal {
 
 /// What a renewal left, where a file may have failed.
 #[derive(Drop)]
-struct Trial<F> {
-    files: F,
+struct Trial {
+    files: Files<Disk>,
     /// Whether it was answered `Ok`.
     is_done: bool,
 }
@@ -91,34 +95,17 @@ fn changed<S: Alter + Drop>(mut store: Connection<S>, sql: &str) -> Result<Conne
 }
 
 /// The files of a store that was changed so.
-fn changed_files<S: Alter + Drop, D: Disks<Store = Connection<S>>>(
-    disks: &D,
-    alloc: Global,
-    sql: &str,
-) -> Result<D::Files> {
-    let store = store_of(disks, alloc, start_files(disks, alloc)?, SEEDS[3])?;
-    files_of(disks, changed(store, sql)?)
-}
-
-/// The files of a store of version 1.
-fn filled_files<S: Alter + Drop, D: Disks<Store = Connection<S>>>(
-    disks: &D,
-    alloc: Global,
-) -> Result<D::Files> {
-    files_of(disks, filled(new_store(disks, alloc, SEEDS[0])?)?)
+fn changed_files(alloc: Global, sql: &str) -> Result<Files<Disk>> {
+    files_of(changed(store_of(alloc, start_files(alloc)?, SEEDS[3])?, sql)?)
 }
 
 /// The files of a store that was made by an earlier program.
-fn first_files<S: Alter + Drop, D: Disks<Store = Connection<S>>>(
-    disks: &D,
-    alloc: Global,
-    renewal: Renewal,
-) -> Result<D::Files> {
+fn first_files(alloc: Global, renewal: Renewal) -> Result<Files<Disk>> {
     match renewal {
-        Renewal::Migration => filled_files(disks, alloc),
-        Renewal::Reordering => changed_files(disks, alloc, FORMER_ORDER),
-        Renewal::Opening => changed_files(disks, alloc, "DROP TABLE reach"),
-        Renewal::Indexing => changed_files(disks, alloc, NO_INDEXES),
+        Renewal::Migration => files_of(filled(new_store(alloc, SEEDS[0])?)?),
+        Renewal::Reordering => changed_files(alloc, FORMER_ORDER),
+        Renewal::Opening => changed_files(alloc, "DROP TABLE reach"),
+        Renewal::Indexing => changed_files(alloc, NO_INDEXES),
     }
 }
 
@@ -139,41 +126,29 @@ fn opened_over<S: Alter + Drop>(alloc: Global, store: Connection<S>) -> (Unopene
 }
 
 /// The files of a store that is left, closed.
-fn left_files<S: Alter + Drop, D: Disks<Store = Connection<S>, Bare = S>>(
-    disks: &D,
-    left: Unopened<S>,
-) -> D::Files {
+fn left_files(left: Unopened<Store>) -> Files<Disk> {
     match left {
-        Unopened::Connection(store) => disks.close(store).0,
-        Unopened::Store(store) => disks.close_bare(store),
+        Unopened::Connection(store) => close(store).0,
+        Unopened::Store(store) => store.close(),
     }
 }
 
-/// Renews a store that was opened: what is left of it, and whether it was renewed.
-fn renewed_over<S: Alter + Drop>(
-    alloc: Global,
-    store: Connection<S>,
-    renewal: Renewal,
-) -> (Unopened<S>, bool) {
-    match renewal {
+/// Renews a store that was opened, and closes it.
+fn renewed(alloc: Global, store: Connection<Store>, renewal: Renewal) -> Trial {
+    let (left, is_done) = match renewal {
         Renewal::Migration | Renewal::Reordering => migrated_over(alloc, store),
         Renewal::Opening | Renewal::Indexing => opened_over(alloc, store),
+    };
+    Trial {
+        files: left_files(left),
+        is_done,
     }
 }
 
 /// Opens the files, renews them, and closes them.
-fn tried<S: Alter + Drop, D: Disks<Store = Connection<S>, Bare = S>>(
-    disks: &D,
-    alloc: Global,
-    files: D::Files,
-    renewal: Renewal,
-) -> Trial<D::Files> {
-    match disks.connect(alloc, files, SEEDS[1]) {
-        Ok(store) => {
-            let (left, is_done) = renewed_over(alloc, store, renewal);
-            let files = left_files(disks, left);
-            Trial { files, is_done }
-        }
+fn tried(alloc: Global, files: Files<Disk>, renewal: Renewal) -> Trial {
+    match connect(alloc, files, SEEDS[1]) {
+        Ok(store) => renewed(alloc, store, renewal),
         Err(files) => Trial {
             files,
             is_done: false,
@@ -248,28 +223,14 @@ fn told_opened<S: Alter + Drop>(alloc: Global, store: Connection<S>) -> Option<(
     }
 }
 
-/// What a store that was opened is.
-fn told_over<S: Alter + Drop>(
-    alloc: Global,
-    store: Connection<S>,
-    renewal: Renewal,
-) -> Option<(Left, String)> {
+/// What the files are.
+fn told(alloc: Global, files: Files<Disk>, renewal: Renewal) -> Option<(Left, String)> {
+    let store = store_of(alloc, files, SEEDS[2]).ok()?;
     match renewal {
         Renewal::Migration => told_migrated(alloc, store, OpenFault::OtherVersion),
         Renewal::Reordering => told_migrated(alloc, store, OpenFault::NoStore),
         Renewal::Opening | Renewal::Indexing => told_opened(alloc, store),
     }
-}
-
-/// What the files are.
-fn told<S: Alter + Drop, D: Disks<Store = Connection<S>>>(
-    disks: &D,
-    alloc: Global,
-    files: D::Files,
-    renewal: Renewal,
-) -> Option<(Left, String)> {
-    let store = store_of(disks, alloc, files, SEEDS[2]).ok()?;
-    told_over(alloc, store, renewal)
 }
 
 /// What a stop left: the Office that is wanted, and renewed where that was answered `Ok`.
@@ -282,38 +243,31 @@ fn judged(wanted: &str, is_done: bool, told: Option<(Left, String)>) -> Left {
 }
 
 /// What a trial left: as the program stopped, and as the machine did.
-fn left_by<S: Alter + Drop, D: Disks<Store = Connection<S>>>(
-    disks: &D,
-    alloc: Global,
-    wanted: &str,
-    trial: Trial<D::Files>,
-    renewal: Renewal,
-) -> Result<Count> {
+fn left_by(alloc: Global, wanted: &str, trial: Trial, renewal: Renewal) -> Result<Count> {
     let Trial { mut files, is_done } = trial;
-    let kept = kept_files(disks, alloc, &files);
-    disks.crash(&mut files);
-    let lost = judged(wanted, is_done, told(disks, alloc, files, renewal));
+    let kept = kept_files(alloc, &files);
+    crash(&mut files);
+    let lost = judged(wanted, is_done, told(alloc, files, renewal));
     let mut count = Count::none();
-    count.add(judged(wanted, is_done, told(disks, alloc, kept?, renewal)));
+    count.add(judged(wanted, is_done, told(alloc, kept?, renewal)));
     count.add(lost);
     Ok(count)
 }
 
 /// The stops where one of the files fails, counting the calls that it passes upwards until it passes all.
-fn stops_at<S: Alter + Drop, D: Disks<Store = Connection<S>, Bare = S>>(
-    disks: &D,
+fn stops_at(
     alloc: Global,
-    start: &D::Files,
+    start: &Files<Disk>,
     wanted: &str,
     side: Side,
     renewal: Renewal,
 ) -> Result<Count> {
     let mut count = Count::none();
     for calls in 0..MOST_CALLS {
-        let files = disks.fused(alloc, start, side, calls)?;
-        let mut trial = tried(disks, alloc, files, renewal);
-        let (is_spent, is_done) = (disks.is_spent(&mut trial.files), trial.is_done);
-        let left = left_by(disks, alloc, wanted, trial, renewal)?;
+        let files = fused_files(alloc, start, side, calls)?;
+        let mut trial = tried(alloc, files, renewal);
+        let (is_spent, is_done) = (is_spent(&mut trial.files), trial.is_done);
+        let left = left_by(alloc, wanted, trial, renewal)?;
         if !is_spent {
             ensure!(
                 is_done && left.wrong == 0,
@@ -328,34 +282,18 @@ fn stops_at<S: Alter + Drop, D: Disks<Store = Connection<S>, Bare = S>>(
 }
 
 /// The stops of a renewal, of the log and then of the database file.
-fn stops_from<S: Alter + Drop, D: Disks<Store = Connection<S>, Bare = S>>(
-    disks: &D,
-    alloc: Global,
-    start: &D::Files,
-    renewal: Renewal,
-) -> Result<Count> {
-    let copy = kept_files(disks, alloc, start)?;
-    let (_, wanted) = told(disks, alloc, copy, renewal).context("a store is not renewed")?;
-    let log = stops_at(disks, alloc, start, wanted.as_str(), Side::Log, renewal)?;
-    let database = stops_at(
-        disks,
-        alloc,
-        start,
-        wanted.as_str(),
-        Side::Database,
-        renewal,
-    )?;
+fn stops_from(alloc: Global, start: &Files<Disk>, renewal: Renewal) -> Result<Count> {
+    let copy = kept_files(alloc, start)?;
+    let (_, wanted) = told(alloc, copy, renewal).context("a store is not renewed")?;
+    let log = stops_at(alloc, start, wanted.as_str(), Side::Log, renewal)?;
+    let database = stops_at(alloc, start, wanted.as_str(), Side::Database, renewal)?;
     Ok(log.plus(database))
 }
 
 /// The stops of a renewal.
-pub(crate) fn stops_of_renewal<S: Alter + Drop, D: Disks<Store = Connection<S>, Bare = S>>(
-    disks: &D,
-    alloc: Global,
-    renewal: Renewal,
-) -> Result<Count> {
-    let start = first_files(disks, alloc, renewal)?;
-    let count = stops_from(disks, alloc, &start, renewal);
+pub(crate) fn stops_of_renewal(alloc: Global, renewal: Renewal) -> Result<Count> {
+    let start = first_files(alloc, renewal)?;
+    let count = stops_from(alloc, &start, renewal);
     drop(start);
     count
 }

@@ -1,6 +1,9 @@
 //! The stops of an edit, each tried once.
 
-use crate::disks::{Disks, Side, created, files_of, kept_files, new_store, opened, store_of};
+use crate::disks::{
+    Disk, Side, Store, close, connect, crash, created, files_of, fused_files, is_spent, kept_files,
+    new_store, opened, store_of,
+};
 use crate::offices::office_text;
 use crate::stops::counts::{Count, Left};
 use crate::stops::plans::Plan;
@@ -9,6 +12,7 @@ use anyhow::{Result, bail, ensure};
 use book_office::{Edit, Keeper};
 use book_tables::Tables;
 use sqlite::{Alter, Connection};
+use sqlite_disk::Files;
 use std::alloc::Global;
 
 /// The seeds of the opens of a store, in turn: as it is made, as it is edited, after a stop and after a restart.
@@ -19,8 +23,8 @@ pub(crate) const MOST_CALLS: u64 = 1_000;
 
 /// What an edit left, where a file may have failed.
 #[derive(Drop)]
-struct Trial<F> {
-    files: F,
+struct Trial {
+    files: Files<Disk>,
     /// Whether the edit was answered `Ok`.
     is_done: bool,
 }
@@ -33,12 +37,8 @@ fn filled<S: Alter + Drop>(alloc: Global, store: Connection<S>) -> Result<Connec
 }
 
 /// The files of a store with the Office at the start.
-pub(crate) fn start_files<S: Alter + Drop, D: Disks<Store = Connection<S>>>(
-    disks: &D,
-    alloc: Global,
-) -> Result<D::Files> {
-    let store = new_store(disks, alloc, SEEDS[0])?;
-    files_of(disks, filled(alloc, store)?)
+pub(crate) fn start_files(alloc: Global) -> Result<Files<Disk>> {
+    files_of(filled(alloc, new_store(alloc, SEEDS[0])?)?)
 }
 
 /// Whether the keeper makes the edit.
@@ -58,32 +58,25 @@ fn made_over<S: Alter + Drop>(
 }
 
 /// Makes the edit over a store that was opened, and closes it.
-fn edited<S: Alter + Drop, D: Disks<Store = Connection<S>>>(
-    disks: &D,
-    alloc: Global,
-    store: Connection<S>,
-    edit: &Edit,
-) -> Trial<D::Files> {
-    let (store, is_done) = made_over(alloc, store, edit);
-    let (files, _) = disks.close(store);
+fn edited(alloc: Global, connection: Connection<Store>, edit: &Edit) -> Trial {
+    let (connection, is_done) = made_over(alloc, connection, edit);
+    let (files, _) = close(connection);
     Trial { files, is_done }
 }
 
 /// Opens the files, makes the edit, and closes them.
-fn tried<S: Alter + Drop, D: Disks<Store = Connection<S>>>(
-    disks: &D,
-    alloc: Global,
-    files: D::Files,
-    edit: &Edit,
-) -> Trial<D::Files> {
-    match disks.connect(alloc, files, SEEDS[1]) {
-        Ok(store) => edited(disks, alloc, store, edit),
+fn tried(alloc: Global, files: Files<Disk>, edit: &Edit) -> Trial {
+    match connect(alloc, files, SEEDS[1]) {
+        Ok(connection) => edited(alloc, connection, edit),
         Err(files) => Trial {
             files,
             is_done: false,
         },
     }
 }
+
+/// An Office as a text, and the files of its store.
+type Told = Option<(String, Files<Disk>)>;
 
 /// The Office of the store, and the store.
 fn told_over<S: Alter + Drop>(
@@ -96,26 +89,16 @@ fn told_over<S: Alter + Drop>(
 }
 
 /// The Office of the store that the files have, and its files; none where they have none, or it does not close.
-fn told<S: Alter + Drop, D: Disks<Store = Connection<S>>>(
-    disks: &D,
-    alloc: Global,
-    files: D::Files,
-    seed: u64,
-) -> Option<(String, D::Files)> {
-    let store = store_of(disks, alloc, files, seed).ok()?;
-    let (text, store) = told_over(alloc, store)?;
-    let files = files_of(disks, store).ok()?;
+fn told(alloc: Global, files: Files<Disk>, seed: u64) -> Told {
+    let (text, store) = told_over(alloc, store_of(alloc, files, seed).ok()?)?;
+    let files = files_of(store).ok()?;
     Some((text, files))
 }
 
 /// The Office that the files tell after a stop, and again after a restart; none where they tell none, or another again.
-fn told_twice<S: Alter + Drop, D: Disks<Store = Connection<S>>>(
-    disks: &D,
-    alloc: Global,
-    files: D::Files,
-) -> Option<String> {
-    let (text, files) = told(disks, alloc, files, SEEDS[2])?;
-    let (again, files) = told(disks, alloc, files, SEEDS[3])?;
+fn told_twice(alloc: Global, files: Files<Disk>) -> Option<String> {
+    let (text, files) = told(alloc, files, SEEDS[2])?;
+    let (again, files) = told(alloc, files, SEEDS[3])?;
     drop(files);
     if again == text { Some(text) } else { None }
 }
@@ -136,37 +119,30 @@ fn judged(texts: &Texts, is_done: bool, told: Option<String>) -> Left {
 }
 
 /// What a trial left: as the program stopped, and as the machine did.
-fn left_by<S: Alter + Drop, D: Disks<Store = Connection<S>>>(
-    disks: &D,
-    alloc: Global,
-    texts: &Texts,
-    trial: Trial<D::Files>,
-) -> Result<Count> {
+fn left_by(alloc: Global, texts: &Texts, trial: Trial) -> Result<Count> {
     let Trial { mut files, is_done } = trial;
-    let kept = kept_files(disks, alloc, &files);
-    disks.crash(&mut files);
-    let lost = judged(texts, is_done, told_twice(disks, alloc, files));
+    let kept = kept_files(alloc, &files);
+    crash(&mut files);
+    let lost = judged(texts, is_done, told_twice(alloc, files));
     let mut count = Count::none();
-    count.add(judged(texts, is_done, told_twice(disks, alloc, kept?)));
+    count.add(judged(texts, is_done, told_twice(alloc, kept?)));
     count.add(lost);
     Ok(count)
 }
 
 /// The stops of an edit where one of the files fails, counting the calls that it passes upwards until it passes all.
-fn stops_at<S: Alter + Drop, D: Disks<Store = Connection<S>>>(
-    disks: &D,
+fn stops_at(
     alloc: Global,
-    start: &D::Files,
+    start: &Files<Disk>,
     edit: &Edit,
     texts: &Texts,
     side: Side,
 ) -> Result<Count> {
     let mut count = Count::none();
     for calls in 0..MOST_CALLS {
-        let files = disks.fused(alloc, start, side, calls)?;
-        let mut trial = tried(disks, alloc, files, edit);
-        let (is_spent, is_done) = (disks.is_spent(&mut trial.files), trial.is_done);
-        let left = left_by(disks, alloc, texts, trial)?;
+        let mut trial = tried(alloc, fused_files(alloc, start, side, calls)?, edit);
+        let (is_spent, is_done) = (is_spent(&mut trial.files), trial.is_done);
+        let left = left_by(alloc, texts, trial)?;
         if !is_spent {
             ensure!(is_done && left.wrong == 0, "an edit with no stop is wrong");
             return Ok(count);
@@ -178,38 +154,22 @@ fn stops_at<S: Alter + Drop, D: Disks<Store = Connection<S>>>(
 }
 
 /// The stops of an edit, of the log and then of the database file.
-fn stops_of_edit<S: Alter + Drop, D: Disks<Store = Connection<S>>>(
-    disks: &D,
-    alloc: Global,
-    start: &D::Files,
-    edit: &Edit,
-    texts: &Texts,
-) -> Result<Count> {
-    let log = stops_at(disks, alloc, start, edit, texts, Side::Log)?;
-    let database = stops_at(disks, alloc, start, edit, texts, Side::Database)?;
+fn stops_of_edit(alloc: Global, start: &Files<Disk>, edit: &Edit, texts: &Texts) -> Result<Count> {
+    let log = stops_at(alloc, start, edit, texts, Side::Log)?;
+    let database = stops_at(alloc, start, edit, texts, Side::Database)?;
     Ok(log.plus(database))
 }
 
 /// The stops of an edit, with the Offices that are wanted.
-fn stops_judged<S: Alter + Drop, D: Disks<Store = Connection<S>>>(
-    disks: &D,
-    alloc: Global,
-    start: &D::Files,
-    edit: &Edit,
-) -> Result<Count> {
+fn stops_judged(alloc: Global, start: &Files<Disk>, edit: &Edit) -> Result<Count> {
     let texts = wanted_texts(alloc, edit)?;
-    stops_of_edit(disks, alloc, start, edit, &texts)
+    stops_of_edit(alloc, start, edit, &texts)
 }
 
 /// The stops of an edit of the Office at the start.
-pub(crate) fn stops_of<S: Alter + Drop, D: Disks<Store = Connection<S>>>(
-    disks: &D,
-    alloc: Global,
-    start: &D::Files,
-    plan: Plan,
-) -> Result<Count> {
+pub(crate) fn stops_of(alloc: Global, start: &Files<Disk>, plan: Plan) -> Result<Count> {
     let edit = plan.edit(alloc)?;
-    let count = stops_judged(disks, alloc, start, &edit);
+    let count = stops_judged(alloc, start, &edit);
     drop(edit);
     count
 }
