@@ -1,6 +1,6 @@
 //! What the line of an edit tells: the cards that it touched, each with its number, and the epoch after it.
 
-use crate::log_serving::{CARD, check, kept_by, output, request};
+use crate::log_serving::{CARD, check, kept_by, output_of, request};
 use book_machine::{Body, Patch};
 use book_office_values::{Items, Path, Text};
 use book_rights::Method;
@@ -112,7 +112,7 @@ fn body(rt: &impl Abort, alloc: Global, has: Has) -> Body {
 #[test]
 fn lines_tell_what_edits_did(rt: HostRuntime) {
     let alloc = rt.alloc();
-    let mut kept = kept_by(&rt, alloc, POLICY, output(alloc, 1_000, 1_000), 0, 0);
+    let mut kept = kept_by(&rt, alloc, POLICY, output_of(alloc, 1_000, 1_000), 0, 0);
     for (method, path, destination, has, status) in EDITS {
         let mut asked = request(&rt, alloc, method, path, body(&rt, alloc, has));
         if let Some(text) = destination {

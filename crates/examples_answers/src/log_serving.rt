@@ -88,7 +88,7 @@ impl Write for Output {
 pub(crate) type Kept = Logged<MemoryKeeper, Output, Stopped>;
 
 /// What a log is written to.
-pub(crate) fn output(alloc: Global, size: usize, writes: u64) -> Output {
+pub(crate) fn output_of(alloc: Global, size: usize, writes: u64) -> Output {
     Output {
         taken: Vec::new(alloc),
         size,
@@ -128,7 +128,7 @@ fn kept_with(rt: &impl Abort, alloc: Global, output: Output, told: u64, refused:
 
 /// A machine that has adopted the policy, with a log of its own.
 fn kept(rt: &impl Abort, alloc: Global, size: usize, writes: u64) -> Kept {
-    kept_with(rt, alloc, output(alloc, size, writes), 0, 0)
+    kept_with(rt, alloc, output_of(alloc, size, writes), 0, 0)
 }
 
 pub(crate) fn request(
@@ -252,7 +252,7 @@ const REFUSED_LOG: &str =
 #[test]
 fn refused_memory_fails_no_log(rt: HostRuntime) {
     let alloc = rt.alloc();
-    let mut kept = kept_with(&rt, alloc, output(alloc, 50, 1_000), 2, 2);
+    let mut kept = kept_with(&rt, alloc, output_of(alloc, 50, 1_000), 2, 2);
     kept.turn_to(7);
     check(&rt, put(&rt, alloc, &mut kept), 201);
     assert_eq!(rt; kept.note(true), Ok(()));
@@ -274,11 +274,11 @@ fn refused_memory_fails_no_log(rt: HostRuntime) {
 #[test]
 fn a_line_without_memory_fails_the_log(rt: HostRuntime) {
     let alloc = rt.alloc();
-    let mut kept = kept_with(&rt, alloc, output(alloc, 50, 1_000), 1, 1);
+    let mut kept = kept_with(&rt, alloc, output_of(alloc, 50, 1_000), 1, 1);
     assert_eq!(rt; kept.note_refusal(431, "head-too-large"), Err(LogFault));
     assert!(rt; kept.has_failed_log());
     drop(kept);
-    let mut kept = kept_with(&rt, alloc, output(alloc, 50, 1_000), 0, 2);
+    let mut kept = kept_with(&rt, alloc, output_of(alloc, 50, 1_000), 0, 2);
     let reply = get(&rt, alloc, &mut kept, None, "/books/sales/b.vcf");
     check(&rt, reply, 503);
     assert!(rt; kept.has_failed_log());
