@@ -213,7 +213,7 @@ fn connections_are_served_in_turn(rt: HostRuntime) {
 
 /// The lines of a new card on the first connection, and of the card on the second.
 const LINES: &str =
-    "{\"time\":\"2026-11-29T00:00:00.000Z\",\"connection\":0,\"caller\":\"bob\",\"method\":\"PUT\",\"path\":\"/books/sales/a.vcf\",\"status\":201}\n{\"time\":\"2026-11-29T00:00:00.000Z\",\"connection\":1,\"caller\":\"bob\",\"method\":\"GET\",\"path\":\"/books/sales/a.vcf\",\"status\":200}\n";
+    "{\"time\":\"2026-11-29T00:00:00.000Z\",\"connection\":0,\"caller\":\"bob\",\"method\":\"PUT\",\"path\":\"/books/sales/a.vcf\",\"status\":201,\"touched\":[{\"path\":\"/books/sales/a.vcf\",\"number\":1}],\"epoch\":1}\n{\"time\":\"2026-11-29T00:00:00.000Z\",\"connection\":1,\"caller\":\"bob\",\"method\":\"GET\",\"path\":\"/books/sales/a.vcf\",\"status\":200}\n";
 
 /// A log that takes two lines: the reply of the third connection is not sent, that is told once, and no other is served.
 #[test]
