@@ -10,7 +10,8 @@
 //! What is done with stores is written for any (`Stores` of `book_desk_files`); `main` alone hands over those of the
 //! runtime, and does what the words ask for (`perform`). Read `inputs` first, which reads and opens what the words name, and
 //! tells each stage where standard error is a terminal; then `works`, and `keeping`, which has the commands that make stores,
-//! over `book_desk_keeping`, `examining`, `serving`, and `logs`, which has the log's file and `denials`.
+//! over `book_desk_keeping`, `examining`, `serving`, and `logs`, which has the log's file and `denials`; and `refusals`, which
+//! tells why the tables of a store were refused.
 #![tactic(auto)]
 
 ghost use Rattle.std.specs.Prelude.{◌≡◌};
@@ -24,6 +25,7 @@ mod folders;
 mod inputs;
 mod keeping;
 mod logs;
+mod refusals;
 mod serving;
 mod works;
 
@@ -37,6 +39,7 @@ use changes::{LoadWords, changes_of};
 use examining::examine;
 use keeping::{backup, check_backup, compact, load, restore};
 use logs::denials;
+use refusals::tell_why;
 use serving::{Listening, Served, serve_named};
 use sqlite::{Alter, Connection};
 use std::env;
@@ -360,6 +363,7 @@ fn main(rt: HostRuntime) -> ExitCode {
     let status = match command {
         Ok(command) => {
             let status = perform(&rt, &rt, &command, &mut writer, &mut errors);
+            tell_why(&rt, &rt, &command, status);
             drop(command);
             status
         }

@@ -4,6 +4,7 @@ use crate::beginnings::BEGINNING;
 use crate::builds::BUILD;
 use crate::folders::{DiskFolder, make_folder, remove_folder};
 use crate::inputs::{read_named_policy, read_policy, refused, wanted_of};
+use crate::refusals::STORE_VERSION;
 use crate::refuse;
 use book_desk_app::{
     Failure, InputFault, Lines, TextCommand, Work, begin, run, run_migration, run_text, tell,
@@ -16,9 +17,6 @@ use book_desk_words::WordsFault;
 use book_tables_schema::Unopened;
 use sqlite::{Alter, Connection};
 use std::io::{BufReader, Write};
-
-/// The version of the stores that the program makes.
-const STORE_VERSION: u8 = 2;
 
 /// The commands that read one text, in blocks, and help.
 pub fn print<W: Write, E: Write>(

@@ -1,14 +1,6 @@
 //! Why the files of a store can't be had, told in words where the words of the program want it.
 
-use std::io::Eprint;
-use std::rt::Env;
-use std::{env, fmt};
-
-/// The option that wants it.
-const WANTED: &str = "--cause";
-
-/// The command that tells it without the option.
-const DOCTOR: &str = "doctor";
+use std::fmt;
 
 /// Why a store's files can't be had, or what else is to be known of them.
 #[derive(Clone, Copy)]
@@ -49,6 +41,8 @@ pub enum Cause {
     Failed,
     /// Others may read the file, which has this mode.
     Readable(u32),
+    /// The store is of this version, and the program makes those of the other.
+    OtherVersion(i64, u8),
 }
 
 impl Cause {
@@ -79,7 +73,17 @@ impl Cause {
             Cause::Full => "the disk is full",
             Cause::Failed => "a read or a write failed",
             Cause::Readable(_) => "others may read the file: its mode is",
+            Cause::OtherVersion(_, _) => "the store has version",
         }
+    }
+}
+
+/// What to do with a store of another version.
+fn advice_of(found: i64, made: u8) -> &'static str {
+    if found < i64::from(made) {
+        "run migrate"
+    } else {
+        "a newer program made it"
     }
 }
 
@@ -89,6 +93,10 @@ impl fmt::Display for Cause {
         match self {
             Cause::Memory(bytes) => write!(f, "{text} {bytes} bytes"),
             Cause::Readable(mode) => write!(f, "{text} {mode:04o}"),
+            Cause::OtherVersion(found, made) => {
+                let advice = advice_of(*found, *made);
+                write!(f, "{text} {found}, and this program has {made}: {advice}")
+            }
             _ => f.write_str(text),
         }
     }

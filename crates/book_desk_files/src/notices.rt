@@ -42,6 +42,12 @@ pub trait Notices {
 
     /// Tells a cause, on a line, where it is wanted.
     fn tell_cause(&self, cause: Cause);
+
+    /// Whether causes are wanted.
+    fn wants_causes(&self) -> bool;
+
+    /// Tells a row that breaks a rule, on a line, as a cause.
+    fn tell_row(&self, row: &[u8]);
 }
 
 /// Whether the words of the program want causes.
@@ -72,5 +78,16 @@ impl Notices for HostRuntime {
         if is_wanted(self) {
             let _ = writeln!(self.stderr(), "cause: {cause}");
         }
+    }
+
+    fn wants_causes(&self) -> bool {
+        is_wanted(self)
+    }
+
+    fn tell_row(&self, row: &[u8]) {
+        let mut errors = self.stderr();
+        let _ = errors.write_all(b"cause: ");
+        let _ = errors.write_all(row);
+        let _ = errors.write_all(b"\n");
     }
 }
