@@ -79,7 +79,7 @@ kept_by book e = if e.protected then KeptByProtected book e.path else KeptByOwne
 
 -- told where the first entry that closes or grants to owners grants to them
 abbrev pub told_kept : Path → Option EffectiveEntry → List Gap
-told_kept book None = []
+told_kept _ None = []
 told_kept book (Some e) = told_if (grants_owners e) (kept_by book e)
 
 abbrev pub kept_gap : Place → List Gap
