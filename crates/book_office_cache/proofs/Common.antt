@@ -6,5 +6,5 @@ pub use Rattle.book_office.specs.Levels.{level_at}
 pub use Rattle.book_office.specs.Resources.{node_at, count_at}
 pub use Rattle.book_office.specs.declared.nodes.Level.{Level}
 pub use Rattle.book_office.specs.declared.nodes.Node.{Node}
-pub use Rattle.book_office_cache.specs.Remembering.{AreBare, Remembers, bare_level}
+pub use Rattle.book_office_cache.specs.Remembering.{AreAllBare, AreBare, Remembers, bare_level}
 pub use Rattle.book_office_cache.specs.declared.remembered.Remembered.{Remembered}

@@ -1,11 +1,10 @@
 -- What is remembered stays true where more is.
-use Rattle.book_office_cache.proofs.Common.{◌≡◌, Some, ap, ◌∙◌, AreBare, Remembers, bare_level, Remembered, level_at, count_at, node_at, Level, Node, Office}
+use Rattle.book_office_cache.proofs.Common.{◌≡◌, Option, Some, ap, ◌∙◌, AreAllBare, AreBare, Remembers, bare_level, Remembered, level_at, count_at, node_at, Level, Node, Office}
 use Rattle.std.proofs.Common.{arith, ◌≤◌, ℕ, List, None, IfSome, is_some, true, sym, subst}
 use Rattle.std.proofs.lemmas.Bool.{false≢true}
 use Rattle.std.specs.FinMap.{empty, get, insert, remove, get-empty}
 use Rattle.book_lists.specs.Callers.{IsCircle}
 use Rattle.book_lists.specs.Circles.{CircleOf}
-use Rattle.book_lists.specs.Memberships.{Memberships}
 use Rattle.book_lists.specs.Names.{name_cmp}
 use Rattle.book_lists.specs.Principals.{person_path}
 use Rattle.book_lists.specs.declared.circles.Caller.TheVariants.{Known}
@@ -13,16 +12,16 @@ use Rattle.book_office_values.specs.declared.paths.Path.TheVariants as path
 use Rattle.book_office_values.specs.Names.{NamesTo}
 use Rattle.book_office_values.proofs.OneName.{by_put, by_removed}
 
-at_most : {a b : ℕ} → a ≡ b → a ≤ b
+pub at_most : {a b : ℕ} → a ≡ b → a ≤ b
 at_most is = omega (arith, is)
 
 pub none_in : {V : Type 0} (P : V → Type 0) (m : NamesTo V) → m ≡ empty → (n : List ℕ) → IfSome (get m n) P
 none_in P m is n = subst (λ r. IfSome r P) (sym (ap (λ m. get m n) is ∙ get-empty name_cmp n)) tt
 
-pub nothing_remembered : (circles : NamesTo CircleOf) (persons : NamesTo Node) (books : NamesTo Level) (nodes : NamesTo Node) (bare : NamesTo (NamesTo (Unit {0}))) (counts : NamesTo ℕ)
-    → circles ≡ empty → persons ≡ empty → books ≡ empty → nodes ≡ empty → bare ≡ empty → counts ≡ empty → (o : Office)
-    → Remembers (record { circles = circles; persons = persons; root = None; home = None; books = books; book_nodes = nodes; bare = bare; bare_count = 0; counts = counts }) o
-nothing_remembered circles persons books nodes bare counts no_circles no_persons no_books no_nodes none_bare no_counts o = record {
+pub nothing_remembered : (circles : NamesTo CircleOf) (persons : NamesTo Node) (books : NamesTo Level) (nodes : NamesTo Node) (bare : NamesTo (NamesTo (Unit {0}))) (all : NamesTo (Unit {0})) (counts : NamesTo ℕ)
+    → circles ≡ empty → persons ≡ empty → books ≡ empty → nodes ≡ empty → bare ≡ empty → all ≡ empty → counts ≡ empty → (o : Office)
+    → Remembers (record { circles = circles; persons = persons; root = None; home = None; books = books; book_nodes = nodes; bare = bare; bare_count = 0; bare_books = all; counts = counts }) o
+nothing_remembered circles persons books nodes bare all counts no_circles no_persons no_books no_nodes none_bare none_all no_counts o = record {
   circles = λ n. none_in (IsCircle o.pairs (Known (person_path n))) circles no_circles n;
   persons = λ n. none_in (λ node. node_at o (path.Person n) ≡ Some node) persons no_persons n;
   root = tt;
@@ -30,6 +29,7 @@ nothing_remembered circles persons books nodes bare counts no_circles no_persons
   books = λ n. none_in (λ level. level ≡ level_at o (path.Book n)) books no_books n;
   book_nodes = λ n. none_in (λ node. node_at o (path.Book n) ≡ Some node) nodes no_nodes n;
   bare = λ n. none_in (AreBare o n) bare none_bare n;
+  bare_books = λ n. none_in (λ _. AreAllBare o n) all none_all n;
   counts = λ n. none_in (λ count. count_at o (path.Book n) ≤ count) counts no_counts n;
 }
 
@@ -56,6 +56,7 @@ module _ (r : Remembered) (o : Office) (remembers : Remembers r o) where
     books = λ n. none_in (λ level. level ≡ level_at o (path.Book n)) books is n;
     book_nodes = remembers.book_nodes;
     bare = remembers.bare;
+    bare_books = remembers.bare_books;
     counts = remembers.counts;
   }
 
@@ -68,6 +69,7 @@ module _ (r : Remembered) (o : Office) (remembers : Remembers r o) where
     books = remembers.books;
     book_nodes = remembers.book_nodes;
     bare = remembers.bare;
+    bare_books = remembers.bare_books;
     counts = remembers.counts;
   }
 
@@ -81,23 +83,43 @@ module _ (r : Remembered) (o : Office) (remembers : Remembers r o) where
     books = remembers.books;
     book_nodes = remembers.book_nodes;
     bare = remembers.bare;
+    bare_books = remembers.bare_books;
     counts = remembers.counts;
   }
 
-  -- the circles alone, where the pairs stay
-  pub circles_remembered : (rest : Remembered) (circles : NamesTo CircleOf) → circles ≡ r.circles → (after : Office) → after.pairs ≡ o.pairs
-      → Remembers rest after → Remembers (record rest { circles = circles }) after
-  circles_remembered rest circles is after same others = record {
-    circles = λ n. subst (λ (m : NamesTo CircleOf). IfSome (get m n) (IsCircle after.pairs (Known (person_path n)))) (sym is)
-        (subst (λ (pairs : Memberships). IfSome (get r.circles n) (IsCircle pairs (Known (person_path n)))) (sym same) (remembers.circles n));
-    persons = others.persons;
-    root = others.root;
-    home = others.home;
-    books = others.books;
-    book_nodes = others.book_nodes;
-    bare = others.bare;
-    counts = others.counts;
+  -- no card of a book has entries
+  pub no_bare_books_remembered : (all : NamesTo (Unit {0})) → all ≡ empty → Remembers (record r { bare_books = all }) o
+  no_bare_books_remembered all is = record {
+    circles = remembers.circles;
+    persons = remembers.persons;
+    root = remembers.root;
+    home = remembers.home;
+    books = remembers.books;
+    book_nodes = remembers.book_nodes;
+    bare = remembers.bare;
+    bare_books = λ n. none_in (λ _. AreAllBare o n) all is n;
+    counts = remembers.counts;
   }
+
+  pub bare_book_remembered : (b : List ℕ) (unit : Unit {0}) → AreAllBare o b → Remembers (record r { bare_books = insert r.bare_books b unit }) o
+  bare_book_remembered b unit are = record {
+    circles = remembers.circles;
+    persons = remembers.persons;
+    root = remembers.root;
+    home = remembers.home;
+    books = remembers.books;
+    book_nodes = remembers.book_nodes;
+    bare = remembers.bare;
+    bare_books = λ n. by_put r.bare_books b unit n (λ found. IfSome found (λ _. AreAllBare o n)) (λ same. subst (AreAllBare o) (sym same) are) (λ _. remembers.bare_books n);
+    counts = remembers.counts;
+  }
+
+  pub all_bare : (b : List ℕ) → is_some (get r.bare_books b) ≡ true → AreAllBare o b
+  all_bare b there = told (get r.bare_books b) (remembers.bare_books b) there
+    where
+      told : (found : Option (Unit {0})) → IfSome found (λ _. AreAllBare o b) → is_some found ≡ true → AreAllBare o b
+      told None is there = absurd (false≢true there)
+      told (Some unit) is there = is
 
   pub no_bare_remembered : (bare : NamesTo (NamesTo (Unit {0}))) (count : ℕ) → bare ≡ empty → Remembers (record r { bare = bare; bare_count = count }) o
   no_bare_remembered bare count is = record {
@@ -108,18 +130,7 @@ module _ (r : Remembered) (o : Office) (remembers : Remembers r o) where
     books = remembers.books;
     book_nodes = remembers.book_nodes;
     bare = λ n. none_in (AreBare o n) bare is n;
-    counts = remembers.counts;
-  }
-
-  pub no_nodes_remembered : (nodes : NamesTo Node) → nodes ≡ empty → Remembers (record r { book_nodes = nodes }) o
-  no_nodes_remembered nodes is = record {
-    circles = remembers.circles;
-    persons = remembers.persons;
-    root = remembers.root;
-    home = remembers.home;
-    books = remembers.books;
-    book_nodes = λ n. none_in (λ node. node_at o (path.Book n) ≡ Some node) nodes is n;
-    bare = remembers.bare;
+    bare_books = remembers.bare_books;
     counts = remembers.counts;
   }
 
@@ -133,6 +144,7 @@ module _ (r : Remembered) (o : Office) (remembers : Remembers r o) where
     book_nodes = λ n. by_put r.book_nodes name node n (λ found. IfSome found (λ node. node_at o (path.Book n) ≡ Some node))
         (λ same. ap (λ n. node_at o (path.Book n)) same ∙ sym is) (λ _. remembers.book_nodes n);
     bare = remembers.bare;
+    bare_books = remembers.bare_books;
     counts = remembers.counts;
   }
 
@@ -145,6 +157,7 @@ module _ (r : Remembered) (o : Office) (remembers : Remembers r o) where
     books = remembers.books;
     book_nodes = remembers.book_nodes;
     bare = λ n. by_removed r.bare b n (λ found. IfSome found (AreBare o n)) (λ _. tt) (λ _. remembers.bare n);
+    bare_books = remembers.bare_books;
     counts = remembers.counts;
   }
 
@@ -157,6 +170,7 @@ module _ (r : Remembered) (o : Office) (remembers : Remembers r o) where
     books = remembers.books;
     book_nodes = remembers.book_nodes;
     bare = λ n. by_put r.bare b cards n (λ found. IfSome found (AreBare o n)) (λ same. subst (λ b. AreBare o b cards) (sym same) are) (λ _. remembers.bare n);
+    bare_books = remembers.bare_books;
     counts = remembers.counts;
   }
 
@@ -170,6 +184,7 @@ module _ (r : Remembered) (o : Office) (remembers : Remembers r o) where
     books = remembers.books;
     book_nodes = remembers.book_nodes;
     bare = remembers.bare;
+    bare_books = remembers.bare_books;
     counts = remembers.counts;
   }
 
@@ -183,6 +198,7 @@ module _ (r : Remembered) (o : Office) (remembers : Remembers r o) where
         (λ same. is ∙ sym (ap (λ n. level_at o (path.Book n)) same)) (λ _. remembers.books n);
     book_nodes = remembers.book_nodes;
     bare = remembers.bare;
+    bare_books = remembers.bare_books;
     counts = remembers.counts;
   }
 
@@ -195,6 +211,7 @@ module _ (r : Remembered) (o : Office) (remembers : Remembers r o) where
     books = remembers.books;
     book_nodes = remembers.book_nodes;
     bare = remembers.bare;
+    bare_books = remembers.bare_books;
     counts = λ n. by_put r.counts name count n (λ found. IfSome found (λ count. count_at o (path.Book n) ≤ count))
         (λ same. at_most (ap (λ n. count_at o (path.Book n)) same ∙ sym is)) (λ _. remembers.counts n);
   }

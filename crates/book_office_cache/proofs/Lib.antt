@@ -1,4 +1,7 @@
 pub mod Common
 pub mod CardEdits
 pub mod Kept
+pub mod ListedCards
+pub mod OneBook
+pub mod OtherEdits
 pub mod Readings

@@ -1,5 +1,5 @@
 -- What is remembered of an Office, and what stands behind it.
-use Rattle.std.specs.Prelude.{◌≡◌, ℕ, ◌+◌, ◌≤◌, Bool, true, List, [], Some, IfSome, is_some, option_and_then, Result}
+use Rattle.std.specs.Prelude.{◌≡◌, ℕ, ◌+◌, ◌≤◌, Bool, true, nat_eq, List, [], length, Some, IfSome, is_some, Result}
 use Rattle.std.specs.FinMap.{get}
 use Rattle.book_office_cache.specs.declared.cached.Cached.{Cached}
 use Rattle.book_office_cache.specs.declared.remembered.Remembered.{Remembered}
@@ -12,6 +12,7 @@ use Rattle.book_office.specs.Resources.{count_at, node_at}
 use Rattle.book_office.specs.declared.edits.Edit.{Edit}
 use Rattle.book_office.specs.declared.keepers.StoreFault.{StoreFault}
 use Rattle.book_office.specs.declared.nodes.Level.{Level}
+use Rattle.book_office.specs.declared.nodes.Listed.{Listed}
 use Rattle.book_office.specs.declared.nodes.Node.{Node}
 use Rattle.book_office_values.specs.Names.{NamesTo}
 use Rattle.book_office_values.specs.declared.offices.Office.{Office}
@@ -26,8 +27,13 @@ bare_level p = record { path = p; protected = []; own = [] }
 abbrev pub AreBare : Office → List ℕ → NamesTo (Unit {0}) → Type 0
 AreBare o b cards = (c : List ℕ) → is_some (get cards c) ≡ true → bare_level (path.Card b c) ≡ level_at o (path.Card b c)
 
-abbrev pub is_bare : NamesTo (NamesTo (Unit {0})) → List ℕ → List ℕ → Bool
-is_bare bare b c = is_some (option_and_then (λ (cards : NamesTo (Unit {0})). get cards c) (get bare b))
+-- no card of a book has entries
+abbrev pub AreAllBare : Office → List ℕ → Type 0
+AreAllBare o b = (c : List ℕ) → bare_level (path.Card b c) ≡ level_at o (path.Card b c)
+
+-- no own list stands at a child
+abbrev pub has_no_list : Listed → Bool
+has_no_list child = nat_eq (length child.own) 0
 
 -- a resource with the next number
 abbrev pub with_next_number : Node → Node
@@ -46,6 +52,7 @@ pub record Remembers (r : Remembered) (o : Office) : Type 0 where
   pub books : (name : List ℕ) → IfSome (get r.books name) (λ level. level ≡ level_at o (path.Book name))
   pub book_nodes : (name : List ℕ) → IfSome (get r.book_nodes name) (λ node. node_at o (path.Book name) ≡ Some node)
   pub bare : (name : List ℕ) → IfSome (get r.bare name) (AreBare o name)
+  pub bare_books : (name : List ℕ) → IfSome (get r.bare_books name) (λ _. AreAllBare o name)
   pub counts : (name : List ℕ) → IfSome (get r.counts name) (λ count. count_at o (path.Book name) ≤ count)
 
 -- what the keeper stands for, where what is remembered of it is true

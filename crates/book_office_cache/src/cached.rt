@@ -21,11 +21,13 @@ use book_office::{
 use std::alloc::{AllocError, Global};
 
 /// A keeper in front of another, which remembers what it was told: the circles of persons, persons and books, the lists
-/// of books and of what stands above them, which cards have no entries, and at most how many cards a book has.
+/// of books and of what stands above them, which cards have no entries, of which books no card has, and at most how
+/// many cards a book has.
 ///
-/// It stands for what the keeper stands for. With an edit of cards what is remembered stays true, but a card that is
-/// moved or copied makes it forget books, and a card that is moved which cards have no entries. An edit that may change
-/// direct members forgets all, and one that fails too; any other forgets all but the circles of persons.
+/// It stands for what the keeper stands for. That no card of a book has entries is known of a book that was added, and
+/// of one whose cards were told as children. After an edit it keeps what is still true. After one of a card's own list
+/// it forgets which cards of the book have no entries; after a MOVE of a card that may have some, which cards of the
+/// book where it comes; after one of members, all circles. After a policy, and an edit that fails, it forgets all.
 #[derive(Drop)]
 pub struct Cached<K> {
     pub(crate) keeper: K,
@@ -162,6 +164,22 @@ impl<K: Keeper> Cached<K> {
         let count = counted?;
         self.remembered.keep_count(name, count);
         Ok(count < most)
+    }
+
+    /// The cards of the book of a name, at a path.
+    fn cards(
+        &mut self,
+        alloc: Global,
+        name: &Name,
+        path: &Path,
+    ) -> Result<Items<Listed>, StoreFault>
+        requires { path.now ≡ paths.Book name.now }
+        ensures { ReadsBehind K.standing self.old self.new result
+            (λ o children. children ≡ children_at o path.now) }
+    {
+        let cards = self.keeper.children(alloc, path)?;
+        self.remembered.keep_cards(alloc, name, &cards);
+        Ok(cards)
     }
 
     /// The lists of the root.
@@ -302,7 +320,16 @@ impl<K: Keeper> Keeper for Cached<K> {
         ensures { ReadsBehind K.standing self.old self.new result
             (λ o children. children ≡ children_at o path.now) }
     {
-        self.keeper.children(alloc, path)
+        match path {
+            Path::Book(name) => self.cards(alloc, name, path),
+            Path::Root
+            | Path::People
+            | Path::Groups
+            | Path::Books
+            | Path::Person(_)
+            | Path::Group(_)
+            | Path::Card(_, _) => self.keeper.children(alloc, path),
+        }
     }
 
     fn count(&mut self, alloc: Global, path: &Path) -> Result<usize, StoreFault>

@@ -1,26 +1,29 @@
 //! What is remembered of an Office.
 
-ghost use Rattle.std.specs.Prelude.{◌≡◌, ◌⊎◌, ◌+◌, ◌<◌, ◌^◌, IfOk, IfSome, IsFalse, IsTrue, true, nat_lt};
+ghost use Rattle.std.specs.Prelude.{◌≡◌, ◌⊎◌, ◌+◌, ◌<◌, ◌^◌, ℕ, List, Option, IfOk, IfSome, IsFalse, IsTrue, is_some, true, nat_lt};
 ghost use Rattle.std.specs.FinMap.{empty, get, remove};
-ghost use Rattle.book_office_cache.specs.Remembering.{AreBare, Remembers, bare_level, is_bare, with_next_number, one_card_more};
+ghost use Rattle.std.specs.List.{list_all};
+ghost use Rattle.book_office_cache.specs.Remembering.{AreAllBare, AreBare, Remembers, bare_level, has_no_list, with_next_number, one_card_more};
 ghost use Rattle.book_lists.specs.Callers.{IsCircle};
 ghost use Rattle.book_lists.specs.Principals.{person_path};
 ghost use Rattle.book_lists.specs.declared.circles.Caller.TheVariants.{Known};
+ghost use Rattle.book_lists.specs.declared.entries.Entry.{Entry as EntryOf};
 ghost use Rattle.book_office.specs.Edits.{apply};
 ghost use Rattle.book_office.specs.Levels.{level_at};
-ghost use Rattle.book_office.specs.Resources.{count_at, node_at};
+ghost use Rattle.book_office.specs.Resources.{children_at, count_at, node_at};
+ghost use Rattle.book_office.specs.declared.edits.Edit.TheVariants.{AddBook, MoveCard, SetLabel, SetList};
 ghost use Rattle.book_office_values.specs.Names.{changed_at};
 ghost use Rattle.book_office_values.specs.declared.offices.Office.{Office as OfficeOf};
 ghost use Rattle.book_office_values.specs.declared.paths.Path.TheVariants as paths;
 
 use book_limits::{MAX_BOOKS, MAX_CARDS};
 use book_lists::{Circle, Name};
-use book_office::{Edit, Items, Level, NameMap, Node, Path};
+use book_office::{Edit, Items, Level, Listed, NameMap, Node, Path};
 use std::alloc::{AllocError, Global};
 use std::mem;
 
-/// What is remembered of an Office. It is no more than the Office has without its cards, 10,000 names of cards, and the
-/// circles of 1,000 persons.
+/// What is remembered of an Office. It is no more than the Office has without its cards, 10,000 names of cards, 1,000
+/// names of books, and the circles of 1,000 persons.
 #[derive(Drop)]
 pub(crate) struct Remembered {
     /// The circles of persons.
@@ -39,6 +42,8 @@ pub(crate) struct Remembered {
     pub(crate) bare: NameMap<NameMap<()>>,
     /// At least how many these are.
     pub(crate) bare_count: usize,
+    /// Names of books of which no card has entries.
+    pub(crate) bare_books: NameMap<()>,
     /// By the name of a book, at most how many cards it has.
     pub(crate) counts: NameMap<usize>,
 }
@@ -162,6 +167,20 @@ fn is_empty(level: &Level) -> bool
     level.protected.len() == 0 && level.own.len() == 0
 }
 
+/// Whether no own list stands at a child.
+fn has_no_list(child: &Listed) -> bool
+    ensures { result ≡ has_no_list child.now }
+{
+    child.own.len() == 0
+}
+
+/// Whether no own list stands at any child.
+fn have_no_lists(children: &[Listed]) -> bool
+    ensures { result ≡ list_all has_no_list children.now }
+{
+    children.iter().all(|child| has_no_list(child))
+}
+
 impl Remembered {
     /// Nothing is remembered. Takes no memory.
     pub(crate) fn new(alloc: Global) -> Remembered
@@ -176,6 +195,7 @@ impl Remembered {
             book_nodes: NameMap::new(alloc),
             bare: NameMap::new(alloc),
             bare_count: 0,
+            bare_books: NameMap::new(alloc),
             counts: NameMap::new(alloc),
         }
     }
@@ -354,10 +374,21 @@ impl Remembered {
         let _ = self.try_book(name, level);
     }
 
+    /// Whether it is remembered that no card of a book has entries. Takes no memory.
+    fn is_bare_book(&self, book: &Name) -> bool
+        ensures { result ≡ is_some (get self.now.bare_books book.now) }
+    {
+        self.bare_books.get(book).is_some()
+    }
+
     /// Whether it is remembered that no card of that name has entries. Takes no memory.
     pub(crate) fn is_bare(&self, book: &Name, card: &Name) -> bool
-        ensures { result ≡ is_bare self.now.bare book.now card.now }
+        ensures { (o : OfficeOf) → Remembers self.now o → IsTrue result
+            → bare_level (paths.Card book.now card.now) ≡ level_at o (paths.Card book.now card.now) }
     {
+        if self.is_bare_book(book) {
+            return true;
+        }
         match self.bare.get(book) {
             Some(cards) => cards.get(card).is_some(),
             None => false,
@@ -366,8 +397,7 @@ impl Remembered {
 
     /// Forgets which cards have no entries.
     fn forget_bare(&mut self, alloc: Global)
-        ensures bare { self.new.bare ≡ empty }
-        ensures remembers { (o : OfficeOf) → Remembers self.old o → Remembers self.new o }
+        ensures { (o : OfficeOf) → Remembers self.old o → Remembers self.new o }
     {
         self.bare = NameMap::new(alloc);
         self.bare_count = 0;
@@ -419,6 +449,44 @@ impl Remembered {
         }
     }
 
+    /// Forgets which books have no cards with entries where they are as many as there may be.
+    fn make_bare_book_room(&mut self, alloc: Global)
+        ensures { (o : OfficeOf) → Remembers self.old o → Remembers self.new o }
+    {
+        if self.bare_books.len() >= MAX_BOOKS {
+            self.bare_books = NameMap::new(alloc);
+        }
+    }
+
+    /// Remembers that no card of a book has entries. An error is want of memory.
+    fn try_bare_book(&mut self, book: &Name) -> Result<(), AllocError>
+        ensures { (o : OfficeOf) → Remembers self.old o → AreAllBare o book.now
+            → Remembers self.new o }
+    {
+        let name = book.clone()?;
+        self.bare_books.insert(name, ())?;
+        Ok(())
+    }
+
+    /// Remembers that no card of a book has entries, if memory is not refused.
+    fn keep_bare_book(&mut self, alloc: Global, book: &Name)
+        ensures { (o : OfficeOf) → Remembers self.old o → AreAllBare o book.now
+            → Remembers self.new o }
+    {
+        self.make_bare_book_room(alloc);
+        let _ = self.try_bare_book(book);
+    }
+
+    /// Remembers that no card of a book has entries, where these are all its cards and memory is not refused.
+    pub(crate) fn keep_cards(&mut self, alloc: Global, book: &Name, cards: &Items<Listed>)
+        ensures { (o : OfficeOf) → Remembers self.old o
+            → cards.now ≡ children_at o (paths.Book book.now) → Remembers self.new o }
+    {
+        if have_no_lists(cards.as_slice()) {
+            self.keep_bare_book(alloc, book);
+        }
+    }
+
     /// Whether it is remembered that a book has fewer cards than so many. Takes no memory.
     pub(crate) fn has_room(&self, book: &Name, most: usize) -> bool
         ensures { (o : OfficeOf) → Remembers self.now o → IsTrue result
@@ -448,26 +516,6 @@ impl Remembered {
         let _ = self.try_count(book, count);
     }
 
-    /// Forgets books, and which cards have no entries.
-    fn forget_cards(&mut self, alloc: Global)
-        ensures nodes { self.new.book_nodes ≡ empty }
-        ensures bare { self.new.bare ≡ empty }
-        ensures remembers { (o : OfficeOf) → Remembers self.old o → Remembers self.new o }
-    {
-        self.forget_bare(alloc);
-        self.book_nodes = NameMap::new(alloc);
-    }
-
-    /// Forgets all but the circles of persons. Takes no memory.
-    fn forget_places(&mut self, alloc: Global)
-        ensures { (o after : OfficeOf) → Remembers self.old o → after.pairs ≡ o.pairs
-            → Remembers self.new after }
-    {
-        let circles = mem::replace(&mut self.circles, NameMap::new(alloc));
-        self.forget(alloc);
-        drop(mem::replace(&mut self.circles, circles));
-    }
-
     /// Forgets all. Takes no memory.
     pub(crate) fn forget(&mut self, alloc: Global)
         ensures { (o : OfficeOf) → Remembers self.new o }
@@ -475,22 +523,105 @@ impl Remembered {
         drop(mem::replace(self, Remembered::new(alloc)));
     }
 
-    /// Forgets all but the circles of persons after an edit, and these too where it may change direct members. Takes no
-    /// memory.
-    fn forget_after(&mut self, alloc: Global, edit: &Edit)
-        ensures { (o : OfficeOf) → Remembers self.old o → Remembers self.new (apply o edit.now) }
+    /// Forgets which cards of a book have no entries. Takes no memory.
+    fn forget_bare_of(&mut self, book: &Name)
+        ensures { self.new ≡ record self.old {
+          bare = remove self.old.bare book.now;
+          bare_books = remove self.old.bare_books book.now;
+        } }
     {
-        if edit.changes_members() {
-            self.forget(alloc);
-        } else {
-            self.forget_places(alloc);
+        drop(self.bare.remove(book));
+        self.bare_books.remove(book);
+    }
+
+    /// Forgets the book of a name and its lists, and nothing of its cards. Takes no memory.
+    fn forget_book(&mut self, book: &Name)
+        ensures { self.new ≡ record self.old {
+          books = remove self.old.books book.now;
+          book_nodes = remove self.old.book_nodes book.now;
+        } }
+    {
+        drop(self.books.remove(book));
+        drop(self.book_nodes.remove(book));
+    }
+
+    /// Forgets all of the book of a name. Takes no memory.
+    fn forget_all_of(&mut self, book: &Name)
+        ensures { self.new ≡ record self.old {
+          books = remove self.old.books book.now;
+          book_nodes = remove self.old.book_nodes book.now;
+          bare = remove self.old.bare book.now;
+          bare_books = remove self.old.bare_books book.now;
+          counts = remove self.old.counts book.now;
+        } }
+    {
+        self.forget_book(book);
+        self.forget_bare_of(book);
+        self.counts.remove(book);
+    }
+
+    /// Remembers what is true after a card was moved: the numbers of two books have changed, and one may have a card
+    /// more, which has entries if it had.
+    fn follow_move(&mut self, from_book: &Name, from_card: &Name, to_book: &Name)
+        ensures { (o : OfficeOf) (to_card : List ℕ) → Remembers self.old o
+            → Remembers self.new (apply o (MoveCard from_book.now from_card.now to_book.now to_card)) }
+    {
+        let bare = self.is_bare(from_book, from_card);
+        drop(self.book_nodes.remove(from_book));
+        drop(self.book_nodes.remove(to_book));
+        count_card(&mut self.counts, to_book);
+        if !bare {
+            self.forget_bare_of(to_book);
         }
     }
 
-    /// Remembers what is true after an edit: after one of cards all that was remembered, with the next number of a book
-    /// that has changed and a card more where one may have been added, but books and which cards have no entries where
-    /// a card is moved; after one that may change direct members nothing, and after any other the circles of persons.
-    /// Takes no memory.
+    /// Remembers what is true after a book was added: no card of it has entries.
+    fn follow_new_book(&mut self, alloc: Global, book: &Name)
+        ensures { (o : OfficeOf) (owner : Option (List ℕ)) → Remembers self.old o
+            → Remembers self.new (apply o (AddBook book.now owner)) }
+    {
+        self.forget_all_of(book);
+        self.keep_bare_book(alloc, book);
+    }
+
+    /// Remembers what is true after a label was set: that of a card is a change of its book. Takes no memory.
+    fn follow_label(&mut self, alloc: Global, path: &Path)
+        ensures { (o : OfficeOf) (label : List ℕ) → Remembers self.old o
+            → Remembers self.new (apply o (SetLabel path.now label)) }
+    {
+        match path {
+            Path::Root => {}
+            Path::People => {}
+            Path::Groups => {}
+            Path::Books => {}
+            Path::Person(_) => self.persons = NameMap::new(alloc),
+            Path::Group(_) => {}
+            Path::Book(book) => self.forget_book(book),
+            Path::Card(book, _) => drop(self.book_nodes.remove(book)),
+        }
+    }
+
+    /// Remembers what is true after an own list was set: after that of a card, nothing of which cards of its book have
+    /// no entries. Takes no memory.
+    fn follow_list(&mut self, alloc: Global, path: &Path)
+        ensures { (o : OfficeOf) (list : List EntryOf) → Remembers self.old o
+            → Remembers self.new (apply o (SetList path.now list)) }
+    {
+        match path {
+            Path::Root => self.root = None,
+            Path::People => {}
+            Path::Groups => {}
+            Path::Books => self.home = None,
+            Path::Person(_) => self.persons = NameMap::new(alloc),
+            Path::Group(_) => {}
+            Path::Book(book) => self.forget_book(book),
+            Path::Card(book, _) => self.forget_bare_of(book),
+        }
+    }
+
+    /// Remembers what is true after an edit: after a policy nothing, after one of direct members all but circles, and
+    /// after each other all but what it may change. A new book may take memory; where it is refused, less is
+    /// remembered.
     pub(crate) fn follow(&mut self, alloc: Global, edit: &Edit)
         ensures { (o : OfficeOf) → Remembers self.old o → Remembers self.new (apply o edit.now) }
     {
@@ -504,16 +635,18 @@ impl Remembered {
                 drop(self.book_nodes.remove(to_book));
                 count_card(&mut self.counts, to_book);
             }
-            Edit::MoveCard { to_book, .. } => {
-                self.forget_cards(alloc);
-                count_card(&mut self.counts, to_book);
-            }
-            Edit::AddBook { .. }
-            | Edit::RemoveBook { .. }
-            | Edit::SetLabel { .. }
-            | Edit::SetList { .. }
-            | Edit::SetMembers { .. }
-            | Edit::Adopt { .. } => self.forget_after(alloc, edit),
+            Edit::MoveCard {
+                from_book,
+                from_card,
+                to_book,
+                ..
+            } => self.follow_move(from_book, from_card, to_book),
+            Edit::AddBook { book, .. } => self.follow_new_book(alloc, book),
+            Edit::RemoveBook { book } => self.forget_all_of(book),
+            Edit::SetLabel { path, .. } => self.follow_label(alloc, path),
+            Edit::SetList { path, .. } => self.follow_list(alloc, path),
+            Edit::SetMembers { .. } => self.circles = NameMap::new(alloc),
+            Edit::Adopt { .. } => self.forget(alloc),
         }
     }
 }

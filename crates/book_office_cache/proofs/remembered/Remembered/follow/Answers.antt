@@ -1,4 +1,6 @@
-use Rattle.book_office_cache.proofs.CardEdits.{put_remembers, remove_remembers, copy_remembers, move_remembers}
+use Rattle.book_office_cache.proofs.CardEdits.{put_remembers, remove_remembers, copy_remembers}
+use Rattle.book_office_cache.proofs.OtherEdits.{members_remember, remembers_removed}
+use Rattle.book_office.specs.Edits.{apply}
 use Rattle.book_office_cache.proofs.remembered.Remembered.follow.Goals as goal
 
 pub returns-in-PutCard : goal.returns-in-PutCard
@@ -15,9 +17,22 @@ returns-in-CopyCard c = λ o remembers.
     (copy_remembers c.args.self.now o remembers c.in-CopyCard.from_book c.in-CopyCard.from_card c.in-CopyCard.to_book c.in-CopyCard.to_card c.in-CopyCard.owner c.count_card-in-CopyCard.new.counts c.count_card-in-CopyCard.ensures)
 
 pub returns-in-MoveCard : goal.returns-in-MoveCard
-returns-in-MoveCard c = λ o remembers.
-    rw c.in-MoveCard.is (move_remembers c.forget_cards.new.self o (c.forget_cards.ensures.remembers o remembers)
-    c.in-MoveCard.from_book c.in-MoveCard.from_card c.in-MoveCard.to_book c.in-MoveCard.to_card c.count_card-in-MoveCard.new.counts c.forget_cards.ensures.nodes c.forget_cards.ensures.bare c.count_card-in-MoveCard.ensures)
+returns-in-MoveCard c = λ o remembers. rw c.in-MoveCard.is (c.follow_move.ensures o c.in-MoveCard.to_card remembers)
 
 pub returns-in-AddBook : goal.returns-in-AddBook
-returns-in-AddBook c = c.forget_after.ensures
+returns-in-AddBook c = λ o remembers. rw c.in-AddBook.is (c.follow_new_book.ensures o c.in-AddBook.owner remembers)
+
+pub returns-in-RemoveBook : goal.returns-in-RemoveBook
+returns-in-RemoveBook c = λ o remembers. rw (c.in-RemoveBook.is, c.forget_all_of.ensures) (remembers_removed c.args.self.now o remembers c.in-RemoveBook.book)
+
+pub returns-in-SetLabel : goal.returns-in-SetLabel
+returns-in-SetLabel c = λ o remembers. rw c.in-SetLabel.is (c.follow_label.ensures o c.in-SetLabel.label remembers)
+
+pub returns-in-SetList : goal.returns-in-SetList
+returns-in-SetList c = λ o remembers. rw c.in-SetList.is (c.follow_list.ensures o c.in-SetList.entries remembers)
+
+pub returns-in-SetMembers : goal.returns-in-SetMembers
+returns-in-SetMembers c = λ o remembers. rw c.in-SetMembers.is (members_remember c.args.self.now o remembers c.new.result c.new.ensures c.in-SetMembers.group c.in-SetMembers.members)
+
+pub returns-in-Adopt : goal.returns-in-Adopt
+returns-in-Adopt c = λ o remembers. c.forget.ensures (apply o c.args.edit.now)

@@ -1,5 +1,5 @@
 use Rattle.book_office_cache.proofs.Kept.{no_bare_remembered}
 use Rattle.book_office_cache.proofs.remembered.Remembered.forget_bare.Goals as goal
 
-pub returns-clause-remembers : goal.returns-clause-remembers
-returns-clause-remembers c = λ o remembers. no_bare_remembered c.args.self.now o remembers c.new.result 0 c.new.ensures
+pub returns : goal.returns
+returns c = λ o remembers. no_bare_remembered c.args.self.now o remembers c.new.result 0 c.new.ensures
