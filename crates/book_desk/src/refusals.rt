@@ -27,8 +27,13 @@ fn other_version<S: Alter>(connection: &mut Connection<S>) -> Option<i64> {
 
 /// Tells the first row of a store that breaks a rule, if one does.
 fn tell_row<S: Alter + Drop>(rt: &HostRuntime, store: Connection<S>) {
-    if let Ok((Some(fault), read)) = examine(rt.alloc(), store) {
-        drop(read);
+    let examined = match examine(rt.alloc(), store) {
+        Ok(examined) => examined,
+        Err(_) => return,
+    };
+    let (found, read) = examined;
+    drop(read);
+    if let Some(fault) = found {
         if let Ok(row) = fault_line(rt.alloc(), &fault) {
             rt.tell_row(row.as_slice());
         }
