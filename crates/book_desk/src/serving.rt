@@ -1,13 +1,14 @@
 //! The commands that serve: `pipe` with a log, and `serve`.
 
-use crate::files::{FileConnection, close, open_store_named, read_policy_file};
+use crate::inputs::{read_named_policy, wanted_of};
 use crate::logs::{open_log, refuse_log};
-use crate::progress::{Stage, tell_stage};
-use crate::{Named, connection_of};
+use crate::refusals::tell_refusal;
+use crate::works::{Named, connection_of, open_named};
 use book_desk_app::{
     Failure, Lines, Prepared, StreamFailure, adopt_or_fail, given_policy, pipe, prepare, serve,
     serve_many, tell,
 };
+use book_desk_files::{Notices, Stage, Stores};
 use book_desk_logs::{LogFile, Pace, SystemClock};
 use book_desk_loop::{Limits, Polled};
 use book_log_lines::Adoption;
@@ -17,11 +18,11 @@ use book_office::{Keeper, Policy};
 use book_tables_schema::Unopened;
 use book_wire::StreamFault;
 use book_wire_serving::Service;
-use sqlite::{File as DiskFile, FileStore};
+use sqlite::{Alter, Connection};
 use std::alloc::Global;
-use std::io::{self, Write};
-use std::net::{Ipv4Addr, Net, SocketAddr, TcpListener};
-use std::os::fd::AsFd;
+use std::io::{self, Read, Write};
+use std::net::{Ipv4Addr, Net, OpenListener, OpenStream, SocketAddr, TcpListener};
+use std::os::fd::{AsFd, AsRawFd};
 use std::rt::Clock;
 use std::time::Duration;
 
@@ -53,14 +54,14 @@ fn limits_of(listening: Listening) -> Limits {
 }
 
 /// Serves the connections of a listener by the loop.
-fn serve_at_once_on<M: Service, N: Net + Clock + AllocGlobal, W: Write, E: Lines>(
-    rt: &N,
-    service: M,
-    listener: &TcpListener,
-    limits: Limits,
-    writer: &mut W,
-    errors: &mut E,
-) -> (M, u8) {
+fn serve_at_once_on<
+    M: Service,
+    N: Net + Clock + AllocGlobal,
+    S: Read + Write + OpenStream + AsRawFd + Drop,
+    L: OpenListener<Stream = S> + AsRawFd,
+    W: Write,
+    E: Lines,
+>(rt: &N, service: M, listener: &L, limits: Limits, writer: &mut W, errors: &mut E) -> (M, u8) {
     let alloc = rt.alloc();
     if listener.set_nonblocking(true).is_err() {
         return (service, tell(errors, &Failure::Listen));
@@ -83,10 +84,17 @@ fn serve_at_once_on<M: Service, N: Net + Clock + AllocGlobal, W: Write, E: Lines
 }
 
 /// Serves the connections of a listener: by the loop where many are served at once, or where there is no end of them.
-fn serve_all<M: Service, N: Net + Clock + AllocGlobal, W: Write, E: Lines>(
+fn serve_all<
+    M: Service,
+    N: Net + Clock + AllocGlobal,
+    S: Read + Write + OpenStream + AsRawFd + Drop,
+    L: OpenListener<Stream = S> + AsRawFd,
+    W: Write,
+    E: Lines,
+>(
     rt: &N,
     mut service: M,
-    listener: &TcpListener,
+    listener: &L,
     listening: Listening,
     writer: &mut W,
     errors: &mut E,
@@ -211,10 +219,10 @@ fn adopt_logged<K: Keeper>(
 
 /// Adopts a policy over a machine, if there is one, and serves what is to be served, with a log, and gives the machine
 /// back.
-fn serve_logged<K: Keeper, W: Write, E: Lines>(
-    rt: &HostRuntime,
+fn serve_logged<'r, K: Keeper, W: Write, E: Lines>(
+    rt: &'r HostRuntime,
     machine: Machine<K>,
-    log: LogFile<'_, HostRuntime>,
+    log: LogFile<'r, HostRuntime>,
     policy: &Option<Policy>,
     served: Served,
     writer: &mut W,
@@ -231,101 +239,152 @@ fn serve_logged<K: Keeper, W: Write, E: Lines>(
     (machine, status)
 }
 
-/// Serves the Office of a machine that is ready, and gives its store back, if there is one. With a log a policy is
-/// adopted first.
-fn serve_prepared<W: Write, E: Lines>(
-    rt: &HostRuntime,
-    prepared: Prepared<FileStore<DiskFile>>,
-    log: Option<(LogFile<'_, HostRuntime>, Option<Policy>)>,
+/// A log, and the policy that is adopted by the machine that keeps it.
+#[derive(Drop)]
+struct Logging<'r> {
+    log: LogFile<'r, HostRuntime>,
+    policy: Option<Policy>,
+}
+
+/// Serves the Office of a machine that is ready, and gives the machine back. With a log a policy is adopted first.
+fn serve_machine<'r, K: Keeper, W: Write, E: Lines>(
+    rt: &'r HostRuntime,
+    machine: Machine<K>,
+    logging: Option<Logging<'r>>,
     served: Served,
     writer: &mut W,
     errors: &mut E,
-) -> (u8, Option<FileConnection>) {
-    match (prepared, log) {
-        (Prepared::Memory(machine), None) => {
-            let (machine, status) = serve_by(rt, machine, served, writer, errors);
-            (status, Prepared::Memory(machine).release())
+) -> (Machine<K>, u8) {
+    match logging {
+        Some(Logging { log, policy }) => {
+            serve_logged(rt, machine, log, &policy, served, writer, errors)
         }
-        (Prepared::Store(machine), None) => {
-            let (machine, status) = serve_by(rt, machine, served, writer, errors);
-            (status, Prepared::Store(machine).release())
+        None => serve_by(rt, machine, served, writer, errors),
+    }
+}
+
+/// The same of one over an Office in memory, or over a store, which comes back.
+fn serve_prepared<'r, S: Alter + Drop, W: Write, E: Lines>(
+    rt: &'r HostRuntime,
+    prepared: Prepared<S>,
+    logging: Option<Logging<'r>>,
+    served: Served,
+    writer: &mut W,
+    errors: &mut E,
+) -> (u8, Option<Connection<S>>) {
+    match prepared {
+        Prepared::Memory(machine) => {
+            let (machine, status) = serve_machine(rt, machine, logging, served, writer, errors);
+            drop(machine);
+            (status, None)
         }
-        (Prepared::Memory(machine), Some((log, policy))) => {
-            let (machine, status) = serve_logged(rt, machine, log, &policy, served, writer, errors);
-            (status, Prepared::Memory(machine).release())
-        }
-        (Prepared::Store(machine), Some((log, policy))) => {
-            let (machine, status) = serve_logged(rt, machine, log, &policy, served, writer, errors);
+        Prepared::Store(machine) => {
+            let (machine, status) = serve_machine(rt, machine, logging, served, writer, errors);
             (status, Prepared::Store(machine).release())
         }
     }
 }
 
 /// The connection that is left where nothing could be prepared. A store whose tables were not had is let go as it is.
-fn left_of(
+fn left_of<S: Alter + Drop>(
+    rt: &HostRuntime,
     failure: &Failure,
-    left: Option<Unopened<FileStore<DiskFile>>>,
-) -> Option<FileConnection> {
+    left: Option<Unopened<S>>,
+) -> Option<Connection<S>> {
     match (failure, left) {
-        (Failure::Store(_), left) => {
-            drop(left);
+        (Failure::Store(_), Some(left)) => {
+            if let Some(store) = connection_of(left) {
+                tell_refusal(rt, store, false);
+            }
             None
         }
+        (Failure::Store(_), None) => None,
         (_, Some(left)) => connection_of(left),
         (_, None) => None,
     }
 }
 
 /// Prepares an Office, serves it, and gives its store back, if there is one.
-fn serve_opened<W: Write, E: Lines>(
-    rt: &HostRuntime,
-    store: Option<FileConnection>,
+fn serve_opened<'r, S: Alter + Drop, W: Write, E: Lines>(
+    rt: &'r HostRuntime,
+    store: Option<Connection<S>>,
     policy: Option<Vec<u8>>,
-    log: Option<LogFile<'_, HostRuntime>>,
+    logging: Option<Logging<'r>>,
     served: Served,
     writer: &mut W,
     errors: &mut E,
-) -> (u8, Option<FileConnection>) {
-    let alloc = rt.alloc();
-    // With a log the policy is adopted by the machine that keeps it.
-    let (policy, log) = match log {
-        Some(log) => match given_policy(alloc, policy) {
-            Ok(given) => (None, Some((log, given))),
-            Err(failure) => return (tell(errors, &failure), store),
-        },
-        None => (policy, None),
-    };
-    match prepare(alloc, store, policy) {
-        Ok(prepared) => serve_prepared(rt, prepared, log, served, writer, errors),
-        Err((failure, left)) => (tell(errors, &failure), left_of(&failure, left)),
+) -> (u8, Option<Connection<S>>) {
+    match prepare(rt.alloc(), store, policy) {
+        Ok(prepared) => serve_prepared(rt, prepared, logging, served, writer, errors),
+        Err((failure, left)) => (tell(errors, &failure), left_of(rt, &failure, left)),
     }
+}
+
+/// The same with a log: the policy is adopted by the machine that keeps it.
+fn serve_with_log<'r, S: Alter + Drop, W: Write, E: Lines>(
+    rt: &'r HostRuntime,
+    store: Option<Connection<S>>,
+    policy: Option<Vec<u8>>,
+    log: LogFile<'r, HostRuntime>,
+    served: Served,
+    writer: &mut W,
+    errors: &mut E,
+) -> (u8, Option<Connection<S>>) {
+    match given_policy(rt.alloc(), policy) {
+        Ok(policy) => {
+            let logging = Some(Logging { log, policy });
+            serve_opened(rt, store, None, logging, served, writer, errors)
+        }
+        Err(failure) => {
+            drop(log);
+            (tell(errors, &failure), store)
+        }
+    }
+}
+
+/// Opens the store, if one is named, and serves.
+fn serve_store<'r, S: Alter + Drop, R: Stores<Store = Connection<S>>, W: Write, E: Lines>(
+    rt: &'r HostRuntime,
+    stores: &R,
+    named: Named<'_>,
+    policy: Option<Vec<u8>>,
+    log: Option<LogFile<'r, HostRuntime>>,
+    served: Served,
+    writer: &mut W,
+    errors: &mut E,
+) -> u8 {
+    let store = match open_named(stores, named.store, wanted_of(named.existing)) {
+        Ok(store) => store,
+        Err(failure) => return tell(errors, &failure),
+    };
+    if policy.is_some() {
+        rt.tell_stage(Stage::Adopting);
+    }
+    let (status, left) = match log {
+        Some(log) => serve_with_log(rt, store, policy, log, served, writer, errors),
+        None => serve_opened(rt, store, policy, None, served, writer, errors),
+    };
+    stores.let_go(left);
+    status
 }
 
 /// The commands `serve`, and `pipe` with a log: the policy's file is read, the log and the store's file are opened,
 /// and what is to be served is.
-pub fn serve_named<W: Write, E: Lines>(
+pub fn serve_named<S: Alter + Drop, R: Stores<Store = Connection<S>>, W: Write, E: Lines>(
     rt: &HostRuntime,
+    stores: &R,
     named: Named<'_>,
     log: Option<&str>,
     served: Served,
     writer: &mut W,
     errors: &mut E,
 ) -> u8 {
-    let policy = match read_policy_file(rt, named.policy) {
+    let policy = match read_named_policy(rt, named.policy) {
         Ok(policy) => policy,
         Err(failure) => return tell(errors, &failure),
     };
-    let Ok(log) = open_log(rt, log, pace_of(served)) else {
-        return refuse_log(errors);
-    };
-    let store = match open_store_named(rt, named.store, named.existing) {
-        Ok(store) => store,
-        Err(failure) => return tell(errors, &failure),
-    };
-    if policy.is_some() {
-        tell_stage(rt, Stage::Adopting);
+    match open_log(rt, log, pace_of(served)) {
+        Ok(log) => serve_store(rt, stores, named, policy, log, served, writer, errors),
+        Err(_) => refuse_log(errors),
     }
-    let (status, store) = serve_opened(rt, store, policy, log, served, writer, errors);
-    close(store);
-    status
 }
