@@ -8,7 +8,7 @@
 //! written where these tell their bytes. Nothing stands above it.
 //!
 //! What is done with stores is written for any (`Stores` of `book_desk_files`); `main` alone hands over those of the
-//! runtime, and does what the words ask for (`perform`). Read `inputs` first, which reads and opens what the words name, and
+//! runtime, and does what the words ask for (`run_command`). Read `inputs` first, which reads and opens what the words name, and
 //! tells each stage where standard error is a terminal; then `works`, and `keeping`, which has the commands that make stores,
 //! over `book_desk_keeping`, `examining`, `serving`, and `logs`, which has the log's file and `denials`; and `refusals`, which
 //! tells why the tables of a store were refused.
@@ -353,6 +353,19 @@ fn perform<
     }
 }
 
+/// The same, and why the tables of a store were refused is told where that is wanted.
+fn run_command<
+    S: Alter + Drop,
+    C: Alter + Drop,
+    R: Stores<Store = Connection<S>, Copy = Connection<C>>,
+    W: Write,
+    E: Lines,
+>(rt: &HostRuntime, stores: &R, command: &Command, writer: &mut W, errors: &mut E) -> u8 {
+    let status = perform(rt, stores, command, writer, errors);
+    tell_why(rt, stores, command, status);
+    status
+}
+
 fn main(rt: HostRuntime) -> ExitCode {
     let mut writer = rt.stdout();
     let mut errors = Noting::new(rt.stderr());
@@ -362,8 +375,7 @@ fn main(rt: HostRuntime) -> ExitCode {
     };
     let status = match command {
         Ok(command) => {
-            let status = perform(&rt, &rt, &command, &mut writer, &mut errors);
-            tell_why(&rt, &rt, &command, status);
+            let status = run_command(&rt, &rt, &command, &mut writer, &mut errors);
             drop(command);
             status
         }
