@@ -58,6 +58,8 @@ class Backend:
 
     host: str = "127.0.0.1"
     port: int = 8080
+    # The path of its Unix socket, in the place of both.
+    socket: str = ""
     # False: one connection a request. True: connections are kept, as many as `connections`.
     keep_connections: bool = False
     connections: int = 1
@@ -254,6 +256,8 @@ def check(settings: Settings) -> None:
         )
     if not is_loopback(settings.server.host):
         raise ConfigFault("[server] host: the server is reached on loopback alone")
+    if settings.server.socket and not settings.server.socket.startswith("/"):
+        raise ConfigFault("[server] socket is to be a whole path, as /run/book_desk/socket")
     if settings.server.connections < 1:
         raise ConfigFault("[server] connections is to be 1 or more")
     if settings.cards.unversioned not in ("3.0", "4.0"):

@@ -59,7 +59,7 @@ class Server:
     def _session(self, keep: bool) -> aiohttp.ClientSession:
         """Connections to the server, as many at a time as are set."""
         return aiohttp.ClientSession(
-            connector=aiohttp.TCPConnector(limit=self._settings.connections, force_close=not keep),
+            connector=self._connector(keep),
             cookie_jar=aiohttp.DummyCookieJar(),
             auto_decompress=False,
             skip_auto_headers=UNSENT,
@@ -67,6 +67,13 @@ class Server:
                 total=None, sock_connect=5, sock_read=self._settings.reply_seconds
             ),
         )
+
+    def _connector(self, keep: bool) -> aiohttp.BaseConnector:
+        """What connects to the server: at its socket, where one is set, and else at its port."""
+        limit, path = self._settings.connections, self._settings.socket
+        if path:
+            return aiohttp.UnixConnector(path=path, limit=limit, force_close=not keep)
+        return aiohttp.TCPConnector(limit=limit, force_close=not keep)
 
     async def close(self) -> None:
         """Lets all connections go."""

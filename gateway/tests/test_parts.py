@@ -305,12 +305,13 @@ class Config(unittest.TestCase):
     def test_settings(self) -> None:
         settings = self.load(
             '[listen]\nport = 1\n[people]\nservice = "l"\n[people.names]\n"a@b" = "a"\n[server]\n'
-            'keep_connections = true\nconnections = 8\n'
+            'keep_connections = true\nconnections = 8\nsocket = "/run/book_desk/socket"\n'
         )
         self.assertEqual(
             (settings.listen.port, settings.people.names, settings.server.keep_connections),
             (1, {"a@b": "a"}, True),
         )
+        self.assertEqual(settings.server.socket, "/run/book_desk/socket")
         self.assertEqual(settings.origins(), ("http://127.0.0.1:1", "http://localhost:1"))
 
     def test_faults(self) -> None:
@@ -321,7 +322,7 @@ class Config(unittest.TestCase):
             "[people]\nservice = \"../x\"", "[people]\nservice = \"l\"\n[people.names]\na = \"l\"",
             "[people.names]\na = 1", "[cards]\nunversioned = \"2.1\"",
             "[listen]\norigins = [\"https://a/\"]", "[listen]\nport = true",
-            "[server]\nconnections = 0", "not toml",
+            "[server]\nconnections = 0", "[server]\nsocket = \"run/socket\"", "not toml",
         ]
         for text in rows:
             with self.subTest(text), self.assertRaises(ConfigFault):

@@ -2,6 +2,7 @@
 from __future__ import annotations
 
 import asyncio
+import tempfile
 import unittest
 
 from office_gateway.config import Backend
@@ -25,6 +26,10 @@ class Listener:
         """Listens on a free port."""
         self.server = await asyncio.start_server(self.serve, "127.0.0.1", 0)
         return self.server.sockets[0].getsockname()[1]
+
+    async def start_at(self, path: str) -> None:
+        """Listens at a Unix socket."""
+        self.server = await asyncio.start_unix_server(self.serve, path)
 
     async def serve(self, reader: asyncio.StreamReader, writer: asyncio.StreamWriter) -> None:
         """One connection."""
@@ -85,6 +90,23 @@ class Asking(unittest.IsolatedAsyncioTestCase):
         await server.ask("ann", "PUT", "/books/a/b", b"x")
         await server.ask("ann", "DELETE", "/books/a/b")
         self.assertEqual(listener.connections, 3)
+
+    async def test_the_socket_is_asked_in_the_place_of_the_port(self) -> None:
+        with tempfile.TemporaryDirectory() as folder:
+            listener, path = Listener(), f"{folder}/socket"
+            settings = Backend(port=1, socket=path, keep_connections=True, start_seconds=60.0)
+            server = Server(settings)
+            await server.open()
+            self.addAsyncCleanup(server.close)
+            asked = asyncio.create_task(server.ask("ann", "PUT", "/books/a/b", b"x"))
+            await asyncio.sleep(0.1)
+            await listener.start_at(path)
+            assert listener.server is not None
+            self.addCleanup(listener.server.close)
+            self.assertEqual((await asked).status, 200)
+            for _ in range(2):
+                await server.ask("ann", "GET", "/books/a/b")
+            self.assertEqual((listener.connections, len(listener.heads)), (2, 3))
 
     async def test_a_read_is_asked_again_and_an_edit_is_not(self) -> None:
         server, listener = await self.asking()
