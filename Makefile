@@ -21,7 +21,7 @@
 #                memory under an address space of 512 MB
 #   make many    builds the program, and serves 10,000 connections, 100 at once, and each worked stream cut at each byte, four
 #                at once; ends it by TERM at 100 moments; loses the file of a store beside its log; makes syncs fail; asks it
-#                through nginx; prints what an honest client waits for beside clients that take places or turns
+#                through nginx and at a Unix socket; prints what an honest client waits for beside clients that take places or turns
 #   make loads   builds the program, and compares what load, compact, backup and restore make of random stores, also where they
 #                are killed, and what doctor tells
 #   make logs    builds the program, and compares each line of its log with what was asked and answered, also where it is
@@ -95,6 +95,7 @@ many: build
 	@tools/check-lost build/book_desk
 	@tools/check-unsynced build/book_desk
 	@tools/check-proxied build/book_desk
+	@tools/check-sockets build/book_desk
 	@tools/measure-crowds build/book_desk
 
 loads: build

@@ -17,10 +17,11 @@ def nginx():
 
 def settings(folder, inner, outer, names):
     """Writes the example's settings into a folder, with these names and the password `secret`; the words that nginx is given. The
-    server is at the inner port, and nginx at the outer one."""
+    server is at the inner port, or at a socket of that path, and nginx at the outer port."""
     text = (TOP / "examples/service/gateway.conf").read_text(encoding="utf-8")
     text = re.sub(r"^ *ssl_.*\n", "", text, flags=re.M).replace("listen 443 ssl", f"listen 127.0.0.1:{outer}")
-    text = text.replace("127.0.0.1:8080", f"127.0.0.1:{inner}").replace("/etc/book_desk/passwords", f"{folder}/passwords")
+    server = f"127.0.0.1:{inner}" if isinstance(inner, int) else f"unix:{inner}"
+    text = text.replace("unix:/run/book_desk/socket", server).replace("/etc/book_desk/passwords", f"{folder}/passwords")
     pathlib.Path(folder, "passwords").write_text("".join(f"{name}:{{PLAIN}}secret\n" for name in names))
     places = "".join(f"{kind}_temp_path {folder}/{kind};\n" for kind in ("client_body", "proxy", "fastcgi", "uwsgi", "scgi"))
     top = f"daemon off;\npid {folder}/pid;\nerror_log {folder}/log;\nevents {{}}\n"

@@ -5,12 +5,13 @@ use crate::logs::{open_log, refuse_log};
 use crate::refusals::tell_refusal;
 use crate::works::{Named, connection_of, open_named};
 use book_desk_app::{
-    Failure, Lines, Prepared, StreamFailure, adopt_or_fail, given_policy, pipe, prepare, serve,
-    serve_many, tell,
+    BROKEN, Failure, Lines, Prepared, StreamFailure, adopt_or_fail, given_policy, pipe, prepare,
+    serve, serve_many, tell,
 };
 use book_desk_files::{Notices, Stage, Stores};
 use book_desk_logs::{LogFile, Pace, SystemClock};
 use book_desk_loop::{Limits, Polled};
+use book_desk_sockets::{Doors, LocalDoor, NotMade, SocketPath, make_socket};
 use book_log_lines::Adoption;
 use book_log_service::Logged;
 use book_machine::{AdoptFault, Machine};
@@ -20,17 +21,30 @@ use book_wire::StreamFault;
 use book_wire_serving::Service;
 use sqlite::{Alter, Connection};
 use std::alloc::Global;
-use std::io::{self, Read, Write};
-use std::net::{Ipv4Addr, Net, OpenListener, OpenStream, SocketAddr, TcpListener};
-use std::os::fd::{AsFd, AsRawFd};
-use std::rt::Clock;
+use std::io::{self, Write};
+use std::net::{Ipv4Addr, OpenListener, SocketAddr, TcpListener};
+use std::os::fd::AsFd;
 use std::time::Duration;
+
+/// The line that tells that another server answers at the socket.
+const TAKEN: &str = "socket: taken\n";
+
+/// A Unix socket at which `serve` listens.
+#[derive(Clone, Copy)]
+pub struct Socket<'w> {
+    /// Its path.
+    pub path: &'w str,
+    /// Its permissions.
+    pub mode: u16,
+}
 
 /// Where `serve` listens, how many connections it serves, and how.
 #[derive(Clone, Copy)]
-pub struct Listening {
-    /// The port.
-    pub port: u16,
+pub struct Listening<'w> {
+    /// The port, if it is given.
+    pub port: Option<u16>,
+    /// The socket, if it is given.
+    pub socket: Option<Socket<'w>>,
     /// How many connections; none where there is no end.
     pub connections: Option<u16>,
     /// How many at once; none where they are served one after the other.
@@ -39,8 +53,11 @@ pub struct Listening {
     pub idle: Option<u16>,
 }
 
+/// The port and the socket at which it listens.
+type HostDoors<'w> = Doors<'w, TcpListener, LocalDoor>;
+
 /// How connections are served by the loop: so many at once, or one after the other, of which none gives its place away.
-fn limits_of(listening: Listening) -> Limits {
+fn limits_of(listening: Listening<'_>) -> Limits {
     let idle = match listening.idle {
         Some(seconds) => Some(Duration::from_secs(u64::from(seconds))),
         None => None,
@@ -53,25 +70,37 @@ fn limits_of(listening: Listening) -> Limits {
     }
 }
 
-/// Serves the connections of a listener by the loop.
-fn serve_at_once_on<
-    M: Service,
-    N: Net + Clock + AllocGlobal,
-    S: Read + Write + OpenStream + AsRawFd + Drop,
-    L: OpenListener<Stream = S> + AsRawFd,
-    W: Write,
-    E: Lines,
->(rt: &N, service: M, listener: &L, limits: Limits, writer: &mut W, errors: &mut E) -> (M, u8) {
-    let alloc = rt.alloc();
-    if listener.set_nonblocking(true).is_err() {
-        return (service, tell(errors, &Failure::Listen));
+/// What tells when a connection may wait, at doors which do not wait from now on.
+fn readiness_of<'r>(
+    rt: &'r HostRuntime,
+    doors: &HostDoors<'_>,
+) -> io::Result<Polled<'r, HostRuntime>> {
+    doors.set_nonblocking(true)?;
+    let mut readiness = Polled::new(rt, rt.alloc())?;
+    if let Some(port) = &doors.port {
+        readiness.listen_to(port)?;
     }
-    match Polled::new(rt, alloc, listener) {
+    if let Some(local) = &doors.local {
+        readiness.listen_to(&local.0)?;
+    }
+    Ok(readiness)
+}
+
+/// Serves the connections of the doors by the loop.
+fn serve_at_once_on<M: Service, W: Write, E: Lines>(
+    rt: &HostRuntime,
+    service: M,
+    doors: &HostDoors<'_>,
+    limits: Limits,
+    writer: &mut W,
+    errors: &mut E,
+) -> (M, u8) {
+    match readiness_of(rt, doors) {
         Ok(mut readiness) => {
             let (service, _, status) = serve_many(
-                alloc,
+                rt.alloc(),
                 service,
-                listener,
+                doors,
                 &mut readiness,
                 limits,
                 writer,
@@ -83,73 +112,115 @@ fn serve_at_once_on<
     }
 }
 
-/// Serves the connections of a listener: by the loop where many are served at once, or where there is no end of them.
-fn serve_all<
-    M: Service,
-    N: Net + Clock + AllocGlobal,
-    S: Read + Write + OpenStream + AsRawFd + Drop,
-    L: OpenListener<Stream = S> + AsRawFd,
-    W: Write,
-    E: Lines,
->(
-    rt: &N,
+/// How many connections are served one after the other, each of which is waited for; none where the loop serves them: where
+/// many are at once, there is no end of them, or they come over the port and over the socket.
+fn in_turn(listening: Listening<'_>) -> Option<u16> {
+    let has_both = listening.port.is_some() && listening.socket.is_some();
+    if listening.at_once.is_some() || has_both {
+        None
+    } else {
+        listening.connections
+    }
+}
+
+/// Serves the connections of the doors.
+fn serve_all<M: Service, W: Write, E: Lines>(
+    rt: &HostRuntime,
     mut service: M,
-    listener: &L,
-    listening: Listening,
+    doors: &HostDoors<'_>,
+    listening: Listening<'_>,
     writer: &mut W,
     errors: &mut E,
 ) -> (M, u8) {
-    match (listening.at_once, listening.connections) {
-        (None, Some(connections)) => {
+    match in_turn(listening) {
+        Some(connections) => {
             let status = serve(
                 rt,
                 rt.alloc(),
                 &mut service,
-                listener,
+                doors,
                 u64::from(connections),
                 writer,
                 errors,
             );
             (service, status)
         }
-        _ => serve_at_once_on(rt, service, listener, limits_of(listening), writer, errors),
+        None => serve_at_once_on(rt, service, doors, limits_of(listening), writer, errors),
     }
 }
 
-/// A listener of this host at the port, which waits, with the longest backlog that the system allows.
-fn listener_at<N: Net>(rt: &N, port: u16) -> io::Result<TcpListener> {
+/// A listener of this host at the port, which waits, with the longest backlog that the system allows; none without one.
+fn listener_at(rt: &HostRuntime, port: Option<u16>) -> io::Result<Option<TcpListener>> {
+    let Some(port) = port else {
+        return Ok(None);
+    };
     let address = SocketAddr::from((Ipv4Addr::LOCALHOST, port));
     let listener = mio::net::TcpListener::bind(rt, address)?;
     let listener = TcpListener::from(listener.as_fd().try_clone_to_owned()?);
     listener.set_nonblocking(false)?;
-    Ok(listener)
+    Ok(Some(listener))
 }
 
-/// Listens on the port, and serves the connections.
-fn serve_on<M: Service, N: Net + Clock + AllocGlobal, W: Write, E: Lines>(
-    rt: &N,
+/// Makes the socket, serves the connections, and removes the socket's file.
+fn serve_at_socket<M: Service, W: Write, E: Lines>(
+    rt: &HostRuntime,
     service: M,
-    listening: Listening,
+    port: Option<TcpListener>,
+    socket: Socket<'_>,
+    listening: Listening<'_>,
     writer: &mut W,
     errors: &mut E,
 ) -> (M, u8) {
-    match listener_at(rt, listening.port) {
-        Ok(listener) => serve_all(rt, service, &listener, listening, writer, errors),
-        Err(_) => (service, tell(errors, &Failure::Listen)),
+    let Ok(mut place) = SocketPath::new(rt, rt.alloc(), socket.path) else {
+        return (service, tell(errors, &Failure::Listen));
+    };
+    match make_socket(&mut place, socket.mode) {
+        Ok(local) => {
+            let made = place.identity();
+            let doors = Doors::new(port, Some(local), Some(socket.path));
+            let (service, status) = serve_all(rt, service, &doors, listening, writer, errors);
+            place.remove(made);
+            (service, status)
+        }
+        Err(NotMade::Taken) => {
+            errors.put(TAKEN.as_bytes());
+            (service, BROKEN)
+        }
+        Err(NotMade::Failed) => (service, tell(errors, &Failure::Listen)),
+    }
+}
+
+/// Listens on the port, at the socket, or at both, and serves the connections.
+fn serve_on<M: Service, W: Write, E: Lines>(
+    rt: &HostRuntime,
+    service: M,
+    listening: Listening<'_>,
+    writer: &mut W,
+    errors: &mut E,
+) -> (M, u8) {
+    let Ok(port) = listener_at(rt, listening.port) else {
+        return (service, tell(errors, &Failure::Listen));
+    };
+    match listening.socket {
+        Some(socket) => { serve_at_socket(rt, service, port, socket, listening, writer, errors) }
+        None => {
+            let doors = Doors::new(port, None, None);
+            serve_all(rt, service, &doors, listening, writer, errors)
+        }
     }
 }
 
 /// What is served.
 #[derive(Clone, Copy)]
-pub enum Served {
+pub enum Served<'w> {
     /// The requests on standard input.
     Requests,
     /// Connections.
-    Connections(Listening),
+    Connections(Listening<'w>),
 }
 
 /// When the name of the log is looked at: each second where connections are served at once, and else before each line.
-fn pace_of(served: Served) -> Pace {
+fn pace_of(served: Served<'_>) -> Pace {
     match served {
         Served::Connections(listening) if listening.at_once.is_some() => Pace::EachSecond,
         Served::Requests | Served::Connections(_) => Pace::EachLine,
@@ -160,7 +231,7 @@ fn pace_of(served: Served) -> Pace {
 fn serve_by<M: Service, W: Write, E: Lines>(
     rt: &HostRuntime,
     mut service: M,
-    served: Served,
+    served: Served<'_>,
     writer: &mut W,
     errors: &mut E,
 ) -> (M, u8) {
@@ -224,7 +295,7 @@ fn serve_logged<'r, K: Keeper, W: Write, E: Lines>(
     machine: Machine<K>,
     log: LogFile<'r, HostRuntime>,
     policy: &Option<Policy>,
-    served: Served,
+    served: Served<'_>,
     writer: &mut W,
     errors: &mut E,
 ) -> (Machine<K>, u8) {
@@ -251,7 +322,7 @@ fn serve_machine<'r, K: Keeper, W: Write, E: Lines>(
     rt: &'r HostRuntime,
     machine: Machine<K>,
     logging: Option<Logging<'r>>,
-    served: Served,
+    served: Served<'_>,
     writer: &mut W,
     errors: &mut E,
 ) -> (Machine<K>, u8) {
@@ -268,7 +339,7 @@ fn serve_prepared<'r, S: Alter + Drop, W: Write, E: Lines>(
     rt: &'r HostRuntime,
     prepared: Prepared<S>,
     logging: Option<Logging<'r>>,
-    served: Served,
+    served: Served<'_>,
     writer: &mut W,
     errors: &mut E,
 ) -> (u8, Option<Connection<S>>) {
@@ -310,7 +381,7 @@ fn serve_opened<'r, S: Alter + Drop, W: Write, E: Lines>(
     store: Option<Connection<S>>,
     policy: Option<Vec<u8>>,
     logging: Option<Logging<'r>>,
-    served: Served,
+    served: Served<'_>,
     writer: &mut W,
     errors: &mut E,
 ) -> (u8, Option<Connection<S>>) {
@@ -326,7 +397,7 @@ fn serve_with_log<'r, S: Alter + Drop, W: Write, E: Lines>(
     store: Option<Connection<S>>,
     policy: Option<Vec<u8>>,
     log: LogFile<'r, HostRuntime>,
-    served: Served,
+    served: Served<'_>,
     writer: &mut W,
     errors: &mut E,
 ) -> (u8, Option<Connection<S>>) {
@@ -349,7 +420,7 @@ fn serve_store<'r, S: Alter + Drop, R: Stores<Store = Connection<S>>, W: Write, 
     named: Named<'_>,
     policy: Option<Vec<u8>>,
     log: Option<LogFile<'r, HostRuntime>>,
-    served: Served,
+    served: Served<'_>,
     writer: &mut W,
     errors: &mut E,
 ) -> u8 {
@@ -375,7 +446,7 @@ pub fn serve_named<S: Alter + Drop, R: Stores<Store = Connection<S>>, W: Write, 
     stores: &R,
     named: Named<'_>,
     log: Option<&str>,
-    served: Served,
+    served: Served<'_>,
     writer: &mut W,
     errors: &mut E,
 ) -> u8 {

@@ -1,7 +1,6 @@
 -- What `serve` does and tells where it serves many connections at once (own profile).
 use Rattle.std.specs.Prelude.{◌≡◌, ◌⊎◌, ◌-◌, ℕ, zero, suc, Bool, List, [], ◌∷◌, ◌++◌, codes, Option, Result, Ok, Err}
-use Rattle.std.specs.Io.KnownBytes.{Appends}
-use Rattle.std.specs.declared.net.socket_addr.SocketAddr.{SocketAddr}
+use Rattle.book_desk_sockets.specs.Places.{SaysWhere}
 use Rattle.book_wire_serving.specs.Serving.{Serving}
 use Rattle.book_wire.specs.declared.stream.StreamFault.{StreamFault}
 use Rattle.book_desk_loop.specs.Serving.{ToldFault, AreServedAtOnce}
@@ -10,7 +9,7 @@ use Rattle.book_desk_loop.specs.declared.limits.Stop.{Stop}
 use Rattle.book_desk_loop.specs.declared.limits.Stop.TheVariants.{Failed as StopFailed, Log as StopLog, Store as StopStore}
 use Rattle.book_desk_app.specs.Failures.{failure_text}
 use Rattle.book_desk_app.specs.ServingFailures.{stream_text}
-use Rattle.book_desk_app.specs.Streams.{SaysNothing, listening_line, log_failure}
+use Rattle.book_desk_app.specs.Streams.{SaysNothing, log_failure}
 use Rattle.book_desk_app.specs.Telling.{Tells}
 use Rattle.book_desk_app.specs.declared.failures.Failure.{Failure}
 use Rattle.book_desk_app.specs.declared.failures.Failure.TheVariants.{Listen, Store}
@@ -48,7 +47,7 @@ served_status [] (Ok done) = 0
 served_status [] (Err stop) = 3
 served_status (told ∷ more) ended = 3
 
-module _ {S M : Type 0} (remaining contents : S → Option (List ℕ)) (serving : M → Serving) (limits : Limits) (first : M)
+module _ {S M : Type 0} (remaining contents : S → Option (List ℕ)) (serving : M → Serving) (has_port : Bool) (path : Option (List ℕ)) (limits : Limits) (first : M)
     (was_whole is_whole : Bool) (told tells : Option (List ℕ)) where
   -- Connections were served at once, from the first service to the last. What is told is the lines on the faults of clients, at most
   -- 1,000, and then what ended it.
@@ -62,5 +61,5 @@ module _ {S M : Type 0} (remaining contents : S → Option (List ℕ)) (serving 
   -- it could not be said where it listens, and no connection was served; or it said so, and connections were served at once
   abbrev pub ServesAtOnce : Option (List ℕ) → Option (List ℕ) → ℕ → M → Type 0
   ServesAtOnce held holds status last =
-      (SaysNothing remaining contents serving was_whole is_whole told tells status × (last ≡ first))
-      ⊎ (((address : SocketAddr) × Appends held holds (listening_line address)) × EndsAtOnce status last)
+      (SaysNothing remaining contents serving has_port path was_whole is_whole told tells status × (last ≡ first))
+      ⊎ (SaysWhere has_port path held holds × EndsAtOnce status last)

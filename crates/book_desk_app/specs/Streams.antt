@@ -1,8 +1,7 @@
 -- What `pipe` and `serve` do, and the status that ends them (own profile).
 use Rattle.std.specs.Prelude.{◌≡◌, ◌⊎◌, ℕ, List, ◌++◌, codes, Bool, true, false, cond, length, Option}
 use Rattle.std.specs.Io.KnownBytes.{Appends, Consumes}
-use Rattle.std.specs.declared.net.socket_addr.SocketAddr.{SocketAddr}
-use Rattle.std.specs.Net.Text.{socket_text}
+use Rattle.book_desk_sockets.specs.Places.{SaysWhere}
 use Rattle.book_office.specs.Keeping.{Standing}
 use Rattle.book_wire_serving.specs.Logs.{Log, no_log}
 use Rattle.book_wire_serving.specs.Serving.{Serving}
@@ -59,15 +58,11 @@ StopsToPipe Told old before after held holds new =
 
 -- ---- connections
 
--- what is written before the first connection
-abbrev pub listening_line : SocketAddr → List ℕ
-listening_line address = codes "listening on " ++ (socket_text address ++ codes "\n")
-
-module _ {S : Type 0} (remaining contents : S → Option (List ℕ)) {M : Type 0} (serving : M → Serving) where
+module _ {S : Type 0} (remaining contents : S → Option (List ℕ)) {M : Type 0} (serving : M → Serving) (has_port : Bool) (path : Option (List ℕ)) where
   -- it said where it listens, so many connections were served, none of which had a fault, and the log has not failed
   abbrev pub ServesSoundly : M → Option (List ℕ) → Option (List ℕ) → ℕ → M → Type 0
   ServesSoundly old held holds count new =
-      ((address : SocketAddr) × Appends held holds (listening_line address))
+      SaysWhere has_port path held holds
       × ((connections : List (ServedConnection S)) × AreConnections remaining contents serving old connections new
       × (length connections ≡ count) × (none_had_a_fault (outcomes_of connections) ≡ true))
       × ((serving new).log.failed ≡ false)
@@ -93,5 +88,5 @@ module _ {S : Type 0} (remaining contents : S → Option (List ℕ)) {M : Type 0
     abbrev pub Serves : M → Option (List ℕ) → Option (List ℕ) → ℕ → ℕ → M → Type 0
     Serves old held holds count status new =
         (SaysNothing status × (new ≡ old))
-        ⊎ (((address : SocketAddr) × Appends held holds (listening_line address))
+        ⊎ (SaysWhere has_port path held holds
         × ((connections : List (ServedConnection S)) × AreConnections remaining contents serving old connections new × EndsServing connections count status))

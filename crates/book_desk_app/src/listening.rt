@@ -2,10 +2,10 @@
 
 ghost use Rattle.std.specs.Prelude.{◌≡◌, ◌⊎◌, ◌++◌, codes, cond, false, true, IfErr, List, OnOk};
 ghost use Rattle.std.specs.Io.KnownBytes.{Appends, Keeps};
-ghost use Rattle.std.specs.declared.net.socket_addr.SocketAddr.{SocketAddr};
+ghost use Rattle.book_desk_sockets.specs.Places.{SaysWhere};
 ghost use Rattle.book_wire_serving.specs.Serving.{Answered, Runs};
 ghost use Rattle.book_desk_app.specs.Failures.{failure_status, failure_text};
-ghost use Rattle.book_desk_app.specs.Streams.{Serves, ServesSoundly, listening_line, log_failure};
+ghost use Rattle.book_desk_app.specs.Streams.{Serves, ServesSoundly, log_failure};
 ghost use Rattle.book_desk_app.specs.Telling.{Tells};
 ghost use Rattle.book_desk_app.specs.declared.failures.Failure.TheVariants.{Listen, Output};
 
@@ -15,6 +15,7 @@ use crate::lines::Lines;
 use crate::serving_failures::StreamFailure;
 use crate::telling::tell_line;
 use crate::text_failures::{BROKEN, DONE};
+use book_desk_sockets::{Listens, write_where};
 use book_wire::StreamFault;
 use book_wire_serving::Service;
 use std::alloc::Global;
@@ -27,19 +28,16 @@ use std::rt::Clock;
 /// # Errors
 ///
 /// What is told where that is not known, or can't be written.
-pub(crate) fn say_where<L: OpenListener, W: Write>(
-    listener: &L,
-    writer: &mut W,
-) -> Result<(), Failure>
-    ensures said { OnOk result ((address : SocketAddr)
-        × Appends (W.contents writer.old) (W.contents writer.new) (listening_line address)) }
+pub(crate) fn say_where<L: Listens, W: Write>(listener: &L, writer: &mut W) -> Result<(), Failure>
+    ensures said { OnOk result (SaysWhere (L.has_port listener.now) (L.socket_path listener.now)
+        (W.contents writer.old) (W.contents writer.new)) }
     ensures broken { IfErr result (λ failure. failure_status failure ≡ 3) }
     ensures why { IfErr result (λ failure. (failure ≡ Listen) ⊎ (failure ≡ Output)) }
 {
-    let Ok(address) = listener.local_addr() else {
+    let Ok(address) = listener.port_address() else {
         return Err(Failure::Listen);
     };
-    if writeln!(writer, "listening on {address}").is_err() || writer.flush().is_err() {
+    if write_where(writer, address, listener.socket_path()).is_err() {
         return Err(Failure::Output);
     }
     Ok(())
@@ -73,7 +71,7 @@ pub fn serve<
     C: Clock,
     M: Service,
     S: Read + Write + OpenStream + Drop,
-    L: OpenListener<Stream = S>,
+    L: OpenListener<Stream = S> + Listens,
     W: Write,
     E: Lines,
 >(
@@ -86,13 +84,15 @@ pub fn serve<
     errors: &mut E,
 ) -> u8
     ensures statuses { (result ≡ 0) ⊎ (result ≡ 3) }
-    ensures sound { result ≡ 0 → ServesSoundly S.remaining S.contents M.serving service.old
+    ensures sound { result ≡ 0 → ServesSoundly S.remaining S.contents M.serving
+        (L.has_port listener.now) (L.socket_path listener.now) service.old
         (W.contents writer.old) (W.contents writer.new) connections service.new }
     ensures runs { (answered : List Answered)
         × Runs (M.serving service.old) (M.serving service.new) answered }
     ensures silent { result ≡ 0 → Keeps (E.Write.contents errors.old)
         (E.Write.contents errors.new) }
-    ensures serves { Serves S.remaining S.contents M.serving (E.is_whole errors.old)
+    ensures serves { Serves S.remaining S.contents M.serving (L.has_port listener.now)
+        (L.socket_path listener.now) (E.is_whole errors.old)
         (E.is_whole errors.new) (E.Write.contents errors.old)
         (E.Write.contents errors.new) service.old (W.contents writer.old)
         (W.contents writer.new) connections result service.new }

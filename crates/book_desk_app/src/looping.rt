@@ -12,6 +12,7 @@ use crate::serving_failures::StreamFailure;
 use crate::telling::tell_line;
 use crate::text_failures::{BROKEN, DONE};
 use book_desk_loop::{Faults, Limits, Readiness, Stop, serve_at_once};
+use book_desk_sockets::Listens;
 use book_wire::StreamFault;
 use book_wire_serving::Service;
 use std::alloc::Global;
@@ -93,7 +94,7 @@ fn status_of<E: Lines>(errors: &mut E, served: Result<(), Stop>, sound: bool) ->
 pub fn serve_many<
     M: Service,
     S: Read + Write + OpenStream + Drop,
-    L: OpenListener<Stream = S>,
+    L: OpenListener<Stream = S> + Listens,
     P: Readiness<S>,
     W: Write,
     E: Lines,
@@ -106,7 +107,8 @@ pub fn serve_many<
     writer: &mut W,
     mut errors: E,
 ) -> (M, E, u8)
-    ensures served { ServesAtOnce S.remaining S.contents M.serving limits service
+    ensures served { ServesAtOnce S.remaining S.contents M.serving
+        (L.has_port listener.now) (L.socket_path listener.now) limits service
         (E.is_whole errors) (E.is_whole result.1) (E.Write.contents errors)
         (E.Write.contents result.1) (W.contents writer.old)
         (W.contents writer.new) result.2 result.0 }

@@ -34,7 +34,7 @@ pub trait Readiness<S> {
     fn now(&self) -> io::Result<Instant>;
 }
 
-/// The token of the listener. No place is as large.
+/// The token of each listener. No place is as large.
 const LISTENER: Token = Token(usize::MAX);
 
 /// The most events of one wait.
@@ -49,20 +49,28 @@ pub struct Polled<'r, R> {
 }
 
 impl<'r, R: Net + Clock> Polled<'r, R> {
-    /// Readiness of the connections of a listener.
+    /// Readiness that tells of no listener yet.
     ///
     /// # Errors
     ///
     /// Where the system has none to give, and for want of memory.
-    pub fn new<L: AsRawFd>(rt: &'r R, alloc: Global, listener: &L) -> io::Result<Polled<'r, R>> {
+    pub fn new(rt: &'r R, alloc: Global) -> io::Result<Polled<'r, R>> {
         let poll = Poll::new(rt)?;
-        poll.registry().register(
+        let events = Events::with_capacity(alloc, EVENTS)?;
+        Ok(Polled { rt, poll, events })
+    }
+
+    /// Tells from now on that a connection may wait at this one too.
+    ///
+    /// # Errors
+    ///
+    /// Where it can't.
+    pub fn listen_to<L: AsRawFd>(&mut self, listener: &L) -> io::Result<()> {
+        self.poll.registry().register(
             &mut SourceFd(&listener.as_raw_fd()),
             LISTENER,
             Interest::READABLE,
-        )?;
-        let events = Events::with_capacity(alloc, EVENTS)?;
-        Ok(Polled { rt, poll, events })
+        )
     }
 }
 

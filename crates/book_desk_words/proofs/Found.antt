@@ -1,5 +1,5 @@
 -- From what the getters of clap say to the rows of the matches.
-use Rattle.std.proofs.Common.{◌≡◌, ◌≢◌, ◌⊎◌, inl, inr, subst, ◌∙◌, ℕ, List, Option, Some, None, Result, Ok, option_map, refl, sym, ap, ap₂, bytes_eq}
+use Rattle.std.proofs.Common.{◌≡◌, ◌≢◌, ◌⊎◌, inl, inr, ◌∙◌, ℕ, List, Option, Some, None, Result, Ok, option_map, refl, sym, ap, ap₂, bytes_eq}
 use Rattle.std.specs.Prelude.{find}
 use Rattle.std.specs.Prelude.{IfSome}
 use Rattle.std.specs.Str.Parse.{ParsesUnsigned}

@@ -6,7 +6,7 @@ use Rattle.clap.specs.Matches.{ReadsOne}
 use Rattle.clap.specs.Words.{Kinds, Row, Text, first_of, one_text, rows_of}
 use Rattle.clap.specs.declared.parser.matches.Found.{Found}
 use Rattle.clap.proofs.WalkLemmas.{one_text-rows}
-use Rattle.book_desk_words.specs.CommandLine.{HasCounts, HasNumber, IsRefused, MatchesNone, MayHaveNumber, ReadsAs, ReadsNone}
+use Rattle.book_desk_words.specs.CommandLine.{HasCounts, HasNumber, IsRefused, ListensNowhere, MatchesNone, MayHaveNumber, ReadsAs, ReadsNone}
 use Rattle.book_desk_words.specs.declared.commands.Command.TheVariants.{Explain, Card, Init, Import, Check, Audit, Migrate, Why, Who, Rights, Ask, Differs, Dump, Show, Load, Compact, Backup, CheckBackup, Restore, Doctor, Denials, Pipe, Serve, Help, Version}
 use Rattle.book_desk_words.specs.declared.commands.WordsFault.{WordsFault}
 use Rattle.book_desk_words.specs.declared.commands.WordsFault.TheVariants.{Usage, Memory}
@@ -25,12 +25,17 @@ no_number E G f id None only value = λ n small has.
     let value_is = has.3 in
     value has.0 (Err g.0) g.1 (has.2, omega arith)
 
+-- there is none, so what holds then holds
+pub none_is : {T : Type 0} (o : Option T) (P : Type 0) → o ≡ None → IfNone o P → P
+none_is None P is p = p
+none_is (Some x) P is p = absurd (cc (is))
+
 -- what holds holds where there is none
 pub for_none : {T : Type 0} (o : Option T) (P : Type 0) → P → IfNone o P
 for_none None P p = p
 for_none (Some x) P p = tt
 
-not_given : (o : Option Text) → is_some o ≡ true → o ≡ None → ⊥
+pub not_given : (o : Option Text) → is_some o ≡ true → o ≡ None → ⊥
 not_given None is none = cc (is)
 not_given (Some t) is none = cc (none)
 
@@ -99,8 +104,9 @@ is_not_denials e = let first : slice_index (codes "serve") 0 ≡ slice_index (co
 
 module _ (rows : List Row) where
   -- no command `serve` is read of the matches
-  serve_lacks : ((port : ℕ) (connections at_once idle : Option ℕ) (store policy log : Option (String Global)) (existing : Bool)
-      → ReadsAs (codes "serve") rows (Serve port connections at_once idle store policy existing log) → ⊥) → ReadsNone (codes "serve") rows
+  serve_lacks : ((port : Option ℕ) (socket : Option (String Global)) (mode : ℕ) (connections at_once idle : Option ℕ)
+      (store policy log : Option (String Global)) (existing : Bool)
+      → ReadsAs (codes "serve") rows (Serve port socket mode connections at_once idle store policy existing log) → ⊥) → ReadsNone (codes "serve") rows
   serve_lacks none Explain e = cc (e)
   serve_lacks none Card e = cc (e)
   serve_lacks none (Init folder) r = is_not_init r.0
@@ -123,15 +129,15 @@ module _ (rows : List Row) where
   serve_lacks none (Doctor store) r = is_not_doctor r.0
   serve_lacks none (Denials log since json) r = is_not_denials r.0
   serve_lacks none (Pipe store policy log) r = is_not_pipe r.0
-  serve_lacks none (Serve port connections at_once idle store policy existing log) r = none port connections at_once idle store policy log existing r
+  serve_lacks none (Serve port socket mode connections at_once idle store policy existing log) r = none port socket mode connections at_once idle store policy log existing r
   serve_lacks none (Help text) r = r
   serve_lacks none (Version text) r = r
 
-  pub without_port : HasNoNumber rows (codes "port") → ReadsNone (codes "serve") rows
-  without_port none = serve_lacks (λ port connections at_once idle store policy log existing r. none port r.2 r.1)
+  pub without_places : ListensNowhere rows → ReadsNone (codes "serve") rows
+  without_places none = serve_lacks (λ port socket mode connections at_once idle store policy log existing r. none port socket mode r.1)
 
   pub without_counts : ((connections at_once idle : Option ℕ) → HasCounts rows connections at_once idle → ⊥) → ReadsNone (codes "serve") rows
-  without_counts none = serve_lacks (λ port connections at_once idle store policy log existing r. none connections at_once idle r.3)
+  without_counts none = serve_lacks (λ port socket mode connections at_once idle store policy log existing r. none connections at_once idle r.2)
 
 -- clap lets the words pass, no command is read of their matches, and that is told
 pub none_told : (found : Option (Text × List Row)) (kinds : Kinds) (fault : WordsFault)

@@ -1,5 +1,5 @@
 -- The command line (own profile): the words that it has, and the command that clap's matches of them give.
-use Rattle.std.specs.Prelude.{◌≡◌, ◌≢◌, ◌⊎◌, ◌||◌, ℕ, ◌≤◌, pos, Bool, true, false, List, [], codes, Result, IfOk, Option, Some, None, is_none, is_some, String, option_map, map, string_bytes, bytes_eq, Vec}
+use Rattle.std.specs.Prelude.{◌≡◌, ◌≢◌, ◌⊎◌, ◌&&◌, ◌||◌, not, ℕ, ◌≤◌, pos, Bool, true, false, List, [], codes, Result, IfOk, Option, Some, None, is_none, is_some, length, String, option_map, map, string_bytes, bytes_eq, Vec}
 use Rattle.std.specs.declared.alloc.AllocError.{AllocError}
 use Rattle.std.specs.declared.alloc.Global.{Global}
 use Rattle.std.specs.Str.Parse.{IsNumeral, digits_value, without_leading_plus}
@@ -23,10 +23,6 @@ use Rattle.book_desk_words.specs.WordsFaults.{IsUsage, serve_wants}
 -- an option --NAME with one value
 abbrev pub option_rule : Text → Rule
 option_rule name = record (new_rule name) { long = Some name; value_names = 1 }
-
--- one that is required, with a number from least to most
-abbrev pub number_rule : Text → ℕ → ℕ → Rule
-number_rule name least most = record (option_rule name) { required = true; parser = Some (parsers.Signed (pos least) (pos most)) }
 
 -- one with a number from least to most
 abbrev pub counted_rule : Text → ℕ → ℕ → Rule
@@ -185,9 +181,13 @@ with_ends app = with_rule (with_rule app (counted_rule (codes "connections") 1 1
 abbrev pub with_pace : App → App
 with_pace app = with_rule (with_rule app (counted_rule (codes "at-once") 1 1000)) (counted_rule (codes "idle") 1 3600)
 
+-- the options that say where is listened
+abbrev pub with_listening : App → App
+with_listening app =
+    with_rule (with_rule (with_rule app (counted_rule (codes "port") 0 65535)) (option_rule (codes "socket"))) (option_rule (codes "mode"))
+
 abbrev pub serve_app : App
-serve_app =
-    with_files (with_rule (with_pace (with_ends (with_rule (new_app (codes "serve")) (number_rule (codes "port") 0 65535)))) (flag_rule (codes "existing")))
+serve_app = with_files (with_rule (with_pace (with_ends (with_listening (new_app (codes "serve"))))) (flag_rule (codes "existing")))
 
 -- the program, whose words have no name of a program before them
 abbrev pub top_app : App
@@ -264,6 +264,35 @@ HasCounts rows connections at_once idle =
     × MayHaveNumber rows (codes "at-once") 1000 at_once
     × MayHaveNumber rows (codes "idle") 3600 idle × (is_some idle ≡ true → is_some at_once ≡ true)
 
+-- an option has the number of a port, or is not given
+abbrev pub MayHavePort : List Row → Option ℕ → Type 0
+MayHavePort rows (Some port) = HasNumber rows (codes "port") port × (port ≤ 65535)
+MayHavePort rows None = first_of (codes "port") rows ≡ None
+
+-- the text writes these permissions, in three or four octal digits
+abbrev pub WritesMode : Text → ℕ → Type 0
+WritesMode text mode = (3 ≤ length text) × (length text ≤ 4) × IsNumeral 8 text × (digits_value 8 text ≡ mode)
+
+-- these permissions are given, or they are 0600
+abbrev pub IsMode : Option Text → ℕ → Type 0
+IsMode (Some text) mode = WritesMode text mode
+IsMode None mode = mode ≡ 0o600
+
+abbrev pub HasMode : List Row → ℕ → Type 0
+HasMode rows mode = IsMode (first_of (codes "mode") rows) mode
+
+-- a socket is given, or a port without permissions
+abbrev pub has_places : List Row → Bool
+has_places rows =
+    is_some (first_of (codes "socket") rows) || (is_some (first_of (codes "port") rows) && not (is_some (first_of (codes "mode") rows)))
+
+abbrev pub ListensAt : List Row → Option ℕ → Option (String Global) → ℕ → Type 0
+ListensAt rows port socket mode =
+    MayHavePort rows port × NamesFile rows (codes "socket") socket × HasMode rows mode × (has_places rows ≡ true)
+
+abbrev pub ListensNowhere : List Row → Type 0
+ListensNowhere rows = (port : Option ℕ) (socket : Option (String Global)) (mode : ℕ) → ListensAt rows port socket mode → ⊥
+
 -- help or the version, asked for in the way of this kind of error
 abbrev pub IsAskedBy : ErrorKind → Command → Type 0
 IsAskedBy k command =
@@ -334,8 +363,8 @@ ReadsAs name rows (Denials log since json) =
 ReadsAs name rows (Pipe store policy log) =
     (name ≡ codes "pipe") × NamesFile rows (codes "store") store × NamesFile rows (codes "policy") policy
     × NamesFile rows (codes "log") log
-ReadsAs name rows (Serve port connections at_once idle store policy existing log) =
-    (name ≡ codes "serve") × HasNumber rows (codes "port") port × (port ≤ 65535)
+ReadsAs name rows (Serve port socket mode connections at_once idle store policy existing log) =
+    (name ≡ codes "serve") × ListensAt rows port socket mode
     × HasCounts rows connections at_once idle
     × NamesFile rows (codes "store") store × NamesFile rows (codes "policy") policy
     × (existing ≡ has_flag rows (codes "existing")) × (existing ≡ true → is_some store ≡ true)

@@ -9,6 +9,7 @@ ghost use Rattle.book_desk_words.specs.WordsFaults.{IsUsage, not_text, not_time,
 
 use crate::helps::{NOT_TEXT, NOT_TIME, SERVE_WANTS, USAGE_LINES};
 use crate::keeping::{backup_of, compact_of, doctor_of, load_of, restore_of};
+use crate::listening::{Places, places_of};
 use crate::programs::program;
 use crate::questions::{
     ask_of, denials_of, differs_of, dump_of, rights_of, show_of, who_of, why_of,
@@ -228,8 +229,12 @@ pub enum Command {
     },
     /// Serve connections.
     Serve {
-        /// The port of 127.0.0.1; 0 for a free one.
-        port: u16,
+        /// The port of 127.0.0.1; 0 for a free one. Never missing without a socket.
+        port: Option<u16>,
+        /// The path of a Unix socket.
+        socket: Option<String>,
+        /// The permissions of the socket, 0600 where none are given.
+        mode: u16,
         /// How many connections are served, 1 to 10,000; without a number there is no end.
         connections: Option<u16>,
         /// How many are served at once, 1 to 1,000; without a number they are served one after the other.
@@ -337,7 +342,7 @@ pub(crate) fn texts_in(
 }
 
 /// The number that the words give to an option.
-fn number_in(found: &ArgMatches<'_>, id: &str) -> Option<u16>
+pub(crate) fn number_in(found: &ArgMatches<'_>, id: &str) -> Option<u16>
     ensures read { IfSome result (λ n. HasNumber (rows_of (found_of found.now)) id.now n) }
     ensures none { IfNone result ((n : ℕ) → n ≤ 65535
         → HasNumber (rows_of (found_of found.now)) id.now n → ⊥) }
@@ -346,7 +351,7 @@ fn number_in(found: &ArgMatches<'_>, id: &str) -> Option<u16>
 }
 
 /// Whether the words have an option with a value.
-fn is_given(found: &ArgMatches<'_>, id: &str) -> bool
+pub(crate) fn is_given(found: &ArgMatches<'_>, id: &str) -> bool
     ensures { result ≡ is_some (first_of id.now (rows_of (found_of found.now))) }
 {
     match found.get_str(id) {
@@ -418,19 +423,19 @@ fn counts_of(found: &ArgMatches<'_>) -> Option<Counts>
     })
 }
 
-/// The command `serve` with what the words give it; none where a number is missing or out of range, where the words have
-/// not one of `--connections` and `--forever`, or have `--idle` without `--at-once`, or where a store that has to be there
-/// is not named.
+/// The command `serve` with what the words give it; none where a number is out of range, where the words give neither a port
+/// nor a socket, have `--mode` without `--socket`, not one of `--connections` and `--forever`, or `--idle` without
+/// `--at-once`, or where a store that has to be there is not named.
 fn serve_of(alloc: Global, found: &ArgMatches<'_>) -> Result<Option<Command>, AllocError>
     ensures read { IfOk result (λ command. IfSome command
         (ReadsAs (codes "serve") (rows_of (found_of found.now)))) }
     ensures none { IfOk result (λ command. IfNone command
         (ReadsNone (codes "serve") (rows_of (found_of found.now)))) }
 {
-    let Some(port) = number_in(found, "port") else {
+    let Some(counts) = counts_of(found) else {
         return Ok(None);
     };
-    let Some(counts) = counts_of(found) else {
+    let Some(Places { port, socket, mode }) = places_of(alloc, found)? else {
         return Ok(None);
     };
     let store = file_in(alloc, found, "store")?;
@@ -442,6 +447,8 @@ fn serve_of(alloc: Global, found: &ArgMatches<'_>) -> Result<Option<Command>, Al
     let log = file_in(alloc, found, "log")?;
     Ok(Some(Command::Serve {
         port,
+        socket,
+        mode,
         connections: counts.connections,
         at_once: counts.at_once,
         idle: counts.idle,
@@ -660,7 +667,7 @@ pub fn words_not_text(alloc: Global) -> WordsFault
 /// Reads the words after the program's name. Help or the version that they ask for is a command of its own.
 ///
 /// A command that it answers is the one that clap's matches of the words give: the subcommand that was met, its port
-/// from 0 to 65,535, its number of connections from 1 to 10,000 or that there is no end, how many at once from 1 to 1,000
+/// from 0 to 65,535, its socket with its permissions, its number of connections from 1 to 10,000 or that there is no end, how many at once from 1 to 1,000
 /// and the seconds from 1 to 3,600 after which an idle one is closed, if they are given, the files of its store, its
 /// policy and its log, if they name them, whether the store has to be there already, and the folder of `init`. Help, or the version, is
 /// answered only where clap takes the words to ask for it.

@@ -18,7 +18,7 @@ pub(crate) const NOT_TIME: &str = "denials wants '--since <TIME>' as 2026-11-29T
 
 /// What the options of `serve` and `load` want of each other, and the words of `why` and `backup`.
 pub(crate) const SERVE_WANTS: &str =
-    "serve wants one of '--connections <N>' and '--forever', with '--idle <N>' also '--at-once <N>', and with '--existing' also '--store <FILE>'; why wants DESTINATION with COPY and MOVE; backup wants one of '--to <NEW>' and '--check <COPY>'; load wants with '--at <BOOK>' also '--owner <FROM=TO>', with '--heir <PRINCIPAL>' also '--without <PERSON>', and with '--above <N>' also '--new-epoch'";
+    "serve wants '--port <N>' or '--socket <PATH>', with '--mode <OCTAL>', of three or four digits, also '--socket <PATH>', one of '--connections <N>' and '--forever', with '--idle <N>' also '--at-once <N>', and with '--existing' also '--store <FILE>'; why wants DESTINATION with COPY and MOVE; backup wants one of '--to <NEW>' and '--check <COPY>'; load wants with '--at <BOOK>' also '--owner <FROM=TO>', with '--heir <PRINCIPAL>' also '--without <PERSON>', and with '--above <N>' also '--new-epoch'";
 
 pub(crate) const EXPLAIN: &str = "Reads a question from standard input and prints its decision";
 
@@ -614,22 +614,25 @@ Status: 0 each request was answered, or the stream closed after a reply; 1 the i
 policy is refused; 2 usage; 3 the store, memory, or a failed read or write.
 ";
 
-pub(crate) const SERVE: &str = "Serves connections to 127.0.0.1";
+pub(crate) const SERVE: &str = "Serves connections to 127.0.0.1 or to a Unix socket";
 
 pub(crate) const SERVE_TEXT: &str = "\
-It listens on 127.0.0.1, prints 'listening on 127.0.0.1:PORT', and serves so many connections, or with --forever without
-end; one of the two is needed. They are served one after the other, or with --at-once so many together, each as pipe
-serves its input. With --idle, which wants --at-once, one that moves no byte for so many seconds is closed, and one
-whose request is not whole 30 seconds after its first byte. As in:
+It listens on 127.0.0.1 or with --socket at PATH, or on both, prints 'listening on 127.0.0.1:PORT', then 'listening on
+unix:PATH', and serves so many connections, or with --forever without end; one of the two is needed. They are served one
+after the other, or with --at-once so many together, each as pipe serves its input. With --idle, which wants --at-once, one
+that moves no byte for so many seconds is closed, and one whose request is not whole 30 seconds after its first byte. As in:
   book_desk serve --port 8080 --connections 100 --store office.db --policy examples/policies/office.toml
   book_desk serve --port 8080 --forever --at-once 64 --idle 75 --store office.db
+  book_desk serve --socket office.sock --mode 0660 --forever --at-once 64 --idle 75 --store office.db
   curl -H 'x-office-caller: ann' -H 'Expect:' -X OPTIONS -i http://127.0.0.1:8080/books/sales
 Who can reach the port can name any caller: it is for a gateway on the same machine, which sets the field
-x-office-caller to the person that it knows, and takes it out of what strangers send. Nothing else may reach the port.
+x-office-caller to the person that it knows, and takes it out of what strangers send. Nothing else may reach the port. At
+the socket it is the mode of its file that says who may: 0600 without --mode.
 A store is copied while no server has it: stop the server, run audit, which folds the log in, and then copy FILE.
 
 Told on standard error, each on a line: what pipe tells, 'stream: FAULT' for each connection that failed, which ends no
-other, and 'listen: failed' where the port can't be had or a connection can't be taken.
+other, 'listen: failed' where the port or the socket can't be had or a connection can't be taken, and 'socket: taken' where
+another server answers at PATH.
 
 Status: 0 all connections were served, also those that ended within a request; 1 the policy is refused; 2 usage;
 3 the store, memory or a failed read or write, also in one connection, or listening failed.
@@ -648,6 +651,11 @@ pub(crate) const KEPT_STORE: &str =
     "The file of the store, which has a log beside it, FILE-wal; an empty or missing one is founded; without it the store is in memory";
 
 pub(crate) const PORT: &str = "The port, 0 to 65535; 0 takes a free one";
+
+pub(crate) const SOCKET: &str = "The path of a Unix socket, in the place of the port or beside it";
+
+pub(crate) const MODE: &str =
+    "The permissions of the socket, as 0660; 0600 without it; wants --socket";
 
 pub(crate) const CONNECTIONS: &str = "How many connections are served, 1 to 10000";
 

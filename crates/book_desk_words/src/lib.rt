@@ -1,15 +1,16 @@
 //! The words of the command line: what `clap` reads of them, and the command that this is.
 //!
 //! It stands on `clap`. The program uses `command_of`: where it answers a command, it is the one that clap's matches of
-//! the words give, with the port and the number of connections in range, or help, where the words ask for it.
+//! the words give, with the numbers in range, or help, where the words ask for it.
 //!
-//! Read `commands` first, and `questions` and `keeping`, which have the commands that ask and those that make stores; then
-//! `programs`, which tells clap of the command line, and `helps`, its texts.
+//! Read `commands` first, and `questions` and `keeping`, which have the commands that ask and those that make stores, and
+//! `listening`, which has where `serve` listens; then `programs`, which tells clap of the command line, and `helps`, its texts.
 #![tactic(auto)]
 
 mod commands;
 mod helps;
 mod keeping;
+mod listening;
 mod programs;
 mod questions;
 

@@ -2,7 +2,7 @@
 
 ghost use Rattle.std.specs.Prelude.{◌≡◌, IfOk, false, codes};
 ghost use Rattle.clap.specs.Words.{App, Rule, new_app, rule_of, with_rule, with_subcommand};
-ghost use Rattle.book_desk_words.specs.CommandLine.{IsMade, IsProgram, program_app, top_app, ask_app, audit_app, backup_app, check_app, compact_app, denials_app, differs_app, doctor_app, dump_app, import_app, init_app, load_app, migrate_app, pipe_app, restore_app, rights_app, serve_app, show_app, who_app, why_app, flag_rule, last_word_rule, option_rule, options_rule, counted_rule, number_rule, required_rule, with_asking, with_checked, with_decision, with_ends, with_files, with_first, with_keeping, with_owners, with_pace, with_part, with_past, with_places, with_privilege, with_question, with_scope, with_serving, with_store, whole_rule, word_rule, words_rule};
+ghost use Rattle.book_desk_words.specs.CommandLine.{IsMade, IsProgram, program_app, top_app, ask_app, audit_app, backup_app, check_app, compact_app, denials_app, differs_app, doctor_app, dump_app, import_app, init_app, load_app, migrate_app, pipe_app, restore_app, rights_app, serve_app, show_app, who_app, why_app, flag_rule, last_word_rule, option_rule, options_rule, counted_rule, required_rule, with_asking, with_checked, with_decision, with_ends, with_files, with_first, with_keeping, with_listening, with_owners, with_pace, with_part, with_past, with_places, with_privilege, with_question, with_scope, with_serving, with_store, whole_rule, word_rule, words_rule};
 
 use crate::helps::{
     ABOUT, ABOVE, ASK, ASK_TEXT, ASKED_STORE, AT_ONCE, AUDIT, AUDIT_TEXT, BACKUP, BACKUP_CHECK,
@@ -11,10 +11,10 @@ use crate::helps::{
     DIFFERS, DIFFERS_STRICT, DIFFERS_TEXT, DOCTOR, DOCTOR_TEXT, DUMP, DUMP_TEXT, DUMP_WORD,
     EXISTING, EXPLAIN, FIRST_STORE, FOLDER, FOREVER, FORGET_REMOVED, FOUNDED_STORE, HEIR, IDLE,
     IMPORT, IMPORT_TEXT, INIT, INIT_TEXT, JSON, KEPT_STORE, LABELS, LOAD, LOAD_TEXT, LOG, LOG_WORD,
-    MIGRATE, MIGRATE_TEXT, NEW_EPOCH, NEW_STORE, OWNED_AT, OWNER, PERSON, PIPE, PIPE_TEXT, POLICY,
-    POLICY_WORD, PORT, PRIVILEGE, QUESTION, RESOURCE, RESTORE, RESTORE_FROM, RESTORE_TEXT,
-    RESTORED, RIGHTS, RIGHTS_TEXT, SERVE, SERVE_TEXT, SHARED, SHOW, SHOW_TEXT, SINCE, STRICT,
-    VERSION, WHAT, WHO, WHO_TEXT, WHY, WHY_TEXT, WITHOUT,
+    MIGRATE, MIGRATE_TEXT, MODE, NEW_EPOCH, NEW_STORE, OWNED_AT, OWNER, PERSON, PIPE, PIPE_TEXT,
+    POLICY, POLICY_WORD, PORT, PRIVILEGE, QUESTION, RESOURCE, RESTORE, RESTORE_FROM, RESTORE_TEXT,
+    RESTORED, RIGHTS, RIGHTS_TEXT, SERVE, SERVE_TEXT, SHARED, SHOW, SHOW_TEXT, SINCE, SOCKET,
+    STRICT, VERSION, WHAT, WHO, WHO_TEXT, WHY, WHY_TEXT, WITHOUT,
 };
 use clap::{Arg, ArgAction, value_parser};
 use std::alloc::{AllocError, Global};
@@ -71,19 +71,6 @@ fn words_needed<'a>(alloc: Global, name: &'a str, value_name: &'a str, help: &'a
         .help(help)
         .required(true)
         .action(ArgAction::Append)
-}
-
-/// An option that gives a number and is required.
-fn number_needed<'a>(alloc: Global, name: &'a str, help: &'a str, least: u16, most: u16) -> Arg<'a>
-    ensures rule { rule_of result ≡ number_rule name.entry.now least most }
-    ensures local { result.global ≡ false }
-{
-    Arg::new(alloc, name)
-        .long(name)
-        .value_name("N")
-        .help(help)
-        .required(true)
-        .value_parser(value_parser!(u16).range(least as i64..=most as i64))
 }
 
 /// An option that gives a number.
@@ -452,11 +439,20 @@ fn with_pace<'a>(alloc: Global, made: Made<'a>) -> Made<'a>
     with_word(made, number_option(alloc, "idle", IDLE, 1, 3_600))
 }
 
+/// The command with the options that say where is listened.
+fn with_listening<'a>(alloc: Global, made: Made<'a>) -> Made<'a>
+    ensures { (app : App) → IsMade app made.entry → IsMade (with_listening app) result }
+{
+    let made = with_word(made, number_option(alloc, "port", PORT, 0, 65_535));
+    let made = with_word(made, value_option(alloc, "socket", "PATH", SOCKET));
+    with_word(made, value_option(alloc, "mode", "OCTAL", MODE))
+}
+
 fn serve<'a>(alloc: Global) -> Made<'a>
     ensures { IsMade serve_app result }
 {
     let made = begun(alloc, "serve", SERVE, SERVE_TEXT);
-    let made = with_word(made, number_needed(alloc, "port", PORT, 0, 65_535));
+    let made = with_listening(alloc, made);
     let made = with_ends(alloc, made);
     let made = with_pace(alloc, made);
     let made = with_word(made, flag_option(alloc, "existing", EXISTING));

@@ -31,6 +31,8 @@ mod replies;
 #[cfg(test)]
 mod rounds;
 #[cfg(test)]
+mod sockets;
+#[cfg(test)]
 mod streams;
 #[cfg(test)]
 mod targets;

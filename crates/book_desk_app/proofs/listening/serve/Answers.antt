@@ -35,7 +35,7 @@ returns-in-Ok-clause-serves g c =
     let before = c.args.errors.now in
     let mid = c.serve_connections.new.errors in
     let new = c.status_of.new.errors in
-    let Ends : Type 0 = EndsServing g.S.Read.remaining g.S.Write.contents g.M.Service.serving (g.E.Lines.is_whole before) (g.E.Lines.is_whole new) (g.E.Write.contents before)
+    let Ends : Type 0 = EndsServing g.S.Read.remaining g.S.Write.contents g.M.Service.serving (g.L.Listens.has_port c.args.listener.now) (g.L.Listens.socket_path c.args.listener.now) (g.E.Lines.is_whole before) (g.E.Lines.is_whole new) (g.E.Write.contents before)
     (g.E.Write.contents new) s.0 c.args.connections c.status_of.result in
     let T : g.row.E.Denot → Type 0 = λ t.
     Tells (g.E.Lines.is_whole before) (g.E.Lines.is_whole t) (g.E.Write.contents before) (g.E.Write.contents t) (lines_of_connections (outcomes_of s.0)) in
