@@ -40,7 +40,7 @@ use examining::examine;
 use keeping::{backup, check_backup, compact, load, restore};
 use logs::denials;
 use refusals::tell_why;
-use serving::{Listening, Served, Socket, serve_named};
+use serving::{Listening, Served, serve_named, socket_at};
 use sqlite::{Alter, Connection};
 use std::env;
 use std::io::{self, Write};
@@ -344,10 +344,9 @@ fn perform<
                 policy: policy.as_deref(),
                 existing: *existing,
             };
-            let mode = *mode;
             let served = Served::Connections(Listening {
                 port: *port,
-                socket: socket.as_deref().map(|path| Socket { path, mode }),
+                socket: socket_at(socket.as_deref(), *mode),
                 connections: *connections,
                 at_once: *at_once,
                 idle: *idle,

@@ -38,6 +38,14 @@ pub struct Socket<'w> {
     pub mode: u16,
 }
 
+/// The socket at a path, if one is given.
+pub fn socket_at(path: Option<&str>, mode: u16) -> Option<Socket<'_>> {
+    match path {
+        Some(path) => Some(Socket { path, mode }),
+        None => None,
+    }
+}
+
 /// Where `serve` listens, how many connections it serves, and how.
 #[derive(Clone, Copy)]
 pub struct Listening<'w> {
