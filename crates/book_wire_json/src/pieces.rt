@@ -34,16 +34,14 @@ use std::mem;
 /// takes some.
 #[derive(Drop)]
 pub struct PieceMemory {
-    bytes: Vec<u8>,
-    spelled: String,
+    text: JsonText,
 }
 
 impl PieceMemory {
     /// It takes no memory yet.
     pub fn new(alloc: Global) -> PieceMemory {
         PieceMemory {
-            bytes: Vec::new(alloc),
-            spelled: String::new(alloc),
+            text: JsonText::over(Vec::new(alloc), String::new(alloc)),
         }
     }
 
@@ -51,20 +49,18 @@ impl PieceMemory {
     fn begin(&mut self, alloc: Global) -> JsonText
         ensures { result ≡ [] }
     {
-        let mut bytes = mem::replace(&mut self.bytes, Vec::new(alloc));
-        bytes.clear();
-        let spelled = mem::replace(&mut self.spelled, String::new(alloc));
-        JsonText::over(bytes, spelled)
+        let none = JsonText::over(Vec::new(alloc), String::new(alloc));
+        let mut text = mem::replace(&mut self.text, none);
+        text.restart();
+        text
     }
 
     /// Adds a text to bytes, and takes its memory back. An error is want of memory.
     fn finish(&mut self, out: &mut Vec<u8>, text: JsonText) -> Result<(), AllocError>
         ensures { OnOk result (out.new.items ≡ out.old.items ++ print text) }
     {
-        let (bytes, spelled) = text.into_parts();
-        self.bytes = bytes;
-        self.spelled = spelled;
-        push_bytes(out, self.bytes.as_slice())
+        self.text = text;
+        push_bytes(out, self.text.as_bytes())
     }
 }
 

@@ -8,10 +8,10 @@ ghost use Rattle.book_office_values.specs.Paths.{book_path, card_path, path_text
 ghost use Rattle.book_wire_json.specs.Writing.{added};
 
 use crate::spelling::{set_book, set_card, set_path, set_token};
+use book_json_texts::CompactText;
 use book_lists::Name;
 use book_office_sync::Token;
 use book_office_values::Path;
-use json::Writer;
 use std::alloc::AllocError;
 use std::marker::Model;
 
@@ -19,21 +19,19 @@ use std::marker::Model;
 /// Each error of a call is want of memory.
 #[derive(Drop)]
 pub(crate) struct JsonText {
-    writer: Writer,
+    text: CompactText,
     spelled: String,
 }
 
 impl Model for JsonText {
-    ghost use Rattle.std.specs.Prelude.{◌≡◌, List, []};
+    ghost use Rattle.std.specs.Prelude.{List};
     ghost use Rattle.json.specs.Token.{Token, tokens_code};
 
     ghost Value = { List Token };
 
     ghost coded = { tokens_code };
 
-    ghost view = { λ t. t.writer.tokens };
-
-    ghost invariant = { λ t. t.writer.before ≡ [] };
+    ghost view = { λ t. t.text };
 }
 
 impl JsonText {
@@ -43,71 +41,77 @@ impl JsonText {
         ensures { result ≡ [] }
     {
         JsonText {
-            writer: Writer::new(bytes),
+            text: CompactText::over(bytes),
             spelled,
         }
     }
 
-    /// The bytes of the text, and the string in which paths and tokens were spelled.
-    pub(crate) fn into_parts(self) -> (Vec<u8>, String)
-        ensures { result.0.items ≡ print self }
+    /// Empties the text, and keeps its room.
+    pub(crate) fn restart(&mut self)
+        ensures { self.new ≡ [] }
     {
-        let JsonText { writer, spelled } = self;
-        (writer.into_inner(), spelled)
+        self.text.restart();
+    }
+
+    /// The bytes of the text.
+    pub(crate) fn as_bytes(&self) -> &[u8]
+        ensures { result.now ≡ print self.now }
+    {
+        self.text.as_bytes()
     }
 
     pub(crate) fn begin_object(&mut self) -> Result<(), AllocError>
         ensures { OnOk result (self.new ≡ self.old ++ begin_object ∷ []) }
     {
-        self.writer.begin_object()
+        self.text.begin_object()
     }
 
     pub(crate) fn end_object(&mut self) -> Result<(), AllocError>
         ensures { OnOk result (self.new ≡ self.old ++ end_object ∷ []) }
     {
-        self.writer.end_object()
+        self.text.end_object()
     }
 
     pub(crate) fn begin_array(&mut self) -> Result<(), AllocError>
         ensures { OnOk result (self.new ≡ self.old ++ begin_array ∷ []) }
     {
-        self.writer.begin_array()
+        self.text.begin_array()
     }
 
     pub(crate) fn end_array(&mut self) -> Result<(), AllocError>
         ensures { OnOk result (self.new ≡ self.old ++ end_array ∷ []) }
     {
-        self.writer.end_array()
+        self.text.end_array()
     }
 
     pub(crate) fn key(&mut self, name: &str) -> Result<(), AllocError>
         ensures { OnOk result (self.new ≡ self.old ++ key name.now ∷ []) }
     {
-        self.writer.key(name)
+        self.text.key(name)
     }
 
     pub(crate) fn string(&mut self, text: &str) -> Result<(), AllocError>
         ensures { OnOk result (self.new ≡ self.old ++ string text.now ∷ []) }
     {
-        self.writer.string(text)
+        self.text.string(text)
     }
 
     pub(crate) fn number(&mut self, count: u64) -> Result<(), AllocError>
         ensures { OnOk result (self.new ≡ self.old ++ number (decimal count) ∷ []) }
     {
-        self.writer.u64(count)
+        self.text.number(count)
     }
 
     pub(crate) fn boolean(&mut self, holds: bool) -> Result<(), AllocError>
         ensures { OnOk result (self.new ≡ self.old ++ boolean holds ∷ []) }
     {
-        self.writer.boolean(holds)
+        self.text.boolean(holds)
     }
 
     pub(crate) fn null(&mut self) -> Result<(), AllocError>
         ensures { OnOk result (self.new ≡ self.old ++ null ∷ []) }
     {
-        self.writer.null()
+        self.text.null()
     }
 
     /// A string that is a path.
@@ -115,7 +119,7 @@ impl JsonText {
         ensures { OnOk result (self.new ≡ self.old ++ string (path_text path.now) ∷ []) }
     {
         set_path(&mut self.spelled, path)?;
-        self.writer.string(self.spelled.as_str())
+        self.text.string(self.spelled.as_str())
     }
 
     /// A string that is the path of a book.
@@ -123,7 +127,7 @@ impl JsonText {
         ensures { OnOk result (self.new ≡ self.old ++ string (book_path book.now) ∷ []) }
     {
         set_book(&mut self.spelled, book)?;
-        self.writer.string(self.spelled.as_str())
+        self.text.string(self.spelled.as_str())
     }
 
     /// A string that is the path of a card of a book.
@@ -131,7 +135,7 @@ impl JsonText {
         ensures { OnOk result (self.new ≡ self.old ++ string (card_path book.now card.now) ∷ []) }
     {
         set_card(&mut self.spelled, book, card)?;
-        self.writer.string(self.spelled.as_str())
+        self.text.string(self.spelled.as_str())
     }
 
     /// A string that is a token.
@@ -139,7 +143,7 @@ impl JsonText {
         ensures { OnOk result (self.new ≡ self.old ++ string (token_text token.now) ∷ []) }
     {
         set_token(&mut self.spelled, token)?;
-        self.writer.string(self.spelled.as_str())
+        self.text.string(self.spelled.as_str())
     }
 
     /// A member of an object that is a path.

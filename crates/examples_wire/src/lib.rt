@@ -19,6 +19,8 @@ mod fields;
 #[cfg(test)]
 mod hostile;
 #[cfg(test)]
+mod json_texts;
+#[cfg(test)]
 mod logs;
 #[cfg(test)]
 mod long;
