@@ -346,6 +346,55 @@ const MEMBER_ROWS: &[Row<'static>] = &[
     ),
 ];
 
+/// An own list of a card: it holds in a book whose cards were told before it came, goes with the card to another, and
+/// ends; a card without one is moved as well.
+const OWN_ROWS: &[Row<'static>] = &[
+    (ANN, "PUT", "/books/law/o.vcf", "", CARD),
+    (
+        ANN,
+        "PROPFIND",
+        "/books/law",
+        "Depth: 1\r\n",
+        "{\"prop\":[\"acl\"]}",
+    ),
+    (BOB, "GET", "/books/law/o.vcf", "", ""),
+    (
+        ANN,
+        "ACL",
+        "/books/law/o.vcf",
+        "",
+        "{\"acl\":[{\"deny\":[\"read\"],\"principal\":\"/people/bob\"}]}",
+    ),
+    (BOB, "GET", "/books/law/o.vcf", "", ""),
+    (
+        ANN,
+        "PROPFIND",
+        "/books/sales",
+        "Depth: 1\r\n",
+        "{\"prop\":[\"acl\"]}",
+    ),
+    (
+        ANN,
+        "MOVE",
+        "/books/law/o.vcf",
+        "Destination: /books/sales/o.vcf\r\n",
+        "",
+    ),
+    (BOB, "GET", "/books/sales/o.vcf", "", ""),
+    (ANN, "PUT", "/books/law/n.vcf", "", CARD),
+    (BOB, "GET", "/books/law/n.vcf", "", ""),
+    (
+        ANN,
+        "MOVE",
+        "/books/law/n.vcf",
+        "Destination: /books/sales/n.vcf\r\n",
+        "",
+    ),
+    (BOB, "GET", "/books/sales/n.vcf", "", ""),
+    (ANN, "ACL", "/books/sales/o.vcf", "", "{\"acl\":[]}"),
+    (BOB, "GET", "/books/sales/o.vcf", "", ""),
+];
+
 /// What is done in turn: a policy with this end is adopted, and then these requests are served.
 pub(crate) type Part<'a> = (&'a str, &'a [Row<'a>]);
 
@@ -355,5 +404,5 @@ pub(crate) const CARDS: &[Part<'static>] = &[("", CARD_ROWS), ("", REPORT_ROWS),
 /// A book that is made and removed.
 pub(crate) const BOOKS: &[Part<'static>] = &[("", REFUSED_ROWS), (NEW_BOOKS, BOOK_ROWS)];
 
-/// Lists that are told, and members that are set.
-pub(crate) const MEMBERS: &[Part<'static>] = &[("", MEMBER_ROWS)];
+/// Lists that are told, and members that are set; then own lists of cards.
+pub(crate) const MEMBERS: &[Part<'static>] = &[("", MEMBER_ROWS), ("", OWN_ROWS)];
