@@ -32,7 +32,8 @@ pub trait Door {
     /// `WouldBlock` where none waits; another where none can be had.
     fn give(&self) -> io::Result<Self::Stream>
         ensures gives { IfOk result (gives self.now) }
-        ensures empty { IfErr result (λ e. error_kind e ≡ ErrorKind.WouldBlock → is_empty self.now) }
+        ensures empty { IfErr result (λ e. error_kind e ≡ ErrorKind.WouldBlock
+            → is_empty self.now) }
         ensures fails { IfErr result (λ e. error_kind e ≢ ErrorKind.WouldBlock → fails self.now) };
 
     /// Has `give` wait for a connection, or not.

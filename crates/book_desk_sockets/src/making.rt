@@ -100,7 +100,8 @@ pub trait Ground {
 
 /// Makes the socket in the folder, and gives it its mode and its name.
 fn make_within<G: Ground>(ground: &mut G, mode: u16) -> io::Result<G::Listener>
-    ensures made { IfOk result (λ l. PutsSocket mode empty (G.names ground.old) (G.names ground.new)) }
+    ensures made { IfOk result (λ l. PutsSocket mode empty
+        (G.names ground.old) (G.names ground.new)) }
     ensures failed { IfErr result (λ e. KeepsPath (G.names ground.old) (G.names ground.new)) }
 {
     let listener = ground.bind()?;
@@ -111,7 +112,8 @@ fn make_within<G: Ground>(ground: &mut G, mode: u16) -> io::Result<G::Listener>
 
 /// Makes the folder, the socket in it, and removes the folder.
 fn make_privately<G: Ground>(ground: &mut G, mode: u16) -> io::Result<G::Listener>
-    ensures made { IfOk result (λ l. PutsSocket mode no_folder (G.names ground.old) (G.names ground.new)) }
+    ensures made { IfOk result (λ l. PutsSocket mode no_folder
+        (G.names ground.old) (G.names ground.new)) }
     ensures failed { IfErr result (λ e. KeepsPath (G.names ground.old) (G.names ground.new)) }
 {
     ground.make_folder()?;

@@ -228,7 +228,7 @@ fn beside_a_file(rt: &HostRuntime, path: &str) -> io::Result<Made> {
 #[test]
 fn a_socket_that_answers_stays(rt: HostRuntime) {
     let id = process::id(rt.process());
-    let folder = format!(in rt.alloc(); "/tmp/book_desk_sockets.{id}").expect(&rt, "memory");
+    let folder = format!(in rt.alloc(); "book_desk_sockets.{id}").expect(&rt, "memory");
     let path = format!(in rt.alloc(); "{folder}/socket").expect(&rt, "memory");
     fs::create_dir(&rt, folder.as_str()).expect(&rt, "a folder");
     let (first, second, third) = sockets(&rt, path.as_str()).expect(&rt, "sockets");
