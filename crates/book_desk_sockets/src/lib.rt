@@ -1,6 +1,6 @@
 //! Where connections come from: a port, a Unix socket, or both, as one listener.
 //!
-//! It stands on std alone. The program above uses that `accept_from` tells that nothing waits only where both told so, that
+//! It stands on `mio`, which connects without a wait. The program above uses that `accept_from` tells that nothing waits only where both told so, that
 //! a `Line` reads and writes what its own stream does, that `Listens` tells where a listener listens, and that `make_socket` makes
 //! a socket with the mode that was given, and replaces only one at which nobody answers.
 //!

@@ -2,12 +2,13 @@
 
 use crate::doors::LocalDoor;
 use crate::making::{Found, Ground};
+use mio::net::UnixStream;
 use std::alloc::{AllocError, Global};
 use std::fs::{self, DirBuilder, Files, Metadata, Permissions};
 use std::io::{self, ErrorKind};
 use std::net::Net;
 use std::os::unix::fs::{DirBuilderExt, FileTypeExt, MetadataExt, PermissionsExt};
-use std::os::unix::net::{UnixListener, UnixStream};
+use std::os::unix::net::UnixListener;
 
 /// Who may enter the folder in which it is made: its owner alone.
 const PRIVATE: u32 = 0o700;
@@ -37,12 +38,16 @@ fn look_at(rt: &impl Files, path: &str) -> io::Result<Option<Metadata>> {
     }
 }
 
-/// Whether somebody answers at a socket.
+/// Whether somebody listens at a socket. It does not wait.
 fn is_answered(rt: &impl Net, path: &str) -> io::Result<bool> {
     match UnixStream::connect(rt, path) {
         Ok(_) => Ok(true),
-        Err(error) if error.kind() == ErrorKind::ConnectionRefused => Ok(false),
-        Err(error) => Err(error),
+        Err(error) => match error.kind() {
+            // It has no room for one more.
+            ErrorKind::WouldBlock => Ok(true),
+            ErrorKind::ConnectionRefused => Ok(false),
+            _ => Err(error),
+        },
     }
 }
 
