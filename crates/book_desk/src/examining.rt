@@ -1,10 +1,9 @@
 //! The command that examines a store: `doctor`.
 
-use crate::inputs::refused;
+use crate::files::{close, length_of, log_name, open_locked_copy};
+use crate::{open_viewed, viewed};
 use book_desk_app::{DONE, Failure, Lines, StoreFailure, tell_line};
 use book_desk_doctor::run_doctor;
-use book_desk_files::{Cause, Stores, Wanted, length_of, log_name};
-use sqlite::{Alter, Connection};
 use std::fs::{self, File};
 use std::io::{self, Read, Write};
 use std::os::unix::fs::MetadataExt;
@@ -111,51 +110,47 @@ fn tell_sizes<W: Write, E: Lines>(
 }
 
 /// Examines a store over its files, as `audit` opens them.
-fn examine_files<S: Alter + Drop, R: Stores<Store = Connection<S>>, W: Write, E: Lines>(
+fn examine_files<W: Write, E: Lines>(
     rt: &HostRuntime,
-    stores: &R,
     store: &str,
     writer: &mut W,
     errors: &mut E,
 ) -> u8 {
-    match stores.open_store(store, Wanted::Existing) {
-        Ok(store) => {
-            let (status, left) = run_doctor(rt.alloc(), store, writer, errors);
-            stores.let_go(left);
-            status
-        }
-        Err(cause) => tell_line(errors, &refused(stores, cause)),
-    }
+    let store = match open_viewed(rt, viewed(store, None)) {
+        Ok((store, _)) => store,
+        Err(failure) => return tell_line(errors, &failure),
+    };
+    let (status, left) = run_doctor(rt.alloc(), store, writer, errors);
+    close(left);
+    status
 }
 
 /// Examines a store over a copy of its files in memory, or over these where they don't fit there.
-fn examine_store<
-    S: Alter + Drop,
-    C: Alter + Drop,
-    R: Stores<Store = Connection<S>, Copy = Connection<C>>,
-    W: Write,
-    E: Lines,
->(rt: &HostRuntime, stores: &R, store: &str, writer: &mut W, errors: &mut E) -> u8 {
-    match stores.copy_store(store) {
+fn examine_store<W: Write, E: Lines>(
+    rt: &HostRuntime,
+    store: &str,
+    writer: &mut W,
+    errors: &mut E,
+) -> u8 {
+    match open_locked_copy(rt, store) {
         Ok(copy) => {
             let (status, left) = run_doctor(rt.alloc(), copy, writer, errors);
             drop(left);
             status
         }
-        Err(Cause::Memory(_)) => examine_files(rt, stores, store, writer, errors),
-        Err(cause) => tell_line(errors, &refused(stores, cause)),
+        Err(Failure::Store(StoreFailure::Memory)) => examine_files(rt, store, writer, errors),
+        Err(failure) => tell_line(errors, &failure),
     }
 }
 
 /// The command `doctor`: the store, which has to be there, is examined, and of a sound one the sizes are told too.
-pub fn examine<
-    S: Alter + Drop,
-    C: Alter + Drop,
-    R: Stores<Store = Connection<S>, Copy = Connection<C>>,
-    W: Write,
-    E: Lines,
->(rt: &HostRuntime, stores: &R, store: &str, writer: &mut W, errors: &mut E) -> u8 {
-    let status = examine_store(rt, stores, store, writer, errors);
+pub fn examine<W: Write, E: Lines>(
+    rt: &HostRuntime,
+    store: &str,
+    writer: &mut W,
+    errors: &mut E,
+) -> u8 {
+    let status = examine_store(rt, store, writer, errors);
     if status != DONE {
         return status;
     }

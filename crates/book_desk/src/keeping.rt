@@ -1,41 +1,87 @@
 //! The commands that make stores of texts and of stores, and the one that compares two: `load`, `compact`, `restore` and
-//! `backup`. What they make gets its name when it is whole (`Draft`).
+//! `backup`. What they make gets its name when it is whole (`drafts`).
 
-use crate::inputs::{read_dump_bytes, refused};
+use crate::drafts::{Draft, empty_log, is_free, is_unused, remove};
+use crate::files::{
+    FileConnection, close, length_of, open_copied, open_copy, open_locked_copy, read_dump_bytes,
+    real_path,
+};
+use crate::{open_viewed, viewed};
 use book_desk_app::{Failure, Lines, StoreFailure, tell_line};
-use book_desk_files::{Cause, Draft, Stores, Wanted, is_free, is_unused, length_of, real_path};
 use book_desk_keeping::{
     Change, KeepingFault, run_compare, run_copy, run_load, run_restore, tell_fault,
 };
 use sqlite::{Alter, Connection};
+use std::alloc::Global;
 use std::io::Write;
 
+/// Copies a store by `run_copy`, and lays what is left of the copy's aside; with the status and the source. These three are
+/// over two or more stores of one kind: what the checker compares grows with each kind that is known.
+fn copied<S: Alter + Drop, E: Lines>(
+    alloc: Global,
+    source: Connection<S>,
+    fresh: Connection<S>,
+    forget_removed: bool,
+    made: &mut Option<Connection<S>>,
+    errors: &mut E,
+) -> (u8, Option<Connection<S>>) {
+    let (status, source, left) = run_copy(alloc, source, fresh, forget_removed, errors);
+    *made = left;
+    (status, source)
+}
+
+/// Compares two stores by `run_compare`, and lets them go; with the status.
+fn compared<S: Alter + Drop, E: Lines>(
+    alloc: Global,
+    store: Connection<S>,
+    copy: Connection<S>,
+    errors: &mut E,
+) -> u8 {
+    let (status, store, copy) = run_compare(alloc, store, copy, errors);
+    drop(store);
+    drop(copy);
+    status
+}
+
+/// Makes a store of another one with resources of a backup by `run_restore`, and lays it aside; with the status and the source.
+fn restored<S: Alter + Drop, W: Write, E: Lines>(
+    alloc: Global,
+    source: Connection<S>,
+    backup: Connection<S>,
+    paths: &[String],
+    fresh: Connection<S>,
+    made: &mut Option<Connection<S>>,
+    writer: &mut W,
+    errors: &mut E,
+) -> (u8, Option<Connection<S>>) {
+    run_restore(alloc, source, backup, paths, fresh, made, writer, errors)
+}
+
 /// Gives a store that was made its name where the status is 0, or takes it away; with the status.
-fn end_draft<S: Alter + Drop, R: Stores<Store = Connection<S>>, E: Lines>(
-    stores: &R,
+fn end_draft<E: Lines>(
+    rt: &HostRuntime,
     draft: &Draft,
     status: u8,
-    left: Option<Connection<S>>,
+    left: Option<FileConnection>,
     errors: &mut E,
 ) -> u8 {
     let made = match left {
-        Some(connection) if status == 0 => stores.keep_draft(draft, connection),
+        Some(connection) if status == 0 => draft.keep(rt, connection),
         left => {
-            stores.let_go(left);
-            stores.discard_draft(draft);
+            close(left);
+            draft.discard(rt);
             return status;
         }
     };
     match made {
         Ok(()) => status,
-        Err(cause) => tell_line(errors, &refused(stores, cause)),
+        Err(failure) => tell_line(errors, &failure),
     }
 }
 
 /// The command `load`: the dump is read, the store made under another name, and given its own.
-pub fn load<S: Alter + Drop, R: Stores<Store = Connection<S>>, W: Write, E: Lines>(
+pub fn load<W: Write, E: Lines>(
     rt: &HostRuntime,
-    stores: &R,
     store: &str,
     dump: Option<&str>,
     changes: &[Change],
@@ -45,42 +91,56 @@ pub fn load<S: Alter + Drop, R: Stores<Store = Connection<S>>, W: Write, E: Line
     match is_free(rt, store) {
         Ok(true) => {}
         Ok(false) => return tell_fault(errors, &KeepingFault::LoadExists),
-        Err(cause) => return tell_line(errors, &refused(stores, cause)),
+        Err(failure) => return tell_line(errors, &failure),
     }
     let bytes = match read_dump_bytes(rt, dump) {
         Ok(bytes) => bytes,
         Err(failure) => return tell_line(errors, &failure),
     };
-    let (draft, connection) = match stores.begin_draft(store) {
+    let (draft, connection) = match Draft::begin(rt, store) {
         Ok(begun) => begun,
-        Err(cause) => return tell_line(errors, &refused(stores, cause)),
+        Err(failure) => return tell_line(errors, &failure),
     };
     let (status, left) = run_load(rt.alloc(), bytes, changes, connection, writer, errors);
-    end_draft(stores, &draft, status, left, errors)
+    end_draft(rt, &draft, status, left, errors)
 }
 
 /// Puts a store that was made in the place of the one that it was made of, where the status is 0: the log of that one is
 /// folded in and emptied, and it stays locked until the other has its name. With the status.
-fn end_replacing<S: Alter + Drop, R: Stores<Store = Connection<S>>, E: Lines>(
-    stores: &R,
+fn end_replacing<E: Lines>(
+    rt: &HostRuntime,
     draft: &Draft,
     status: u8,
-    source: Option<Connection<S>>,
-    left: Option<Connection<S>>,
+    source: Option<FileConnection>,
+    left: Option<FileConnection>,
     errors: &mut E,
 ) -> u8 {
-    let held = match source {
-        Some(source) => stores.close_store(source),
+    let folded = match source {
+        Some(source) => source.close_files().ok(),
         None => None,
     };
-    if status == 0 && (held.is_none() || !stores.empty_log(draft.name())) {
-        stores.let_go(left);
-        stores.discard_draft(draft);
-        return tell_line(errors, &refused(stores, Cause::Failed));
+    if status == 0 && (folded.is_none() || !empty_log(rt, draft.name())) {
+        close(left);
+        draft.discard(rt);
+        return tell_line(errors, &Failure::Store(StoreFailure::Store));
     }
-    let status = end_draft(stores, draft, status, left, errors);
-    drop(held);
+    let status = end_draft(rt, draft, status, left, errors);
+    drop(folded);
     status
+}
+
+/// Copies a store into one that is made under another name, and puts that in its place.
+fn replace<E: Lines>(
+    rt: &HostRuntime,
+    draft: &Draft,
+    source: FileConnection,
+    fresh: FileConnection,
+    forget_removed: bool,
+    errors: &mut E,
+) -> u8 {
+    let mut left = None;
+    let (status, source) = copied(rt.alloc(), source, fresh, forget_removed, &mut left, errors);
+    end_replacing(rt, draft, status, source, left, errors)
 }
 
 /// Tells the size that a store had and the one that it has.
@@ -99,25 +159,23 @@ fn tell_sizes<W: Write, E: Lines>(
 }
 
 /// Writes a store anew under another name, which takes its name while it is locked.
-fn compact_store<S: Alter + Drop, R: Stores<Store = Connection<S>>, W: Write, E: Lines>(
+fn compact_store<W: Write, E: Lines>(
     rt: &HostRuntime,
-    stores: &R,
     path: &str,
-    source: Connection<S>,
+    source: FileConnection,
     forget_removed: bool,
     writer: &mut W,
     errors: &mut E,
 ) -> u8 {
     let old_size = length_of(rt, path).unwrap_or(0);
-    let (draft, fresh) = match stores.begin_draft(path) {
+    let (draft, fresh) = match Draft::begin(rt, path) {
         Ok(begun) => begun,
-        Err(cause) => {
-            stores.let_go(Some(source));
-            return tell_line(errors, &refused(stores, cause));
+        Err(failure) => {
+            close(Some(source));
+            return tell_line(errors, &failure);
         }
     };
-    let (status, source, left) = run_copy(rt.alloc(), source, fresh, forget_removed, errors);
-    let status = end_replacing(stores, &draft, status, source, left, errors);
+    let status = replace(rt, &draft, source, fresh, forget_removed, errors);
     if status != 0 {
         return status;
     }
@@ -125,65 +183,55 @@ fn compact_store<S: Alter + Drop, R: Stores<Store = Connection<S>>, W: Write, E:
 }
 
 /// Opens the store at a path, and writes it anew.
-fn compact_at<S: Alter + Drop, R: Stores<Store = Connection<S>>, W: Write, E: Lines>(
+fn compact_at<W: Write, E: Lines>(
     rt: &HostRuntime,
-    stores: &R,
     path: &str,
     store: &str,
     forget_removed: bool,
     writer: &mut W,
     errors: &mut E,
 ) -> u8 {
-    match stores.open_store(store, Wanted::Existing) {
-        Ok(source) => compact_store(rt, stores, path, source, forget_removed, writer, errors),
-        Err(cause) => tell_line(errors, &refused(stores, cause)),
-    }
+    let source = match open_viewed(rt, viewed(store, None)) {
+        Ok((source, _)) => source,
+        Err(failure) => return tell_line(errors, &failure),
+    };
+    compact_store(rt, path, source, forget_removed, writer, errors)
 }
 
 /// The command `compact`: the store's file, which has to be there, is found where links lead, and the store written anew.
-pub fn compact<S: Alter + Drop, R: Stores<Store = Connection<S>>, W: Write, E: Lines>(
+pub fn compact<W: Write, E: Lines>(
     rt: &HostRuntime,
-    stores: &R,
     store: &str,
     forget_removed: bool,
     writer: &mut W,
     errors: &mut E,
 ) -> u8 {
-    match real_path(rt, store) {
-        Ok(path) => compact_at(
-            rt,
-            stores,
-            path.as_str(),
-            store,
-            forget_removed,
-            writer,
-            errors,
-        ),
-        Err(cause) => tell_line(errors, &refused(stores, cause)),
-    }
+    let path = match real_path(rt, store) {
+        Ok(path) => path,
+        Err(failure) => return tell_line(errors, &failure),
+    };
+    compact_at(rt, path.as_str(), store, forget_removed, writer, errors)
 }
 
 /// Writes a store anew with resources of a backup under another name, which takes its name while it is locked.
-fn restore_into<S: Alter + Drop, R: Stores<Store = Connection<S>>, W: Write, E: Lines>(
+fn restore_into<W: Write, E: Lines>(
     rt: &HostRuntime,
-    stores: &R,
     path: &str,
-    source: Connection<S>,
-    backup: Connection<S>,
+    source: FileConnection,
+    backup: FileConnection,
     paths: &[String],
     writer: &mut W,
     errors: &mut E,
 ) -> u8 {
-    let (draft, fresh) = match stores.begin_draft(path) {
+    let (draft, fresh) = match Draft::begin(rt, path) {
         Ok(begun) => begun,
-        Err(cause) => {
-            drop(backup);
-            stores.let_go(Some(source));
-            return tell_line(errors, &refused(stores, cause));
+        Err(failure) => {
+            close(Some(source));
+            return tell_line(errors, &failure);
         }
     };
     let mut made = None;
-    let (status, source) = run_restore(
+    let (status, source) = restored(
         rt.alloc(),
         source,
         backup,
@@ -193,47 +241,33 @@ fn restore_into<S: Alter + Drop, R: Stores<Store = Connection<S>>, W: Write, E: 
         writer,
         errors,
     );
-    end_replacing(stores, &draft, status, source, made, errors)
-}
-
-/// Copies a backup's files to a name, and opens the copy.
-fn copied<S: Alter + Drop, R: Stores<Store = Connection<S>>>(
-    stores: &R,
-    from: &str,
-    copy: &str,
-) -> Result<Connection<S>, Cause> {
-    match stores.copy_backup_to(from, copy) {
-        Ok(()) => stores.open_store(copy, Wanted::Existing),
-        Err(cause) => Err(cause),
-    }
+    end_replacing(rt, &draft, status, source, made, errors)
 }
 
 /// Opens a copy of the backup's files under a name, and restores.
-fn restore_by<S: Alter + Drop, R: Stores<Store = Connection<S>>, W: Write, E: Lines>(
+fn restore_by<W: Write, E: Lines>(
     rt: &HostRuntime,
-    stores: &R,
     path: &str,
-    source: Connection<S>,
+    source: FileConnection,
     from: &str,
     copy: &str,
     paths: &[String],
     writer: &mut W,
     errors: &mut E,
 ) -> u8 {
-    match copied(stores, from, copy) {
-        Ok(backup) => restore_into(rt, stores, path, source, backup, paths, writer, errors),
-        Err(cause) => {
-            stores.let_go(Some(source));
-            tell_line(errors, &refused(stores, cause))
+    match open_copied(rt, from, copy) {
+        Ok(backup) => restore_into(rt, path, source, backup, paths, writer, errors),
+        Err(failure) => {
+            close(Some(source));
+            tell_line(errors, &failure)
         }
     }
 }
 
 /// Opens the store at a path, and restores of a copy of the backup that is made beside it, under its name and `.from`, and goes
 /// again. What another run left there is removed.
-fn restore_at<S: Alter + Drop, R: Stores<Store = Connection<S>>, W: Write, E: Lines>(
+fn restore_at<W: Write, E: Lines>(
     rt: &HostRuntime,
-    stores: &R,
     path: &str,
     store: &str,
     from: &str,
@@ -241,137 +275,80 @@ fn restore_at<S: Alter + Drop, R: Stores<Store = Connection<S>>, W: Write, E: Li
     writer: &mut W,
     errors: &mut E,
 ) -> u8 {
+    let source = match open_viewed(rt, viewed(store, None)) {
+        Ok((source, _)) => source,
+        Err(failure) => return tell_line(errors, &failure),
+    };
     let Ok(copy) = format!(in rt.alloc(); "{path}.from") else {
+        close(Some(source));
         return tell_line(errors, &Failure::Store(StoreFailure::Memory));
     };
-    let source = match stores.open_store(store, Wanted::Existing) {
-        Ok(source) => source,
-        Err(cause) => return tell_line(errors, &refused(stores, cause)),
-    };
-    stores.remove_store(copy.as_str());
-    let status = restore_by(
-        rt,
-        stores,
-        path,
-        source,
-        from,
-        copy.as_str(),
-        paths,
-        writer,
-        errors,
-    );
-    stores.remove_store(copy.as_str());
+    remove(rt, copy.as_str());
+    let status = restore_by(rt, path, source, from, copy.as_str(), paths, writer, errors);
+    remove(rt, copy.as_str());
     status
 }
 
 /// The command `restore`: the store's file, which has to be there, is found where links lead, and the store written anew
 /// with cards and books of a backup.
-pub fn restore<S: Alter + Drop, R: Stores<Store = Connection<S>>, W: Write, E: Lines>(
+pub fn restore<W: Write, E: Lines>(
     rt: &HostRuntime,
-    stores: &R,
     store: &str,
     from: &str,
     paths: &[String],
     writer: &mut W,
     errors: &mut E,
 ) -> u8 {
-    match real_path(rt, store) {
-        Ok(path) => restore_at(
-            rt,
-            stores,
-            path.as_str(),
-            store,
-            from,
-            paths,
-            writer,
-            errors,
-        ),
-        Err(cause) => tell_line(errors, &refused(stores, cause)),
-    }
+    let path = match real_path(rt, store) {
+        Ok(path) => path,
+        Err(failure) => return tell_line(errors, &failure),
+    };
+    restore_at(rt, path.as_str(), store, from, paths, writer, errors)
 }
 
 /// Copies a store under another name, and gives the copy its own.
-fn copy_to<S: Alter + Drop, R: Stores<Store = Connection<S>>, E: Lines>(
-    rt: &HostRuntime,
-    stores: &R,
-    source: Connection<S>,
-    to: &str,
-    errors: &mut E,
-) -> u8 {
-    let (draft, fresh) = match stores.begin_draft(to) {
+fn copy_to<E: Lines>(rt: &HostRuntime, source: FileConnection, to: &str, errors: &mut E) -> u8 {
+    let (draft, fresh) = match Draft::begin(rt, to) {
         Ok(begun) => begun,
-        Err(cause) => {
-            stores.let_go(Some(source));
-            return tell_line(errors, &refused(stores, cause));
+        Err(failure) => {
+            close(Some(source));
+            return tell_line(errors, &failure);
         }
     };
-    let (status, source, left) = run_copy(rt.alloc(), source, fresh, false, errors);
-    let status = end_draft(stores, &draft, status, left, errors);
-    stores.let_go(source);
+    let mut left = None;
+    let (status, source) = copied(rt.alloc(), source, fresh, false, &mut left, errors);
+    let status = end_draft(rt, &draft, status, left, errors);
+    close(source);
     status
 }
 
 /// Opens a store, and copies it.
-fn backup_to<S: Alter + Drop, R: Stores<Store = Connection<S>>, E: Lines>(
-    rt: &HostRuntime,
-    stores: &R,
-    store: &str,
-    to: &str,
-    errors: &mut E,
-) -> u8 {
-    match stores.open_store(store, Wanted::Existing) {
-        Ok(source) => copy_to(rt, stores, source, to, errors),
-        Err(cause) => tell_line(errors, &refused(stores, cause)),
-    }
+fn backup_to<E: Lines>(rt: &HostRuntime, store: &str, to: &str, errors: &mut E) -> u8 {
+    let source = match open_viewed(rt, viewed(store, None)) {
+        Ok((source, _)) => source,
+        Err(failure) => return tell_line(errors, &failure),
+    };
+    copy_to(rt, source, to, errors)
 }
 
 /// The command `backup`: the store's file, which has to be there, is opened and copied to a file that is not there.
-pub fn backup<S: Alter + Drop, R: Stores<Store = Connection<S>>, E: Lines>(
-    rt: &HostRuntime,
-    stores: &R,
-    store: &str,
-    to: &str,
-    errors: &mut E,
-) -> u8 {
+pub fn backup<E: Lines>(rt: &HostRuntime, store: &str, to: &str, errors: &mut E) -> u8 {
     match is_unused(rt, to) {
-        Ok(true) => backup_to(rt, stores, store, to, errors),
+        Ok(true) => backup_to(rt, store, to, errors),
         Ok(false) => tell_fault(errors, &KeepingFault::BackupExists),
-        Err(cause) => tell_line(errors, &refused(stores, cause)),
+        Err(failure) => tell_line(errors, &failure),
     }
-}
-
-/// Compares a store with a copy, which is opened.
-fn compare_with<C: Alter + Drop, R: Stores<Copy = Connection<C>>, E: Lines>(
-    rt: &HostRuntime,
-    stores: &R,
-    store: Connection<C>,
-    copy: &str,
-    errors: &mut E,
-) -> u8 {
-    let copy = match stores.copy_backup(copy) {
-        Ok(copy) => copy,
-        Err(cause) => {
-            drop(store);
-            return tell_line(errors, &refused(stores, cause));
-        }
-    };
-    let (status, store, copy) = run_compare(rt.alloc(), store, copy, errors);
-    drop(store);
-    drop(copy);
-    status
 }
 
 /// The command `backup` that compares: copies of both stores' files in memory are opened, which have to be there, and it is
 /// told whether they have the same Office.
-pub fn check_backup<C: Alter + Drop, R: Stores<Copy = Connection<C>>, E: Lines>(
-    rt: &HostRuntime,
-    stores: &R,
-    store: &str,
-    copy: &str,
-    errors: &mut E,
-) -> u8 {
-    match stores.copy_store(store) {
-        Ok(store) => compare_with(rt, stores, store, copy, errors),
-        Err(cause) => tell_line(errors, &refused(stores, cause)),
+pub fn check_backup<E: Lines>(rt: &HostRuntime, store: &str, copy: &str, errors: &mut E) -> u8 {
+    let store = match open_locked_copy(rt, store) {
+        Ok(store) => store,
+        Err(failure) => return tell_line(errors, &failure),
+    };
+    match open_copy(rt, copy) {
+        Ok(copy) => compared(rt.alloc(), store, copy, errors),
+        Err(failure) => tell_line(errors, &failure),
     }
 }

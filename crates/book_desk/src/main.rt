@@ -5,13 +5,10 @@
 //! named, and `run_denials` of `book_desk_denials` does what `denials` does. `run_question` of `book_desk_questions` does what
 //! `why`, `who`, `rights`, `ask`, `show` and the `audit` of a part do, `run_dump` what `dump` does, and `run_differs` what
 //! `differs` does; `check` and `check_over` of `book_desk_checks` do what `check` does. Their contracts say what is
-//! written where these tell their bytes. Nothing stands above it.
-//!
-//! What is done with stores is written for any (`Stores` of `book_desk_files`); `main` alone hands over those of the
-//! runtime, and does what the words ask for (`run_command`). Read `inputs` first, which reads and opens what the words name, and
-//! tells each stage where standard error is a terminal; then `works`, and `keeping`, which has the commands that make stores,
-//! over `book_desk_keeping`, `examining`, `serving`, and `logs`, which has the log's file and `denials`; and `refusals`, which
-//! tells why the tables of a store were refused.
+//! written where these tell their bytes. Nothing stands above it: `main` joins them to the process, to the files
+//! (`files`, `folders`) and to the port, and tells each stage before it calls it, where standard error is a terminal
+//! (`progress`). The commands that make stores are in `keeping`, over `book_desk_keeping`; those that serve are in `serving`, and
+//! the log's file and `denials` in `logs`, over `book_desk_logs`.
 #![tactic(auto)]
 
 ghost use Rattle.std.specs.Prelude.{◌≡◌};
@@ -19,37 +16,48 @@ ghost use Rattle.book_desk_words.specs.WordsFaults.{words_status};
 
 mod beginnings;
 mod builds;
+mod causes;
 mod changes;
+mod drafts;
 mod examining;
+mod files;
 mod folders;
-mod inputs;
 mod keeping;
 mod logs;
-mod refusals;
+mod progress;
 mod serving;
-mod works;
 
-use book_desk_app::{Lines, Noting, TextCommand, Work};
-use book_desk_files::Stores;
+use beginnings::BEGINNING;
+use book_desk_app::{
+    Failure, InputFault, Lines, Noting, StoreFailure, TextCommand, Work, begin, run, run_migration,
+    run_text, tell, tell_line,
+};
+use book_desk_checks::{check, check_over};
 use book_desk_keeping::tell_fault;
-use book_desk_questions::{DecisionWords, PartWords, RightsWords, WhoWords, WhyWords, Words};
+use book_desk_questions::{
+    DecisionWords, PartWords, RightsWords, WhoWords, WhyWords, Words, run_differs, run_dump,
+    run_question,
+};
 use book_desk_words::{Command, WordsFault, command_of, words_not_text};
 use book_questions_audit::Wanted;
+use book_tables_schema::Unopened;
+use builds::BUILD;
 use changes::{LoadWords, changes_of};
 use examining::examine;
+use files::{FileConnection, Opened, close, open_former, open_inputs};
+use folders::{DiskFolder, make_folder, remove_folder};
 use keeping::{backup, check_backup, compact, load, restore};
 use logs::denials;
-use refusals::tell_why;
+use progress::{Stage, tell_stage};
 use serving::{Listening, Served, serve_named, socket_at};
 use sqlite::{Alter, Connection};
 use std::env;
-use std::io::{self, Write};
+use std::io::{self, BufReader, Write};
 use std::process::ExitCode;
 use std::rt::Env;
-use works::{
-    Named, ask, check_file, dump, init, migrate, print, print_help, print_version,
-    tell_differences, work,
-};
+
+/// The version of the stores that the program makes.
+const STORE_VERSION: u8 = 2;
 
 /// The words after the program's name.
 fn words_of(rt: &(impl Env + AllocGlobal)) -> Result<Vec<String>, WordsFault> {
@@ -69,6 +77,137 @@ fn refuse<E: Write>(errors: &mut E, fault: &WordsFault) -> u8
     // Where this can't be written, the status alone tells it.
     let _ = write!(errors, "{fault}");
     fault.status()
+}
+
+/// The commands that read one text, in blocks, and help.
+fn print<W: Write, E: Write>(
+    rt: &HostRuntime,
+    command: &TextCommand,
+    writer: &mut W,
+    errors: &mut E,
+) -> u8 {
+    match BufReader::new(rt.alloc(), rt.reader()) {
+        Ok(reader) => run_text(rt.alloc(), command, reader, writer, errors),
+        Err(_) => tell(errors, &Failure::Input(InputFault::Read)),
+    }
+}
+
+/// Prints what the program is: its name and version, the version of the stores that it makes, and how it was built.
+fn print_version<W: Write, E: Write>(
+    rt: &HostRuntime,
+    name: &str,
+    writer: &mut W,
+    errors: &mut E,
+) -> u8 {
+    match format!(in rt.alloc(); "{name}store version {STORE_VERSION}\n{BUILD}\n") {
+        Ok(text) => print(rt, &TextCommand::Help(text), writer, errors),
+        Err(_) => refuse(errors, &WordsFault::Memory),
+    }
+}
+
+/// The command `init`: the folder is made where it is missing, and the files in it. A folder that was made goes again where
+/// they were not.
+fn init<W: Write, E: Lines>(rt: &HostRuntime, path: &str, writer: &mut W, errors: &mut E) -> u8 {
+    let was_missing = match make_folder(rt, path) {
+        Ok(was_missing) => was_missing,
+        Err(fault) => return tell_line(errors, &Failure::Init(fault)),
+    };
+    let status = begin(&mut DiskFolder::new(rt, path), &BEGINNING, writer, errors);
+    if was_missing && status != 0 {
+        remove_folder(rt, path);
+    }
+    status
+}
+
+/// The files that the words name.
+#[derive(Clone, Copy)]
+struct Named<'a> {
+    /// The file of the store.
+    store: Option<&'a str>,
+    /// The file of the policy.
+    policy: Option<&'a str>,
+    /// Whether the store has to be there already.
+    existing: bool,
+}
+
+/// The commands `import`, `audit` and `pipe`: the policy's file is read, the store's file is opened, and the work done.
+fn work<W: Write, E: Lines>(
+    rt: &HostRuntime,
+    kind: Work,
+    named: Named<'_>,
+    writer: &mut W,
+    errors: &mut E,
+) -> u8 {
+    let Opened { store, policy } = match open_inputs(
+        rt,
+        named.store,
+        named.policy,
+        named.existing,
+    ) {
+        Ok(opened) => opened,
+        Err(failure) => return tell(errors, &failure),
+    };
+    if policy.is_some() {
+        tell_stage(rt, Stage::Adopting);
+    }
+    let mut reader = rt.reader();
+    let (status, connection) = run(rt.alloc(), kind, store, policy, &mut reader, writer, errors);
+    close(connection);
+    status
+}
+
+/// The command `check`: the policy's file is read, and each fault of it is told, or what it leaves open; over a store,
+/// which has to be there, where one is named.
+fn check_files<W: Write, E: Lines>(
+    rt: &HostRuntime,
+    named: Named<'_>,
+    strict: bool,
+    writer: &mut W,
+    errors: &mut E,
+) -> u8 {
+    let Opened { store, policy } = match open_inputs(rt, named.store, named.policy, true) {
+        Ok(opened) => opened,
+        Err(failure) => return tell_line(errors, &failure),
+    };
+    let Some(bytes) = policy else {
+        return tell_line(errors, &Failure::Input(InputFault::Read));
+    };
+    match store {
+        Some(store) => {
+            let (status, left) = check_over(rt.alloc(), bytes, strict, store, writer, errors);
+            close(left);
+            status
+        }
+        None => check(rt.alloc(), bytes, strict, writer, errors),
+    }
+}
+
+/// The connection that is left of a store. A store that could not be opened again is let go as it is.
+fn connection_of<S: Alter + Drop>(left: Unopened<S>) -> Option<Connection<S>> {
+    match left {
+        Unopened::Connection(connection) => Some(connection),
+        Unopened::Store(store) => {
+            drop(store);
+            None
+        }
+    }
+}
+
+/// The command `migrate`: the store's file, which has to be there, is opened and migrated.
+fn migrate<W: Write, E: Lines>(
+    rt: &HostRuntime,
+    store: &str,
+    writer: &mut W,
+    errors: &mut E,
+) -> u8 {
+    let opened = match open_former(rt, store) {
+        Ok(opened) => opened,
+        Err(failure) => return tell(errors, &failure),
+    };
+    tell_stage(rt, Stage::Migrating);
+    let (status, left) = run_migration(rt.alloc(), opened, writer, errors);
+    close(connection_of(left));
+    status
 }
 
 /// The words of `why`.
@@ -132,14 +271,96 @@ fn words_of_show<'a>(path: &'a str) -> Words<'a> {
     Words::Show(path)
 }
 
+/// Opens what is named for a command that looks at a store: the store's file has to be there.
+fn open_viewed(
+    rt: &HostRuntime,
+    named: Named<'_>,
+) -> Result<(FileConnection, Option<Vec<u8>>), Failure> {
+    let Opened { store, policy } = open_inputs(rt, named.store, named.policy, true)?;
+    match store {
+        Some(store) => Ok((store, policy)),
+        None => Err(Failure::Store(StoreFailure::NoStore)),
+    }
+}
+
+/// A store that is looked at.
+fn viewed<'a>(store: &'a str, policy: Option<&'a str>) -> Named<'a> {
+    Named {
+        store: Some(store),
+        policy,
+        existing: true,
+    }
+}
+
+/// The commands that ask: the store's file, which has to be there, is opened, and the question answered.
+fn ask<W: Write, E: Lines>(
+    rt: &HostRuntime,
+    store: &str,
+    words: &Words<'_>,
+    writer: &mut W,
+    errors: &mut E,
+) -> u8 {
+    let store = match open_viewed(rt, viewed(store, None)) {
+        Ok((store, _)) => store,
+        Err(failure) => return tell(errors, &failure),
+    };
+    let (status, left) = run_question(rt.alloc(), words, store, writer, errors);
+    close(left);
+    status
+}
+
+/// The command `dump`: the store's file, which has to be there, is opened, and its Office written.
+fn dump<W: Write, E: Lines>(rt: &HostRuntime, store: &str, writer: &mut W, errors: &mut E) -> u8 {
+    let store = match open_viewed(rt, viewed(store, None)) {
+        Ok((store, _)) => store,
+        Err(failure) => return tell(errors, &failure),
+    };
+    let (status, left) = run_dump(rt.alloc(), store, writer, errors);
+    close(left);
+    status
+}
+
+/// The command `differs`: the policy's file is read, the store's file, which has to be there, is opened, and what would
+/// change is told.
+fn tell_differences<W: Write, E: Lines>(
+    rt: &HostRuntime,
+    named: Named<'_>,
+    strict: bool,
+    writer: &mut W,
+    errors: &mut E,
+) -> u8 {
+    let (store, policy) = match open_viewed(rt, named) {
+        Ok(opened) => opened,
+        Err(failure) => return tell_line(errors, &failure),
+    };
+    let Some(bytes) = policy else {
+        return tell_line(errors, &Failure::Input(InputFault::Read));
+    };
+    let (status, left) = run_differs(rt.alloc(), bytes, strict, store, writer, errors);
+    close(left);
+    status
+}
+
+/// Prints the help that the words ask for.
+fn print_help<W: Write, E: Write>(
+    rt: &HostRuntime,
+    text: &str,
+    writer: &mut W,
+    errors: &mut E,
+) -> u8 {
+    match String::from_str(rt.alloc(), text) {
+        Ok(text) => print(rt, &TextCommand::Help(text), writer, errors),
+        Err(_) => refuse(errors, &WordsFault::Memory),
+    }
+}
+
 /// Does what the words ask for, and gives the status.
-fn perform<
-    S: Alter + Drop,
-    C: Alter + Drop,
-    R: Stores<Store = Connection<S>, Copy = Connection<C>>,
-    W: Write,
-    E: Lines,
->(rt: &HostRuntime, stores: &R, command: &Command, writer: &mut W, errors: &mut E) -> u8 {
+fn perform<W: Write, E: Lines>(
+    rt: &HostRuntime,
+    command: &Command,
+    writer: &mut W,
+    errors: &mut E,
+) -> u8 {
     match command {
         Command::Explain => print(rt, &TextCommand::Explain, writer, errors),
         Command::Card => print(rt, &TextCommand::Card, writer, errors),
@@ -152,21 +373,20 @@ fn perform<
                 policy: Some(policy.as_str()),
                 existing: false,
             };
-            work(rt, stores, Work::Import, named, writer, errors)
+            work(rt, Work::Import, named, writer, errors)
         }
         Command::Check {
             policy,
             strict,
             store,
-        } => check_file(
-            rt,
-            stores,
-            policy.as_str(),
-            *strict,
-            store.as_deref(),
-            writer,
-            errors,
-        ),
+        } => {
+            let named = Named {
+                store: store.as_deref(),
+                policy: Some(policy.as_str()),
+                existing: true,
+            };
+            check_files(rt, named, *strict, writer, errors)
+        }
         Command::Audit {
             store,
             existing,
@@ -179,7 +399,7 @@ fn perform<
                 policy: None,
                 existing: *existing,
             };
-            work(rt, stores, Work::Audit, named, writer, errors)
+            work(rt, Work::Audit, named, writer, errors)
         }
         Command::Audit {
             store,
@@ -193,7 +413,7 @@ fn perform<
                 labels: *labels,
             };
             let words = words_of_part(at.as_deref(), wanted);
-            ask(rt, stores, store.as_str(), &words, writer, errors)
+            ask(rt, store.as_str(), &words, writer, errors)
         }
         Command::Pipe { store, policy, log } => {
             let named = Named {
@@ -202,14 +422,14 @@ fn perform<
                 existing: false,
             };
             match log.as_deref() {
-                None => work(rt, stores, Work::Pipe, named, writer, errors),
-                log => serve_named(rt, stores, named, log, Served::Requests, writer, errors),
+                None => work(rt, Work::Pipe, named, writer, errors),
+                log => serve_named(rt, named, log, Served::Requests, writer, errors),
             }
         }
         Command::Denials { log, since, json } => {
             denials(rt, log.as_str(), since.as_deref(), *json, writer, errors)
         }
-        Command::Migrate { store } => migrate(rt, stores, store.as_str(), writer, errors),
+        Command::Migrate { store } => migrate(rt, store.as_str(), writer, errors),
         Command::Why {
             store,
             caller,
@@ -225,7 +445,7 @@ fn perform<
                 destination.as_deref(),
                 *json,
             );
-            ask(rt, stores, store.as_str(), &words, writer, errors)
+            ask(rt, store.as_str(), &words, writer, errors)
         }
         Command::Who {
             store,
@@ -235,7 +455,7 @@ fn perform<
             json,
         } => {
             let words = words_of_who(privilege.as_str(), path.as_str(), *denied, *json);
-            ask(rt, stores, store.as_str(), &words, writer, errors)
+            ask(rt, store.as_str(), &words, writer, errors)
         }
         Command::Rights {
             store,
@@ -245,7 +465,7 @@ fn perform<
             json,
         } => {
             let words = words_of_rights(at.as_deref(), caller.as_deref(), *shared, *json);
-            ask(rt, stores, store.as_str(), &words, writer, errors)
+            ask(rt, store.as_str(), &words, writer, errors)
         }
         Command::Ask {
             store,
@@ -254,13 +474,13 @@ fn perform<
             privileges,
         } => {
             let words = words_of_ask(caller.as_str(), path.as_str(), privileges.as_slice());
-            ask(rt, stores, store.as_str(), &words, writer, errors)
+            ask(rt, store.as_str(), &words, writer, errors)
         }
         Command::Show { store, path } => {
             let words = words_of_show(path.as_str());
-            ask(rt, stores, store.as_str(), &words, writer, errors)
+            ask(rt, store.as_str(), &words, writer, errors)
         }
-        Command::Dump { store } => dump(rt, stores, store.as_str(), writer, errors),
+        Command::Dump { store } => dump(rt, store.as_str(), writer, errors),
         Command::Load {
             store,
             dump,
@@ -284,7 +504,6 @@ fn perform<
             match changes_of(rt.alloc(), &words) {
                 Ok(changes) => load(
                     rt,
-                    stores,
                     store.as_str(),
                     dump.as_deref(),
                     changes.as_slice(),
@@ -297,11 +516,10 @@ fn perform<
         Command::Compact {
             store,
             forget_removed,
-        } => compact(rt, stores, store.as_str(), *forget_removed, writer, errors),
+        } => compact(rt, store.as_str(), *forget_removed, writer, errors),
         Command::Restore { store, from, paths } => {
             restore(
                 rt,
-                stores,
                 store.as_str(),
                 from.as_str(),
                 paths.as_slice(),
@@ -309,24 +527,19 @@ fn perform<
                 errors,
             )
         }
-        Command::Doctor { store } => examine(rt, stores, store.as_str(), writer, errors),
-        Command::Backup { store, to } => backup(rt, stores, store.as_str(), to.as_str(), errors),
+        Command::Doctor { store } => examine(rt, store.as_str(), writer, errors),
+        Command::Backup { store, to } => backup(rt, store.as_str(), to.as_str(), errors),
         Command::CheckBackup { store, copy } => {
-            check_backup(rt, stores, store.as_str(), copy.as_str(), errors)
+            check_backup(rt, store.as_str(), copy.as_str(), errors)
         }
         Command::Differs {
             store,
             policy,
             strict,
-        } => tell_differences(
-            rt,
-            stores,
-            store.as_str(),
-            policy.as_str(),
-            *strict,
-            writer,
-            errors,
-        ),
+        } => {
+            let named = viewed(store.as_str(), Some(policy.as_str()));
+            tell_differences(rt, named, *strict, writer, errors)
+        }
         Command::Serve {
             port,
             socket,
@@ -351,22 +564,9 @@ fn perform<
                 at_once: *at_once,
                 idle: *idle,
             });
-            serve_named(rt, stores, named, log.as_deref(), served, writer, errors)
+            serve_named(rt, named, log.as_deref(), served, writer, errors)
         }
     }
-}
-
-/// The same, and why the tables of a store were refused is told where that is wanted.
-fn run_command<
-    S: Alter + Drop,
-    C: Alter + Drop,
-    R: Stores<Store = Connection<S>, Copy = Connection<C>>,
-    W: Write,
-    E: Lines,
->(rt: &HostRuntime, stores: &R, command: &Command, writer: &mut W, errors: &mut E) -> u8 {
-    let status = perform(rt, stores, command, writer, errors);
-    tell_why(rt, stores, command, status);
-    status
 }
 
 fn main(rt: HostRuntime) -> ExitCode {
@@ -378,7 +578,7 @@ fn main(rt: HostRuntime) -> ExitCode {
     };
     let status = match command {
         Ok(command) => {
-            let status = run_command(&rt, &rt, &command, &mut writer, &mut errors);
+            let status = perform(&rt, &command, &mut writer, &mut errors);
             drop(command);
             status
         }

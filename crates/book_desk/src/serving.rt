@@ -1,14 +1,13 @@
 //! The commands that serve: `pipe` with a log, and `serve`.
 
-use crate::inputs::{read_named_policy, wanted_of};
+use crate::files::{close, open_store_named, read_policy_file};
 use crate::logs::{open_log, refuse_log};
-use crate::refusals::tell_refusal;
-use crate::works::{Named, connection_of, open_named};
+use crate::progress::{Stage, tell_stage};
+use crate::{Named, connection_of};
 use book_desk_app::{
     BROKEN, Failure, Lines, Prepared, StreamFailure, adopt_or_fail, given_policy, pipe, prepare,
     serve, serve_many, tell,
 };
-use book_desk_files::{Notices, Stage, Stores};
 use book_desk_logs::{LogFile, Pace, SystemClock};
 use book_desk_loop::{Limits, Polled};
 use book_desk_sockets::{Doors, LocalDoor, NotMade, SocketPath, make_socket};
@@ -365,19 +364,12 @@ fn serve_prepared<'r, S: Alter + Drop, W: Write, E: Lines>(
 }
 
 /// The connection that is left where nothing could be prepared. A store whose tables were not had is let go as it is.
-fn left_of<S: Alter + Drop>(
-    rt: &HostRuntime,
-    failure: &Failure,
-    left: Option<Unopened<S>>,
-) -> Option<Connection<S>> {
+fn left_of<S: Alter + Drop>(failure: &Failure, left: Option<Unopened<S>>) -> Option<Connection<S>> {
     match (failure, left) {
-        (Failure::Store(_), Some(left)) => {
-            if let Some(store) = connection_of(left) {
-                tell_refusal(rt, store, false);
-            }
+        (Failure::Store(_), left) => {
+            drop(left);
             None
         }
-        (Failure::Store(_), None) => None,
         (_, Some(left)) => connection_of(left),
         (_, None) => None,
     }
@@ -395,7 +387,7 @@ fn serve_opened<'r, S: Alter + Drop, W: Write, E: Lines>(
 ) -> (u8, Option<Connection<S>>) {
     match prepare(rt.alloc(), store, policy) {
         Ok(prepared) => serve_prepared(rt, prepared, logging, served, writer, errors),
-        Err((failure, left)) => (tell(errors, &failure), left_of(rt, &failure, left)),
+        Err((failure, left)) => (tell(errors, &failure), left_of(&failure, left)),
     }
 }
 
@@ -422,9 +414,8 @@ fn serve_with_log<'r, S: Alter + Drop, W: Write, E: Lines>(
 }
 
 /// Opens the store, if one is named, and serves.
-fn serve_store<'r, S: Alter + Drop, R: Stores<Store = Connection<S>>, W: Write, E: Lines>(
+fn serve_store<'r, W: Write, E: Lines>(
     rt: &'r HostRuntime,
-    stores: &R,
     named: Named<'_>,
     policy: Option<Vec<u8>>,
     log: Option<LogFile<'r, HostRuntime>>,
@@ -432,38 +423,37 @@ fn serve_store<'r, S: Alter + Drop, R: Stores<Store = Connection<S>>, W: Write, 
     writer: &mut W,
     errors: &mut E,
 ) -> u8 {
-    let store = match open_named(stores, named.store, wanted_of(named.existing)) {
+    let store = match open_store_named(rt, named.store, named.existing) {
         Ok(store) => store,
         Err(failure) => return tell(errors, &failure),
     };
     if policy.is_some() {
-        rt.tell_stage(Stage::Adopting);
+        tell_stage(rt, Stage::Adopting);
     }
     let (status, left) = match log {
         Some(log) => serve_with_log(rt, store, policy, log, served, writer, errors),
         None => serve_opened(rt, store, policy, None, served, writer, errors),
     };
-    stores.let_go(left);
+    close(left);
     status
 }
 
 /// The commands `serve`, and `pipe` with a log: the policy's file is read, the log and the store's file are opened,
 /// and what is to be served is.
-pub fn serve_named<S: Alter + Drop, R: Stores<Store = Connection<S>>, W: Write, E: Lines>(
+pub fn serve_named<W: Write, E: Lines>(
     rt: &HostRuntime,
-    stores: &R,
     named: Named<'_>,
     log: Option<&str>,
     served: Served<'_>,
     writer: &mut W,
     errors: &mut E,
 ) -> u8 {
-    let policy = match read_named_policy(rt, named.policy) {
+    let policy = match read_policy_file(rt, named.policy) {
         Ok(policy) => policy,
         Err(failure) => return tell(errors, &failure),
     };
     match open_log(rt, log, pace_of(served)) {
-        Ok(log) => serve_store(rt, stores, named, policy, log, served, writer, errors),
+        Ok(log) => serve_store(rt, named, policy, log, served, writer, errors),
         Err(_) => refuse_log(errors),
     }
 }

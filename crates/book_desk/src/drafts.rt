@@ -1,10 +1,10 @@
 //! Files of stores that are made under another name, and take their own when they are whole.
 
-use crate::causes::Cause;
-use crate::copies::remove_log;
-use crate::names::{identity_of, length_of, log_name, no_memory};
-use crate::opening::{Host, Wanted, holds_no_commit, open_store};
-use std::fs::{self, File, Files, OpenFile, OpenOptions};
+use crate::files::{
+    FileConnection, holds_no_commit, identity_of, length_of, log_name, open_made, remove_log,
+};
+use book_desk_app::{Failure, StoreFailure};
+use std::fs::{self, File, OpenOptions};
 use std::os::unix::fs::{MetadataExt, chown};
 use std::path::Path;
 
@@ -19,12 +19,16 @@ pub struct Draft {
     identity: Option<(u64, u64)>,
 }
 
+const FAILED: Failure = Failure::Store(StoreFailure::Store);
+
+const NO_MEMORY: Failure = Failure::Store(StoreFailure::Memory);
+
 /// Whether a store may be made at a name where none may be: its file has no byte, and its log holds no commit.
 ///
 /// # Errors
 ///
-/// Why the log can't be read.
-pub fn is_free(rt: &(impl Files + AllocGlobal), name: &str) -> Result<bool, Cause> {
+/// `Store` where a file can't be looked at.
+pub fn is_free(rt: &HostRuntime, name: &str) -> Result<bool, Failure> {
     if length_of(rt, name).unwrap_or(0) > 0 {
         return Ok(false);
     }
@@ -35,8 +39,8 @@ pub fn is_free(rt: &(impl Files + AllocGlobal), name: &str) -> Result<bool, Caus
 ///
 /// # Errors
 ///
-/// Why the log can't be read.
-pub fn is_unused(rt: &(impl Files + AllocGlobal), name: &str) -> Result<bool, Cause> {
+/// `Store` where a file can't be looked at.
+pub fn is_unused(rt: &HostRuntime, name: &str) -> Result<bool, Failure> {
     if length_of(rt, name).is_some() {
         return Ok(false);
     }
@@ -44,7 +48,7 @@ pub fn is_unused(rt: &(impl Files + AllocGlobal), name: &str) -> Result<bool, Ca
 }
 
 /// Empties the log of a store that was folded in, and syncs it; whether it is empty. What was removed may stand in it.
-pub(crate) fn empty_log(rt: &(impl Files + AllocGlobal), name: &str) -> bool {
+pub fn empty_log(rt: &HostRuntime, name: &str) -> bool {
     let Ok(log) = log_name(rt.alloc(), name) else {
         return false;
     };
@@ -58,13 +62,13 @@ pub(crate) fn empty_log(rt: &(impl Files + AllocGlobal), name: &str) -> bool {
 }
 
 /// Removes a store's file and its log, where they are there.
-pub(crate) fn remove(rt: &(impl Files + AllocGlobal), name: &str) {
+pub fn remove(rt: &HostRuntime, name: &str) {
     remove_log(rt, name);
     let _ = fs::remove_file(rt, name);
 }
 
 /// Syncs the folder in which a file is, so that its name stays after the machine stops.
-fn sync_folder<R: Files>(rt: &R, name: &str) -> bool {
+fn sync_folder(rt: &HostRuntime, name: &str) -> bool {
     let folder = match Path::new(name).parent() {
         Some(folder) if !folder.as_str().is_empty() => folder.as_str(),
         _ => ".",
@@ -76,7 +80,7 @@ fn sync_folder<R: Files>(rt: &R, name: &str) -> bool {
 }
 
 /// Gives a file the mode and the owner of the one that it is to replace, if there is one; whether it has them.
-fn take_access<R: Files>(rt: &R, made: &str, replaced: &str) -> bool {
+fn take_access(rt: &HostRuntime, made: &str, replaced: &str) -> bool {
     let Ok(old) = fs::metadata(rt, replaced) else {
         return true;
     };
@@ -96,27 +100,26 @@ impl Draft {
     ///
     /// # Errors
     ///
-    /// Why the file can't be made.
-    pub(crate) fn begin<R: Host>(rt: &R, name: &str) -> Result<(Draft, R::Opened), Cause> {
+    /// `Store` where the file can't be made.
+    pub fn begin(rt: &HostRuntime, name: &str) -> Result<(Draft, FileConnection), Failure> {
         let alloc = rt.alloc();
-        let (Ok(made), Ok(name)) = (
-            format!(in alloc; "{name}.new"),
-            String::from_str(alloc, name),
-        ) else {
-            return Err(no_memory(rt, name));
+        let Ok(made) = format!(in alloc; "{name}.new") else {
+            return Err(NO_MEMORY);
+        };
+        let Ok(name) = String::from_str(alloc, name) else {
+            return Err(NO_MEMORY);
         };
         remove(rt, made.as_str());
-        let connection = match open_store(rt, made.as_str(), Wanted::Any) {
-            Ok(connection) => connection,
-            Err(cause) => return Err(cause),
-        };
+        let connection = open_made(rt, made.as_str())?;
         let identity = identity_of(rt, made.as_str());
-        let draft = Draft {
-            name,
-            made,
-            identity,
-        };
-        Ok((draft, connection))
+        Ok((
+            Draft {
+                name,
+                made,
+                identity,
+            },
+            connection,
+        ))
     }
 
     /// The name that it is to have.
@@ -129,44 +132,48 @@ impl Draft {
     ///
     /// # Errors
     ///
-    /// Why that fails: the file that had the name has it still, but where the folder alone could not be synced.
-    pub(crate) fn keep<R: Host>(&self, rt: &R, connection: R::Opened) -> Result<(), Cause> {
-        let Some(held) = rt.close_files(connection) else {
-            self.discard(rt);
-            return Err(Cause::Failed);
+    /// `Store` where that fails: the file that had the name has it still, but where the folder alone could not be synced.
+    pub fn keep(&self, rt: &HostRuntime, connection: FileConnection) -> Result<(), Failure> {
+        let files = match connection.close_files() {
+            Ok(files) => files,
+            Err((_, store)) => {
+                drop(store);
+                self.discard(rt);
+                return Err(FAILED);
+            }
         };
         // It stays locked until it has its name.
         let kept = self.rename(rt);
-        drop(held);
+        drop(files);
         kept
     }
 
     /// Whether the file that was made still has the name under which it was.
-    fn is_there<R: Files>(&self, rt: &R) -> bool {
+    fn is_there(&self, rt: &HostRuntime) -> bool {
         self.identity.is_some() && identity_of(rt, self.made.as_str()) == self.identity
     }
 
     /// Gives the closed store its name. Its log holds no commit then.
-    fn rename<R: Files + AllocGlobal>(&self, rt: &R) -> Result<(), Cause> {
+    fn rename(&self, rt: &HostRuntime) -> Result<(), Failure> {
         if !self.is_there(rt) {
-            return Err(Cause::Replaced);
+            return Err(FAILED);
         }
         remove_log(rt, self.made.as_str());
         if !take_access(rt, self.made.as_str(), self.name.as_str())
             || fs::rename(rt, self.made.as_str(), self.name.as_str()).is_err()
         {
             self.discard(rt);
-            return Err(Cause::Failed);
+            return Err(FAILED);
         }
         if sync_folder(rt, self.name.as_str()) {
             Ok(())
         } else {
-            Err(Cause::Failed)
+            Err(FAILED)
         }
     }
 
     /// Removes what was made.
-    pub(crate) fn discard<R: Files + AllocGlobal>(&self, rt: &R) {
+    pub fn discard(&self, rt: &HostRuntime) {
         if self.is_there(rt) {
             remove(rt, self.made.as_str());
         }
