@@ -48,6 +48,17 @@ pub enum Cause {
     Failed,
     /// Others may read the file, which has this mode.
     Readable(u32),
+    /// The store is of this version, and the program makes those of the other.
+    OtherVersion(i64, u8),
+}
+
+/// What to do with a store of another version.
+fn advice_of(found: i64, made: u8) -> &'static str {
+    if found < i64::from(made) {
+        "run migrate"
+    } else {
+        "a newer program made it"
+    }
 }
 
 impl fmt::Display for Cause {
@@ -77,12 +88,19 @@ impl fmt::Display for Cause {
             Cause::Full => f.write_str("the disk is full"),
             Cause::Failed => f.write_str("a read or a write failed"),
             Cause::Readable(mode) => write!(f, "others may read the file: its mode is {mode:04o}"),
+            Cause::OtherVersion(found, made) => {
+                let advice = advice_of(*found, *made);
+                write!(
+                    f,
+                    "the store has version {found}, and this program has {made}: {advice}"
+                )
+            }
         }
     }
 }
 
 /// Whether the words of the program want causes.
-fn is_wanted(rt: &HostRuntime) -> bool {
+pub fn wants_causes(rt: &HostRuntime) -> bool {
     match env::args(rt) {
         Ok(words) => {
             for (at, word) in words.skip(1).enumerate() {
@@ -98,7 +116,15 @@ fn is_wanted(rt: &HostRuntime) -> bool {
 
 /// Tells a cause on standard error, on a line, where the words of the program want it.
 pub fn tell_cause(rt: &HostRuntime, cause: Cause) {
-    if is_wanted(rt) {
+    if wants_causes(rt) {
         let _ = writeln!(rt.stderr(), "cause: {cause}");
     }
+}
+
+/// Tells a row that breaks a rule as a cause, on a line.
+pub fn tell_row(rt: &HostRuntime, row: &[u8]) {
+    let mut errors = rt.stderr();
+    let _ = errors.write_all(b"cause: ");
+    let _ = errors.write_all(row);
+    let _ = errors.write_all(b"\n");
 }

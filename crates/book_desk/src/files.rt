@@ -406,26 +406,10 @@ fn in_memory(alloc: Global, bytes: &[u8]) -> Result<Memory, Failure>
     }
 }
 
-/// Opens a copy of a store's files in memory, so that they stay as they are. The store has to be there.
-///
-/// # Errors
-///
-/// `Store` where they can't be read, the file is missing or empty, or memory was refused.
-pub fn open_copy(rt: &HostRuntime, name: &str) -> Result<CopyConnection, Failure> {
-    if is_no_path(name) {
-        return Err(failure_by(rt, Cause::NoPath));
-    }
+/// Opens a copy of a store's files in memory. Where they hold none the cause is told, if it is to be.
+fn copy_now(rt: &HostRuntime, name: &str, tells: bool) -> Result<CopyConnection, Failure> {
     let alloc = rt.alloc();
     let bytes = read_bytes(rt, name)?;
-    if bytes.is_empty() {
-        return Err(failure_by(
-            rt,
-            match length_of(rt, name) {
-                None => Cause::Missing,
-                Some(_) => Cause::Empty,
-            },
-        ));
-    }
     let log = read_bytes(rt, log_name(alloc, name)?.as_str())?;
     let files = StoreFiles {
         log: in_memory(alloc, log.as_slice())?,
@@ -433,7 +417,29 @@ pub fn open_copy(rt: &HostRuntime, name: &str) -> Result<CopyConnection, Failure
     };
     match open_store_files(alloc, files, seed(rt)?, KEPT_IN_MEMORY) {
         Ok(connection) => Ok(connection),
-        Err((error, _left)) => Err(open_failure(rt, name, error)),
+        Err((error, _left)) => {
+            if tells {
+                Err(open_failure(rt, name, error))
+            } else {
+                Err(Failure::Store(StoreFailure::Store))
+            }
+        }
+    }
+}
+
+/// Opens a copy of a store's files in memory, so that they stay as they are. The store has to be there.
+///
+/// # Errors
+///
+/// `Store` where they can't be read, the file is missing or empty, or memory was refused.
+fn open_copy(rt: &HostRuntime, name: &str) -> Result<CopyConnection, Failure> {
+    if is_no_path(name) {
+        return Err(failure_by(rt, Cause::NoPath));
+    }
+    match length_of(rt, name) {
+        None => Err(failure_by(rt, Cause::Missing)),
+        Some(0) => Err(failure_by(rt, Cause::Empty)),
+        Some(_) => copy_now(rt, name, true),
     }
 }
 
@@ -466,11 +472,25 @@ fn copy_files(rt: &HostRuntime, from: &str, to: &str) -> Result<bool, Failure> {
     Ok(copy_file(rt, log.as_str(), copied.as_str()))
 }
 
-/// Opens a copy of a store's files that is made under a name, so that they stay as they are. The store has to be there.
+/// Copies a backup's files to a name that is not there; whether they are copied. Nothing else can write them meanwhile, but
+/// where they may not be written.
+fn copy_backup_files(rt: &HostRuntime, from: &str, to: &str) -> Result<bool, Failure> {
+    match lock(rt, from) {
+        Ok(locked) => {
+            let copied = copy_files(rt, from, to);
+            unlock(rt, from, locked);
+            copied
+        }
+        Err(error) if is_read_only(&error) => copy_files(rt, from, to),
+        Err(error) => Err(path_failure(rt, from, error)),
+    }
+}
+
+/// Opens a copy of a backup's files that is made under a name, so that they stay as they are. The backup has to be there.
 ///
 /// # Errors
 ///
-/// `Store` where they can't be read or copied, or the file is missing or empty.
+/// `Store` where they can't be read or copied, another program has them open, or the file is missing or empty.
 pub fn open_copied(rt: &HostRuntime, from: &str, to: &str) -> Result<FileConnection, Failure> {
     if is_no_path(from) {
         return Err(failure_by(rt, Cause::NoPath));
@@ -479,7 +499,7 @@ pub fn open_copied(rt: &HostRuntime, from: &str, to: &str) -> Result<FileConnect
         None => Err(failure_by(rt, Cause::Missing)),
         Some(0) => Err(failure_by(rt, Cause::Empty)),
         Some(_) => {
-            if copy_files(rt, from, to)? {
+            if copy_backup_files(rt, from, to)? {
                 open_store_file(rt, to, Wanted::Existing)
             } else {
                 Err(failure_by(rt, Cause::Failed))
@@ -495,10 +515,44 @@ pub fn remove_log(rt: &HostRuntime, name: &str) {
     }
 }
 
-/// Whether a log lies beside a store's file.
-fn has_log(rt: &HostRuntime, name: &str) -> Result<bool, Failure> {
-    let log = log_name(rt.alloc(), name)?;
-    Ok(length_of(rt, log.as_str()).is_some())
+/// A store's files, which nothing else can write as long as they are held.
+#[derive(Drop)]
+struct Locked {
+    held: StoreFiles<DiskFile>,
+    /// Whether there was a log before.
+    had_log: bool,
+}
+
+/// Takes the locks of a store's files. The store has to be there.
+fn lock(rt: &HostRuntime, name: &str) -> Result<Locked, OpenError> {
+    let Ok(log) = log_name(rt.alloc(), name) else {
+        return Err(OpenError::OutOfMemory);
+    };
+    let had_log = length_of(rt, log.as_str()).is_some();
+    match sqlite_std_file::open(rt, name, Unknown) {
+        Ok(held) => Ok(Locked { held, had_log }),
+        Err(error) => Err(error),
+    }
+}
+
+/// Lets the locks of a store's files go. A log that taking them made goes again.
+fn unlock(rt: &HostRuntime, name: &str, locked: Locked) {
+    let Locked { held, had_log } = locked;
+    if !had_log {
+        remove_log(rt, name);
+    }
+    drop(held);
+}
+
+/// Whether files can't be locked since they may not be written.
+fn is_read_only(error: &OpenError) -> bool {
+    match error {
+        OpenError::Io(error) => matches!(
+            error.kind(),
+            io::ErrorKind::PermissionDenied | io::ErrorKind::ReadOnlyFilesystem
+        ),
+        _ => false,
+    }
 }
 
 /// Opens a copy of a store's files in memory as `open_copy` does, while nothing else can write them. A log that opening them
@@ -511,18 +565,51 @@ pub fn open_locked_copy(rt: &HostRuntime, name: &str) -> Result<CopyConnection, 
     if length_of(rt, name).unwrap_or(0) == 0 || is_no_path(name) {
         return open_copy(rt, name);
     }
-    let had_log = has_log(rt, name)?;
-    let held = match sqlite_std_file::open(rt, name, Unknown) {
-        Ok(held) => held,
+    let locked = match lock(rt, name) {
+        Ok(locked) => locked,
         Err(error) => return Err(path_failure(rt, name, error)),
     };
     tell_mode(rt, name);
     let copy = open_copy(rt, name);
-    if !had_log {
-        remove_log(rt, name);
-    }
-    drop(held);
+    unlock(rt, name, locked);
     copy
+}
+
+/// The same of a backup, also of one that may not be written.
+///
+/// # Errors
+///
+/// Those of `open_locked_copy`.
+pub fn open_backup_copy(rt: &HostRuntime, name: &str) -> Result<CopyConnection, Failure> {
+    if length_of(rt, name).unwrap_or(0) == 0 || is_no_path(name) {
+        return open_copy(rt, name);
+    }
+    match lock(rt, name) {
+        Ok(locked) => {
+            tell_mode(rt, name);
+            let copy = open_copy(rt, name);
+            unlock(rt, name, locked);
+            copy
+        }
+        Err(error) if is_read_only(&error) => open_copy(rt, name),
+        Err(error) => Err(path_failure(rt, name, error)),
+    }
+}
+
+/// Opens a copy as `open_locked_copy` does, and tells no cause; none where it can't be had.
+pub fn open_untold_copy(rt: &HostRuntime, name: &str) -> Option<CopyConnection> {
+    if length_of(rt, name).unwrap_or(0) == 0 || is_no_path(name) {
+        return None;
+    }
+    let Ok(locked) = lock(rt, name) else {
+        return None;
+    };
+    let copy = copy_now(rt, name, false);
+    unlock(rt, name, locked);
+    match copy {
+        Ok(copy) => Some(copy),
+        Err(_) => None,
+    }
 }
 
 /// The path of a file, with no link in it.

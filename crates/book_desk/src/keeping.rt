@@ -3,8 +3,8 @@
 
 use crate::drafts::{Draft, empty_log, is_free, is_unused, remove};
 use crate::files::{
-    FileConnection, close, length_of, open_copied, open_copy, open_locked_copy, read_dump_bytes,
-    real_path,
+    FileConnection, close, length_of, open_backup_copy, open_copied, open_locked_copy,
+    read_dump_bytes, real_path,
 };
 use crate::{open_viewed, viewed};
 use book_desk_app::{Failure, Lines, StoreFailure, tell_line};
@@ -347,7 +347,7 @@ pub fn check_backup<E: Lines>(rt: &HostRuntime, store: &str, copy: &str, errors:
         Ok(store) => store,
         Err(failure) => return tell_line(errors, &failure),
     };
-    match open_copy(rt, copy) {
+    match open_backup_copy(rt, copy) {
         Ok(copy) => compared(rt.alloc(), store, copy, errors),
         Err(failure) => tell_line(errors, &failure),
     }

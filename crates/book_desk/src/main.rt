@@ -7,7 +7,7 @@
 //! `differs` does; `check` and `check_over` of `book_desk_checks` do what `check` does. Their contracts say what is
 //! written where these tell their bytes. Nothing stands above it: `main` joins them to the process, to the files
 //! (`files`, `folders`) and to the port, and tells each stage before it calls it, where standard error is a terminal
-//! (`progress`). The commands that make stores are in `keeping`, over `book_desk_keeping`; those that serve are in `serving`, and
+//! (`progress`); `refusals` tells why the tables of a store were refused. The commands that make stores are in `keeping`, over `book_desk_keeping`; those that serve are in `serving`, and
 //! the log's file and `denials` in `logs`, over `book_desk_logs`.
 #![tactic(auto)]
 
@@ -25,6 +25,7 @@ mod folders;
 mod keeping;
 mod logs;
 mod progress;
+mod refusals;
 mod serving;
 
 use beginnings::BEGINNING;
@@ -49,15 +50,13 @@ use folders::{DiskFolder, make_folder, remove_folder};
 use keeping::{backup, check_backup, compact, load, restore};
 use logs::denials;
 use progress::{Stage, tell_stage};
+use refusals::{STORE_VERSION, tell_why};
 use serving::{Listening, Served, serve_named, socket_at};
 use sqlite::{Alter, Connection};
 use std::env;
 use std::io::{self, BufReader, Write};
 use std::process::ExitCode;
 use std::rt::Env;
-
-/// The version of the stores that the program makes.
-const STORE_VERSION: u8 = 2;
 
 /// The words after the program's name.
 fn words_of(rt: &(impl Env + AllocGlobal)) -> Result<Vec<String>, WordsFault> {
@@ -579,6 +578,7 @@ fn main(rt: HostRuntime) -> ExitCode {
     let status = match command {
         Ok(command) => {
             let status = perform(&rt, &command, &mut writer, &mut errors);
+            tell_why(&rt, &command, status);
             drop(command);
             status
         }

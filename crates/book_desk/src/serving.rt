@@ -3,6 +3,7 @@
 use crate::files::{close, open_store_named, read_policy_file};
 use crate::logs::{open_log, refuse_log};
 use crate::progress::{Stage, tell_stage};
+use crate::refusals::tell_refusal;
 use crate::{Named, connection_of};
 use book_desk_app::{
     BROKEN, Failure, Lines, Prepared, StreamFailure, adopt_or_fail, given_policy, pipe, prepare,
@@ -364,12 +365,19 @@ fn serve_prepared<'r, S: Alter + Drop, W: Write, E: Lines>(
 }
 
 /// The connection that is left where nothing could be prepared. A store whose tables were not had is let go as it is.
-fn left_of<S: Alter + Drop>(failure: &Failure, left: Option<Unopened<S>>) -> Option<Connection<S>> {
+fn left_of<S: Alter + Drop>(
+    rt: &HostRuntime,
+    failure: &Failure,
+    left: Option<Unopened<S>>,
+) -> Option<Connection<S>> {
     match (failure, left) {
-        (Failure::Store(_), left) => {
-            drop(left);
+        (Failure::Store(_), Some(left)) => {
+            if let Some(store) = connection_of(left) {
+                tell_refusal(rt, store, false);
+            }
             None
         }
+        (Failure::Store(_), None) => None,
         (_, Some(left)) => connection_of(left),
         (_, None) => None,
     }
@@ -387,7 +395,7 @@ fn serve_opened<'r, S: Alter + Drop, W: Write, E: Lines>(
 ) -> (u8, Option<Connection<S>>) {
     match prepare(rt.alloc(), store, policy) {
         Ok(prepared) => serve_prepared(rt, prepared, logging, served, writer, errors),
-        Err((failure, left)) => (tell(errors, &failure), left_of(&failure, left)),
+        Err((failure, left)) => (tell(errors, &failure), left_of(rt, &failure, left)),
     }
 }
 
