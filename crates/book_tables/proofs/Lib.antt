@@ -60,3 +60,6 @@ pub mod ReadActing
 pub mod AdoptedOffices
 pub mod FoundMembers
 pub mod GroupsTold
+pub mod SearchedPairs
+pub mod NearbyPairs
+pub mod NearbyChains

@@ -1,11 +1,12 @@
 -- The rows of `reach` after a renewal: they hold what chains of the new pairs lead to.
-use Rattle.book_tables.proofs.Common.{◌≡◌, ◌≢◌, ℕ, ◌+◌, Bool, true, false, not, cond, ◌&&◌, ◌||◌, List, [], ◌∷◌, ◌++◌, find, Option, Some, None, is_some, refl, sym, ap, subst, ◌∙◌, and_parts, false_from_ne_true, find-append, option_or, bytes_eq, Text, next_rowid, Row, delete_where, all_weaker, Memberships, Membership, Office, by_names, Rows, has, IsNode, IsEntry, IsRemoved, Gives}
+use Rattle.book_tables.proofs.Common.{◌≡◌, ◌≢◌, ◌⊎◌, inl, inr, ℕ, Bool, true, false, not, cond, ◌&&◌, ◌||◌, List, [], ◌∷◌, ◌++◌, find, Option, Some, None, is_some, refl, sym, ap, subst, ◌∙◌, and_parts, false_from_ne_true, find-append, option_or, bytes_eq, Text, next_rowid, Row, delete_where, all_weaker, Memberships, Membership, Office, by_names, Rows, has, IsNode, IsEntry, IsRemoved, Gives}
 use mathlib.Core.Bool.{and-true, and-false}
 use Rattle.std.proofs.Common.{◌↔◌}
 use Rattle.std.proofs.lemmas.Bool.{false≢true}
 use Rattle.std.proofs.lemmas.Map.Text.{is_eq-slice_cmp}
 use Rattle.std.specs.FinSet as set
 use Rattle.book_lists.proofs.Pairing.{same_path, path_itself}
+use Rattle.book_lists.specs.Memberships.{IsReachOf}
 use Rattle.book_tables_rows.specs.Columns.{reach_group_place, reach_member_place}
 use Rattle.book_tables_rows.specs.Writes as writes
 use Rattle.book_tables_rows.specs.Writes.{Pair, is_pair, reach_row}
@@ -86,28 +87,41 @@ more_pairs (p ∷ more) rows m =
 
 -- ---- all of a renewal
 
--- two tests of one fact are equal
-same_tests : (a b : Bool) {P : Type 0} → (a ≡ true) ↔ P → (b ≡ true) ↔ P → a ≡ b
-same_tests true true x y = refl
-same_tests true false x y = absurd (false≢true (y.1 (x.0 refl)))
-same_tests false true x y = absurd (false≢true (x.1 (y.0 refl)))
-same_tests false false x y = refl
+module _ {P Q : Type 0} where
+  -- what closures of both tell of one pair
+  pub gone_by : (b a g : Bool) → (b ≡ true) ↔ P → (a ≡ true) ↔ Q → g ≡ (b && not a) → (g ≡ true) ↔ (P × ¬ Q)
+  gone_by true true g before after is = (λ e. absurd (false≢true (sym is ∙ e)), λ both. absurd (both.1 (after.0 refl)))
+  gone_by true false g before after is = (λ e. (before.0 refl, λ q. false≢true (after.1 q)), λ both. is)
+  gone_by false a g before after is = (λ e. absurd (false≢true (sym is ∙ e)), λ both. absurd (false≢true (before.1 both.0)))
+
+  pub stays_by : (b a g : Bool) → (b ≡ true) ↔ P → (a ≡ true) ↔ Q → g ≡ (b && not a) → P → (g ≡ true) ⊎ Q
+  stays_by b true g before after is p = inr (after.0 refl)
+  stays_by true false g before after is p = inl is
+  stays_by false false g before after is p = absurd (false≢true (before.1 p))
+
+  -- whether its row is there afterwards
+  has_now : (h g c : Bool) → (h ≡ true) ↔ P → (g ≡ true) ↔ (P × ¬ Q) → (c ≡ true) ↔ (Q × ¬ P) → (P → (g ≡ true) ⊎ Q) → ((c || (h && not g)) ≡ true) ↔ Q
+  has_now h g true had goes comes stays = (λ e. (comes.0 refl).0, λ q. refl)
+  has_now true true false had goes comes stays = (λ e. absurd (false≢true e), λ q. absurd ((goes.0 refl).1 q))
+  has_now true false false had goes comes stays = (λ e. elim (stays (had.0 refl)) [ inl gone ↦ absurd (false≢true gone) | inr q ↦ q ], λ q. refl)
+  has_now false g false had goes comes stays = (λ e. absurd (false≢true e), λ q. absurd (false≢true (comes.1 (q, λ p. false≢true (had.1 p)))))
 
 pub renewed_holds : (old new : Memberships) (gone come : List Pair) (rows : Rows) → Renews old new gone come → HoldsReach rows.reach old → HoldsReach (writes.renew_reach gone come rows).reach new
 renewed_holds old new gone come rows renews holds m =
-    let had : has_pair rows.reach m ≡ set.contains renews.before m = same_tests _ _ (holds m) (renews.before_is m.group m.member) in
-    let has : has_pair (writes.renew_reach gone come rows).reach m ≡ set.contains renews.after m =
-    more_pairs come (writes.delete_pairs gone rows) m
-    ∙ (λ i. renews.come_are m i || (fewer gone rows m ∙ (λ j. had j && not (renews.gone_are m j))) i)
-    ∙ now (set.contains renews.before m) (set.contains renews.after m) in
-    let reach = renews.after_is m.group m.member in
-    (λ is. reach.0 (sym has ∙ is), λ chain. has ∙ reach.1 chain)
-  where
-    now : (b a : Bool) → ((a && not b) || (b && not (b && not a))) ≡ a
-    now true true = refl
-    now true false = refl
-    now false true = refl
-    now false false = refl
+    let has : has_pair (writes.renew_reach gone come rows).reach m ≡ (is_among come m || (has_pair rows.reach m && not (is_among gone m))) =
+    more_pairs come (writes.delete_pairs gone rows) m ∙ ap (λ b. is_among come m || b) (fewer gone rows m) in
+    let now = has_now (has_pair rows.reach m) (is_among gone m) (is_among come m) (holds m) (renews.gone_are m) (renews.come_are m) (renews.stays m) in
+    (λ is. now.0 (sym has ∙ is), λ chain. has ∙ now.1 chain)
+
+-- the closures of both tell what goes and what comes
+pub renews_by : (old new before after : Memberships) (gone come : List Pair) → IsReachOf old before → IsReachOf new after
+    → ((m : Membership) → is_among gone m ≡ (set.contains before m && not (set.contains after m))) → ((m : Membership) → is_among come m ≡ (set.contains after m && not (set.contains before m)))
+    → Renews old new gone come
+renews_by old new before after gone come before_is after_is gone_are come_are = record {
+  gone_are = λ m. gone_by (set.contains before m) (set.contains after m) (is_among gone m) (before_is m.group m.member) (after_is m.group m.member) (gone_are m);
+  come_are = λ m. gone_by (set.contains after m) (set.contains before m) (is_among come m) (after_is m.group m.member) (before_is m.group m.member) (come_are m);
+  stays = λ m. stays_by (set.contains before m) (set.contains after m) (is_among gone m) (before_is m.group m.member) (after_is m.group m.member) (gone_are m);
+}
 
 -- ---- the other rows stay
 

@@ -14,3 +14,5 @@ pub mod Adopting
 pub mod Shares
 pub mod Levels
 pub mod Groups
+pub mod Searching
+pub mod Nearby

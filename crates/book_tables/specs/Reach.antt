@@ -10,15 +10,17 @@ use Rattle.sqlite.specs.Order.{Row, column}
 use Rattle.sqlite.specs.State.{State}
 use Rattle.book_lists.specs.Callers.{is_known}
 use Rattle.book_lists.specs.Circles.{CircleOf, belongs, has_path}
-use Rattle.book_lists.specs.Memberships.{Memberships, Chain, IsReachOf, membership_cmp}
+use Rattle.book_lists.specs.Memberships.{Memberships, Chain, membership_cmp}
 use Rattle.book_lists.specs.Principals.{IsGroup}
 use Rattle.book_lists.specs.declared.circles.Caller.{Caller}
 use Rattle.book_lists.specs.declared.circles.Caller.TheVariants.{Nobody, Known}
 use Rattle.book_lists.specs.declared.memberships.Membership.{Membership}
+use Rattle.book_office.specs.Edits.{members_set}
 use Rattle.book_tables_rows.specs.Rows.{Rows, rows_of, has, IsBook}
 use Rattle.book_tables_rows.specs.Steps.{Looks}
 use Rattle.book_tables_rows.specs.Writes.{Pair, is_pair}
 use Rattle.book_tables.specs.Rows.{has_member}
+use Rattle.book_tables.specs.declared.searching.Search.{Search}
 
 -- some row pairs the group with the member
 abbrev pub has_pair : List Row → Membership → Bool
@@ -40,14 +42,18 @@ is_among pairs m = list_any (λ (p : Pair). bytes_eq p.group m.group && bytes_eq
 abbrev pub PushesOther : Membership → Memberships → List Pair → List Pair → Type 0
 PushesOther pair others old new = (m : Membership) → is_among new m ≡ (is_among old m || (eq_by_cmp membership_cmp m pair && not (set.contains others m)))
 
--- the pairs that go and those that come where direct memberships become others: by the closures of both
+-- the pairs that go and those that come where direct memberships become others: those with a chain of the old ones alone, and of the new ones alone
 pub record Renews (old new : Memberships) (gone come : List Pair) : Type 0 where
-  pub before : Memberships
-  pub before_is : IsReachOf old before
-  pub after : Memberships
-  pub after_is : IsReachOf new after
-  pub gone_are : (m : Membership) → is_among gone m ≡ (set.contains before m && not (set.contains after m))
-  pub come_are : (m : Membership) → is_among come m ≡ (set.contains after m && not (set.contains before m))
+  pub gone_are : (m : Membership) → (is_among gone m ≡ true) ↔ (Chain old m.member m.group × ¬ Chain new m.member m.group)
+  pub come_are : (m : Membership) → (is_among come m ≡ true) ↔ (Chain new m.member m.group × ¬ Chain old m.member m.group)
+  -- a pair that has a chain goes, or has one afterwards
+  pub stays : (m : Membership) → Chain old m.member m.group → (is_among gone m ≡ true) ⊎ Chain new m.member m.group
+
+-- what goes and what comes of the pairs near some principals, where the group gets those of the members that are among these
+pub record RenewsNearby (s : Search) (group : List ℕ) (members : List (List ℕ)) (gone come : List Pair) : Type 0 where
+  pub kept : List (List ℕ)
+  pub are : (q : List ℕ) → has_path kept q ≡ (has_path members q && set.contains s.met q)
+  pub renews : Renews s.pairs (members_set s.pairs group kept) gone come
 
 -- ---- what a look-up tells
 

@@ -12,7 +12,9 @@
 //! connection back.
 //!
 //! The table `reach` holds what chains of direct members lead to: each edit of members renews it in its transaction by
-//! the difference (`renewals`), and `reached` asks it for the groups of a caller, in one look-up (`specs/Reach`).
+//! the difference (`renewals`), and `reached` asks it for the groups of a caller, in one look-up (`specs/Reach`). Where
+//! the members of one group are set the difference is that of the pairs near it (`nearby`, `specs/Nearby`), which two
+//! searches read (`searching`).
 //!
 //! `Tables` is a `Keeper`, over any store: `keeping` hands each call of the trait to the call of its name. To adopt a
 //! policy is to read the Office but for its cards, to compare it with what it becomes (`differences`), and to write the
@@ -33,11 +35,13 @@ mod laws;
 mod levels;
 mod listing_rows;
 mod members;
+mod nearby;
 mod opening;
 mod places;
 mod reaching;
 mod reading;
 mod renewals;
+mod searching;
 mod settings;
 mod settling;
 mod shares;

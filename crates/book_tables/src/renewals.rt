@@ -6,10 +6,15 @@ ghost use Rattle.std.specs.List.{list_any};
 ghost use Rattle.std.specs.Ordering.{eq_by_cmp};
 ghost use Rattle.book_lists.specs.Memberships.{membership_cmp};
 ghost use Rattle.book_lists.specs.declared.memberships.Membership.{Membership as MembershipOf};
+ghost use Rattle.book_office.specs.Edits.{members_set};
+ghost use Rattle.book_office.specs.Keeping.{Reads};
 ghost use Rattle.book_tables_rows.specs.Reach.{pair_said};
-ghost use Rattle.book_tables.specs.Reach.{PushesOther, Renews, is_among, pair_of};
+ghost use Rattle.book_tables.specs.Reach.{PushesOther, Renews, RenewsNearby, is_among, pair_of};
 
-use book_lists::{Membership, Pairs, closure};
+use crate::nearby::{Directs, met_among, near};
+use crate::searching::Search;
+use book_lists::{Membership, Pairs, Principal, closure};
+use book_office::{StoreFault, with_members};
 use book_tables_rows::ReachRow;
 use std::alloc::{AllocError, Global};
 
@@ -98,4 +103,68 @@ pub(crate) fn renewal_of(alloc: Global, old: &Pairs, new: &Pairs) -> Result<Rene
     let gone = without(alloc, &before, &after)?;
     let come = without(alloc, &after, &before)?;
     Ok(Renewal { gone, come })
+}
+
+/// What goes and what comes where a group gets direct members.
+fn renewal_for(
+    alloc: Global,
+    pairs: &Pairs,
+    group: &Principal,
+    members: &[Principal],
+) -> Result<Renewal, AllocError>
+    ensures { IfOk result (λ r. Renews pairs.now (members_set pairs.now group.now members.now)
+        (map pair_said r.gone.items) (map pair_said r.come.items)) }
+{
+    let new = with_members(alloc, pairs, group, members)?;
+    renewal_of(alloc, pairs, &new)
+}
+
+/// What goes and what comes of the pairs that a search has found.
+fn renewal_near(
+    alloc: Global,
+    near: &Search,
+    group: &Principal,
+    members: &[Principal],
+) -> Result<Renewal, AllocError>
+    ensures { IfOk result (λ r. RenewsNearby near.now group.now members.now
+        (map pair_said r.gone.items) (map pair_said r.come.items)) }
+{
+    let kept = met_among(alloc, members, &near.met)?;
+    renewal_for(alloc, &near.pairs, group, kept.as_slice())
+}
+
+/// What goes and what comes, by all pairs.
+fn whole_renewal<D: Directs>(
+    alloc: Global,
+    directs: &mut D,
+    group: &Principal,
+    members: &[Principal],
+) -> Result<Renewal, StoreFault>
+    ensures { Reads (D.standing directs.old) (D.standing directs.new) result
+        (λ o r. Renews o.pairs (members_set o.pairs group.now members.now)
+        (map pair_said r.gone.items) (map pair_said r.come.items)) }
+{
+    let pairs = directs.all(alloc)?;
+    let renewal = renewal_for(alloc, &pairs, group, members)?;
+    Ok(renewal)
+}
+
+/// What goes and what comes where a group gets direct members: by the pairs near those that come or go, or by all pairs
+/// where a search takes too many steps.
+pub(crate) fn renewal_at<D: Directs>(
+    alloc: Global,
+    directs: &mut D,
+    group: &Principal,
+    members: &[Principal],
+) -> Result<Renewal, StoreFault>
+    ensures { Reads (D.standing directs.old) (D.standing directs.new) result
+        (λ o r. Renews o.pairs (members_set o.pairs group.now members.now)
+        (map pair_said r.gone.items) (map pair_said r.come.items)) }
+{
+    let found = near(alloc, directs, group, members)?;
+    let Some(near) = found else {
+        return whole_renewal(alloc, directs, group, members);
+    };
+    let renewal = renewal_near(alloc, &near, group, members)?;
+    Ok(renewal)
 }

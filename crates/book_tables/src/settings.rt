@@ -3,22 +3,20 @@
 ghost use Rattle.std.specs.Prelude.{◌≡◌, map, option_map, string_bytes, IfOk, OnErr, OnOk};
 ghost use Rattle.sqlite.specs.Held.{state};
 ghost use Rattle.sqlite.specs.State.{HasCleanDisk, Survives};
-ghost use Rattle.book_office.specs.Edits.{members_set};
 ghost use Rattle.book_office.specs.Keeping.{Edits, failures_after};
 ghost use Rattle.book_office.specs.declared.edits.Edit.TheVariants.{SetList, SetMembers};
 ghost use Rattle.book_tables_rows.specs.Nodes.{said, setting_members};
 ghost use Rattle.book_tables_rows.specs.Reach.{pair_said};
 ghost use Rattle.book_tables_rows.specs.Steps.{Commits, MayLeave, Stays};
 ghost use Rattle.book_tables.specs.Keeps.{standing_of};
-ghost use Rattle.book_tables.specs.Reach.{Renews};
 ghost use Rattle.book_tables.specs.Rows.{form_code};
 ghost use Rattle.book_tables.specs.Settings.{entry_said, principal_said};
 
 use crate::faults::fault_of;
-use crate::renewals::{Renewal, renewal_of};
+use crate::renewals::{Renewal, renewal_at};
 use crate::tables::{Tables, text_of};
-use book_lists::{Entry, Pairs, Principal, Who};
-use book_office::{StoreFault, with_members};
+use book_lists::{Entry, Principal, Who};
+use book_office::StoreFault;
 use book_office_values::{Items, Path};
 use book_tables_rows::{EntryRow, set_list, set_members};
 use sqlite::Alter;
@@ -86,20 +84,6 @@ fn paths_of(alloc: Global, principals: &[Principal]) -> Result<Vec<String>, Allo
     Ok(paths)
 }
 
-/// How `reach` is renewed where a group gets direct members.
-fn renewal_for(
-    alloc: Global,
-    pairs: &Pairs,
-    group: &Principal,
-    members: &[Principal],
-) -> Result<Renewal, AllocError>
-    ensures { IfOk result (λ r. Renews pairs.now (members_set pairs.now group.now members.now)
-        (map pair_said r.gone.items) (map pair_said r.come.items)) }
-{
-    let new = with_members(alloc, pairs, group, members)?;
-    renewal_of(alloc, pairs, &new)
-}
-
 impl<S: Alter> Tables<S> {
     /// ACL (RFC 3744, section 8.1): the resource gets this own list, in this order, and keeps its protected one; the
     /// epoch rises. `Memory` is want of memory, `Store` any other failure.
@@ -156,8 +140,9 @@ impl<S: Alter> Tables<S> {
     }
 
     /// PROPPATCH of a group-member-set (RFC 3744, section 4.3): the group gets these direct members, and `reach` is
-    /// renewed in the same transaction; the epoch rises. All pairs are read before. `Memory` is want of memory, `Store`
-    /// any other failure, among them a member that is named twice.
+    /// renewed in the same transaction; the epoch rises. Before, the pairs near those that come or go are read, and all
+    /// where these are many. `Memory` is want of memory, `Store` any other failure, among them a member that is named
+    /// twice.
     pub fn set_members(
         &mut self,
         alloc: Global,
@@ -168,9 +153,8 @@ impl<S: Alter> Tables<S> {
             (standing_of (state S.Store self.new.connection) self.new.failures) result
             (SetMembers group.now members.now) }
     {
-        let pairs = self.pairs(alloc)?;
         let paths = paths_of(alloc, members.as_slice())?;
-        let renewal = renewal_for(alloc, &pairs, group, members.as_slice())?;
+        let renewal = renewal_at(alloc, self, group, members.as_slice())?;
         self.write_members(group, paths.as_slice(), &renewal)
     }
 }

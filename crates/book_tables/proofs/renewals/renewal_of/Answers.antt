@@ -1,11 +1,9 @@
+use Rattle.book_tables.proofs.Common.{map}
+use Rattle.book_tables_rows.specs.Reach.{pair_said}
+use Rattle.book_tables.proofs.RenewedReach.{renews_by}
 use Rattle.book_tables.proofs.renewals.renewal_of.Goals as goal
 
 pub returns : goal.returns
-returns c = record {
-  before = c.in_ok-before.before;
-  before_is = c.in_ok-before.ensures;
-  after = c.in_ok-after.after;
-  after_is = c.in_ok-after.ensures;
-  gone_are = c.in_ok-gone.ensures;
-  come_are = c.in_ok-come.ensures;
-}
+returns c =
+    renews_by c.args.old.now c.args.new.now c.in_ok-before.before c.in_ok-after.after (map pair_said c.in_ok-gone.gone.items) (map pair_said c.in_ok-come.come.items)
+    c.in_ok-before.ensures c.in_ok-after.ensures c.in_ok-gone.ensures c.in_ok-come.ensures

@@ -1,8 +1,8 @@
 use Rattle.book_tables.proofs.Common.{◌≡◌, rules, IfOk-weaker, state, Memberships}
 use Rattle.std.proofs.Common.{IfOk}
 use Rattle.book_tables.proofs.PairsTold.{AreTold}
-use Rattle.book_tables.proofs.GroupsTold.{group_shown}
-use Rattle.book_tables.proofs.group_members.shown_group.Goals as goal
+use Rattle.book_tables.proofs.GroupsTold.{pairs_shown_at}
+use Rattle.book_tables.proofs.group_members.shown_at.Goals as goal
 
 pub returns-clause-found : goal.returns-clause-found
 returns-clause-found g c clean =
@@ -10,4 +10,4 @@ returns-clause-found g c clean =
     let rows = c.in_ok-rows.rows.items in
     let same : c.deref.result.now ≡ rows = search rules in
     let told : IfOk c.pairs_of.result (λ (pairs : Memberships). AreTold pairs rows) = rw same at c.pairs_of.ensures in
-    IfOk-weaker c.pairs_of.result _ _ (λ pairs are. group_shown c.args.group.now old rows pairs (c.in_ok-rows.ensures.found clean) are) told
+    IfOk-weaker c.pairs_of.result _ _ (λ pairs are. pairs_shown_at c.args.way c.args.at.now old rows pairs (c.in_ok-rows.ensures.found clean) are) told
