@@ -216,13 +216,13 @@ fn removed(rt: &HostRuntime, path: &str) -> io::Result<(bool, bool)> {
     Ok((before, mode_at(rt, path).is_some()))
 }
 
-/// Where a file is that is no socket, which is left.
-fn beside_a_file(rt: &HostRuntime, path: &str) -> io::Result<Made> {
+/// Where a file is that is no socket: why none was made, and whether the file has its text still.
+fn beside_a_file(rt: &HostRuntime, path: &str) -> io::Result<(Option<NotMade>, bool)> {
     fs::write(rt, path, "a text")?;
     let (made, _) = made_at(rt, path, 0o600)?;
-    let length = fs::read(rt, path)?.len() as u32;
+    let kept = fs::read(rt, path)?.as_slice() == "a text".as_bytes();
     fs::remove_file(rt, path)?;
-    Ok((made, Some(length)))
+    Ok((made, kept))
 }
 
 #[test]
@@ -238,7 +238,7 @@ fn a_socket_that_answers_stays(rt: HostRuntime) {
     let left = removed(&rt, path.as_str()).expect(&rt, "memory");
     assert_eq!(rt; left, (true, false));
     let file = beside_a_file(&rt, path.as_str()).expect(&rt, "a file");
-    assert_eq!(rt; file, (Some(NotMade::Failed), Some(6)));
+    assert_eq!(rt; file, (Some(NotMade::Failed), true));
     // The folder in which sockets are made is gone: this one is empty.
     fs::remove_dir(&rt, folder.as_str()).expect(&rt, "an empty folder");
 }
