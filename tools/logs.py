@@ -267,11 +267,17 @@ def read_line(text):
     return line if isinstance(line, dict) and compact(line).encode() == text else None
 
 
+def is_planted(line):
+    """Whether a planted word stands in a line beside its entry, which may name the planted member as any person."""
+    told = read_line(line)
+    return told is None or PLANTED in compact({key: value for key, value in told.items() if key != "entry"})
+
+
 def compare(count, name, text, talks, model, began):
     """Compares the text of a log with what was asked and answered over each connection, in the order of the log."""
     left, last, ended = [collections.deque(talk) for talk in talks], began, now(0.001)
     count.judge(f"{name}: the last line is ended", True, text[-1:] in (b"", b"\n"))
-    count.judge(f"{name}: planted words", [], [line for line in text.split(b"\n") if PLANTED.encode() in line][:1])
+    count.judge(f"{name}: planted words", [], [line for line in text.split(b"\n") if PLANTED.encode() in line and is_planted(line)][:1])
     for raw in text.split(b"\n")[:-1]:
         line = read_line(raw)
         moment = (line or {}).get("time", "")
