@@ -1,7 +1,8 @@
 //! The connections of a listener, many at once.
 
 ghost use Rattle.std.specs.Prelude.{◌≡◌, List, [], cond};
-ghost use Rattle.book_wire_serving.specs.Serving.{Answered, Runs};
+ghost use Rattle.book_wire_serving.specs.Serving.{Answered};
+ghost use Rattle.book_wire_steps.specs.Steps.{ServesInSteps};
 ghost use Rattle.book_desk_app.specs.AtOnce.{ServesAtOnce, last_line, served_status, stop_failure};
 ghost use Rattle.book_desk_app.specs.Telling.{Tells};
 
@@ -15,6 +16,7 @@ use book_desk_loop::{Faults, Limits, Readiness, Stop, serve_at_once};
 use book_desk_sockets::Listens;
 use book_wire::StreamFault;
 use book_wire_serving::Service;
+use book_wire_steps::Control;
 use std::alloc::Global;
 use std::io::{Read, Write};
 use std::net::{OpenListener, OpenStream};
@@ -29,6 +31,8 @@ const NO_MORE: &str = "stream: no more are told\n";
 struct Told<E> {
     errors: E,
     sound: bool,
+    /// How many had one.
+    count: u64,
     /// How many lines on clients may be told yet.
     lines: u16,
 }
@@ -44,6 +48,7 @@ impl<E: Lines> Faults for Told<E> {
 
     fn tell(&mut self, fault: StreamFault) {
         self.sound = false;
+        self.count = self.count.saturating_add(1);
         if self.lines == 0 {
             return;
         }
@@ -54,6 +59,10 @@ impl<E: Lines> Faults for Told<E> {
         }
         // Where this can't be written, the status of the program alone tells it.
         tell_line(&mut self.errors, &Failure::Stream(StreamFailure { fault }));
+    }
+
+    fn count(&self) -> u64 {
+        self.count
     }
 }
 
@@ -86,16 +95,19 @@ fn status_of<E: Lines>(errors: &mut E, served: Result<(), Stop>, sound: bool) ->
 /// where none had a fault, else 3; it is 3 at once where that can't be said, or a connection can't be accepted. The fault of
 /// each client is told on `errors`, as a line, and at most 1,000 lines: the last says that no more are told. Where there is
 /// no end of connections, and the store has failed and shows nothing, that is told, and the status is 3. Where a line of the
-/// log could not be written, that is told, once, and the status is 3.
+/// log could not be written, that is told, once, and the status is 3. Where a control wished an end, it is as after the last
+/// connection.
 ///
-/// Whatever the order in which the bytes of the connections come, each is answered for its own requests alone, and the
-/// requests of all are one run, in the order in which they were completed. What each stream gave and was given is what
+/// Whatever the order in which the bytes of the connections come, each is answered for its own requests alone. The requests
+/// of all, in the order in which they were completed, and the policies that the control adopted between two of them, are steps
+/// in one order; where the server is not administered the requests are one run. What each stream gave and was given is what
 /// its connection received and was sent; why each was let go is known.
 pub fn serve_many<
     M: Service,
     S: Read + Write + OpenStream + Drop,
     L: OpenListener<Stream = S> + Listens,
     P: Readiness<S>,
+    C: Control<M>,
     W: Write,
     E: Lines,
 >(
@@ -103,6 +115,7 @@ pub fn serve_many<
     service: M,
     listener: &L,
     readiness: &mut P,
+    control: &mut C,
     limits: Limits,
     writer: &mut W,
     mut errors: E,
@@ -112,8 +125,8 @@ pub fn serve_many<
         (E.is_whole errors) (E.is_whole result.1) (E.Write.contents errors)
         (E.Write.contents result.1) (W.contents writer.old)
         (W.contents writer.new) result.2 result.0 }
-    ensures runs { (answered : List Answered)
-        × Runs (M.serving service) (M.serving result.0) answered }
+    ensures steps { (answered : List Answered)
+        × ServesInSteps M.serving limits.is_administered service result.0 answered }
 {
     if let Err(failure) = say_where(listener, writer) {
         let status = tell_line(&mut errors, &failure);
@@ -122,12 +135,16 @@ pub fn serve_many<
     let mut told = Told {
         errors,
         sound: true,
+        count: 0,
         lines: LINES_ON_CLIENTS,
     };
-    let (service, served) = serve_at_once(alloc, service, listener, readiness, limits, &mut told);
+    let (service, served) = serve_at_once(
+        alloc, service, listener, readiness, control, limits, &mut told,
+    );
     let Told {
         mut errors,
         sound,
+        count: _,
         lines: _,
     } = told;
     let status = status_of(&mut errors, served, sound);

@@ -1,6 +1,6 @@
 -- Many connections, a step at a time.
 use Rattle.std.proofs.Common.{zero, suc, ◌≡◌, ℕ, ◌+◌, ◌<◌, ◌≤◌, ◌⊎◌, ◌==◌, Bool, true, false, if◌then◌else◌, List, [], ◌∷◌, ◌++◌, map, length, get_or, take, drop, Option, Some, None, refl, sym, ap, subst, ◌∙◌, inl, inr, append_assoc, append-nil, length-append, arith, eq-eqb}
-use Rattle.std.proofs.lemmas.List.{map-append, take-append-drop, take-append-le, length-set, get_or-set_same, get_or-set_other, get_or_append_left, get_or_default}
+use Rattle.std.proofs.lemmas.List.{take-append-drop, take-append-le, length-set, get_or-set_same, get_or-set_other, get_or_append_left, get_or_default}
 use Rattle.std.proofs.lemmas.List.Concat.{flat_map-append}
 use Rattle.std.proofs.lemmas.Bool.{cases_eq, false≢true}
 use Rattle.std.proofs.lemmas.Bool.Decides.{nat_tests}
@@ -12,10 +12,10 @@ use Rattle.book_wire_serving.specs.Serving.{Answered, Runs, Serving, Stays}
 use Rattle.book_wire.specs.Stream.{Exchange, IsOpen, IsPartial, IsServed, Waits, Ends, SoFar, text_of, reply_text, answered_of}
 use Rattle.book_wire.specs.Turn.{StopsWriting, StopsAt}
 use Rattle.book_wire.specs.declared.stream.Ended.TheVariants.{Closed}
-use Rattle.book_wire_serving.proofs.Servings.{runs_none, runs_then, stays}
+use Rattle.book_wire_serving.proofs.Servings.{runs_none, stays}
 use Rattle.book_wire.proofs.Streams.{all_append, ends_then, joined}
 use Rattle.book_desk_loop.specs.declared.connections.Accepted.{Accepted}
-use Rattle.book_desk_loop.specs.ManyConnections.{History, nothing, Entry, answered_in, entries, own, with_history, grows, receives, is_sent, IsThere, IsBehind, EndsSomehow, Holds, AreServed, number_in, number_at}
+use Rattle.book_desk_loop.specs.ManyConnections.{History, nothing, Entry, answered_in, entries, own, with_history, receives, is_sent, IsThere, IsBehind, EndsSomehow, Holds, AreServed, number_in, number_at}
 
 pub same : (k : ℕ) → (k == k) ≡ true
 same k = eq-eqb k k refl

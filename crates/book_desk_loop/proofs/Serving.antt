@@ -1,18 +1,18 @@
 -- The loop, a change at a time.
-use Rattle.std.proofs.Common.{zero, suc, slice_set, ◌≡◌, ◌≢◌, ◌⊎◌, ℕ, ◌+◌, ◌<◌, ◌≤◌, inl, inr, Bool, true, false, is_some, List, [], ◌∷◌, ◌++◌, length, get_or, map, Option, Some, None, Result, Ok, Err, refl, sym, ap, subst, ◌∙◌, arith, append_assoc, append-nil, length-append}
+use Rattle.std.proofs.Common.{zero, suc, slice_set, ◌≡◌, ◌≢◌, ◌⊎◌, ℕ, ◌+◌, ◌<◌, ◌≤◌, inl, inr, Bool, true, false, is_some, List, [], ◌∷◌, ◌++◌, length, get_or, map, Option, Some, None, Result, Ok, Err, refl, sym, ap, subst, ◌∙◌, arith, append_assoc, append-nil}
 use Rattle.std.proofs.lemmas.Bool.{cases_eq, cases_lt, false≢true}
 use Rattle.std.proofs.lemmas.List.{get_or_default, get_or_past, get_or-set_same, get_or-set_other, map-append}
 use Rattle.std.specs.Prelude.{IfOk, IfSome, OnOk}
-use Rattle.book_wire.specs.Connection.{View, fresh}
 use Rattle.book_wire_serving.specs.Serving.{Answered, Runs, Serving}
 use Rattle.book_wire.specs.Stream.{Exchange, IsPartial, Waits, answered_of}
 use Rattle.book_wire.specs.declared.stream.StreamFault.{StreamFault}
-use Rattle.book_wire_serving.proofs.Servings.{runs_none, runs_then, stays}
+use Rattle.book_wire_steps.specs.Steps.{OnlyAdopts, ServesInSteps}
+use Rattle.book_wire_steps.proofs.Takes.{in_steps_adopted, in_steps_none, in_steps_served, only_sound}
 use Rattle.book_desk_loop.specs.Closing.{DropsSome}
-use Rattle.book_desk_loop.specs.ManyConnections.{History, nothing, Entry, AreServed, IsThere, Holds, AllStay, OthersStay, answered_in, entries, grows, own, number_at}
-use Rattle.book_desk_loop.specs.Streams.{HasNoWhole, IsMoved, WasAtEnd, IsDoneAt, IsIdleAt, IsAnsweredAt, IsStillAt, IsWithinAt, TakesATurn}
+use Rattle.book_desk_loop.specs.ManyConnections.{History, nothing, Entry, AreServed, IsThere, Holds, OthersStay, answered_in, entries, grows, own, number_at}
+use Rattle.book_desk_loop.specs.Streams.{HasNoWhole, IsMoved, WasAtEnd, IsDoneAt, IsIdleAt, IsAnsweredAt, IsStillAt, IsWithinAt}
 use Rattle.book_desk_loop.specs.Streams.IsMoved.{rests, moves_on}
-use Rattle.book_desk_loop.specs.Serving.{Line, line_at, line_of, LinesStay, OtherLinesStay, ToldFault, told_of, count_unopened, HaveCome, IsOneFewer, count_held, IsCarriedBy, MayGiveWayAt, MayGo, MayGoAt, WasLetGo, AreKept, IsKept, KeepsOn, GoesOn, RestStays, LetsGo, TurnsAt, Begins, BeginsAt, BeginsNone, EndsSo, HasFailedLog, HasSoundLog, StoreHasFailed, AreServedAtOnce}
+use Rattle.book_desk_loop.specs.Serving.{Line, line_at, line_of, LinesStay, OtherLinesStay, ToldFault, told_of, count_unopened, AreCounted, HaveCome, HaveAllCome, IsCutShort, IsOneFewer, count_held, IsCarriedBy, MayGiveWayAt, MayGo, MayGoAt, WasLetGo, AreKept, IsKept, KeepsOn, GoesOn, RestStays, LetsGo, TurnsAt, Begins, BeginsAt, BeginsNone, EndsSo, HasFailedLog, HasSoundLog, StoreHasFailed, AreServedAtOnce}
 use Rattle.book_desk_loop.specs.declared.connections.Accepted.{Accepted}
 use Rattle.book_desk_loop.specs.declared.connections.Connections.{Connections}
 use Rattle.book_desk_loop.specs.declared.moves.Turn.{Turn}
@@ -186,7 +186,7 @@ module _ {S : Type 0} (remaining contents : S → Option (List ℕ)) where
       histories = x.histories;
       log = x.log;
       served = x.served;
-      runs = x.runs;
+      in_steps = x.in_steps;
       here = λ i l h. (let y = x.here i l h in (y.0, s.stay i ∙ y.1, y.2));
       sound = x.sound;
       later = x.later;
@@ -207,7 +207,7 @@ module _ {S : Type 0} (remaining contents : S → Option (List ℕ)) where
       histories = x.histories;
       log = x.log;
       served = x.served;
-      runs = x.runs;
+      in_steps = x.in_steps;
       here = here;
       sound = x.sound;
       later = x.later;
@@ -248,7 +248,7 @@ module _ {S : Type 0} (remaining contents : S → Option (List ℕ)) where
       histories = x.histories;
       log = x.log;
       served = goes.served x.histories x.log x.served;
-      runs = rw goes.service x.runs;
+      in_steps = rw goes.service x.in_steps;
       here = λ i l h.
           let far : i ≡ place → ⊥ = not_at place i new.connections.places.items l goes.gone h in
           let y = x.here i l (still_holds place i old.connections.places.items new.connections.places.items l goes.others far h) in
@@ -314,16 +314,17 @@ module _ {S : Type 0} (remaining contents : S → Option (List ℕ)) where
       histories = grows x.histories k came went;
       log = x.log ++ entries k more;
       served = served;
-      runs =
-          let P : List Answered → Type 0 = λ t. Runs (serving first) (serving new.service) t in
+      in_steps =
+          let P : List Answered → Type 0 = λ t. ServesInSteps serving limits.is_administered first new.service t in
           subst P (sym (map-append answered_in x.log (entries k more)))
-          (runs_then _ _ _ (map answered_in x.log) (map answered_in (entries k more)) x.runs (entries_run _ _ k more runs));
+          (in_steps_served serving limits.is_administered first old.service new.service (map answered_in x.log) (map answered_in (entries k more)) x.in_steps
+          (entries_run _ _ k more runs));
       here = here;
       sound = sound;
       later = λ j above. (let P : ℕ → Type 0 = λ n. n ≤ j in x.later j (subst P opened above));
       nobody = nobody_at;
       gone = gone;
-      came = (let P : ℕ → Type 0 = λ n. HaveCome limits.total left (n + (count_unopened faults + count_held held)) in subst P (sym opened) x.came);
+      came = (let P : ℕ → Type 0 = λ n. HaveCome limits left (n + (count_unopened faults + count_held held)) in subst P (sym opened) x.came);
     }
       where
         number_is : (m : Accepted) → Holds new.places.items place m → m.number ≡ k
@@ -422,10 +423,11 @@ module _ {S : Type 0} (remaining contents : S → Option (List ℕ)) where
       histories = grows x.histories k came went;
       log = x.log ++ entries k more;
       served = served;
-      runs =
-          let P : List Answered → Type 0 = λ t. Runs (serving first) (serving new.service) t in
+      in_steps =
+          let P : List Answered → Type 0 = λ t. ServesInSteps serving limits.is_administered first new.service t in
           subst P (sym (map-append answered_in x.log (entries k more)))
-          (runs_then _ _ _ (map answered_in x.log) (map answered_in (entries k more)) x.runs (entries_run _ _ k more runs));
+          (in_steps_served serving limits.is_administered first old.service new.service (map answered_in x.log) (map answered_in (entries k more)) x.in_steps
+          (entries_run _ _ k more runs));
       here = here;
       sound = λ i m h. alike m.number (apart i m h) ∙ x.sound i m (before i m h);
       later = λ j above.
@@ -437,7 +439,7 @@ module _ {S : Type 0} (remaining contents : S → Option (List ℕ)) where
       nobody = nobody_at;
       gone = gone;
       came =
-          let P : ℕ → ℕ → Type 0 = λ n m. HaveCome limits.total left (n + (m + count_held held)) in
+          let P : ℕ → ℕ → Type 0 = λ n m. HaveCome limits left (n + (m + count_held held)) in
           subst (λ m. P new.opened m) (sym count) (subst (λ n. P n (count_unopened faults)) (sym opened) x.came);
     }
       where
@@ -552,14 +554,14 @@ module _ {S : Type 0} (remaining contents : S → Option (List ℕ)) where
       histories = x.histories;
       log = x.log;
       served = begins.served x.histories x.log x.served;
-      runs = rw begins.service x.runs;
+      in_steps = rw begins.service x.in_steps;
       here = here;
       sound = sound;
       later = λ k above. (let opened = at_place.opened in x.later k (omega (arith, above, opened)));
       nobody = nobody_at;
       gone = gone;
       came =
-          let P : ℕ → Type 0 = λ n. HaveCome limits.total old.left n in
+          let P : ℕ → Type 0 = λ n. HaveCome limits old.left n in
           let opened = at_place.opened in
           let same : old.connections.opened + (count_unopened faults + 1) ≡ new.connections.opened + (count_unopened faults + 0) = omega (arith, opened) in
           subst P same x.came;
@@ -634,7 +636,7 @@ module _ {S : Type 0} (remaining contents : S → Option (List ℕ)) where
       histories = x.histories;
       log = x.log;
       served = begins.served x.histories x.log x.served;
-      runs = rw begins.service x.runs;
+      in_steps = rw begins.service x.in_steps;
       here = λ i m h. (let y = x.here i m (before i m h) in (y.0, none.lines.stay i ∙ y.1, y.2));
       sound = λ i m h. told_elsewhere m.number faults fault ∙ x.sound i m (before i m h);
       later = λ k above. told_elsewhere k faults fault ∙ x.later k (omega (arith, above, opened));
@@ -645,7 +647,7 @@ module _ {S : Type 0} (remaining contents : S → Option (List ℕ)) where
           (x.gone (subst Sound begins.service sound_log) k (omega (arith, within, opened)) (λ i m h e.
           nobody_is i m (holds_of new.connections.places.items i m (none.places.stay i ∙ h.1)) e));
       came =
-          let P : ℕ → Type 0 = λ n. HaveCome limits.total old.left n in
+          let P : ℕ → Type 0 = λ n. HaveCome limits old.left n in
           let one : count_unopened (faults ++ one_told None fault) ≡ count_unopened faults + 1 = unopened_one faults None fault in
           let e : old.connections.opened + (count_unopened faults + 1) ≡ new.connections.opened + (count_unopened (faults ++ one_told None fault) + 0) = omega (arith, opened, one) in
           subst P e x.came;
@@ -664,7 +666,7 @@ module _ {S : Type 0} (remaining contents : S → Option (List ℕ)) where
       histories = x.histories;
       log = x.log;
       served = begins.served x.histories x.log x.served;
-      runs = rw begins.service x.runs;
+      in_steps = rw begins.service x.in_steps;
       here = λ i m h. (let y = x.here i m (before i m h) in (y.0, none.lines.stay i ∙ y.1, y.2));
       sound = λ i m h.
           let within : m.number < k = (x.served.here i m (before i m h)).0 in
@@ -676,7 +678,7 @@ module _ {S : Type 0} (remaining contents : S → Option (List ℕ)) where
       nobody = λ i e. none.lines.stay i ∙ x.nobody i (sym (none.places.stay i) ∙ e);
       gone = gone;
       came =
-          let P : ℕ → Type 0 = λ n. HaveCome limits.total old.left n in
+          let P : ℕ → Type 0 = λ n. HaveCome limits old.left n in
           let one : count_unopened (faults ++ one_told (Some k) fault) ≡ count_unopened faults + 0 = unopened_one faults (Some k) fault in
           let e : old.connections.opened + (count_unopened faults + 1) ≡ new.connections.opened + (count_unopened (faults ++ one_told (Some k) fault) + 0) = omega (arith, opened, one) in
           subst P e x.came;
@@ -734,18 +736,30 @@ module _ {S : Type 0} (remaining contents : S → Option (List ℕ)) where
       histories = x.histories;
       log = x.log;
       served = x.served;
-      runs = x.runs;
+      in_steps = x.in_steps;
       here = x.here;
       sound = x.sound;
       later = x.later;
       nobody = x.nobody;
       gone = x.gone;
       came =
-          let P : Option S → Type 0 = λ t. HaveCome limits.total left (connections.opened + (count_unopened faults + count_held t)) in
-          one_more limits.total left left_then connections.opened (count_unopened faults) (subst P none x.came) fewer;
+          let P : Option S → Type 0 = λ t. HaveCome limits left (connections.opened + (count_unopened faults + count_held t)) in
+          elim (subst P none x.came) [
+            | inl counted ↦ inl (one_more limits.total left left_then connections.opened (count_unopened faults) counted fewer)
+            | inr cut ↦ absurd (not_fewer left left_then cut.0 fewer)
+          ];
     }
       where
-        one_more : (total a b : Option ℕ) (n m : ℕ) → HaveCome total a (n + (m + 0)) → IsOneFewer a b → HaveCome total b (n + (m + 1))
+        not_fewer : (a b : Option ℕ) → a ≡ Some 0 → IsOneFewer a b → ⊥
+        not_fewer None b e f = cc (e)
+        not_fewer (Some a) None e f = f
+        not_fewer (Some a) (Some b) e f = (let z : a ≡ 0 = ap (λ (t : Option ℕ). or_zero t) e in omega (arith, z, f))
+          where
+            or_zero : Option ℕ → ℕ
+            or_zero None = 0
+            or_zero (Some n) = n
+
+        one_more : (total a b : Option ℕ) (n m : ℕ) → AreCounted total a (n + (m + 0)) → IsOneFewer a b → AreCounted total b (n + (m + 1))
         one_more None None b n m h f = f
         one_more None (Some a) b n m h f = absurd (some_none a h)
           where
@@ -900,6 +914,34 @@ module _ {S M : Type 0} (remaining contents : S → Option (List ℕ)) (serving 
             )
       ]
 
+  -- something was done beside the requests
+  kept_beside : (limits : Limits) (first : M) (faults : List ToldFault) (old new : Server M S) → RestStays remaining contents serving old new
+      → new.connections.places.items ≡ old.connections.places.items → new.connections.opened ≡ old.connections.opened
+      → new.sockets.items ≡ old.sockets.items
+      → (HasSoundLog remaining contents serving new.connections.service → HasSoundLog remaining contents serving old.connections.service)
+      → (x : AreKept remaining contents serving limits first faults old.connections old.sockets.items old.left old.held)
+      → ServesInSteps serving limits.is_administered first new.connections.service (map answered_in x.log)
+      → AreKept remaining contents serving limits first faults new.connections new.sockets.items new.left new.held
+  kept_beside limits first faults old new rest places opened sockets was_sound x in_steps =
+      let P : List (Option (Socket S)) → Type 0 = λ t. AreKept remaining contents serving limits first faults new.connections t old.left old.held in
+      rest_kept limits first faults old new new.connections new.sockets.items rest (subst P (sym sockets) (record {
+        histories = x.histories;
+        log = x.log;
+        served =
+            let Q : ℕ → Type 0 = λ n. AreServed x.histories x.log n new.connections.places.items in
+            let R : List (Option Accepted) → Type 0 = λ t. AreServed x.histories x.log old.connections.opened t in
+            subst Q (sym opened) (subst R (sym places) x.served);
+        in_steps = in_steps;
+        here = λ i l h. (let Q : List (Option Accepted) → Type 0 = λ t. Holds t i l in x.here i l (subst Q places h));
+        sound = λ i l h. (let Q : List (Option Accepted) → Type 0 = λ t. Holds t i l in x.sound i l (subst Q places h));
+        later = λ k above. (let Q : ℕ → Type 0 = λ n. n ≤ k in x.later k (subst Q opened above));
+        nobody = λ i e. (let Q : List (Option Accepted) → Type 0 = λ t. get_or t i None ≡ None in x.nobody i (subst Q places e));
+        gone = λ sound_log k within none.
+            let Q : ℕ → Type 0 = λ n. k < n in
+            x.gone (was_sound sound_log) k (subst Q opened within) (λ i l h. (let R : List (Option Accepted) → Type 0 = λ t. Holds t i l in none i l (subst R (sym places) h)));
+        came = rw opened x.came;
+      }))
+
   -- the Office was looked at
   pub keeps_read : (old new : Server M S) → RestStays remaining contents serving old new
       → Runs (serving old.connections.service) (serving new.connections.service) []
@@ -907,31 +949,55 @@ module _ {S M : Type 0} (remaining contents : S → Option (List ℕ)) (serving 
       → new.sockets.items ≡ old.sockets.items → KeepsOn remaining contents serving old new
   keeps_read old new rest runs places opened sockets limits first faults y =
       let x = y.1 in
-      let P : List (Option (Socket S)) → Type 0 = λ t. AreKept remaining contents serving limits first faults new.connections t old.left old.held in (
+      let P : List Answered → Type 0 = λ t. ServesInSteps serving limits.is_administered first new.connections.service t in (
         rest.limits ∙ y.0,
-        rest_kept limits first faults old new new.connections new.sockets.items rest (subst P (sym sockets) (record {
-          histories = x.histories;
-          log = x.log;
-          served =
-              let Q : ℕ → Type 0 = λ n. AreServed x.histories x.log n new.connections.places.items in
-              let R : List (Option Accepted) → Type 0 = λ t. AreServed x.histories x.log old.connections.opened t in
-              subst Q (sym opened) (subst R (sym places) x.served);
-          runs =
-              let Q : List Answered → Type 0 = λ t. Runs (serving first) (serving new.connections.service) t in
-              subst Q (append-nil (map answered_in x.log)) (runs_then _ _ _ (map answered_in x.log) [] x.runs runs);
-          here = λ i l h. (let Q : List (Option Accepted) → Type 0 = λ t. Holds t i l in x.here i l (subst Q places h));
-          sound = λ i l h. (let Q : List (Option Accepted) → Type 0 = λ t. Holds t i l in x.sound i l (subst Q places h));
-          later = λ k above. (let Q : ℕ → Type 0 = λ n. n ≤ k in x.later k (subst Q opened above));
-          nobody = λ i e. (let Q : List (Option Accepted) → Type 0 = λ t. get_or t i None ≡ None in x.nobody i (subst Q places e));
-          gone = λ sound_log k within none.
-              let Q : ℕ → Type 0 = λ n. k < n in
-              x.gone (runs.noted.was_sound sound_log) k (subst Q opened within) (λ i l h. (let R : List (Option Accepted) → Type 0 = λ t. Holds t i l in none i l (subst R (sym places) h)));
-          came = rw opened x.came;
-        })),
+        kept_beside limits first faults old new rest places opened sockets runs.noted.was_sound x
+            (subst P (append-nil (map answered_in x.log))
+            (in_steps_served serving limits.is_administered first old.connections.service new.connections.service (map answered_in x.log) [] x.in_steps runs)),
+      )
+
+  -- the control had its turn, which may adopt
+  pub keeps_adopted : (old new : Server M S) → old.limits.is_administered ≡ true → RestStays remaining contents serving old new
+      → OnlyAdopts serving old.connections.service new.connections.service
+      → new.connections.places.items ≡ old.connections.places.items → new.connections.opened ≡ old.connections.opened
+      → new.sockets.items ≡ old.sockets.items → KeepsOn remaining contents serving old new
+  keeps_adopted old new may rest only places opened sockets limits first faults y =
+      let x = y.1 in
+      let may_now : limits.is_administered ≡ true = subst (λ (t : Limits). t.is_administered ≡ true) y.0 may in (
+        rest.limits ∙ y.0,
+        kept_beside limits first faults old new rest places opened sockets
+            (only_sound serving old.connections.service new.connections.service only) x
+            (in_steps_adopted serving limits.is_administered first old.connections.service new.connections.service (map answered_in x.log) may_now x.in_steps only),
       )
 
   pub keeps_then : (a b c : Server M S) → KeepsOn remaining contents serving a b → KeepsOn remaining contents serving b c → KeepsOn remaining contents serving a c
   keeps_then a b c x y limits first faults s = y limits first faults (x limits first faults s)
+
+  -- none is to come any more, as the control wishes, which may
+  pub ends_now : (old new : Server M S) → old.limits.is_administered ≡ true → new.limits ≡ old.limits → new.left ≡ Some 0 → new.held ≡ old.held
+      → new.connections ≡ old.connections → new.sockets.items ≡ old.sockets.items → KeepsOn remaining contents serving old new
+  ends_now old new may limits_stay left held connections sockets limits first faults y = (
+    limits_stay ∙ y.0,
+    (let x = y.1 in
+        let C : Connections M → Type 0 = λ t. AreKept remaining contents serving limits first faults t new.sockets.items new.left new.held in
+        let T : List (Option (Socket S)) → Type 0 = λ t. AreKept remaining contents serving limits first faults old.connections t new.left new.held in
+        let L : Option ℕ → Type 0 = λ t. AreKept remaining contents serving limits first faults old.connections old.sockets.items t new.held in
+        let H : Option S → Type 0 = λ t. AreKept remaining contents serving limits first faults old.connections old.sockets.items (Some 0) t in
+        subst C (sym connections) (subst T (sym sockets) (subst L (sym left) (subst H (sym held) (record {
+          histories = x.histories;
+          log = x.log;
+          served = x.served;
+          in_steps = x.in_steps;
+          here = x.here;
+          sound = x.sound;
+          later = x.later;
+          nobody = x.nobody;
+          gone = x.gone;
+          came =
+              let may_now : limits.is_administered ≡ true = subst (λ (t : Limits). t.is_administered ≡ true) y.0 may in
+              elim x.came [ inl counted ↦ inr (refl, (may_now, (old.left, counted))) | inr cut ↦ inr (refl, cut.1) ];
+        }))))),
+  )
 
   -- one whose last reply is sent begins to close
   pub closes_at : (place : ℕ) (old new : Server M S) → RestStays remaining contents serving old new → new.connections ≡ old.connections
@@ -1213,16 +1279,16 @@ module _ {S M : Type 0} (remaining contents : S → Option (List ℕ)) (serving 
         let P : ℕ → Type 0 = λ n. AreServed (λ k. nothing) [] n connections.places.items in
         let Q : List (Option Accepted) → Type 0 = λ t. AreServed (λ k. nothing) [] 0 t in
         subst P (sym opened) (subst Q (sym places) nobody);
-    runs = rw same (runs_none _ _ (stays _));
+    in_steps = in_steps_none serving limits.is_administered first connections.service same;
     here = λ i l h. (let P : List (Option Accepted) → Type 0 = λ t. i < length t in let below : i < 0 = subst P places h.0 in absurd (omega (arith, below)));
     sound = λ i l h. (let P : List (Option Accepted) → Type 0 = λ t. i < length t in let below : i < 0 = subst P places h.0 in absurd (omega (arith, below)));
     later = λ k above. refl;
     nobody = λ i e. ap (λ (t : Option (Socket S)). line_of t) (get_or_past [] i None (omega arith));
     gone = λ sound_log k within none. absurd (omega (arith, within, opened));
-    came = all_to_come limits.total;
+    came = inl (all_to_come limits.total);
   }
     where
-      all_to_come : (total : Option ℕ) → HaveCome total total (connections.opened + (0 + 0))
+      all_to_come : (total : Option ℕ) → AreCounted total total (connections.opened + (0 + 0))
       all_to_come None = refl
       all_to_come (Some n) = omega (arith, opened)
 
@@ -1246,7 +1312,7 @@ module _ {S M : Type 0} (remaining contents : S → Option (List ℕ)) (serving 
     log = y.1.log;
     opened = server.connections.opened;
     all = y.1.served.all;
-    runs = rw same y.1.runs;
+    in_steps = rw same y.1.in_steps;
     done = by result done;
     store = λ e.
         let x = subst Ends (store e) ends in
@@ -1266,21 +1332,27 @@ module _ {S M : Type 0} (remaining contents : S → Option (List ℕ)) (serving 
 
       by : (r : Result (Unit {0}) Stop) → OnOk r (ended ≡ Ok rounds.Done)
           → OnOk r (((k : ℕ) → k < server.connections.opened → WasLetGo remaining contents limits (told_of k faults) (own k y.1.log) (y.1.histories k))
-          × (limits.total ≡ Some (server.connections.opened + count_unopened faults)))
+          × HaveAllCome limits (server.connections.opened + count_unopened faults))
       by (Err e) is = tt
       by (Ok u) is =
           let x = y.1 in
           let d = subst Ends is ends in
-          let P : Option ℕ → Type 0 = λ t. HaveCome limits.total t (server.connections.opened + (count_unopened faults + count_held server.held)) in
-          let Q : Option S → Type 0 = λ t. HaveCome limits.total (Some 0) (server.connections.opened + (count_unopened faults + count_held t)) in (
+          let P : Option ℕ → Type 0 = λ t. HaveCome limits t (server.connections.opened + (count_unopened faults + count_held server.held)) in
+          let Q : Option S → Type 0 = λ t. HaveCome limits (Some 0) (server.connections.opened + (count_unopened faults + count_held t)) in (
             λ k within. x.gone d.3 k within (λ i l h e. absurd (let z = x.here i l h in no_line z.0 (sym (d.2 i) ∙ z.1))),
-            all_came limits.total server.connections.opened (count_unopened faults) (subst Q d.1 (subst P d.0 x.came)),
+            elim (subst Q d.1 (subst P d.0 x.came)) [
+              | inl counted ↦ inl (all_came limits.total server.connections.opened (count_unopened faults) counted)
+              | inr cut ↦ inr (cut_short server.connections.opened (count_unopened faults) cut.1)
+            ],
           )
         where
           none_some : (n : ℕ) → (◌≡◌) {A = Option ℕ} (Some n) None → ⊥
           none_some n e = cc
 
-          all_came : (total : Option ℕ) (n m : ℕ) → HaveCome total (Some 0) (n + (m + 0)) → total ≡ Some (n + m)
+          cut_short : (n m : ℕ) → IsCutShort limits (n + (m + 0)) → IsCutShort limits (n + m)
+          cut_short n m x = (let e : n + (m + 0) ≡ n + m = omega arith in let P : ℕ → Type 0 = λ k. IsCutShort limits k in subst P e x)
+
+          all_came : (total : Option ℕ) (n m : ℕ) → AreCounted total (Some 0) (n + (m + 0)) → total ≡ Some (n + m)
           all_came None n m h = absurd (none_some 0 h)
           all_came (Some t) n m h = (let e : t ≡ n + m = omega (arith, h) in ap (λ (k : ℕ). Some k) e)
 
@@ -1295,7 +1367,7 @@ module _ {S M : Type 0} (remaining contents : S → Option (List ℕ)) (serving 
     log = [];
     opened = 0;
     all = nobody.all;
-    runs = runs_none _ _ (stays _);
+    in_steps = in_steps_none serving limits.is_administered first first refl;
     done = by result _ done;
     store = λ e. absurd (differ rounds.StoreFailed (store e));
     for_log = λ e. elim (for_log e) [ inl failed ↦ failed | inr is ↦ absurd (differ rounds.LogFailed is) ];

@@ -1,5 +1,5 @@
 -- A connection and its stream, a move at a time.
-use Rattle.std.proofs.Common.{◌≡◌, ◌≢◌, ℕ, ◌⊎◌, inl, inr, Bool, true, false, List, [], ◌∷◌, ◌++◌, map, Option, Some, None, refl, sym, ap, subst, ◌∙◌, append_assoc, append-nil}
+use Rattle.std.proofs.Common.{◌≡◌, ℕ, ◌⊎◌, inl, inr, Bool, true, List, [], ◌++◌, map, Option, refl, sym, ap, subst, ◌∙◌, append_assoc, append-nil}
 use Rattle.std.proofs.lemmas.List.{map-append}
 use Rattle.std.proofs.lemmas.Bool.{cases_eq}
 use Rattle.std.specs.Io.KnownBytes.{Appends, Consumes, IsAtEnd}
@@ -11,7 +11,7 @@ use Rattle.book_desk_loop.specs.declared.connections.Connections.{Connections}
 use Rattle.book_desk_loop.specs.ManyConnections.{History, Entry, AreServed, Holds, OthersStay, entries, grows, receives, is_sent, number_at, with_history}
 use Rattle.book_desk_loop.specs.Streams.{IsMoved, WasAtEnd, IsStillAt, Serves, TakesATurn}
 use Rattle.book_desk_loop.specs.Streams.IsMoved.{rests, reads, writes, moves_on}
-use Rattle.book_desk_loop.proofs.Histories.{entries_append, history_here, history_there, like, holds_one, number_held}
+use Rattle.book_desk_loop.proofs.Histories.{entries_append, history_here, history_there, like, number_held}
 use Rattle.book_desk_loop.proofs.Places.{others_then}
 
 -- ---- what it received and was sent

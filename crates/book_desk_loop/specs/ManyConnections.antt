@@ -1,9 +1,9 @@
 -- Many connections of one machine (RFC 9112, section 9): whatever the order in which their bytes come, each is answered for its own
 -- requests alone, and the requests of all are one run of the machine, in the order in which they were completed.
-use Rattle.std.specs.Prelude.{◌≡◌, ◌≢◌, ℕ, ◌<◌, ◌≤◌, ◌⊎◌, true, false, ◌==◌, if◌then◌else◌, List, [], ◌∷◌, ◌++◌, map, length, get_or, Option, Some, None}
+use Rattle.std.specs.Prelude.{◌≡◌, ◌≢◌, ℕ, ◌<◌, ◌≤◌, ◌⊎◌, true, false, ◌==◌, if◌then◌else◌, List, [], ◌∷◌, ◌++◌, length, get_or, Option, Some, None}
 use Rattle.std.specs.List.{flat_map, AllByRecursion}
 use Rattle.book_wire.specs.Connection.{View}
-use Rattle.book_wire_serving.specs.Serving.{Answered, Runs, Serving}
+use Rattle.book_wire_serving.specs.Serving.{Answered}
 use Rattle.book_wire.specs.Stream.{Exchange, IsExchange, IsOpen, IsPartial, IsTold, EndsOpen, Waits, text_of, reply_text, answered_of}
 use Rattle.book_wire.specs.declared.stream.Ended.TheVariants.{Closed}
 use Rattle.book_desk_loop.specs.declared.connections.Accepted.{Accepted}

@@ -1,12 +1,13 @@
 -- The loop: connections and their sockets, each at the place of its connection.
-use Rattle.std.specs.Prelude.{◌≡◌, ◌≢◌, ◌⊎◌, ℕ, ◌+◌, ◌<◌, ◌≤◌, Bool, true, false, is_some, ◌==◌, if◌then◌else◌, List, [], ◌∷◌, ◌++◌, length, get_or, map, Option, Some, None, Result, Err, OnOk}
+use Rattle.std.specs.Prelude.{◌≡◌, ◌≢◌, ◌⊎◌, ℕ, ◌+◌, ◌<◌, ◌≤◌, Bool, true, false, is_some, ◌==◌, if◌then◌else◌, List, [], ◌∷◌, ◌++◌, get_or, map, Option, Some, None, Result, Err, OnOk}
 use Rattle.book_wire.specs.Connection.{View, fresh}
-use Rattle.book_wire_serving.specs.Serving.{Runs, Serving}
+use Rattle.book_wire_serving.specs.Serving.{Serving}
 use Rattle.book_wire.specs.Stream.{Exchange, IsPartial, Waits}
 use Rattle.book_wire.specs.declared.stream.StreamFault.{StreamFault}
+use Rattle.book_wire_steps.specs.Steps.{ServesInSteps}
 use Rattle.book_desk_loop.specs.Closing.{DropsSome}
 use Rattle.book_desk_loop.specs.ManyConnections.{History, Entry, AreServed, IsBehind, IsThere, Holds, AllStay, OthersStay, answered_in, own}
-use Rattle.book_desk_loop.specs.Streams.{IsMoved, WasAtEnd, IsDoneAt, IsIdleAt, IsAnsweredAt, IsWithinAt, TakesATurn}
+use Rattle.book_desk_loop.specs.Streams.{IsMoved, WasAtEnd, IsIdleAt, IsAnsweredAt, IsWithinAt, TakesATurn}
 use Rattle.book_desk_loop.specs.declared.connections.Accepted.{Accepted}
 use Rattle.book_desk_loop.specs.declared.connections.Connections.{Connections}
 use Rattle.book_desk_loop.specs.declared.limits.Limits.{Limits}
@@ -66,10 +67,22 @@ count_unopened [] = 0
 count_unopened (failed ∷ more) = count_if_none failed.number + count_unopened more
 
 -- so many connections came and so many are to come; where there is no end, no number is told
-abbrev pub HaveCome : Option ℕ → Option ℕ → ℕ → Type 0
-HaveCome None left came = left ≡ None
-HaveCome (Some total) None came = ⊥
-HaveCome (Some total) (Some left) came = total ≡ left + came
+abbrev pub AreCounted : Option ℕ → Option ℕ → ℕ → Type 0
+AreCounted None left came = left ≡ None
+AreCounted (Some total) None came = ⊥
+AreCounted (Some total) (Some left) came = total ≡ left + came
+
+-- the control may end it before all came
+abbrev pub IsCutShort : Limits → ℕ → Type 0
+IsCutShort limits came = (limits.is_administered ≡ true) × ((more : Option ℕ) × AreCounted limits.total more came)
+
+-- so many came, and so many are to come; after a wish of the control none is
+abbrev pub HaveCome : Limits → Option ℕ → ℕ → Type 0
+HaveCome limits left came = AreCounted limits.total left came ⊎ ((left ≡ Some 0) × IsCutShort limits came)
+
+-- as many came as were to come, or it was cut short
+abbrev pub HaveAllCome : Limits → ℕ → Type 0
+HaveAllCome limits came = (limits.total ≡ Some came) ⊎ IsCutShort limits came
 
 -- one fewer are to come
 abbrev pub IsOneFewer : Option ℕ → Option ℕ → Type 0
@@ -155,14 +168,15 @@ module _ {S : Type 0} (remaining contents : S → Option (List ℕ)) where
     abbrev pub HasSoundLog : M → Type 0
     HasSoundLog service = (serving service).log.failed ≡ false
 
-    -- As many connections came as were to come. Each that is there has its stream at its place; why each other was let go is known,
-    -- unless a line of the log could not be written. The requests of all are one run since the first service.
+    -- As many connections came as were to come, unless the control wished an end. Each that is there has its stream at its place; why each
+    -- other was let go is known, unless a line of the log could not be written. The requests of all, and what the control adopted, are steps
+    -- in one order since the first service.
     pub record AreKept (limits : Limits) (first : M) (failed : List ToldFault) (connections : Connections M)
         (sockets : List (Option (Socket S))) (left : Option ℕ) (held : Option S) : Type 0 where
       pub histories : ℕ → History
       pub log : List Entry
       pub served : AreServed histories log connections.opened connections.places.items
-      pub runs : Runs (serving first) (serving connections.service) (map answered_in log)
+      pub in_steps : ServesInSteps serving limits.is_administered first connections.service (map answered_in log)
       pub here : (i : ℕ) (l : Accepted) → Holds connections.places.items i l
           → (line : Line S) × (line_at sockets i ≡ Some line) × IsCarriedBy (histories l.number) l.connection line
       pub sound : (i : ℕ) (l : Accepted) → Holds connections.places.items i l → told_of l.number failed ≡ []
@@ -170,7 +184,7 @@ module _ {S : Type 0} (remaining contents : S → Option (List ℕ)) where
       pub nobody : (i : ℕ) → get_or connections.places.items i None ≡ None → line_at sockets i ≡ None
       pub gone : HasSoundLog connections.service → (k : ℕ) → k < connections.opened → ((i : ℕ) (l : Accepted) → Holds connections.places.items i l → l.number ≢ k)
           → WasLetGo limits (told_of k failed) (own k log) (histories k)
-      pub came : HaveCome limits.total left (connections.opened + (count_unopened failed + count_held held))
+      pub came : HaveCome limits left (connections.opened + (count_unopened failed + count_held held))
 
     abbrev pub IsKept : Limits → M → List ToldFault → Server M S → Type 0
     IsKept limits first failed server =
@@ -252,18 +266,18 @@ module _ {S : Type 0} (remaining contents : S → Option (List ℕ)) where
     EndsSo StoreFailed server failures = StoreHasFailed server.limits failures server.connections.service
     EndsSo LogFailed server failures = HasFailedLog server.connections.service
 
-    -- So many connections were served, each for its own requests alone; the requests of all are one run of the machine. Where
-    -- it ended so, as many came as were to come, but for those that could not begin, and each was let go. It stops for the store
-    -- only where that has failed, and there is no end of connections; and for the log exactly where a line of it could not be
-    -- written.
+    -- So many connections were served, each for its own requests alone; the requests of all, and what the control adopted, are steps in
+    -- one order, and one run where the server is not administered. Where it ended so, as many came as were to come, but for those that could not begin, or the control may have ended it; and each
+    -- was let go. It stops for the store only where that has failed, and there is no end of connections; and for the log exactly
+    -- where a line of it could not be written.
     pub record AreServedAtOnce (limits : Limits) (first : M) (failed : List ToldFault) (result : Result (Unit {0}) Stop) (last : M) : Type 0 where
       pub histories : ℕ → History
       pub log : List Entry
       pub opened : ℕ
       pub all : (k : ℕ) → IsBehind (own k log) (histories k)
-      pub runs : Runs (serving first) (serving last) (map answered_in log)
+      pub in_steps : ServesInSteps serving limits.is_administered first last (map answered_in log)
       pub done : OnOk result (AllWereLetGo limits failed histories log opened
-          × (limits.total ≡ Some (opened + count_unopened failed)))
+          × HaveAllCome limits (opened + count_unopened failed))
       pub store : result ≡ Err StopsForStore → StoreHasFailed limits (serving first).standing.failures last
       pub for_log : result ≡ Err StopsForLog → HasFailedLog last
       pub failed_log : HasFailedLog last → result ≡ Err StopsForLog

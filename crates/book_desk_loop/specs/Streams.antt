@@ -1,5 +1,5 @@
 -- A connection and its stream (RFC 9112, section 9): what the one received and was sent is what the other gave and was given.
-use Rattle.std.specs.Prelude.{◌≡◌, ◌≢◌, ◌⊎◌, ℕ, Bool, true, false, List, [], ◌++◌, map, Option, Some, None}
+use Rattle.std.specs.Prelude.{◌≡◌, ◌≢◌, ◌⊎◌, ℕ, Bool, true, false, List, [], ◌++◌, map, Option}
 use Rattle.std.specs.Io.KnownBytes.{Appends, Consumes, IsAtEnd}
 use Rattle.book_wire.specs.Connection.{View}
 use Rattle.book_wire_serving.specs.Serving.{Runs, Serving}

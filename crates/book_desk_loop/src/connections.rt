@@ -4,11 +4,13 @@ ghost use Rattle.std.specs.Prelude.{◌≡◌, ◌≢◌, ◌⊎◌, ℕ, ◌+�
 ghost use Rattle.book_wire.specs.Connection.{fresh};
 ghost use Rattle.book_wire_serving.specs.Serving.{Runs};
 ghost use Rattle.book_wire.specs.Stream.{Exchange, answered_of};
+ghost use Rattle.book_wire_steps.specs.Steps.{OnlyAdopts};
 ghost use Rattle.book_desk_loop.specs.ManyConnections.{AllStay, History, Entry, AreServed, TakesBytes, IsAnswered, Holds, OthersStay, entries, receives, is_sent};
 ghost use Rattle.book_desk_loop.specs.Streams.{HasNoWhole, IsDoneAt, IsIdleAt, IsWithinAt};
 
 use book_wire::{Connection, StreamFault, Wire};
 use book_wire_serving::Service;
+use book_wire_steps::{Control, Traffic, Wish};
 use std::alloc::{AllocError, Global};
 use std::mem;
 
@@ -116,6 +118,15 @@ impl<M: Service> Connections<M> {
             × (self.new.opened ≡ self.old.opened) }
     {
         self.service.shows_nothing()
+    }
+
+    /// Gives the control its turn with the service, and says what it wishes.
+    pub(crate) fn administer<C: Control<M>>(&mut self, control: &mut C, traffic: Traffic) -> Wish
+        ensures adopts { OnlyAdopts M.serving self.old.service self.new.service }
+        ensures places { (self.new.places.items ≡ self.old.places.items)
+            × (self.new.opened ≡ self.old.opened) }
+    {
+        control.take_turn(&mut self.service, traffic)
     }
 
     /// A place with nothing in it.

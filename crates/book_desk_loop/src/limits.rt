@@ -24,6 +24,9 @@ pub struct Limits {
     pub idle: Option<Duration>,
     /// Whether a connection gives its place to one that waits. Else that waits until one is closed.
     pub gives_way: bool,
+    /// Whether the control has its turn: it may adopt policies between two requests, and end it. After its wish it is as
+    /// after the last connection came.
+    pub is_administered: bool,
 }
 
 /// Why connections are served no more.
@@ -66,6 +69,9 @@ pub trait Faults {
     /// A connection had this fault.
     fn tell(&mut self, fault: StreamFault)
         ensures { tells self.old fault self.new };
+
+    /// How many connections had one.
+    fn count(&self) -> u64;
 }
 
 /// Tells the fault of a connection.

@@ -1,10 +1,11 @@
 //! The loop: one thread, and readiness of sockets that do not wait (RFC 9112, section 9).
 
 ghost use Rattle.std.specs.Prelude.{◌≡◌, ◌≢◌, ℕ, List, Option, None, Some, IfSome, Ok, Err, IfOk, OnOk, OnErr, true, false};
-ghost use Rattle.book_wire_serving.specs.Serving.{Answered, Runs};
+ghost use Rattle.book_wire_serving.specs.Serving.{Answered};
 ghost use Rattle.book_wire.specs.declared.stream.StreamFault.{StreamFault as Fault};
 ghost use Rattle.book_desk_loop.specs.Serving.{AreServedAtOnce, AreTold, Begins, BeginsAt, BeginsNone, EndsSo, GoesOn, KeepsOn, LetsGo, Line, LinesStay, MayGoAt, RestStays, ToldFault, TurnsAt, line_at};
 ghost use Rattle.book_desk_loop.specs.Streams.{IsAnsweredAt, IsDoneAt, IsStillAt};
+ghost use Rattle.book_wire_steps.specs.Steps.{ServesInSteps};
 
 use crate::closing::LINGER;
 use crate::connections::Connections;
@@ -20,6 +21,7 @@ use crate::socket_places::{
 use crate::sockets::{DRAINED, RESTED, Socket, has_passed, is_late, is_short, passes};
 use book_wire::{StreamFault, Wire};
 use book_wire_serving::Service;
+use book_wire_steps::{Control, Traffic, Wish};
 use std::alloc::Global;
 use std::io::{ErrorKind, Read, Write};
 use std::net::{OpenListener, OpenStream};
@@ -728,26 +730,93 @@ impl<M: Service, S: Read + Write + OpenStream + Drop> Server<M, S> {
         }
     }
 
-    /// Waits until something can go on, and tells the time then, and in `ready` what is ready.
-    fn wait<P: Readiness<S>>(
+    /// How it stands with the connections, of which so many had a fault, and with the store.
+    fn traffic(&mut self, faults: u64) -> Traffic
+        ensures keeps { KeepsOn S.remaining S.contents M.serving self.old self.new }
+        ensures limits { self.new.limits ≡ self.old.limits }
+    {
+        let shows_nothing = self.connections.shows_nothing();
+        Traffic {
+            came: self.connections.opened,
+            open: self.open,
+            faults,
+            answered: self.connections.answered,
+            shows_nothing,
+        }
+    }
+
+    /// Takes no more connections.
+    fn end(&mut self)
+        requires { self.old.limits.is_administered ≡ true }
+        ensures { KeepsOn S.remaining S.contents M.serving self.old self.new }
+    {
+        self.left = Some(0);
+    }
+
+    /// Does what the control wishes.
+    fn follow(&mut self, wish: Wish)
+        requires { self.old.limits.is_administered ≡ true }
+        ensures { KeepsOn S.remaining S.contents M.serving self.old self.new }
+    {
+        match wish {
+            Wish::GoOn => {}
+            Wish::End => self.end(),
+        }
+    }
+
+    /// Gives the control its turn with the service, and says what it wishes.
+    fn administer<C: Control<M>>(&mut self, control: &mut C, traffic: Traffic) -> Wish
+        requires { self.old.limits.is_administered ≡ true }
+        ensures keeps { KeepsOn S.remaining S.contents M.serving self.old self.new }
+        ensures limits { self.new.limits ≡ self.old.limits }
+    {
+        self.connections.administer(control, traffic)
+    }
+
+    /// Gives the control its turn, and does what it wishes. So many connections had a fault.
+    fn heed<C: Control<M>>(&mut self, control: &mut C, faults: u64)
+        requires { self.old.limits.is_administered ≡ true }
+        ensures { KeepsOn S.remaining S.contents M.serving self.old self.new }
+    {
+        let traffic = self.traffic(faults);
+        let wish = self.administer(control, traffic);
+        self.follow(wish);
+    }
+
+    /// Gives the control its turn, if it may go on and the server is administered.
+    fn give_control<C: Control<M>>(&mut self, control: &mut C, woken: bool, faults: u64)
+        ensures { KeepsOn S.remaining S.contents M.serving self.old self.new }
+    {
+        if woken && self.limits.is_administered {
+            self.heed(control, faults);
+        }
+    }
+
+    /// Waits until something can go on, gives the control its turn if it can, and tells the time then, and in `ready` what
+    /// is ready. So many connections had a fault.
+    fn wait<P: Readiness<S>, C: Control<M>>(
         &mut self,
         readiness: &mut P,
+        control: &mut C,
         ready: &mut Vec<usize>,
+        faults: u64,
     ) -> io::Result<Instant>
         ensures { KeepsOn S.remaining S.contents M.serving self.old self.new }
     {
         ready.clear();
-        let waits = readiness.wait(self.patience(), ready)?;
-        self.note_waiting(waits);
+        let woken = readiness.wait(self.patience(), ready)?;
+        self.note_waiting(woken.listener);
+        self.give_control(control, woken.control, faults);
         readiness.now()
     }
 
     /// One round of the loop: a turn of each connection that can go on, then those that wait to be accepted, and then
     /// those go whose time is up. It says when that was looked at last. Then the store is looked at.
-    fn round<L: OpenListener<Stream = S>, P: Readiness<S>, F: Faults>(
+    fn round<L: OpenListener<Stream = S>, P: Readiness<S>, C: Control<M>, F: Faults>(
         &mut self,
         alloc: Global,
         readiness: &mut P,
+        control: &mut C,
         listener: &L,
         ready: &mut Vec<usize>,
         memory: &mut [u8],
@@ -757,7 +826,7 @@ impl<M: Service, S: Read + Write + OpenStream + Drop> Server<M, S> {
         ensures { GoesOn S.remaining S.contents M.serving F.tells self.old faults.old self.new
             faults.new }
     {
-        let now = self.wait(readiness, ready)?;
+        let now = self.wait(readiness, control, ready, faults.count())?;
         self.give_all(
             alloc,
             readiness,
@@ -776,11 +845,12 @@ impl<M: Service, S: Read + Write + OpenStream + Drop> Server<M, S> {
     /// # Errors
     ///
     /// As `serve_at_once`.
-    fn run<L: OpenListener<Stream = S>, P: Readiness<S>, F: Faults>(
+    fn run<L: OpenListener<Stream = S>, P: Readiness<S>, C: Control<M>, F: Faults>(
         &mut self,
         alloc: Global,
         listener: &L,
         readiness: &mut P,
+        control: &mut C,
         faults: &mut F,
         failures: u64,
     ) -> io::Result<Ended>
@@ -799,6 +869,7 @@ impl<M: Service, S: Read + Write + OpenStream + Drop> Server<M, S> {
             swept = self.round(
                 alloc,
                 readiness,
+                control,
                 listener,
                 &mut ready,
                 &mut memory,
@@ -817,11 +888,16 @@ impl<M: Service, S: Read + Write + OpenStream + Drop> Server<M, S> {
 /// last reply the client is told that no more comes, and what it still sends is read and dropped for at most 2 seconds
 /// (RFC 9112, section 9.6).
 ///
-/// Whatever the order in which the bytes of the connections come, each is answered for its own requests alone, and all
-/// their requests are one run of the service, in the order in which they were completed. What each stream gave is what
-/// its connection received, and what it was given is what its connection was sent. Where it ends so, as many came as were
-/// to come, and each was let go for a reason: its last reply was sent, nothing of it was unread or unsent, its input was
-/// at its end and each whole request answered, its time was up, or it had a fault, which was told.
+/// Whatever the order in which the bytes of the connections come, each is answered for its own requests alone. The requests
+/// of all, in the order in which they were completed, and the policies that the control adopted between two of them, are
+/// steps in one order: where none was adopted, and so where the server is not administered, the requests are one run of the
+/// service. What each stream gave is what its connection received, and what it was given is what its connection was sent.
+/// Where it ends so, as many came as were to come, or the control wished an end, and may; and each was let go for a reason:
+/// its last reply was sent, nothing of it was unread or unsent, its input was at its end and each whole request answered, its
+/// time was up, or it had a fault, which was told.
+///
+/// Where the server is administered the control has its turn whenever it may go on, also where the store shows nothing; else
+/// it has none.
 ///
 /// # Errors
 ///
@@ -834,20 +910,22 @@ pub fn serve_at_once<
     S: Read + Write + OpenStream + Drop,
     L: OpenListener<Stream = S>,
     P: Readiness<S>,
+    C: Control<M>,
     F: Faults,
 >(
     alloc: Global,
     service: M,
     listener: &L,
     readiness: &mut P,
+    control: &mut C,
     limits: Limits,
     faults: &mut F,
 ) -> (M, Result<(), Stop>)
     ensures served { (told : List ToldFault) × AreTold F.tells faults.old told faults.new
         × AreServedAtOnce S.remaining S.contents M.serving limits service told result.1
         result.0 }
-    ensures runs { (answered : List Answered)
-        × Runs (M.serving service) (M.serving result.0) answered }
+    ensures steps { (answered : List Answered)
+        × ServesInSteps M.serving limits.is_administered service result.0 answered }
 {
     let wire = match Wire::new(alloc) {
         Ok(wire) => wire,
@@ -872,7 +950,7 @@ pub fn serve_at_once<
         store: StoreState::Shows,
         failures,
     };
-    let ended = server.run(alloc, listener, readiness, faults, failures);
+    let ended = server.run(alloc, listener, readiness, control, faults, failures);
     let service = server.connections.release();
     let failed = service.has_failed_log();
     (service, stop_of(ended, failed))

@@ -5,11 +5,20 @@ use mio::{Events, Interest, Poll, Token};
 use std::alloc::Global;
 use std::io;
 use std::net::Net;
-use std::os::fd::AsRawFd;
+use std::os::fd::{AsRawFd, RawFd};
 use std::rt::Clock;
 use std::time::{Duration, Instant};
 
-/// What tells which streams can go on, and the time.
+/// What may go on beside the streams.
+#[derive(Clone, Copy)]
+pub struct Woken {
+    /// A connection may wait to be accepted.
+    pub listener: bool,
+    /// The control may go on.
+    pub control: bool,
+}
+
+/// What tells which streams can go on, and the time; and when a control may.
 pub trait Readiness<S> {
     /// Tells of the stream from now on, as of one at the place.
     ///
@@ -18,13 +27,13 @@ pub trait Readiness<S> {
     /// Where it can't.
     fn watch(&mut self, stream: &S, place: usize) -> io::Result<()>;
 
-    /// Waits until a stream may go on or a connection may wait to be accepted, at most so long, and adds the places of
-    /// the streams to `ready`. True if a connection may wait.
+    /// Waits until a stream or the control may go on, or a connection may wait to be accepted, at most so long, and adds
+    /// the places of the streams to `ready`.
     ///
     /// # Errors
     ///
     /// Where it can't wait, and for want of memory.
-    fn wait(&mut self, most: Option<Duration>, ready: &mut Vec<usize>) -> io::Result<bool>;
+    fn wait(&mut self, most: Option<Duration>, ready: &mut Vec<usize>) -> io::Result<Woken>;
 
     /// The time.
     ///
@@ -36,6 +45,9 @@ pub trait Readiness<S> {
 
 /// The token of each listener. No place is as large.
 const LISTENER: Token = Token(usize::MAX);
+
+/// The token of the control. No place is as large.
+const CONTROL: Token = Token(usize::MAX - 1);
 
 /// The most events of one wait.
 const EVENTS: usize = 256;
@@ -49,7 +61,7 @@ pub struct Polled<'r, R> {
 }
 
 impl<'r, R: Net + Clock> Polled<'r, R> {
-    /// Readiness that tells of no listener yet.
+    /// Readiness that tells of no listener yet, and not when a control may go on.
     ///
     /// # Errors
     ///
@@ -72,6 +84,17 @@ impl<'r, R: Net + Clock> Polled<'r, R> {
             Interest::READABLE,
         )
     }
+
+    /// Tells from now on that a control may go on, when this can be read.
+    ///
+    /// # Errors
+    ///
+    /// Where it can't.
+    pub fn wake_control_by(&mut self, descriptor: RawFd) -> io::Result<()> {
+        self.poll
+            .registry()
+            .register(&mut SourceFd(&descriptor), CONTROL, Interest::READABLE)
+    }
 }
 
 impl<R: Net + Clock, S: AsRawFd> Readiness<S> for Polled<'_, R> {
@@ -83,18 +106,21 @@ impl<R: Net + Clock, S: AsRawFd> Readiness<S> for Polled<'_, R> {
         )
     }
 
-    fn wait(&mut self, most: Option<Duration>, ready: &mut Vec<usize>) -> io::Result<bool> {
+    fn wait(&mut self, most: Option<Duration>, ready: &mut Vec<usize>) -> io::Result<Woken> {
         self.poll.poll(&mut self.events, most)?;
-        let mut waiting = false;
+        let mut listener = false;
+        let mut control = false;
         for event in &self.events {
             let token = event.token();
             if token == LISTENER {
-                waiting = true;
+                listener = true;
+            } else if token == CONTROL {
+                control = true;
             } else {
                 ready.push(token.0)?;
             }
         }
-        Ok(waiting)
+        Ok(Woken { listener, control })
     }
 
     fn now(&self) -> io::Result<Instant> {

@@ -1,5 +1,5 @@
 use Rattle.book_desk_app.proofs.Common.{[], inr, refl, ◌∙◌}
-use Rattle.book_wire_serving.proofs.Servings.{runs_none, stays}
+use Rattle.book_wire_steps.proofs.Takes.{in_steps_none}
 use Rattle.book_desk_app.proofs.AtOnce.{lines_told, status_told}
 use Rattle.book_desk_app.proofs.InTurn.{tells_then}
 use Rattle.book_desk_app.proofs.looping.serve_many.Goals as goal
@@ -18,9 +18,9 @@ returns-clause-served g c =
       },
     )
 
-pub returns-clause-runs : goal.returns-clause-runs
-returns-clause-runs g c = c.serve_at_once-service.ensures.runs
+pub returns-clause-steps : goal.returns-clause-steps
+returns-clause-steps g c = c.serve_at_once-service.ensures.steps
 
 -- no connection was served
-pub returns-in-Err-clause-runs : goal.returns-in-Err-clause-runs
-returns-in-Err-clause-runs g c = ([], runs_none _ _ (stays _))
+pub returns-in-Err-clause-steps : goal.returns-in-Err-clause-steps
+returns-in-Err-clause-steps g c = ([], in_steps_none g.M.Service.serving c.args.limits.is_administered c.args.service c.args.service refl)

@@ -1,0 +1,23 @@
+//! What the definitions imply.
+
+ghost use Rattle.book_wire_steps.specs.Steps.{AreRunsBetweenAdoptions, LogsTellSteps, StepsLeadOffices};
+
+use book_wire_serving::Service;
+
+/// What a server answers while no policy is adopted is a run of the service, wherever it stands among its steps: so each law of
+/// runs holds of it.
+pub fn adoptions_part_runs<M: Service>()
+    ensures { AreRunsBetweenAdoptions M.serving }
+{}
+
+/// What a server does to the Office is what its steps do to it, one after the other: the requests by the rules of the machine,
+/// and each policy as it is adopted or refused, from the Office that all before it left.
+pub fn steps_lead_offices<M: Service>()
+    ensures { StepsLeadOffices M.serving }
+{}
+
+/// The log gains the lines of the steps in their order, as long as each could be written: those of what was answered, and for
+/// each policy one that tells what came of it.
+pub fn logs_tell_steps<M: Service>()
+    ensures { LogsTellSteps M.serving }
+{}
