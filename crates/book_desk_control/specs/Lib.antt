@@ -1,0 +1,10 @@
+pub mod Demands
+pub mod Exchanges
+pub mod Fields
+pub mod Health
+pub mod Hearing
+pub mod Laws
+pub mod Questions
+pub mod Refusals
+pub mod Replies
+pub mod Words
