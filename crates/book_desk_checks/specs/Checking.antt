@@ -1,5 +1,5 @@
 -- What the program does where it checks a policy's file (own profile).
-use Rattle.std.specs.Prelude.{◌≡◌, ◌⊎◌, ℕ, Bool, ◌&&◌, cond, List, Option, Some, None, Ok, Err}
+use Rattle.std.specs.Prelude.{◌≡◌, ◌≢◌, ◌⊎◌, ℕ, Bool, ◌&&◌, cond, List, Option, Some, None, Ok, Err}
 use Rattle.std.specs.Io.KnownBytes.{Keeps}
 use Rattle.sqlite.specs.State.{State}
 use Rattle.book_machine.specs.declared.adoptions.AdoptFault.TheVariants as adopting
@@ -8,6 +8,7 @@ use Rattle.book_office.specs.declared.keepers.StoreFault.{StoreFault}
 use Rattle.book_office_adopting.specs.TakingOver.{bare}
 use Rattle.book_office_values.specs.declared.offices.Office.{Office}
 use Rattle.book_policy.specs.declared.faults.PolicyFault.TheVariants as fault
+use Rattle.book_policy_checks.specs.Telling.{TellsChecked}
 use Rattle.book_policy_checks.specs.declared.telling.Checked.{Checked}
 use Rattle.book_policy_checks.specs.declared.telling.Checked.TheVariants as checked
 use Rattle.book_policy_warnings.specs.Telling.{TellsPolicy, TellsPolicyOver}
@@ -46,6 +47,12 @@ module _ (is_whole : Bool) (held holds : Option (List ℕ)) where
   EndsTold (told.Sound warned) = Keeps held holds
   EndsTold told.Unwritten = TellsFailure is_whole held holds Output
   EndsTold (told.Unsound checked) = EndsChecked checked
+
+-- what was told of bytes that are no policy: each fault, or the line at the end; with the status
+abbrev pub TellsNoPolicy : List ℕ → Bool → Option (List ℕ) → Option (List ℕ) → ℕ → Type 0
+TellsNoPolicy bytes is_whole held holds status =
+    (what : Checked) × (between : Option (List ℕ)) × (what ≢ checked.Sound) × TellsChecked bytes held between what
+    × (status ≡ checked_status what) × EndsChecked is_whole between holds what
 
 -- what was told of the bytes, with the status and the line at the end. With what the writers held and hold
 abbrev pub Checks : List ℕ → Bool → Bool → Option (List ℕ) → Option (List ℕ) → Option (List ℕ) → Option (List ℕ) → ℕ → Type 0

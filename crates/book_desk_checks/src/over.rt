@@ -34,8 +34,9 @@ fn end_over<E: Lines>(told: ToldOver, strict: bool, errors: &mut E) -> u8
     }
 }
 
-/// Tells of the bytes over the Office of any keeper, and gives the status of the program.
-fn check_copy<K: Keeper, W: Write, E: Lines>(
+/// Tells of the bytes of a policy over the Office of any keeper, and gives the status of the program, as `check_over` does
+/// over that of a store. The Office stays.
+pub fn check_copy<K: Keeper, W: Write, E: Lines>(
     alloc: Global,
     bytes: Vec<u8>,
     strict: bool,

@@ -31,6 +31,7 @@ use Rattle.book_desk_questions.specs.declared.asked.Asking.{Asking}
 use Rattle.book_desk_questions.specs.declared.asked.Words.{Words}
 use Rattle.book_desk_questions.specs.declared.failures.Unanswered.{Unanswered}
 use Rattle.book_desk_questions.specs.declared.failures.Unanswered.TheVariants.{Refused, UnknownPrivilege, TooMany, Output}
+use Rattle.book_wire_serving.specs.Serving.{StandsStill}
 
 -- ---- the answer, over what a keeper stands for
 -- the line of the dump for a path; or nothing is mapped there
@@ -97,6 +98,13 @@ abbrev pub EndsAsked : (List ℕ → Type 0) → Asking → Standing → Asked �
 EndsAsked Told command old a held holds status new =
     ((status ≡ 0) × Answers old a held holds new)
     ⊎ ((failure : Unanswered) × (status ≡ unanswered_status failure) × FailsToAnswer old a held holds new failure × Told (unanswered_text command failure))
+
+-- the words ask nothing, which was told, and the Office was not read; or what they ask was answered over it. With how a line is told
+abbrev pub AnswersWords : (List ℕ → Type 0) → Words → Standing → Option (List ℕ) → Option (List ℕ) → ℕ → Standing → Type 0
+AnswersWords Told words old held holds status new =
+    ((failure : Unanswered) × AsksForNothing words failure × (status ≡ unanswered_status failure) × StandsStill old new × Keeps held holds
+    × Told (unanswered_text (asking_of words) failure))
+    ⊎ ((a : Asked) × AsksFor words a × EndsAsked Told (asking_of words) old a held holds status new)
 
 -- ---- a run over a store
 module _ {C K : Type 0} (state : C → State) (connection : K → C) (failures : K → ℕ) (Told : List ℕ → Type 0) where

@@ -18,6 +18,7 @@ use Rattle.book_desk_app.specs.declared.failures.Failure.TheVariants.{Adoption, 
 use Rattle.book_desk_app.specs.declared.failures.StoreFailure.{StoreFailure}
 use Rattle.book_desk_questions.specs.declared.differing.Unplanned.{Unplanned}
 use Rattle.book_desk_questions.specs.declared.differing.Unplanned.TheVariants as unplanned
+use Rattle.book_wire_serving.specs.Serving.{StandsStill}
 
 abbrev pub plan_failure : PlanFault → Failure
 plan_failure plans.Full = Adoption (record { fault = adopting.Full })
@@ -52,6 +53,12 @@ EndsPlan Told Silent policy strict old held holds status new =
     ((changes : Bool) × WritesPlan old new policy held holds (Ok changes) × (status ≡ differs_status strict changes) × Silent)
     ⊎ ((fault : Unplanned) × WritesPlan old new policy held holds (Err fault) × (status ≡ failure_status (unplanned_failure fault))
     × Told (failure_text (unplanned_failure fault)))
+
+-- the bytes are no policy, which was told, and the Office was not read; or it was told of the policy
+abbrev pub DiffersBy : (List ℕ → Type 0) → Type 0 → List ℕ → Bool → Standing → Option (List ℕ) → Option (List ℕ) → ℕ → Standing → Type 0
+DiffersBy Told Silent bytes strict old held holds status new =
+    ((failure : Failure) × GivesNoPolicy bytes failure × (status ≡ failure_status failure) × StandsStill old new × Keeps held holds × Told (failure_text failure))
+    ⊎ ((policy : PolicyTables) × SpellsPolicy bytes policy × EndsPlan Told Silent policy strict old held holds status new)
 
 -- ---- a run over a store
 module _ {C K : Type 0} (state : C → State) (connection : K → C) (failures : K → ℕ) (Told : List ℕ → Type 0) (Silent : Type 0) where

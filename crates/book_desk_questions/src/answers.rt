@@ -6,7 +6,7 @@ ghost use Rattle.sqlite.specs.Held.{state};
 ghost use Rattle.book_machine.specs.Asking.{Meets, StageAsks};
 ghost use Rattle.book_desk_app.specs.Runs.{IsNotHad};
 ghost use Rattle.book_desk_app.specs.Telling.{TellsLine};
-ghost use Rattle.book_desk_questions.specs.Answers.{Answers, AnswersIn, AnswersOver, EndsAsked};
+ghost use Rattle.book_desk_questions.specs.Answers.{Answers, AnswersIn, AnswersOver, AnswersWords, EndsAsked};
 ghost use Rattle.book_desk_questions.specs.Answers.{FailsToAnswer, RunsAsked, TellsAsked, always, shown_at};
 ghost use Rattle.book_tables.specs.declared.tables.Tables.{Tables};
 
@@ -120,6 +120,30 @@ fn answer<K: Keeper, W: Write, E: Lines>(
 {
     match write_answer(alloc, machine, asked, writer) {
         Ok(()) => DONE,
+        Err(failure) => tell_unanswered(errors, asking, &failure),
+    }
+}
+
+/// Answers a question in words over the Office of any keeper, and gives the status of the program, as `run_question` does
+/// over that of a store. A failure is told on `errors`. The Office stays.
+///
+/// Faults come in this order: the words, the question.
+pub fn answer_words<K: Keeper, W: Write, E: Lines>(
+    alloc: Global,
+    machine: &mut Machine<K>,
+    words: &Words<'_>,
+    writer: &mut W,
+    errors: &mut E,
+) -> u8
+    ensures answers { AnswersWords (TellsLine (E.is_whole errors.new) (E.Write.contents errors.old)
+        (E.Write.contents errors.new)) words.now (K.standing machine.old.keeper)
+        (W.contents writer.old) (W.contents writer.new) result (K.standing machine.new.keeper) }
+    ensures silent { result ≡ 0 → Keeps (E.Write.contents errors.old)
+        (E.Write.contents errors.new) }
+{
+    let asking = asking_of(words);
+    match asked_of(alloc, words) {
+        Ok(asked) => answer(alloc, machine, asking, &asked, writer, errors),
         Err(failure) => tell_unanswered(errors, asking, &failure),
     }
 }

@@ -5,7 +5,7 @@ ghost use Rattle.std.specs.Io.KnownBytes.{Appends, Keeps};
 ghost use Rattle.sqlite.specs.Held.{state};
 ghost use Rattle.book_desk_app.specs.Runs.{IsNotHad};
 ghost use Rattle.book_desk_app.specs.Telling.{TellsLine};
-ghost use Rattle.book_desk_questions.specs.Differing.{DiffersIn, DiffersOver, EndsPlan, RunsDiffers, WritesPlan, differs_status};
+ghost use Rattle.book_desk_questions.specs.Differing.{DiffersBy, DiffersIn, DiffersOver, EndsPlan, RunsDiffers, WritesPlan, differs_status};
 ghost use Rattle.book_desk_questions.specs.Differing.{is_unchanged, plan_failure, unplanned_failure};
 ghost use Rattle.book_tables.specs.declared.tables.Tables.{Tables};
 
@@ -120,6 +120,29 @@ fn differs_of<K: Keeper, W: Write, E: Lines>(
     match write_plan(alloc, keeper, policy, writer) {
         Ok(changes) => differs_status(strict, changes),
         Err(unplanned) => tell_line(errors, &unplanned_failure(unplanned)),
+    }
+}
+
+/// Writes what adopting the policy of these bytes would leave and change over the Office of any keeper, and gives the status
+/// of the program, as `run_differs` does over that of a store. A failure is told on `errors`. The Office stays.
+///
+/// Faults come in this order: the policy's text, the adoption.
+pub fn differs_by<K: Keeper, W: Write, E: Lines>(
+    alloc: Global,
+    bytes: Vec<u8>,
+    strict: bool,
+    keeper: &mut K,
+    writer: &mut W,
+    errors: &mut E,
+) -> u8
+    ensures { DiffersBy (TellsLine (E.is_whole errors.new) (E.Write.contents errors.old)
+        (E.Write.contents errors.new)) (Keeps (E.Write.contents errors.old)
+        (E.Write.contents errors.new)) bytes.items strict (K.standing keeper.old)
+        (W.contents writer.old) (W.contents writer.new) result (K.standing keeper.new) }
+{
+    match policy_of(alloc, bytes) {
+        Ok(policy) => differs_of(alloc, &policy, strict, keeper, writer, errors),
+        Err(failure) => tell_line(errors, &failure),
     }
 }
 

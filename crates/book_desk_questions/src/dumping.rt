@@ -26,8 +26,9 @@ fn failure_of(fault: DumpFault) -> Failure
     }
 }
 
-/// Writes the dump over any keeper, and gives the status of the program. A failure is told on `errors`.
-fn dump_of<K: Keeper, W: Write, E: Lines>(
+/// Writes the Office of any keeper as text, and gives the status of the program, as `run_dump` does with that of a store.
+/// A failure is told on `errors`. The Office stays.
+pub fn dump_of<K: Keeper, W: Write, E: Lines>(
     alloc: Global,
     keeper: &mut K,
     writer: &mut W,

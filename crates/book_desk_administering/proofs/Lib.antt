@@ -1,0 +1,3 @@
+pub mod Adoptions
+pub mod Readings
+mod Sums

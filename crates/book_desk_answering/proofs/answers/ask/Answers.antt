@@ -1,0 +1,25 @@
+use Rattle.std.proofs.Common.{◌≡◌, ℕ, Bool, List, Some}
+use Rattle.std.specs.Io.KnownBytes.{Keeps}
+use Rattle.book_desk_app.specs.Telling.{TellsLine}
+use Rattle.book_desk_questions.specs.Answers.{AnswersWords}
+use Rattle.book_desk_answering.specs.Answering.{AnswersIn}
+use Rattle.book_office.specs.Keeping.{Standing}
+use Rattle.book_wire_steps.proofs.Takes.{only_read}
+use Rattle.book_desk_answering.proofs.Replied.{replies}
+use Rattle.book_desk_answering.proofs.answers.ask.Goals as goal
+
+pub returns-clause-answers : goal.returns-clause-answers
+returns-clause-answers g c =
+    let S0 : Standing = (g.M.Service.serving c.args.service.now).standing in
+    let S1 : Standing = (g.M.Service.serving c.ask-status.new.self).standing in
+    let told : List ℕ = c.new-texts.result.errors.text.items in
+    let tells : List ℕ = c.ask-status.new.errors.text.items in
+    let held : List ℕ = c.new-texts.result.writer.items in
+    let holds : List ℕ = c.ask-status.new.writer.items in
+    let status : ℕ = c.ask-status.result in
+    let Q : Bool → List ℕ → List ℕ → Type 0 = λ whole t h. AnswersWords (TellsLine whole (Some t) (Some tells)) c.args.words.now S0 (Some h) (Some holds) status S1 × (status ≡ 0 → Keeps (Some t) (Some tells)) in
+    replies c.into_reply.result _ (AnswersIn S0 S1 c.args.words.now) status c.ask-status.new.errors.is_whole told tells held holds Q (λ x. x) c.new-texts.ensures.errors c.new-texts.ensures.writer
+    (c.ask-status.ensures.answers, c.ask-status.ensures.silent) c.into_reply.ensures
+
+pub returns-clause-only : goal.returns-clause-only
+returns-clause-only g c = only_read g.M.Service.serving c.args.service.now c.ask-status.new.self c.ask-status.ensures.reads
