@@ -7,7 +7,7 @@
 //! `differs` does; `check` and `check_over` of `book_desk_checks` do what `check` does. Their contracts say what is
 //! written where these tell their bytes. Nothing stands above it: `main` joins them to the process, to the files
 //! (`files`, `folders`) and to the port, and tells each stage before it calls it, where standard error is a terminal
-//! (`progress`); `refusals` tells why the tables of a store were refused. The commands that make stores are in `keeping`, over `book_desk_keeping`; those that serve are in `serving`, and
+//! (`progress`); `refusals` tells why the tables of a store were refused. The commands that make stores are in `keeping`, over `book_desk_keeping`; those that serve are in `serving` with `controls`, and
 //! the log's file and `denials` in `logs`, over `book_desk_logs`.
 #![tactic(auto)]
 
@@ -18,6 +18,7 @@ mod beginnings;
 mod builds;
 mod causes;
 mod changes;
+mod controls;
 mod drafts;
 mod examining;
 mod files;
@@ -546,6 +547,7 @@ fn perform<W: Write, E: Lines>(
             connections,
             at_once,
             idle,
+            control,
             store,
             policy,
             existing,
@@ -562,6 +564,8 @@ fn perform<W: Write, E: Lines>(
                 connections: *connections,
                 at_once: *at_once,
                 idle: *idle,
+                control: control.as_deref(),
+                store: store.as_deref(),
             });
             serve_named(rt, named, log.as_deref(), served, writer, errors)
         }

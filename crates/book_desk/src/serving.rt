@@ -1,33 +1,45 @@
 //! The commands that serve: `pipe` with a log, and `serve`.
 
+use crate::controls::{Controls, Stopwatch};
 use crate::files::{close, open_store_named, read_policy_file};
 use crate::logs::{open_log, refuse_log};
 use crate::progress::{Stage, tell_stage};
 use crate::refusals::tell_refusal;
 use crate::{Named, connection_of};
+use book_desk_administering::{Administered, adopt_noted};
 use book_desk_app::{
-    BROKEN, Failure, Lines, Prepared, StreamFailure, adopt_or_fail, given_policy, pipe, prepare,
+    AdoptionFailure, BROKEN, Failure, Lines, Prepared, StreamFailure, given_policy, pipe, prepare,
     serve, serve_many, tell,
 };
 use book_desk_logs::{LogFile, Pace, SystemClock};
 use book_desk_loop::{Limits, Polled};
+use book_desk_metrics::Counted;
 use book_desk_sockets::{Doors, LocalDoor, NotMade, SocketPath, make_socket};
-use book_log_lines::Adoption;
 use book_log_service::Logged;
-use book_machine::{AdoptFault, Machine};
+use book_machine::Machine;
 use book_office::{Keeper, Policy};
 use book_tables_schema::Unopened;
 use book_wire::StreamFault;
 use book_wire_serving::Service;
+use book_wire_steps::{Control, Traffic, Wish};
 use sqlite::{Alter, Connection};
 use std::alloc::Global;
 use std::io::{self, Write};
 use std::net::{Ipv4Addr, OpenListener, SocketAddr, TcpListener};
-use std::os::fd::AsFd;
+use std::os::fd::{AsFd, RawFd};
 use std::time::Duration;
 
 /// The line that tells that another server answers at the socket.
 const TAKEN: &str = "socket: taken\n";
+
+/// The line that tells that another server answers at the socket of the control.
+const CONTROL_TAKEN: &str = "control: taken\n";
+
+/// The line that tells that there is no control.
+const CONTROL_FAILED: &str = "control: failed\n";
+
+/// The permissions of the socket of the control: its owner alone may connect.
+const CONTROL_MODE: u16 = 0o600;
 
 /// A Unix socket at which `serve` listens.
 #[derive(Clone, Copy)]
@@ -59,6 +71,10 @@ pub struct Listening<'w> {
     pub at_once: Option<u16>,
     /// After how many seconds in which it moves no byte a connection is closed.
     pub idle: Option<u16>,
+    /// The path of the socket of its control, if it has one.
+    pub control: Option<&'w str>,
+    /// The file of the store, if there is one.
+    pub store: Option<&'w str>,
 }
 
 /// The port and the socket at which it listens.
@@ -75,16 +91,32 @@ fn limits_of(listening: Listening<'_>) -> Limits {
         total: listening.connections,
         idle,
         gives_way: listening.at_once.is_some(),
+        is_administered: listening.control.is_some(),
     }
 }
 
-/// What tells when a connection may wait, at doors which do not wait from now on.
+/// No control: nothing is done in its turn.
+#[derive(Drop)]
+struct NoControl;
+
+impl<M: Service> Control<M> for NoControl {
+    fn take_turn(&mut self, _service: &mut M, _traffic: Traffic) -> Wish {
+        Wish::GoOn
+    }
+}
+
+/// What tells when a connection may wait, at doors which do not wait from now on; and when a control may go on, if that is by
+/// this descriptor.
 fn readiness_of<'r>(
     rt: &'r HostRuntime,
     doors: &HostDoors<'_>,
+    control: Option<RawFd>,
 ) -> io::Result<Polled<'r, HostRuntime>> {
     doors.set_nonblocking(true)?;
     let mut readiness = Polled::new(rt, rt.alloc())?;
+    if let Some(descriptor) = control {
+        readiness.wake_control_by(descriptor)?;
+    }
     if let Some(port) = &doors.port {
         readiness.listen_to(port)?;
     }
@@ -94,22 +126,25 @@ fn readiness_of<'r>(
     Ok(readiness)
 }
 
-/// Serves the connections of the doors by the loop.
-fn serve_at_once_on<M: Service, W: Write, E: Lines>(
+/// Serves the connections of the doors by the loop, which gives the control its turn when its descriptor can be read.
+fn serve_at_once_on<M: Service, C: Control<M>, W: Write, E: Lines>(
     rt: &HostRuntime,
     service: M,
     doors: &HostDoors<'_>,
     limits: Limits,
+    control: &mut C,
+    descriptor: Option<RawFd>,
     writer: &mut W,
     errors: &mut E,
 ) -> (M, u8) {
-    match readiness_of(rt, doors) {
+    match readiness_of(rt, doors, descriptor) {
         Ok(mut readiness) => {
             let (service, _, status) = serve_many(
                 rt.alloc(),
                 service,
                 doors,
                 &mut readiness,
+                control,
                 limits,
                 writer,
                 errors,
@@ -117,6 +152,110 @@ fn serve_at_once_on<M: Service, W: Write, E: Lines>(
             (service, status)
         }
         Err(_) => (service, tell(errors, &Failure::Listen)),
+    }
+}
+
+/// Tells why there is no control, and gives the status.
+fn refuse_control<E: Lines>(errors: &mut E, why: NotMade) -> u8 {
+    let line = match why {
+        NotMade::Taken => CONTROL_TAKEN,
+        NotMade::Failed => CONTROL_FAILED,
+    };
+    errors.put(line.as_bytes());
+    BROKEN
+}
+
+/// The control at the path of a socket, which is made.
+fn control_at<'r>(
+    rt: &'r HostRuntime,
+    place: &mut SocketPath<'_, HostRuntime>,
+    store: Option<&'r str>,
+) -> Result<Controls<'r>, NotMade> {
+    let listener = make_socket(place, CONTROL_MODE)?;
+    let made = place.identity();
+    match Controls::new(rt, listener, store) {
+        Ok(controls) => Ok(controls),
+        Err(_) => {
+            place.remove(made);
+            Err(NotMade::Failed)
+        }
+    }
+}
+
+/// Serves the connections of the doors by the loop, with a control, and counts the replies.
+fn serve_counted<M: Administered, W: Write, E: Lines>(
+    rt: &HostRuntime,
+    service: M,
+    doors: &HostDoors<'_>,
+    limits: Limits,
+    controls: &mut Controls<'_>,
+    writer: &mut W,
+    errors: &mut E,
+) -> (M, u8) {
+    let counted = Counted::new(service, Stopwatch::new(rt));
+    let descriptor = Some(controls.descriptor());
+    let (counted, status) = serve_at_once_on(
+        rt, counted, doors, limits, controls, descriptor, writer, errors,
+    );
+    (counted.release(), status)
+}
+
+/// Makes the socket of the control, serves the connections of the doors by the loop, and removes the socket's file.
+fn serve_with_control<M: Administered, W: Write, E: Lines>(
+    rt: &HostRuntime,
+    service: M,
+    doors: &HostDoors<'_>,
+    listening: Listening<'_>,
+    path: &str,
+    writer: &mut W,
+    errors: &mut E,
+) -> (M, u8) {
+    let Ok(mut place) = SocketPath::new(rt, rt.alloc(), path) else {
+        return (service, refuse_control(errors, NotMade::Failed));
+    };
+    match control_at(rt, &mut place, listening.store) {
+        Ok(mut controls) => {
+            let made = place.identity();
+            let (service, status) = serve_counted(
+                rt,
+                service,
+                doors,
+                limits_of(listening),
+                &mut controls,
+                writer,
+                errors,
+            );
+            place.remove(made);
+            (service, status)
+        }
+        Err(why) => (service, refuse_control(errors, why)),
+    }
+}
+
+/// Serves the connections of the doors by the loop, with a control where one is wanted.
+fn serve_by_loop<M: Administered, W: Write, E: Lines>(
+    rt: &HostRuntime,
+    service: M,
+    doors: &HostDoors<'_>,
+    listening: Listening<'_>,
+    writer: &mut W,
+    errors: &mut E,
+) -> (M, u8) {
+    match listening.control {
+        Some(path) => serve_with_control(rt, service, doors, listening, path, writer, errors),
+        None => {
+            let limits = limits_of(listening);
+            serve_at_once_on(
+                rt,
+                service,
+                doors,
+                limits,
+                &mut NoControl,
+                None,
+                writer,
+                errors,
+            )
+        }
     }
 }
 
@@ -132,7 +271,7 @@ fn in_turn(listening: Listening<'_>) -> Option<u16> {
 }
 
 /// Serves the connections of the doors.
-fn serve_all<M: Service, W: Write, E: Lines>(
+fn serve_all<M: Administered, W: Write, E: Lines>(
     rt: &HostRuntime,
     mut service: M,
     doors: &HostDoors<'_>,
@@ -153,7 +292,7 @@ fn serve_all<M: Service, W: Write, E: Lines>(
             );
             (service, status)
         }
-        None => serve_at_once_on(rt, service, doors, limits_of(listening), writer, errors),
+        None => serve_by_loop(rt, service, doors, listening, writer, errors),
     }
 }
 
@@ -170,7 +309,7 @@ fn listener_at(rt: &HostRuntime, port: Option<u16>) -> io::Result<Option<TcpList
 }
 
 /// Makes the socket, serves the connections, and removes the socket's file.
-fn serve_at_socket<M: Service, W: Write, E: Lines>(
+fn serve_at_socket<M: Administered, W: Write, E: Lines>(
     rt: &HostRuntime,
     service: M,
     port: Option<TcpListener>,
@@ -199,7 +338,7 @@ fn serve_at_socket<M: Service, W: Write, E: Lines>(
 }
 
 /// Listens on the port, at the socket, or at both, and serves the connections.
-fn serve_on<M: Service, W: Write, E: Lines>(
+fn serve_on<M: Administered, W: Write, E: Lines>(
     rt: &HostRuntime,
     service: M,
     listening: Listening<'_>,
@@ -236,7 +375,7 @@ fn pace_of(served: Served<'_>) -> Pace {
 }
 
 /// Serves what is to be served, and gives the service back.
-fn serve_by<M: Service, W: Write, E: Lines>(
+fn serve_by<M: Administered, W: Write, E: Lines>(
     rt: &HostRuntime,
     mut service: M,
     served: Served<'_>,
@@ -276,23 +415,10 @@ fn adopt_logged<K: Keeper>(
     let Some(policy) = policy else {
         return Ok(());
     };
-    let adopted = adopt_or_fail(alloc, &mut logged.machine, policy);
-    let (adoption, epoch) = match &adopted {
-        Ok(adopted) if adopted.changed => (Adoption::Changed, adopted.epoch),
-        Ok(adopted) => (Adoption::Unchanged, adopted.epoch),
-        Err(failure) => (
-            match failure.fault {
-                AdoptFault::Full => Adoption::Full,
-                AdoptFault::Unavailable => Adoption::Unavailable,
-            },
-            logged.machine.keeper.epoch().unwrap_or(0),
-        ),
-    };
-    let noted = logged.note_adoption(alloc, adoption, epoch);
-    match adopted {
-        Ok(_) if noted.is_err() => Err(log_failure()),
+    match adopt_noted(alloc, logged, policy) {
+        Ok(_) if logged.failed => Err(log_failure()),
         Ok(_) => Ok(()),
-        Err(failure) => Err(Failure::Adoption(failure)),
+        Err(fault) => Err(Failure::Adoption(AdoptionFailure { fault })),
     }
 }
 

@@ -105,8 +105,8 @@ is_not_denials e = let first : slice_index (codes "serve") 0 ≡ slice_index (co
 module _ (rows : List Row) where
   -- no command `serve` is read of the matches
   serve_lacks : ((port : Option ℕ) (socket : Option (String Global)) (mode : ℕ) (connections at_once idle : Option ℕ)
-      (store policy log : Option (String Global)) (existing : Bool)
-      → ReadsAs (codes "serve") rows (Serve port socket mode connections at_once idle store policy existing log) → ⊥) → ReadsNone (codes "serve") rows
+      (control store policy log : Option (String Global)) (existing : Bool)
+      → ReadsAs (codes "serve") rows (Serve port socket mode connections at_once idle control store policy existing log) → ⊥) → ReadsNone (codes "serve") rows
   serve_lacks none Explain e = cc (e)
   serve_lacks none Card e = cc (e)
   serve_lacks none (Init folder) r = is_not_init r.0
@@ -129,15 +129,15 @@ module _ (rows : List Row) where
   serve_lacks none (Doctor store) r = is_not_doctor r.0
   serve_lacks none (Denials log since json) r = is_not_denials r.0
   serve_lacks none (Pipe store policy log) r = is_not_pipe r.0
-  serve_lacks none (Serve port socket mode connections at_once idle store policy existing log) r = none port socket mode connections at_once idle store policy log existing r
+  serve_lacks none (Serve port socket mode connections at_once idle control store policy existing log) r = none port socket mode connections at_once idle control store policy log existing r
   serve_lacks none (Help text) r = r
   serve_lacks none (Version text) r = r
 
   pub without_places : ListensNowhere rows → ReadsNone (codes "serve") rows
-  without_places none = serve_lacks (λ port socket mode connections at_once idle store policy log existing r. none port socket mode r.1)
+  without_places none = serve_lacks (λ port socket mode connections at_once idle control store policy log existing r. none port socket mode r.1)
 
   pub without_counts : ((connections at_once idle : Option ℕ) → HasCounts rows connections at_once idle → ⊥) → ReadsNone (codes "serve") rows
-  without_counts none = serve_lacks (λ port socket mode connections at_once idle store policy log existing r. none connections at_once idle r.2)
+  without_counts none = serve_lacks (λ port socket mode connections at_once idle control store policy log existing r. none connections at_once idle r.2)
 
 -- clap lets the words pass, no command is read of their matches, and that is told
 pub none_told : (found : Option (Text × List Row)) (kinds : Kinds) (fault : WordsFault)

@@ -177,9 +177,10 @@ pipe_app = with_files (new_app (codes "pipe"))
 abbrev pub with_ends : App → App
 with_ends app = with_rule (with_rule app (counted_rule (codes "connections") 1 10000)) (flag_rule (codes "forever"))
 
--- the options that say how many are served at once, and for how long
+-- the options that say how many are served at once, for how long, and who administers them
 abbrev pub with_pace : App → App
-with_pace app = with_rule (with_rule app (counted_rule (codes "at-once") 1 1000)) (counted_rule (codes "idle") 1 3600)
+with_pace app =
+    with_rule (with_rule (with_rule app (counted_rule (codes "at-once") 1 1000)) (counted_rule (codes "idle") 1 3600)) (option_rule (codes "control"))
 
 -- the options that say where is listened
 abbrev pub with_listening : App → App
@@ -257,12 +258,14 @@ is_given None = false
 abbrev pub has_flag : List Row → Text → Bool
 has_flag rows id = is_given (first_of id rows)
 
--- one of a number of connections and no end is given; how many at once; and a time-out only where many are served at once
+-- one of a number of connections and no end is given; how many at once; and a time-out and a control only where many are served at
+-- once
 abbrev pub HasCounts : List Row → Option ℕ → Option ℕ → Option ℕ → Type 0
 HasCounts rows connections at_once idle =
     MayHaveNumber rows (codes "connections") 10000 connections × (is_none connections ≡ has_flag rows (codes "forever"))
     × MayHaveNumber rows (codes "at-once") 1000 at_once
     × MayHaveNumber rows (codes "idle") 3600 idle × (is_some idle ≡ true → is_some at_once ≡ true)
+    × (is_some (first_of (codes "control") rows) ≡ true → is_some at_once ≡ true)
 
 -- an option has the number of a port, or is not given
 abbrev pub MayHavePort : List Row → Option ℕ → Type 0
@@ -363,9 +366,10 @@ ReadsAs name rows (Denials log since json) =
 ReadsAs name rows (Pipe store policy log) =
     (name ≡ codes "pipe") × NamesFile rows (codes "store") store × NamesFile rows (codes "policy") policy
     × NamesFile rows (codes "log") log
-ReadsAs name rows (Serve port socket mode connections at_once idle store policy existing log) =
+ReadsAs name rows (Serve port socket mode connections at_once idle control store policy existing log) =
     (name ≡ codes "serve") × ListensAt rows port socket mode
     × HasCounts rows connections at_once idle
+    × NamesFile rows (codes "control") control
     × NamesFile rows (codes "store") store × NamesFile rows (codes "policy") policy
     × (existing ≡ has_flag rows (codes "existing")) × (existing ≡ true → is_some store ≡ true)
     × NamesFile rows (codes "log") log

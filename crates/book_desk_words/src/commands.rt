@@ -241,6 +241,8 @@ pub enum Command {
         at_once: Option<u16>,
         /// After how many seconds in which it moves no byte a connection is closed, 1 to 3,600. Never without `at_once`.
         idle: Option<u16>,
+        /// The path of the socket at which whoever keeps the server asks. Never without `at_once`.
+        control: Option<String>,
         /// The file of the store; without one it is in memory.
         store: Option<String>,
         /// The file of a policy that is adopted first.
@@ -399,7 +401,7 @@ struct Counts {
 }
 
 /// How many connections the words say, and how they are served; none where a number is out of range, where they have not
-/// one of `--connections` and `--forever`, or have `--idle` without `--at-once`.
+/// one of `--connections` and `--forever`, or have `--idle` or `--control` without `--at-once`.
 fn counts_of(found: &ArgMatches<'_>) -> Option<Counts>
     ensures read { IfSome result (λ counts. HasCounts
         (rows_of (found_of found.now)) counts.connections counts.at_once counts.idle) }
@@ -416,6 +418,9 @@ fn counts_of(found: &ArgMatches<'_>) -> Option<Counts>
     if idle.is_some() && at_once.is_none() {
         return None;
     }
+    if is_given(found, "control") && at_once.is_none() {
+        return None;
+    }
     Some(Counts {
         connections,
         at_once,
@@ -424,8 +429,8 @@ fn counts_of(found: &ArgMatches<'_>) -> Option<Counts>
 }
 
 /// The command `serve` with what the words give it; none where a number is out of range, where the words give neither a port
-/// nor a socket, have `--mode` without `--socket`, not one of `--connections` and `--forever`, or `--idle` without
-/// `--at-once`, or where a store that has to be there is not named.
+/// nor a socket, have `--mode` without `--socket`, not one of `--connections` and `--forever`, or `--idle` or `--control`
+/// without `--at-once`, or where a store that has to be there is not named.
 fn serve_of(alloc: Global, found: &ArgMatches<'_>) -> Result<Option<Command>, AllocError>
     ensures read { IfOk result (λ command. IfSome command
         (ReadsAs (codes "serve") (rows_of (found_of found.now)))) }
@@ -438,6 +443,7 @@ fn serve_of(alloc: Global, found: &ArgMatches<'_>) -> Result<Option<Command>, Al
     let Some(Places { port, socket, mode }) = places_of(alloc, found)? else {
         return Ok(None);
     };
+    let control = file_in(alloc, found, "control")?;
     let store = file_in(alloc, found, "store")?;
     let policy = file_in(alloc, found, "policy")?;
     let existing = flag_in(found, "existing");
@@ -452,6 +458,7 @@ fn serve_of(alloc: Global, found: &ArgMatches<'_>) -> Result<Option<Command>, Al
         connections: counts.connections,
         at_once: counts.at_once,
         idle: counts.idle,
+        control,
         store,
         policy,
         existing,

@@ -4,7 +4,7 @@ pub(crate) const ABOUT: &str =
     "Shared contact books of an office: WebDAV access lists (RFC 3744) and vCards (RFC 6350)";
 
 /// The number of VERSION, at the top of the repository, which `tools/check-streams` compares.
-pub(crate) const VERSION: &str = "0.9.0";
+pub const VERSION: &str = "0.10.0";
 
 /// What follows a text of what is wrong with the words.
 pub(crate) const USAGE_LINES: &str =
@@ -18,7 +18,7 @@ pub(crate) const NOT_TIME: &str = "denials wants '--since <TIME>' as 2026-11-29T
 
 /// What the options of `serve` and `load` want of each other, and the words of `why` and `backup`.
 pub(crate) const SERVE_WANTS: &str =
-    "serve wants '--port <N>' or '--socket <PATH>', with '--mode <OCTAL>', of three or four digits, also '--socket <PATH>', one of '--connections <N>' and '--forever', with '--idle <N>' also '--at-once <N>', and with '--existing' also '--store <FILE>'; why wants DESTINATION with COPY and MOVE; backup wants one of '--to <NEW>' and '--check <COPY>'; load wants with '--at <BOOK>' also '--owner <FROM=TO>', with '--heir <PRINCIPAL>' also '--without <PERSON>', and with '--above <N>' also '--new-epoch'";
+    "serve wants '--port <N>' or '--socket <PATH>', with '--mode <OCTAL>', of three or four digits, also '--socket <PATH>', one of '--connections <N>' and '--forever', with '--idle <N>' or '--control <PATH>' also '--at-once <N>', and with '--existing' also '--store <FILE>'; why wants DESTINATION with COPY and MOVE; backup wants one of '--to <NEW>' and '--check <COPY>'; load wants with '--at <BOOK>' also '--owner <FROM=TO>', with '--heir <PRINCIPAL>' also '--without <PERSON>', and with '--above <N>' also '--new-epoch'";
 
 pub(crate) const EXPLAIN: &str = "Reads a question from standard input and prints its decision";
 
@@ -629,10 +629,14 @@ Who can reach the port can name any caller: it is for a gateway on the same mach
 x-office-caller to the person that it knows, and takes it out of what strangers send. Nothing else may reach the port. At
 the socket it is the mode of its file that says who may: 0600 without --mode.
 A store is copied while no server has it: stop the server, run audit, which folds the log in, and then copy FILE.
+With --control, which wants --at-once, whoever may open the socket of mode 0600 at PATH asks the server what the commands
+tell of a store, has it adopt a policy, and ends it (the manual page, CONTROL):
+  curl --unix-socket office.control http://localhost/health
+  curl --unix-socket office.control -X PUT --data-binary @policy.toml http://localhost/policy
 
 Told on standard error, each on a line: what pipe tells, 'stream: FAULT' for each connection that failed, which ends no
-other, 'listen: failed' where the port or the socket can't be had or a connection can't be taken, and 'socket: taken' where
-another server answers at PATH.
+other, 'listen: failed' where the port or the socket can't be had or a connection can't be taken, 'socket: taken' where
+another server answers at PATH, and so 'control: failed' and 'control: taken'.
 
 Status: 0 all connections were served, also those that ended within a request; 1 the policy is refused; 2 usage;
 3 the store, memory or a failed read or write, also in one connection, or listening failed.
@@ -665,3 +669,6 @@ pub(crate) const AT_ONCE: &str = "How many connections are served at once, 1 to 
 
 pub(crate) const IDLE: &str =
     "After how many seconds an idle connection is closed, 1 to 3600; wants --at-once";
+
+pub(crate) const CONTROL: &str =
+    "The path of a Unix socket that tells how the server does, and ends it; wants --at-once";

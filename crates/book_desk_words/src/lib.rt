@@ -15,3 +15,4 @@ mod programs;
 mod questions;
 
 pub use commands::{Command, WordsFault, command_of, words_not_text, words_not_time};
+pub use helps::VERSION;

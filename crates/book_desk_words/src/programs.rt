@@ -7,14 +7,14 @@ ghost use Rattle.book_desk_words.specs.CommandLine.{IsMade, IsProgram, program_a
 use crate::helps::{
     ABOUT, ABOVE, ASK, ASK_TEXT, ASKED_STORE, AT_ONCE, AUDIT, AUDIT_TEXT, BACKUP, BACKUP_CHECK,
     BACKUP_TEXT, BACKUP_TO, BELOW, BOOKS, CALLER, CARD, CARD_TEXT, CAUSE, CHECK, CHECK_TEXT,
-    CHECKED_STORE, COMPACT, COMPACT_TEXT, CONNECTIONS, DENIALS, DENIALS_TEXT, DENIED, DESTINATION,
-    DIFFERS, DIFFERS_STRICT, DIFFERS_TEXT, DOCTOR, DOCTOR_TEXT, DUMP, DUMP_TEXT, DUMP_WORD,
-    EXISTING, EXPLAIN, FIRST_STORE, FOLDER, FOREVER, FORGET_REMOVED, FOUNDED_STORE, HEIR, IDLE,
-    IMPORT, IMPORT_TEXT, INIT, INIT_TEXT, JSON, KEPT_STORE, LABELS, LOAD, LOAD_TEXT, LOG, LOG_WORD,
-    MIGRATE, MIGRATE_TEXT, MODE, NEW_EPOCH, NEW_STORE, OWNED_AT, OWNER, PERSON, PIPE, PIPE_TEXT,
-    POLICY, POLICY_WORD, PORT, PRIVILEGE, QUESTION, RESOURCE, RESTORE, RESTORE_FROM, RESTORE_TEXT,
-    RESTORED, RIGHTS, RIGHTS_TEXT, SERVE, SERVE_TEXT, SHARED, SHOW, SHOW_TEXT, SINCE, SOCKET,
-    STRICT, VERSION, WHAT, WHO, WHO_TEXT, WHY, WHY_TEXT, WITHOUT,
+    CHECKED_STORE, COMPACT, COMPACT_TEXT, CONNECTIONS, CONTROL, DENIALS, DENIALS_TEXT, DENIED,
+    DESTINATION, DIFFERS, DIFFERS_STRICT, DIFFERS_TEXT, DOCTOR, DOCTOR_TEXT, DUMP, DUMP_TEXT,
+    DUMP_WORD, EXISTING, EXPLAIN, FIRST_STORE, FOLDER, FOREVER, FORGET_REMOVED, FOUNDED_STORE,
+    HEIR, IDLE, IMPORT, IMPORT_TEXT, INIT, INIT_TEXT, JSON, KEPT_STORE, LABELS, LOAD, LOAD_TEXT,
+    LOG, LOG_WORD, MIGRATE, MIGRATE_TEXT, MODE, NEW_EPOCH, NEW_STORE, OWNED_AT, OWNER, PERSON,
+    PIPE, PIPE_TEXT, POLICY, POLICY_WORD, PORT, PRIVILEGE, QUESTION, RESOURCE, RESTORE,
+    RESTORE_FROM, RESTORE_TEXT, RESTORED, RIGHTS, RIGHTS_TEXT, SERVE, SERVE_TEXT, SHARED, SHOW,
+    SHOW_TEXT, SINCE, SOCKET, STRICT, VERSION, WHAT, WHO, WHO_TEXT, WHY, WHY_TEXT, WITHOUT,
 };
 use clap::{Arg, ArgAction, value_parser};
 use std::alloc::{AllocError, Global};
@@ -431,12 +431,13 @@ fn with_ends<'a>(alloc: Global, made: Made<'a>) -> Made<'a>
     with_word(made, flag_option(alloc, "forever", FOREVER))
 }
 
-/// The command with the options that say how many connections are served at once, and for how long.
+/// The command with the options that say how many connections are served at once, for how long, and who administers them.
 fn with_pace<'a>(alloc: Global, made: Made<'a>) -> Made<'a>
     ensures { (app : App) → IsMade app made.entry → IsMade (with_pace app) result }
 {
     let made = with_word(made, number_option(alloc, "at-once", AT_ONCE, 1, 1_000));
-    with_word(made, number_option(alloc, "idle", IDLE, 1, 3_600))
+    let made = with_word(made, number_option(alloc, "idle", IDLE, 1, 3_600));
+    with_word(made, value_option(alloc, "control", "PATH", CONTROL))
 }
 
 /// The command with the options that say where is listened.

@@ -170,39 +170,43 @@ const COMMANDS: &[(&str, &str)] = &[
     ),
     (
         "serve --port 0 --connections 1",
-        "Serve { port: Some(0), socket: None, mode: 384, connections: Some(1), at_once: None, idle: None, store: None, policy: None, existing: false, log: None }",
+        "Serve { port: Some(0), socket: None, mode: 384, connections: Some(1), at_once: None, idle: None, control: None, store: None, policy: None, existing: false, log: None }",
     ),
     (
         "serve --port 65535 --connections 10000 --store office.db --policy office.toml --existing",
-        "Serve { port: Some(65535), socket: None, mode: 384, connections: Some(10000), at_once: None, idle: None, store: Some(\"office.db\"), policy: Some(\"office.toml\"), existing: true, log: None }",
+        "Serve { port: Some(65535), socket: None, mode: 384, connections: Some(10000), at_once: None, idle: None, control: None, store: Some(\"office.db\"), policy: Some(\"office.toml\"), existing: true, log: None }",
     ),
     (
         "serve --forever --port 80",
-        "Serve { port: Some(80), socket: None, mode: 384, connections: None, at_once: None, idle: None, store: None, policy: None, existing: false, log: None }",
+        "Serve { port: Some(80), socket: None, mode: 384, connections: None, at_once: None, idle: None, control: None, store: None, policy: None, existing: false, log: None }",
     ),
     (
         "serve --port 80 --forever --at-once 1 --idle 1",
-        "Serve { port: Some(80), socket: None, mode: 384, connections: None, at_once: Some(1), idle: Some(1), store: None, policy: None, existing: false, log: None }",
+        "Serve { port: Some(80), socket: None, mode: 384, connections: None, at_once: Some(1), idle: Some(1), control: None, store: None, policy: None, existing: false, log: None }",
     ),
     (
         "serve --port 80 --connections 7 --at-once 1000 --idle 3600 --store office.db",
-        "Serve { port: Some(80), socket: None, mode: 384, connections: Some(7), at_once: Some(1000), idle: Some(3600), store: Some(\"office.db\"), policy: None, existing: false, log: None }",
+        "Serve { port: Some(80), socket: None, mode: 384, connections: Some(7), at_once: Some(1000), idle: Some(3600), control: None, store: Some(\"office.db\"), policy: None, existing: false, log: None }",
     ),
     (
         "serve --port 80 --forever --log office.log --at-once 64",
-        "Serve { port: Some(80), socket: None, mode: 384, connections: None, at_once: Some(64), idle: None, store: None, policy: None, existing: false, log: Some(\"office.log\") }",
+        "Serve { port: Some(80), socket: None, mode: 384, connections: None, at_once: Some(64), idle: None, control: None, store: None, policy: None, existing: false, log: Some(\"office.log\") }",
     ),
     (
         "serve --socket office.sock --connections 1",
-        "Serve { port: None, socket: Some(\"office.sock\"), mode: 384, connections: Some(1), at_once: None, idle: None, store: None, policy: None, existing: false, log: None }",
+        "Serve { port: None, socket: Some(\"office.sock\"), mode: 384, connections: Some(1), at_once: None, idle: None, control: None, store: None, policy: None, existing: false, log: None }",
     ),
     (
         "serve --socket office.sock --mode 0660 --forever --port 80",
-        "Serve { port: Some(80), socket: Some(\"office.sock\"), mode: 432, connections: None, at_once: None, idle: None, store: None, policy: None, existing: false, log: None }",
+        "Serve { port: Some(80), socket: Some(\"office.sock\"), mode: 432, connections: None, at_once: None, idle: None, control: None, store: None, policy: None, existing: false, log: None }",
     ),
     (
         "serve --socket office.sock --mode 777 --forever",
-        "Serve { port: None, socket: Some(\"office.sock\"), mode: 511, connections: None, at_once: None, idle: None, store: None, policy: None, existing: false, log: None }",
+        "Serve { port: None, socket: Some(\"office.sock\"), mode: 511, connections: None, at_once: None, idle: None, control: None, store: None, policy: None, existing: false, log: None }",
+    ),
+    (
+        "serve --port 80 --forever --at-once 64 --control office.control",
+        "Serve { port: Some(80), socket: None, mode: 384, connections: None, at_once: Some(64), idle: None, control: Some(\"office.control\"), store: None, policy: None, existing: false, log: None }",
     ),
     ("--help", "Help"),
     ("--version", "Version"),
@@ -331,12 +335,13 @@ const REFUSED: &[(&str, &str)] = &[
     ("serve --port 0 --connections 1 --forever", SERVE_WANTS),
     ("serve --port 0 --forever --idle 5", SERVE_WANTS),
     ("serve --port 0 --connections 1 --idle 5", SERVE_WANTS),
+    ("serve --port 0 --forever --control c", SERVE_WANTS),
     ("serve --port 0 --connections 1 --existing", SERVE_WANTS),
 ];
 
 /// What is told where the options of `serve` or `load` lack what they want of each other.
 const SERVE_WANTS: &str =
-    "2 error: serve wants '--port <N>' or '--socket <PATH>', with '--mode <OCTAL>', of three or four digits, also '--socket <PATH>', one of '--connections <N>' and '--forever', with '--idle <N>' also '--at-once <N>', and with '--existing' also '--store <FILE>'; why wants DESTINATION with COPY and MOVE; backup wants one of '--to <NEW>' and '--check <COPY>'; load wants with '--at <BOOK>' also '--owner <FROM=TO>', with '--heir <PRINCIPAL>' also '--without <PERSON>', and with '--above <N>' also '--new-epoch'";
+    "2 error: serve wants '--port <N>' or '--socket <PATH>', with '--mode <OCTAL>', of three or four digits, also '--socket <PATH>', one of '--connections <N>' and '--forever', with '--idle <N>' or '--control <PATH>' also '--at-once <N>', and with '--existing' also '--store <FILE>'; why wants DESTINATION with COPY and MOVE; backup wants one of '--to <NEW>' and '--check <COPY>'; load wants with '--at <BOOK>' also '--owner <FROM=TO>', with '--heir <PRINCIPAL>' also '--without <PERSON>', and with '--above <N>' also '--new-epoch'";
 
 /// The status, and the first line of what is told.
 fn first_line(alloc: Global, fault: &WordsFault) -> Result<String, AllocError> {

@@ -13,6 +13,8 @@ mod bodies;
 #[cfg(test)]
 mod connections;
 #[cfg(test)]
+mod controls;
+#[cfg(test)]
 mod conversations;
 #[cfg(test)]
 mod fields;
@@ -24,6 +26,8 @@ mod json_texts;
 mod logs;
 #[cfg(test)]
 mod long;
+#[cfg(test)]
+mod metrics;
 #[cfg(test)]
 mod offices;
 #[cfg(test)]

@@ -2,10 +2,15 @@
 
 use crate::logs::logged;
 use crate::offices::{POLICY, machine};
-use book_desk_loop::{Faults, Limits, Readiness, Stop, close_in_stages, serve_at_once};
-use book_machine::Machine;
+use book_desk_loop::{Faults, Limits, Readiness, Stop, Woken, close_in_stages, serve_at_once};
+use book_machine::{AdoptFault, Adopted, Machine};
+use book_office::{MemoryKeeper, Policy};
 use book_office_faults::Fused;
+use book_policy::read_policy;
 use book_wire::StreamFault;
+use book_wire_serving::Service;
+use book_wire_steps::{Control, Traffic, Wish};
+use std::alloc::Global;
 use std::cell::Cell;
 use std::io;
 use std::io::{ErrorKind, Read, Write};
@@ -196,11 +201,68 @@ impl Clock for Time {
     }
 }
 
-/// Tells of each stream once, when it is watched first, and lets as much time pass as it may.
+/// Tells of each stream once, when it is watched first, and each time of a control, and lets as much time pass as it may.
 #[derive(Drop)]
 struct Script<'t> {
     time: &'t Time,
     watched: Vec<usize>,
+}
+
+impl<'t> Script<'t> {
+    fn new(alloc: Global, time: &'t Time) -> Script<'t> {
+        Script {
+            time,
+            watched: Vec::new(alloc),
+        }
+    }
+}
+
+/// A control that wishes an end once so many requests were answered, if ever.
+#[derive(Drop)]
+struct Watcher {
+    ends_after: Option<u64>,
+    /// What it was told last.
+    traffic: Option<Traffic>,
+}
+
+impl Watcher {
+    fn new(ends_after: Option<u64>) -> Watcher {
+        Watcher {
+            ends_after,
+            traffic: None,
+        }
+    }
+}
+
+impl<M: Service> Control<M> for Watcher {
+    #[tactic(auto, using(book_wire_steps::proofs::Takes::only_none))]
+    fn take_turn(&mut self, _service: &mut M, traffic: Traffic) -> Wish {
+        self.traffic = Some(traffic);
+        match self.ends_after {
+            Some(count) if traffic.answered >= count => Wish::End,
+            _ => Wish::GoOn,
+        }
+    }
+}
+
+/// A control that adopts a policy once a request was answered.
+#[derive(Drop)]
+struct Adopter {
+    alloc: Global,
+    policy: Policy,
+    /// What came of it.
+    adopted: Option<Result<Adopted, AdoptFault>>,
+}
+
+impl Control<Machine<MemoryKeeper>> for Adopter {
+    #[tactic(auto, using(book_wire_steps::proofs::Takes::only_none))]
+    fn take_turn(&mut self, service: &mut Machine<MemoryKeeper>, traffic: Traffic) -> Wish {
+        if traffic.answered != 1 || self.adopted.is_some() {
+            return Wish::GoOn;
+        }
+        self.adopted = Some(service.adopt(self.alloc, &self.policy));
+        Wish::GoOn
+    }
 }
 
 impl Readiness<Peer> for Script<'_> {
@@ -209,7 +271,7 @@ impl Readiness<Peer> for Script<'_> {
         Ok(())
     }
 
-    fn wait(&mut self, most: Option<Duration>, ready: &mut Vec<usize>) -> io::Result<bool> {
+    fn wait(&mut self, most: Option<Duration>, ready: &mut Vec<usize>) -> io::Result<Woken> {
         let passed = self.time.passed.get();
         let most = most.unwrap_or(Duration::from_secs(1));
         self.time.passed.set(passed.saturating_add(most));
@@ -217,7 +279,10 @@ impl Readiness<Peer> for Script<'_> {
             ready.push(*place)?;
         }
         self.watched.clear();
-        Ok(true)
+        Ok(Woken {
+            listener: true,
+            control: true,
+        })
     }
 
     fn now(&self) -> io::Result<Instant> {
@@ -316,6 +381,10 @@ impl Faults for Told {
     fn tell(&mut self, _fault: StreamFault) {
         self.faults = self.faults.saturating_add(1);
     }
+
+    fn count(&self) -> u64 {
+        self.faults
+    }
 }
 
 /// How many connections a row has in all.
@@ -333,10 +402,8 @@ fn check_served(rt: &(impl Abort + AllocGlobal), doors: &Doors<'_>, row: &Row<'_
     let time = Time {
         passed: Cell::new(Duration::ZERO),
     };
-    let mut script = Script {
-        time: &time,
-        watched: Vec::new(alloc),
-    };
+    let mut script = Script::new(alloc, &time);
+    let mut watcher = Watcher::new(None);
     let mut told = Told { faults: 0 };
     let limits = Limits {
         at_once: row.at_once,
@@ -346,12 +413,14 @@ fn check_served(rt: &(impl Abort + AllocGlobal), doors: &Doors<'_>, row: &Row<'_
             None => None,
         },
         gives_way: row.gives_way,
+        is_administered: false,
     };
     let (machine, served) = serve_at_once(
         alloc,
         machine(rt, alloc, POLICY),
         doors,
         &mut script,
+        &mut watcher,
         limits,
         &mut told,
     );
@@ -442,16 +511,15 @@ fn a_store_that_fails_ends_it(rt: HostRuntime) {
     let time = Time {
         passed: Cell::new(Duration::ZERO),
     };
-    let mut script = Script {
-        time: &time,
-        watched: Vec::new(alloc),
-    };
+    let mut script = Script::new(alloc, &time);
+    let mut watcher = Watcher::new(None);
     let mut told = Told { faults: 0 };
     let limits = Limits {
         at_once: 1,
         total: None,
         idle: None,
         gives_way: false,
+        is_administered: true,
     };
     let keeper = Fused::new(machine(&rt, alloc, POLICY).release(), 0);
     let (machine, served) = serve_at_once(
@@ -459,6 +527,7 @@ fn a_store_that_fails_ends_it(rt: HostRuntime) {
         Machine::new(keeper),
         &doors,
         &mut script,
+        &mut watcher,
         limits,
         &mut told,
     );
@@ -466,6 +535,192 @@ fn a_store_that_fails_ends_it(rt: HostRuntime) {
     assert_eq!(rt; served, Err(Stop::Store));
     assert_eq!(rt; told.faults, 0);
     check_told(&rt, &stream, &client);
+    assert_eq!(rt; told_last(watcher.traffic), Some((1, 1, 0, 2, true)));
+}
+
+/// How many connections came, are there and had a fault, how many requests were answered, and whether the store shows nothing.
+type Counts = (u64, usize, u64, u64, bool);
+
+/// Whether the server is administered; how many come in all; after how many replies the control wishes an end; and what it is
+/// told last.
+const WISHES: &[(bool, Option<u16>, u64, Option<Counts>)] = &[
+    // None is accepted.
+    (true, None, 0, Some((0, 0, 0, 0, false))),
+    // The idle one is closed a second after the wish.
+    (true, None, 1, Some((2, 1, 0, 1, false))),
+    // Where it is not, the control has no turn.
+    (false, Some(2), 0, None),
+];
+
+/// What a control was told.
+fn told_last(traffic: Option<Traffic>) -> Option<Counts> {
+    let told = traffic?;
+    Some((
+        told.came,
+        told.open,
+        told.faults,
+        told.answered,
+        told.shows_nothing,
+    ))
+}
+
+/// An idle connection and one that asks, and a control that wishes an end.
+#[test]
+fn a_wish_ends_it(rt: HostRuntime) {
+    let alloc = rt.alloc();
+    for (may, total, after, wanted) in WISHES {
+        let listener = TcpListener::bind(&rt, "127.0.0.1:0").expect(&rt, "a listener");
+        let address = listener.local_addr().expect(&rt, "an address");
+        let idle = TcpStream::connect(&rt, address).expect(&rt, "a connection");
+        let stream = TcpStream::connect(&rt, address).expect(&rt, "a connection");
+        send(&rt, &stream, &ENDS);
+        let doors = Doors {
+            listener: &listener,
+            clients: &[IDLE, ENDS],
+            refused: 0,
+            before: 0,
+            times: 0,
+            calls: Cell::new(0),
+            next: Cell::new(0),
+        };
+        let time = Time {
+            passed: Cell::new(Duration::ZERO),
+        };
+        let mut script = Script::new(alloc, &time);
+        let mut watcher = Watcher::new(Some(*after));
+        let limits = Limits {
+            at_once: 2,
+            total: *total,
+            idle: None,
+            gives_way: true,
+            is_administered: *may,
+        };
+        let mut told = Told { faults: 0 };
+        let (kept, served) = serve_at_once(
+            alloc,
+            machine(&rt, alloc, POLICY),
+            &doors,
+            &mut script,
+            &mut watcher,
+            limits,
+            &mut told,
+        );
+        drop(kept);
+        assert_eq!(rt; served, Ok(()));
+        assert_eq!(rt; told_last(watcher.traffic), *wanted);
+        drop(idle);
+    }
+}
+
+/// The policy of `POLICY`, but that the staff may not read the book of sales any more.
+const LATER: &str = "\
+version = 1
+[[person]]
+name = \"ann\"
+[[person]]
+name = \"bob\"
+[[person]]
+name = \"gus\"
+[[group]]
+name = \"staff\"
+members = [\"/people/ann\", \"/people/bob\"]
+[[book]]
+name = \"sales\"
+label = \"Sales\"
+owner = \"/people/ann\"
+[[entry]]
+at = \"/books/sales\"
+who = \"/people/ann\"
+grant = [\"all\"]
+protected = true
+[[entry]]
+at = \"/books/sales\"
+who = \"/groups/staff\"
+grant = [\"bind\"]
+";
+
+/// Bob asks twice for the token of the book of sales, and then ann for what changed since that token.
+const ASKED: &str =
+    "PROPFIND /books/sales HTTP/1.1\r\nx-office-caller: bob\r\nContent-Length: 23\r\n\r\n{\"prop\":[\"sync-token\"]}PROPFIND /books/sales HTTP/1.1\r\nx-office-caller: bob\r\nContent-Length: 23\r\n\r\n{\"prop\":[\"sync-token\"]}REPORT /books/sales HTTP/1.1\r\nx-office-caller: ann\r\nContent-Length: 59\r\n\r\n{\"report\":\"sync-collection\",\"sync-token\":\"data:,sales/1/0\"}";
+
+/// The policy is adopted after the first reply: bob may not read the book, and the token is not valid any more.
+const ADOPTED: &str =
+    "HTTP/1.1 207 Multi-Status\r\nContent-Type: application/json\r\nContent-Length: 92\r\n\r\n{\"responses\":[{\"href\":\"/books/sales\",\"prop\":{\"sync-token\":\"data:,sales/1/0\"},\"status\":200}]}HTTP/1.1 403 Forbidden\r\nContent-Type: application/json\r\nContent-Length: 85\r\n\r\n{\"entry\":null,\"error\":\"need-privileges\",\"privilege\":\"read\",\"resource\":\"/books/sales\"}HTTP/1.1 403 Forbidden\r\nContent-Type: application/json\r\nContent-Length: 28\r\n\r\n{\"error\":\"valid-sync-token\"}";
+
+/// No policy is adopted: nothing changed.
+const UNADOPTED: &str =
+    "HTTP/1.1 207 Multi-Status\r\nContent-Type: application/json\r\nContent-Length: 92\r\n\r\n{\"responses\":[{\"href\":\"/books/sales\",\"prop\":{\"sync-token\":\"data:,sales/1/0\"},\"status\":200}]}HTTP/1.1 207 Multi-Status\r\nContent-Type: application/json\r\nContent-Length: 92\r\n\r\n{\"responses\":[{\"href\":\"/books/sales\",\"prop\":{\"sync-token\":\"data:,sales/1/0\"},\"status\":200}]}HTTP/1.1 207 Multi-Status\r\nContent-Type: application/json\r\nContent-Length: 47\r\n\r\n{\"responses\":[],\"sync-token\":\"data:,sales/1/0\"}";
+
+/// Whether the server is administered, what the client is told, and what came of the adoption.
+const ADOPTIONS: &[(bool, &str, Option<Result<Adopted, AdoptFault>>)] = &[
+    (
+        true,
+        ADOPTED,
+        Some(Ok(Adopted {
+            changed: true,
+            epoch: 2,
+        })),
+    ),
+    (false, UNADOPTED, None),
+];
+
+/// A policy is adopted between two requests of a connection.
+#[test]
+fn a_policy_is_adopted_between_requests(rt: HostRuntime) {
+    let alloc = rt.alloc();
+    for (administered, replies, adopted) in ADOPTIONS {
+        let listener = TcpListener::bind(&rt, "127.0.0.1:0").expect(&rt, "a listener");
+        let address = listener.local_addr().expect(&rt, "an address");
+        let stream = TcpStream::connect(&rt, address).expect(&rt, "a connection");
+        let client = Client {
+            sent: ASKED,
+            ends: true,
+            told: replies,
+            ..IDLE
+        };
+        send(&rt, &stream, &client);
+        let clients = [client];
+        let doors = Doors {
+            listener: &listener,
+            clients: &clients,
+            refused: 0,
+            before: 0,
+            times: 0,
+            calls: Cell::new(0),
+            next: Cell::new(0),
+        };
+        let time = Time {
+            passed: Cell::new(Duration::ZERO),
+        };
+        let mut script = Script::new(alloc, &time);
+        let policy = read_policy(alloc, LATER).ok().expect(&rt, "a policy");
+        let mut adopter = Adopter {
+            alloc,
+            policy,
+            adopted: None,
+        };
+        let mut told = Told { faults: 0 };
+        let limits = Limits {
+            at_once: 1,
+            total: Some(1),
+            idle: None,
+            gives_way: false,
+            is_administered: *administered,
+        };
+        let (kept, served) = serve_at_once(
+            alloc,
+            machine(&rt, alloc, POLICY),
+            &doors,
+            &mut script,
+            &mut adopter,
+            limits,
+            &mut told,
+        );
+        drop(kept);
+        assert_eq!(rt; served, Ok(()));
+        assert_eq!(rt; adopter.adopted, *adopted);
+        check_told(&rt, &stream, &client);
+    }
 }
 
 /// The line of one request of nobody.
@@ -498,22 +753,22 @@ fn a_log_that_fails_ends_it(rt: HostRuntime) {
     let time = Time {
         passed: Cell::new(Duration::ZERO),
     };
-    let mut script = Script {
-        time: &time,
-        watched: Vec::new(alloc),
-    };
+    let mut script = Script::new(alloc, &time);
+    let mut watcher = Watcher::new(None);
     let mut told = Told { faults: 0 };
     let limits = Limits {
         at_once: 1,
         total: None,
         idle: None,
         gives_way: false,
+        is_administered: false,
     };
     let (kept, served) = serve_at_once(
         alloc,
         logged(&rt, alloc, 1),
         &doors,
         &mut script,
+        &mut watcher,
         limits,
         &mut told,
     );

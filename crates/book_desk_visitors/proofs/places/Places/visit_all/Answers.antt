@@ -1,0 +1,10 @@
+use Rattle.book_wire_steps.proofs.Takes.{only_then}
+use Rattle.book_desk_visitors.proofs.places.Places.visit_all.Goals as goal
+
+pub loop-step-preserved : goal.loop-step-preserved
+loop-step-preserved g c =
+    only_then g.M.Service.serving c.args.service.now c.loop-step.service c.visit-went.new.service c.loop-step.invariant c.visit-went.ensures
+
+pub returns-then-ne : goal.returns-then-ne
+returns-then-ne g c =
+    only_then g.M.Service.serving c.args.service.now c.loop-step.service c.visit-went.new.service c.loop-step.invariant c.visit-went.ensures
