@@ -4,7 +4,8 @@
 #   make build   proves the program and links it: build/book_desk
 #   make install copies the proved program, the gateway, manual pages, units and examples (DESTDIR, PREFIX)
 #   make package makes packages of Debian 12 of that program, or of that of make try: build/packages
-#   make try-package makes them, installs them in a new root, uses them there, and removes them (root, debootstrap)
+#   make try-package looks at the units, makes the packages, installs them in a new root, uses them there, and removes them (root,
+#                debootstrap)
 #   make demo    builds it, and runs it on texts and cards of examples/, and the tour
 #   make tour    builds it, and runs all that the documents show, and compares
 #   make streams builds it, and compares its replies to the streams of examples/ byte for byte, and its decisions to the
@@ -17,11 +18,12 @@
 #   make bench   builds the program, and prints the processor time that it takes for many workloads, and the instructions
 #                of requests at two sizes of what they should not rest on
 #   make figures builds the program, and prints what its requests over a store in a file take, what check of a policy of 1 MB
-#                takes, and what load, backup, compact, restore and doctor take beside sqlite3; and asks for what takes most
-#                memory under an address space of 512 MB
+#                takes, and what load, backup, compact, restore and doctor take beside sqlite3; asks for what takes most memory
+#                under an address space of 512 MB; and what clients wait for while an administrator asks the control
 #   make many    builds the program, and serves 10,000 connections, 100 at once, and each worked stream cut at each byte, four
 #                at once; ends it by TERM at 100 moments; loses the file of a store beside its log; makes syncs fail; asks it
-#                through nginx and at a Unix socket; prints what an honest client waits for beside clients that take places or turns
+#                through nginx, at a Unix socket, and at its control; prints what an honest client waits for beside clients that
+#                take places or turns
 #   make loads   builds the program, and compares what load, compact, backup and restore make of random stores, also where they
 #                are killed, and what doctor tells
 #   make logs    builds the program, and compares each line of its log with what was asked and answered, also where it is
@@ -51,6 +53,7 @@ package:
 	@tools/package
 
 try-package: package
+	@tools/check-units
 	@tools/try-package
 
 demo: build
@@ -87,6 +90,7 @@ figures: build
 	@tools/check-policies --figures build/book_desk
 	@tools/measure-loads build/book_desk
 	@tools/check-memory build/book_desk
+	@tools/measure-control build/book_desk
 
 many: build
 	@tools/check-many build/book_desk
@@ -96,6 +100,7 @@ many: build
 	@tools/check-unsynced build/book_desk
 	@tools/check-proxied build/book_desk
 	@tools/check-sockets build/book_desk
+	@tools/check-control build/book_desk
 	@tools/measure-crowds build/book_desk
 
 loads: build
