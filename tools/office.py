@@ -1,5 +1,5 @@
 """An office of one person for the tools that ask the program: its policy, cards, requests and replies, a server of it and a
-connection. What imports this is run by `python3 -B`, so that nothing is left in tools/."""
+connection; and how comparisons are counted. What imports this is run by `python3 -B`, so that nothing is left in tools/."""
 
 import contextlib
 import importlib.machinery
@@ -7,6 +7,7 @@ import importlib.util
 import os
 import pathlib
 import re
+import shutil
 import socket
 import subprocess
 import sys
@@ -34,6 +35,27 @@ def script(name):
     module = importlib.util.module_from_spec(importlib.util.spec_from_loader(loader.name, loader))
     loader.exec_module(module)
     return module
+
+
+class Count:
+    """How many comparisons passed, and how many failed; of one that failed both are told, where they are long from where they differ."""
+
+    def __init__(self):
+        self.passed = self.failed = 0
+
+    def judge(self, name, wanted, given):
+        if wanted == given:
+            self.passed += 1
+            return
+        self.failed += 1
+        told = [repr(wanted), repr(given)]
+        at = max(0, len(os.path.commonprefix(told)) - 120)
+        print(f"{name}\n  wanted: {told[0][at : at + 400]}\n  given:  {told[1][at : at + 400]}", flush=True)
+
+    def ends(self):
+        """Tells both, and is the status of the tool."""
+        print(f"{self.passed} passed, {self.failed} failed")
+        return 1 if self.failed else 0
 
 
 def policy(at="/books/all"):
@@ -132,21 +154,74 @@ def serving(file, *words):
 
 
 class Server:
-    """A process of a command that tells first, as `serve` does, at which port it listens."""
+    """A process of a command that tells first, as `serve` does, where it listens, on so many lines. Those of one that ends before are
+    empty."""
 
-    def __init__(self, command, **how):
-        self.process = subprocess.Popen(command, stdout=subprocess.PIPE, **how)
-        self.port = int(self.process.stdout.readline().rpartition(b":")[2])
+    def __init__(self, command, lines=1, **how):
+        self.process = subprocess.Popen([*map(str, command)], stdout=subprocess.PIPE, **how)
+        self.lines = [self.process.stdout.readline().decode() for _ in range(lines)]
+
+    @property
+    def port(self):
+        """The port that the first line tells."""
+        return int(self.lines[0].rpartition(":")[2])
 
     def spent(self):
         """The processor time of the process so far, in microseconds."""
         return int(pathlib.Path(f"/proc/{self.process.pid}/schedstat").read_text(encoding="ascii").split()[0]) / 1e3
+
+    def ends(self, by=None):
+        """How it ends, of itself or by a signal: its status, and what it told of faults, where that is kept."""
+        if by is not None:
+            self.process.send_signal(by)
+        _, errors = self.process.communicate(timeout=SECONDS)
+        return self.process.returncode, (errors or b"").decode()
 
     def end(self):
         """Ends it by TERM."""
         self.process.terminate()
         self.process.wait(SECONDS)
         self.process.stdout.close()
+
+
+def library(room, name):
+    """A library of tools/ that lies under a program, compiled into a folder."""
+    made = room / f"{name}.so"
+    subprocess.run(["cc", "-O2", "-shared", "-fPIC", "-o", made, TOP / "tools" / f"{name}.c"], check=True)
+    return made
+
+
+class Stops:
+    """Stops of a program at calls that change files of a folder, by stopped.c, which is compiled into a room."""
+
+    # What is taken back of what was not synced: nothing, what was written to files, and names too.
+    LOSES = (None, "bytes", "all")
+    CALLS = {"w": "write", "t": "cut", "s": "sync", "n": "name"}
+
+    def __init__(self, room, folder):
+        self.library, self.folder, self.kept, self.told = library(room, "stopped"), folder, room / "stopped", room / "stopped.told"
+
+    def environment(self, at=None, lose=None):
+        """That of a program that is stopped at the call of this number, at 0 as it ends; or of one whose calls are only counted."""
+        shutil.rmtree(self.kept, ignore_errors=True)
+        self.kept.mkdir()
+        self.told.unlink(missing_ok=True)
+        about = {"LD_PRELOAD": self.library, "STOP_IN": self.folder, "STOP_KEPT": self.kept, "STOP_TOLD": self.told}
+        about |= {} if at is None else {"STOP_AT": at}
+        return os.environ | {name: str(value) for name, value in (about | ({"LOSE": lose} if lose else {})).items()}
+
+    def calls(self):
+        """What the calls of the last program were, a letter each."""
+        return self.told.read_text(encoding="ascii") if self.told.exists() else ""
+
+    def chosen(self, most, rng):
+        """The numbers of so many calls of the last program, of the last thirty, and 0, each with what is taken back; and how each is told."""
+        calls = self.calls()
+        numbers = range(1, len(calls) + 1)
+        for at in sorted({0, *rng.sample(numbers, min(len(numbers), most)), *numbers[-30:]}):
+            for lose in self.LOSES:
+                what = f"call {at} of {len(calls)}, a {self.CALLS[calls[at - 1]]}" if at else "its end"
+                yield at, lose, f"{what}, {lose or 'nothing'} lost"
 
 
 class Verdict(typing.NamedTuple):

@@ -1,12 +1,15 @@
 //! The control of a server: a Unix socket on which whoever keeps the server asks, which has its turn in the loop of the server.
 
-use crate::files::{length_of, log_name};
-use crate::refusals::STORE_VERSION;
+use crate::backups::backup_of;
 use book_desk_administering::Administered;
+use book_desk_answering::Copying;
+use book_desk_app::Lines;
 use book_desk_control::Sizes;
+use book_desk_files::{length_of, log_name};
 use book_desk_logs::time_now;
 use book_desk_metrics::{Clock, Counted};
 use book_desk_sockets::LocalDoor;
+use book_desk_stores::STORE_VERSION;
 use book_desk_visitors::{Facts, Places};
 use book_desk_words::VERSION;
 use book_log_lines::Time;
@@ -69,6 +72,21 @@ fn seconds_now(rt: &HostRuntime) -> u64 {
     }
 }
 
+/// Makes copies in files of this host.
+#[derive(Drop)]
+struct Copier<'r> {
+    rt: &'r HostRuntime,
+}
+
+/// What files hold no contract tells.
+impl<M: Administered> Copying<M> for Copier<'_> {
+    ghost copies = { λ _ _ _ _ _ _ _ _ _. Unit {0} };
+
+    fn copy<E: Lines>(&mut self, service: &mut M, to: &str, errors: &mut E) -> u8 {
+        backup_of(self.rt, service, to, errors)
+    }
+}
+
 /// The control of a server.
 #[derive(Drop)]
 pub struct Controls<'r> {
@@ -124,6 +142,8 @@ impl<M: Administered, C: Clock> Control<Counted<M, C>> for Controls<'_> {
             replies: &service.counts,
             times: &service.times,
         };
-        self.places.take_turn(&mut service.service, &facts)
+        let mut copier = Copier { rt: self.rt };
+        self.places
+            .take_turn(&mut service.service, &mut copier, &facts)
     }
 }

@@ -1,9 +1,9 @@
 //! The log that `serve` and `pipe` write, and the command that tells the denials of one.
 
-use crate::progress::{Stage, tell_stage};
 use crate::refuse;
 use book_desk_app::{BROKEN, Failure, InputFault, Lines, tell_line};
 use book_desk_denials::run_denials;
+use book_desk_files::{Stage, tell_stage};
 use book_desk_logs::{LogFile, NotOpened, Pace};
 use book_desk_words::{WordsFault, words_not_time};
 use book_log_denials::Form;

@@ -1,59 +1,46 @@
-//! The program `book_desk` of the shared contact books. Its words are read by `book_desk_words`. `book_desk_app` does
-//! the rest, over any store, reader and writers: `run_text` what `explain`, `card` and help do, `run` what `import`,
-//! `audit` and `pipe` do, `run_migration` and `serve` what the commands of their names do, and `prepare` what `serve`
-//! does before it listens, and `begin` what `init` does in a folder. `Logged` of `book_log_service` serves where a log is
-//! named, and `run_denials` of `book_desk_denials` does what `denials` does. `run_question` of `book_desk_questions` does what
-//! `why`, `who`, `rights`, `ask`, `show` and the `audit` of a part do, `run_dump` what `dump` does, and `run_differs` what
-//! `differs` does; `check` and `check_over` of `book_desk_checks` do what `check` does. Their contracts say what is
-//! written where these tell their bytes. Nothing stands above it: `main` joins them to the process, to the files
-//! (`files`, `folders`) and to the port, and tells each stage before it calls it, where standard error is a terminal
-//! (`progress`); `refusals` tells why the tables of a store were refused. The commands that make stores are in `keeping`, over `book_desk_keeping`; those that serve are in `serving` with `controls`, and
-//! the log's file and `denials` in `logs`, over `book_desk_logs`.
+//! The program `book_desk` of the shared contact books. Its words are read by `book_desk_words`. `run_text` of `book_desk_app`
+//! does what `explain`, `card` and help do, and `begin` what `init` does in a folder. What is done over the store of a file is in
+//! `book_desk_stores`, over the files of `book_desk_files`. `Logged` of `book_log_service` serves where a log is named, and
+//! `run_denials` of `book_desk_denials` does what `denials` does. Their contracts say what is written where these tell their
+//! bytes. Nothing stands above it: `main` joins them to the process and to the port. The commands that ask a server are in
+//! `asking`, over `book_desk_asking`; those that serve are in `serving` with `controls` and `backups`, and the log's file and
+//! `denials` in `logs`, over `book_desk_logs`.
 #![tactic(auto)]
 
 ghost use Rattle.std.specs.Prelude.{◌≡◌};
 ghost use Rattle.book_desk_words.specs.WordsFaults.{words_status};
 
+mod asking;
+mod backups;
 mod beginnings;
 mod builds;
-mod causes;
 mod changes;
 mod controls;
-mod drafts;
-mod examining;
-mod files;
-mod folders;
-mod keeping;
 mod logs;
-mod progress;
 mod refusals;
 mod serving;
 
+use asking::{ask_at, check_at, differs_at, import_at, question_of, whole_audit};
 use beginnings::BEGINNING;
 use book_desk_app::{
-    Failure, InputFault, Lines, Noting, StoreFailure, TextCommand, Work, begin, run, run_migration,
-    run_text, tell, tell_line,
+    Failure, InputFault, Lines, Noting, TextCommand, begin, run_text, tell, tell_line,
 };
-use book_desk_checks::{check, check_over};
+use book_desk_asking::Question;
+use book_desk_files::{DiskFolder, Named, make_folder, remove_folder, viewed};
 use book_desk_keeping::tell_fault;
-use book_desk_questions::{
-    DecisionWords, PartWords, RightsWords, WhoWords, WhyWords, Words, run_differs, run_dump,
-    run_question,
+use book_desk_questions::{DecisionWords, PartWords, RightsWords, WhoWords, WhyWords, Words};
+use book_desk_serving::Work;
+use book_desk_stores::{
+    STORE_VERSION, ask_store, backup, check_backup, check_files, compact, dump_store, examine,
+    load, migrate, restore, tell_differences, work,
 };
-use book_desk_words::{Command, WordsFault, command_of, words_not_text};
+use book_desk_words::{Command, Office, WordsFault, command_of, words_not_text};
 use book_questions_audit::Wanted;
-use book_tables_schema::Unopened;
 use builds::BUILD;
 use changes::{LoadWords, changes_of};
-use examining::examine;
-use files::{FileConnection, Opened, close, open_former, open_inputs};
-use folders::{DiskFolder, make_folder, remove_folder};
-use keeping::{backup, check_backup, compact, load, restore};
 use logs::denials;
-use progress::{Stage, tell_stage};
-use refusals::{STORE_VERSION, tell_why};
+use refusals::tell_why;
 use serving::{Listening, Served, serve_named, socket_at};
-use sqlite::{Alter, Connection};
 use std::env;
 use std::io::{self, BufReader, Write};
 use std::process::ExitCode;
@@ -119,95 +106,70 @@ fn init<W: Write, E: Lines>(rt: &HostRuntime, path: &str, writer: &mut W, errors
     status
 }
 
-/// The files that the words name.
-#[derive(Clone, Copy)]
-struct Named<'a> {
-    /// The file of the store.
-    store: Option<&'a str>,
-    /// The file of the policy.
-    policy: Option<&'a str>,
-    /// Whether the store has to be there already.
+/// The command `import`, over the store of a file, or of the server at a control.
+fn import<W: Write, E: Lines>(
+    rt: &HostRuntime,
+    office: &Office,
+    policy: &str,
+    writer: &mut W,
+    errors: &mut E,
+) -> u8 {
+    match office {
+        Office::Store(store) => {
+            let named = Named {
+                store: Some(store.as_str()),
+                policy: Some(policy),
+                existing: false,
+            };
+            work(rt, Work::Import, named, writer, errors)
+        }
+        Office::Control(path) => import_at(rt, path.as_str(), policy, writer, errors),
+    }
+}
+
+/// The command `audit` of all resources, over the store of a file, or of the server at a control.
+fn audit<W: Write, E: Lines>(
+    rt: &HostRuntime,
+    office: &Office,
     existing: bool,
-}
-
-/// The commands `import`, `audit` and `pipe`: the policy's file is read, the store's file is opened, and the work done.
-fn work<W: Write, E: Lines>(
-    rt: &HostRuntime,
-    kind: Work,
-    named: Named<'_>,
     writer: &mut W,
     errors: &mut E,
 ) -> u8 {
-    let Opened { store, policy } = match open_inputs(
-        rt,
-        named.store,
-        named.policy,
-        named.existing,
-    ) {
-        Ok(opened) => opened,
-        Err(failure) => return tell(errors, &failure),
-    };
-    if policy.is_some() {
-        tell_stage(rt, Stage::Adopting);
+    match office {
+        Office::Store(store) => {
+            let named = Named {
+                store: Some(store.as_str()),
+                policy: None,
+                existing,
+            };
+            work(rt, Work::Audit, named, writer, errors)
+        }
+        Office::Control(path) => ask_at(rt, path.as_str(), &whole_audit(), writer, errors),
     }
-    let mut reader = rt.reader();
-    let (status, connection) = run(rt.alloc(), kind, store, policy, &mut reader, writer, errors);
-    close(connection);
-    status
 }
 
-/// The command `check`: the policy's file is read, and each fault of it is told, or what it leaves open; over a store,
-/// which has to be there, where one is named.
-fn check_files<W: Write, E: Lines>(
+/// The command `check`, over nothing, over the store of a file, or over that of the server at a control.
+fn check_policy<W: Write, E: Lines>(
     rt: &HostRuntime,
-    named: Named<'_>,
+    policy: &str,
     strict: bool,
+    office: &Option<Office>,
     writer: &mut W,
     errors: &mut E,
 ) -> u8 {
-    let Opened { store, policy } = match open_inputs(rt, named.store, named.policy, true) {
-        Ok(opened) => opened,
-        Err(failure) => return tell_line(errors, &failure),
-    };
-    let Some(bytes) = policy else {
-        return tell_line(errors, &Failure::Input(InputFault::Read));
-    };
-    match store {
-        Some(store) => {
-            let (status, left) = check_over(rt.alloc(), bytes, strict, store, writer, errors);
-            close(left);
-            status
+    let store = match office {
+        Some(Office::Control(path)) => {
+            return check_at(rt, path.as_str(), policy, strict, writer, errors);
         }
-        None => check(rt.alloc(), bytes, strict, writer, errors),
-    }
-}
-
-/// The connection that is left of a store. A store that could not be opened again is let go as it is.
-fn connection_of<S: Alter + Drop>(left: Unopened<S>) -> Option<Connection<S>> {
-    match left {
-        Unopened::Connection(connection) => Some(connection),
-        Unopened::Store(store) => {
-            drop(store);
-            None
-        }
-    }
-}
-
-/// The command `migrate`: the store's file, which has to be there, is opened and migrated.
-fn migrate<W: Write, E: Lines>(
-    rt: &HostRuntime,
-    store: &str,
-    writer: &mut W,
-    errors: &mut E,
-) -> u8 {
-    let opened = match open_former(rt, store) {
-        Ok(opened) => opened,
-        Err(failure) => return tell(errors, &failure),
+        Some(Office::Store(store)) => Some(store.as_str()),
+        None => None,
     };
-    tell_stage(rt, Stage::Migrating);
-    let (status, left) = run_migration(rt.alloc(), opened, writer, errors);
-    close(connection_of(left));
-    status
+    let named = Named {
+        store,
+        policy: Some(policy),
+        existing: true,
+    };
+    check_files(rt, named, strict, writer, errors)
 }
 
 /// The words of `why`.
@@ -271,74 +233,49 @@ fn words_of_show<'a>(path: &'a str) -> Words<'a> {
     Words::Show(path)
 }
 
-/// Opens what is named for a command that looks at a store: the store's file has to be there.
-fn open_viewed(
-    rt: &HostRuntime,
-    named: Named<'_>,
-) -> Result<(FileConnection, Option<Vec<u8>>), Failure> {
-    let Opened { store, policy } = open_inputs(rt, named.store, named.policy, true)?;
-    match store {
-        Some(store) => Ok((store, policy)),
-        None => Err(Failure::Store(StoreFailure::NoStore)),
-    }
-}
-
-/// A store that is looked at.
-fn viewed<'a>(store: &'a str, policy: Option<&'a str>) -> Named<'a> {
-    Named {
-        store: Some(store),
-        policy,
-        existing: true,
-    }
-}
-
-/// The commands that ask: the store's file, which has to be there, is opened, and the question answered.
+/// The commands that ask, of the store of a file, or of the server at a control.
 fn ask<W: Write, E: Lines>(
     rt: &HostRuntime,
-    store: &str,
+    office: &Office,
     words: &Words<'_>,
     writer: &mut W,
     errors: &mut E,
 ) -> u8 {
-    let store = match open_viewed(rt, viewed(store, None)) {
-        Ok((store, _)) => store,
-        Err(failure) => return tell(errors, &failure),
-    };
-    let (status, left) = run_question(rt.alloc(), words, store, writer, errors);
-    close(left);
-    status
+    match office {
+        Office::Store(store) => ask_store(rt, store.as_str(), words, writer, errors),
+        Office::Control(path) => ask_at(rt, path.as_str(), &question_of(words), writer, errors),
+    }
 }
 
-/// The command `dump`: the store's file, which has to be there, is opened, and its Office written.
-fn dump<W: Write, E: Lines>(rt: &HostRuntime, store: &str, writer: &mut W, errors: &mut E) -> u8 {
-    let store = match open_viewed(rt, viewed(store, None)) {
-        Ok((store, _)) => store,
-        Err(failure) => return tell(errors, &failure),
-    };
-    let (status, left) = run_dump(rt.alloc(), store, writer, errors);
-    close(left);
-    status
-}
-
-/// The command `differs`: the policy's file is read, the store's file, which has to be there, is opened, and what would
-/// change is told.
-fn tell_differences<W: Write, E: Lines>(
+/// The command `dump`, of the store of a file, or of the server at a control.
+fn dump<W: Write, E: Lines>(
     rt: &HostRuntime,
-    named: Named<'_>,
+    office: &Office,
+    writer: &mut W,
+    errors: &mut E,
+) -> u8 {
+    match office {
+        Office::Store(store) => dump_store(rt, store.as_str(), writer, errors),
+        Office::Control(path) => ask_at(rt, path.as_str(), &Question::Dump, writer, errors),
+    }
+}
+
+/// The command `differs`, of the store of a file, or of the server at a control.
+fn differs<W: Write, E: Lines>(
+    rt: &HostRuntime,
+    office: &Office,
+    policy: &str,
     strict: bool,
     writer: &mut W,
     errors: &mut E,
 ) -> u8 {
-    let (store, policy) = match open_viewed(rt, named) {
-        Ok(opened) => opened,
-        Err(failure) => return tell_line(errors, &failure),
-    };
-    let Some(bytes) = policy else {
-        return tell_line(errors, &Failure::Input(InputFault::Read));
-    };
-    let (status, left) = run_differs(rt.alloc(), bytes, strict, store, writer, errors);
-    close(left);
-    status
+    match office {
+        Office::Store(store) => {
+            let named = viewed(store.as_str(), Some(policy));
+            tell_differences(rt, named, strict, writer, errors)
+        }
+        Office::Control(path) => { differs_at(rt, path.as_str(), policy, strict, writer, errors) }
+    }
 }
 
 /// Prints the help that the words ask for.
@@ -367,42 +304,23 @@ fn perform<W: Write, E: Lines>(
         Command::Help(text) => print_help(rt, text.as_str(), writer, errors),
         Command::Version(name) => print_version(rt, name.as_str(), writer, errors),
         Command::Init { folder } => init(rt, folder.as_str(), writer, errors),
-        Command::Import { store, policy } => {
-            let named = Named {
-                store: Some(store.as_str()),
-                policy: Some(policy.as_str()),
-                existing: false,
-            };
-            work(rt, Work::Import, named, writer, errors)
+        Command::Import { office, policy } => {
+            import(rt, office, policy.as_str(), writer, errors)
         }
         Command::Check {
             policy,
             strict,
-            store,
-        } => {
-            let named = Named {
-                store: store.as_deref(),
-                policy: Some(policy.as_str()),
-                existing: true,
-            };
-            check_files(rt, named, *strict, writer, errors)
-        }
+            office,
+        } => check_policy(rt, policy.as_str(), *strict, office, writer, errors),
         Command::Audit {
-            store,
+            office,
             existing,
             at: None,
             books: false,
             labels: false,
-        } => {
-            let named = Named {
-                store: Some(store.as_str()),
-                policy: None,
-                existing: *existing,
-            };
-            work(rt, Work::Audit, named, writer, errors)
-        }
+        } => audit(rt, office, *existing, writer, errors),
         Command::Audit {
-            store,
+            office,
             existing: _,
             at,
             books,
@@ -413,7 +331,7 @@ fn perform<W: Write, E: Lines>(
                 labels: *labels,
             };
             let words = words_of_part(at.as_deref(), wanted);
-            ask(rt, store.as_str(), &words, writer, errors)
+            ask(rt, office, &words, writer, errors)
         }
         Command::Pipe { store, policy, log } => {
             let named = Named {
@@ -431,7 +349,7 @@ fn perform<W: Write, E: Lines>(
         }
         Command::Migrate { store } => migrate(rt, store.as_str(), writer, errors),
         Command::Why {
-            store,
+            office,
             caller,
             what,
             path,
@@ -445,42 +363,42 @@ fn perform<W: Write, E: Lines>(
                 destination.as_deref(),
                 *json,
             );
-            ask(rt, store.as_str(), &words, writer, errors)
+            ask(rt, office, &words, writer, errors)
         }
         Command::Who {
-            store,
+            office,
             privilege,
             path,
             denied,
             json,
         } => {
             let words = words_of_who(privilege.as_str(), path.as_str(), *denied, *json);
-            ask(rt, store.as_str(), &words, writer, errors)
+            ask(rt, office, &words, writer, errors)
         }
         Command::Rights {
-            store,
+            office,
             at,
             caller,
             shared,
             json,
         } => {
             let words = words_of_rights(at.as_deref(), caller.as_deref(), *shared, *json);
-            ask(rt, store.as_str(), &words, writer, errors)
+            ask(rt, office, &words, writer, errors)
         }
         Command::Ask {
-            store,
+            office,
             caller,
             path,
             privileges,
         } => {
             let words = words_of_ask(caller.as_str(), path.as_str(), privileges.as_slice());
-            ask(rt, store.as_str(), &words, writer, errors)
+            ask(rt, office, &words, writer, errors)
         }
-        Command::Show { store, path } => {
+        Command::Show { office, path } => {
             let words = words_of_show(path.as_str());
-            ask(rt, store.as_str(), &words, writer, errors)
+            ask(rt, office, &words, writer, errors)
         }
-        Command::Dump { store } => dump(rt, store.as_str(), writer, errors),
+        Command::Dump { office } => dump(rt, office, writer, errors),
         Command::Load {
             store,
             dump,
@@ -533,13 +451,10 @@ fn perform<W: Write, E: Lines>(
             check_backup(rt, store.as_str(), copy.as_str(), errors)
         }
         Command::Differs {
-            store,
+            office,
             policy,
             strict,
-        } => {
-            let named = viewed(store.as_str(), Some(policy.as_str()));
-            tell_differences(rt, named, *strict, writer, errors)
-        }
+        } => differs(rt, office, policy.as_str(), *strict, writer, errors),
         Command::Serve {
             port,
             socket,

@@ -1,26 +1,23 @@
 //! The commands that serve: `pipe` with a log, and `serve`.
 
 use crate::controls::{Controls, Stopwatch};
-use crate::files::{close, open_store_named, read_policy_file};
 use crate::logs::{open_log, refuse_log};
-use crate::progress::{Stage, tell_stage};
-use crate::refusals::tell_refusal;
-use crate::{Named, connection_of};
 use book_desk_administering::{Administered, adopt_noted};
-use book_desk_app::{
-    AdoptionFailure, BROKEN, Failure, Lines, Prepared, StreamFailure, given_policy, pipe, prepare,
-    serve, serve_many, tell,
-};
+use book_desk_app::{AdoptionFailure, BROKEN, Failure, Lines, StreamFailure, tell};
+use book_desk_files::{Named, Stage, close, open_store_named, read_policy_file, tell_stage};
 use book_desk_logs::{LogFile, Pace, SystemClock};
 use book_desk_loop::{Limits, Polled};
 use book_desk_metrics::Counted;
+use book_desk_serving::{Prepared, given_policy, pipe, prepare, serve, serve_many};
 use book_desk_sockets::{Doors, LocalDoor, NotMade, SocketPath, make_socket};
+use book_desk_stores::{connection_of, tell_refusal};
 use book_log_service::Logged;
 use book_machine::Machine;
-use book_office::{Keeper, Policy};
+use book_office::{Keeper, MemoryKeeper, Policy};
+use book_office_cache::Cached;
+use book_tables::Tables;
 use book_tables_schema::Unopened;
-use book_wire::StreamFault;
-use book_wire_serving::Service;
+use book_wire_serving::{Service, StreamFault};
 use book_wire_steps::{Control, Traffic, Wish};
 use sqlite::{Alter, Connection};
 use std::alloc::Global;
@@ -468,7 +465,34 @@ fn serve_machine<'r, K: Keeper, W: Write, E: Lines>(
     }
 }
 
-/// The same of one over an Office in memory, or over a store, which comes back.
+/// The same of one over an Office in memory, which is let go.
+fn serve_in_memory<'r, W: Write, E: Lines>(
+    rt: &'r HostRuntime,
+    machine: Machine<MemoryKeeper>,
+    logging: Option<Logging<'r>>,
+    served: Served<'_>,
+    writer: &mut W,
+    errors: &mut E,
+) -> u8 {
+    let (machine, status) = serve_machine(rt, machine, logging, served, writer, errors);
+    drop(machine);
+    status
+}
+
+/// The same of one over a store, which comes back.
+fn serve_tables<'r, S: Alter + Drop, W: Write, E: Lines>(
+    rt: &'r HostRuntime,
+    machine: Machine<Cached<Tables<S>>>,
+    logging: Option<Logging<'r>>,
+    served: Served<'_>,
+    writer: &mut W,
+    errors: &mut E,
+) -> (u8, Option<Connection<S>>) {
+    let (machine, status) = serve_machine(rt, machine, logging, served, writer, errors);
+    (status, Prepared::Store(machine).release())
+}
+
+/// The same of one over either.
 fn serve_prepared<'r, S: Alter + Drop, W: Write, E: Lines>(
     rt: &'r HostRuntime,
     prepared: Prepared<S>,
@@ -479,14 +503,10 @@ fn serve_prepared<'r, S: Alter + Drop, W: Write, E: Lines>(
 ) -> (u8, Option<Connection<S>>) {
     match prepared {
         Prepared::Memory(machine) => {
-            let (machine, status) = serve_machine(rt, machine, logging, served, writer, errors);
-            drop(machine);
+            let status = serve_in_memory(rt, machine, logging, served, writer, errors);
             (status, None)
         }
-        Prepared::Store(machine) => {
-            let (machine, status) = serve_machine(rt, machine, logging, served, writer, errors);
-            (status, Prepared::Store(machine).release())
-        }
+        Prepared::Store(machine) => serve_tables(rt, machine, logging, served, writer, errors),
     }
 }
 
@@ -521,7 +541,10 @@ fn serve_opened<'r, S: Alter + Drop, W: Write, E: Lines>(
 ) -> (u8, Option<Connection<S>>) {
     match prepare(rt.alloc(), store, policy) {
         Ok(prepared) => serve_prepared(rt, prepared, logging, served, writer, errors),
-        Err((failure, left)) => (tell(errors, &failure), left_of(rt, &failure, left)),
+        Err((failure, left)) => {
+            drop(logging);
+            (tell(errors, &failure), left_of(rt, &failure, left))
+        }
     }
 }
 

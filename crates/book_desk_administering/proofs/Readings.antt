@@ -18,6 +18,7 @@ use Rattle.book_machine.specs.declared.refusals.Refusal.{Refusal}
 use Rattle.book_office.specs.Keeping.{Reads, Standing}
 use Rattle.book_office.specs.declared.keepers.StoreFault.{StoreFault}
 use Rattle.book_office_values.specs.declared.offices.Office.{Office}
+use Rattle.book_dumps_loading.specs.Loading.{Rests}
 use Rattle.book_policy_values.specs.declared.parts.PolicyTables.{PolicyTables}
 use Rattle.book_questions_plans.specs.Planning.{Plans}
 use Rattle.book_questions_plans.specs.declared.faults.PlanFault.{PlanFault}
@@ -85,6 +86,10 @@ dump_reads Told old held holds status new (inl done) =
 dump_reads Told old held holds status new (inr failed) =
     let d = failed.2 in
     runs_unread (bare old) (bare new) d.was_honest d.kept d.left refl
+
+-- ---- a copy
+pub copy_reads : (old new : Standing) → Rests old new → Runs (bare old) (bare new) []
+copy_reads old new r = runs_unread (bare old) (bare new) r.was_honest r.kept r.left refl
 
 -- ---- a policy that is not adopted
 pub check_reads : (bytes : List ℕ) (strict is_whole : Bool) (old : Standing) (held holds errors_held errors_hold : Option (List ℕ)) (status : ℕ) (new : Standing)

@@ -9,7 +9,7 @@ use Rattle.book_wire_steps.specs.Steps.{AdoptsNow}
 use Rattle.book_desk_app.specs.Failures.{adopt_status}
 use Rattle.book_desk_app.specs.Imports.{import_line}
 use Rattle.book_desk_app.specs.Policies.{SpellsPolicy}
-use Rattle.book_desk_app.specs.Streams.{log_failure}
+use Rattle.book_desk_app.specs.Failures.{log_failure}
 use Rattle.book_desk_app.specs.Telling.{TellsFailure}
 use Rattle.book_desk_app.specs.declared.failures.Failure.{Failure}
 use Rattle.book_desk_app.specs.declared.failures.Failure.TheVariants.{Adoption, Output}

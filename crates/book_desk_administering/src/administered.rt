@@ -1,13 +1,15 @@
 //! What a service is asked by whoever keeps it.
 
-ghost use Rattle.std.specs.Prelude.{◌≡◌, []};
+ghost use Rattle.std.specs.Prelude.{◌≡◌, [], false};
 ghost use Rattle.std.specs.Io.KnownBytes.{Keeps};
+ghost use Rattle.sqlite.specs.Held.{state};
 ghost use Rattle.book_desk_administering.specs.Counting.{counts_of};
 ghost use Rattle.book_desk_administering.specs.Putting.{PutsPolicy};
 ghost use Rattle.book_desk_app.specs.Audits.{Audits, FailsToAudit};
-ghost use Rattle.book_desk_app.specs.Tasks.{EndsWith};
+ghost use Rattle.book_desk_app.specs.Endings.{EndsWith};
 ghost use Rattle.book_desk_app.specs.Telling.{TellsFailure, TellsLine};
 ghost use Rattle.book_desk_checks.specs.Checking.{ChecksCopy};
+ghost use Rattle.book_desk_keeping.specs.Keeping.{EndsMaking, IsCopyOf};
 ghost use Rattle.book_desk_questions.specs.Answers.{AnswersWords};
 ghost use Rattle.book_desk_questions.specs.Differing.{DiffersBy};
 ghost use Rattle.book_desk_questions.specs.Dumping.{EndsDump};
@@ -20,6 +22,7 @@ use book_desk_app::Lines;
 use book_desk_questions::Words;
 use book_office::StoreFault;
 use book_wire_serving::Service;
+use sqlite::{Alter, Connection};
 use std::alloc::Global;
 use std::io::Write;
 
@@ -64,6 +67,22 @@ pub trait Administered: Service {
             (O.contents writer.old) (O.contents writer.new) result
             (Self.Service.serving self.new).standing }
         ensures silent { result ≡ 0 → Keeps (E.Write.contents errors.old)
+            (E.Write.contents errors.new) }
+        ensures reads { Runs (Self.Service.serving self.old) (Self.Service.serving self.new) [] };
+
+    /// Makes a copy of the Office in the store of a connection without table, index or view, as the command does of that of
+    /// a store. The connection comes back, but where its store could not be opened again.
+    fn backup<T: Alter + Drop, E: Lines>(
+        &mut self,
+        alloc: Global,
+        fresh: Connection<T>,
+        errors: &mut E,
+    ) -> (u8, Option<Connection<T>>)
+        ensures makes { EndsMaking (state T.Store) (TellsLine (E.is_whole errors.new)
+            (E.Write.contents errors.old) (E.Write.contents errors.new)) fresh
+            (IsCopyOf (state T.Store) false (Self.Service.serving self.old).standing
+            (Self.Service.serving self.new).standing) result.0 result.1 }
+        ensures silent { result.0 ≡ 0 → Keeps (E.Write.contents errors.old)
             (E.Write.contents errors.new) }
         ensures reads { Runs (Self.Service.serving self.old) (Self.Service.serving self.new) [] };
 

@@ -4,7 +4,7 @@ ghost use Rattle.std.specs.Prelude.{◌≡◌, true, Ok};
 ghost use Rattle.std.specs.Io.KnownBytes.{Appends, Keeps};
 ghost use Rattle.book_desk_administering.specs.Putting.{TellsAdoption};
 ghost use Rattle.book_desk_app.specs.Imports.{import_line};
-ghost use Rattle.book_desk_app.specs.Streams.{log_failure};
+ghost use Rattle.book_desk_app.specs.Failures.{log_failure};
 ghost use Rattle.book_desk_app.specs.Telling.{TellsFailure};
 ghost use Rattle.book_log_service.specs.Kept.{serving_of};
 ghost use Rattle.book_wire_steps.specs.Steps.{AdoptsNow, IsEpochTold, KeepsOffice, told_as};
@@ -14,7 +14,7 @@ use book_log_lines::Adoption;
 use book_log_service::{Clock, Logged};
 use book_machine::{AdoptFault, Adopted, Machine};
 use book_office::{Keeper, Policy};
-use book_wire::StreamFault;
+use book_wire_serving::StreamFault;
 use std::alloc::Global;
 use std::io::Write;
 

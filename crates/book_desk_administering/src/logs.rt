@@ -8,6 +8,7 @@ use book_desk_checks::{policy_in, tell_no_policy};
 use book_desk_questions::Words;
 use book_log_service::{Clock, Logged};
 use book_office::{Keeper, StoreFault};
+use sqlite::{Alter, Connection};
 use std::alloc::Global;
 use std::io::Write;
 
@@ -28,6 +29,15 @@ impl<K: Keeper, W: Write, C: Clock> Administered for Logged<K, W, C> {
 
     fn dump<O: Write, E: Lines>(&mut self, alloc: Global, writer: &mut O, errors: &mut E) -> u8 {
         self.machine.dump(alloc, writer, errors)
+    }
+
+    fn backup<T: Alter + Drop, E: Lines>(
+        &mut self,
+        alloc: Global,
+        fresh: Connection<T>,
+        errors: &mut E,
+    ) -> (u8, Option<Connection<T>>) {
+        self.machine.backup(alloc, fresh, errors)
     }
 
     fn check<O: Write, E: Lines>(

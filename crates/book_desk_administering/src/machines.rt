@@ -5,9 +5,11 @@ use crate::adopting::tell_adoption;
 use crate::counting::{Counts, counts_of};
 use book_desk_app::{DONE, Lines, audit, tell_line};
 use book_desk_checks::{check_copy, policy_in, tell_no_policy};
+use book_desk_keeping::copy_keeper;
 use book_desk_questions::{Words, answer_words, differs_by, dump_of};
 use book_machine::Machine;
 use book_office::{Keeper, StoreFault};
+use sqlite::{Alter, Connection};
 use std::alloc::Global;
 use std::io::Write;
 
@@ -31,6 +33,15 @@ impl<K: Keeper> Administered for Machine<K> {
 
     fn dump<O: Write, E: Lines>(&mut self, alloc: Global, writer: &mut O, errors: &mut E) -> u8 {
         dump_of(alloc, &mut self.keeper, writer, errors)
+    }
+
+    fn backup<T: Alter + Drop, E: Lines>(
+        &mut self,
+        alloc: Global,
+        fresh: Connection<T>,
+        errors: &mut E,
+    ) -> (u8, Option<Connection<T>>) {
+        copy_keeper(alloc, &mut self.keeper, fresh, false, errors)
     }
 
     fn check<O: Write, E: Lines>(

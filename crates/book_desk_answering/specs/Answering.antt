@@ -1,12 +1,12 @@
 -- What is answered to a demand of whoever keeps a server: what the command of its name writes and tells over the Office in force
 -- (own profile).
-use Rattle.std.specs.Prelude.{◌≡◌, ℕ, Bool, true, false, not, ◌&&◌, if◌then◌else◌, is_some, List, [], ◌++◌, codes, map, string_bytes, Option, Some, None}
+use Rattle.std.specs.Prelude.{◌≡◌, ℕ, Bool, true, false, not, ◌&&◌, if◌then◌else◌, is_some, List, [], ◌++◌, length, codes, map, string_bytes, Option, Some, None}
 use Rattle.std.specs.Io.KnownBytes.{Keeps}
 use Rattle.std.specs.Option.{option_copied}
 use Rattle.std.specs.Str.{bytes_eq}
 use Rattle.book_desk_administering.specs.Putting.{PutsPolicy}
 use Rattle.book_desk_app.specs.Audits.{Audits, FailsToAudit}
-use Rattle.book_desk_app.specs.Tasks.{EndsWith}
+use Rattle.book_desk_app.specs.Endings.{EndsWith}
 use Rattle.book_desk_app.specs.Telling.{TellsFailure, TellsLine}
 use Rattle.book_desk_checks.specs.Checking.{ChecksCopy}
 use Rattle.book_desk_control.specs.Replies.{outcome_of_status}
@@ -17,6 +17,7 @@ use Rattle.book_desk_control.specs.declared.demands.Demand.TheVariants as demand
 use Rattle.book_desk_control.specs.declared.demands.RightsBody.{RightsBody}
 use Rattle.book_desk_control.specs.declared.demands.WhoBody.{WhoBody}
 use Rattle.book_desk_control.specs.declared.demands.WhyBody.{WhyBody}
+use Rattle.book_desk_control.specs.declared.replies.Ending.{Ending as CommandEnding}
 use Rattle.book_desk_control.specs.declared.replies.Kind.{Kind}
 use Rattle.book_desk_control.specs.declared.replies.Kind.TheVariants as kind
 use Rattle.book_desk_control.specs.declared.replies.Outcome.{Outcome}
@@ -28,6 +29,7 @@ use Rattle.book_desk_questions.specs.declared.asked.Words.{Words}
 use Rattle.book_desk_questions.specs.declared.asked.Words.TheVariants as words
 use Rattle.book_office.specs.Keeping.{Standing}
 use Rattle.book_wire_serving.specs.Serving.{Serving}
+use Rattle.book_desk_answering.specs.Copies.{Copied}
 use Rattle.book_desk_answering.specs.declared.replies.Reply.{Reply}
 
 -- ---- replies
@@ -35,9 +37,13 @@ use Rattle.book_desk_answering.specs.declared.replies.Reply.{Reply}
 abbrev pub outcome_in : ℕ → List ℕ → Outcome
 outcome_in status body = if bytes_eq body (codes "adopt: full\n") then outcome.Full else outcome_of_status status
 
--- a reply of what a command wrote, and then of what it told
+-- how a command ended: its status, and how much it told
+abbrev pub ending_of : ℕ → List ℕ → CommandEnding
+ending_of ended told = record { status = ended; told = length told }
+
+-- a reply of what a command wrote, and then of what it told, with how it ended
 pub record IsReply (k : Kind) (ended : ℕ) (written told : List ℕ) (reply : Reply) : Type 0 where
-  pub status : reply.status ≡ Some ended
+  pub ending : reply.ending ≡ Some (ending_of ended told)
   pub outcome : reply.outcome ≡ outcome_in ended (written ++ told)
   pub kind : reply.kind ≡ k
   pub body : reply.body.items ≡ written ++ told
@@ -53,7 +59,7 @@ RepliesBy k Ends reply =
 
 -- the server can't do this
 pub record IsNotDone (reply : Reply) : Type 0 where
-  pub status : reply.status ≡ None
+  pub ending : reply.ending ≡ None
   pub outcome : reply.outcome ≡ outcome.NotImplemented
   pub kind : reply.kind ≡ kind.Json
   pub body : reply.body.items ≡ codes "{\"error\":\"not-implemented\"}"
@@ -147,24 +153,28 @@ module _ (old new : Standing) where
   AuditsPart true b reply = RepliesBy kind.Text AuditsIn reply
   AuditsPart false b reply = AnswersSuch (IsPart b) kind.Text reply
 
+-- it was copied there, in one call of what copies, and nothing is written
+abbrev pub CopiesIn : Copied → List ℕ → Ending
+CopiesIn Copies to told tells held holds status = Copies to true told tells status × (holds ≡ held)
+
 -- over services with what they stand for
 module _ {M : Type 0} (serving : M → Serving) (old new : M) where
   abbrev pub PutsIn : List ℕ → Ending
   PutsIn bytes told tells held holds status = PutsPolicy serving bytes true told tells old held holds status new
 
-  -- What a demand of the Office has as its reply. Of the server nothing is answered here, and no store is copied.
-  abbrev pub AnswersDemand : Demand → Reply → Type 0
-  AnswersDemand demand.Health reply = IsNotDone reply
-  AnswersDemand demand.Metrics reply = IsNotDone reply
-  AnswersDemand (demand.Audit b) reply = AuditsPart (serving old).standing (serving new).standing (is_whole b) b reply
-  AnswersDemand (demand.Why b) reply = AnswersSuch (serving old).standing (serving new).standing (IsWhy b) (kind_of b.json) reply
-  AnswersDemand (demand.Who b) reply = AnswersSuch (serving old).standing (serving new).standing (IsWho b) (kind_of b.json) reply
-  AnswersDemand (demand.Rights b) reply = AnswersSuch (serving old).standing (serving new).standing (IsRights b) (kind_of b.json) reply
-  AnswersDemand (demand.Ask b) reply = AnswersSuch (serving old).standing (serving new).standing (IsAsk b) kind.Text reply
-  AnswersDemand (demand.Show path) reply = AnswersSuch (serving old).standing (serving new).standing (IsShow path) kind.JsonLines reply
-  AnswersDemand (demand.Check bytes strict) reply = RepliesBy kind.Text (ChecksIn (serving old).standing (serving new).standing bytes strict) reply
-  AnswersDemand (demand.Differs bytes strict) reply = RepliesBy kind.Text (DiffersIn (serving old).standing (serving new).standing bytes strict) reply
-  AnswersDemand (demand.Policy bytes) reply = RepliesBy kind.Text (PutsIn bytes) reply
-  AnswersDemand demand.Dump reply = RepliesBy kind.JsonLines (DumpsIn (serving old).standing (serving new).standing) reply
-  AnswersDemand (demand.Backup name) reply = IsNotDone reply
-  AnswersDemand demand.Stop reply = IsNotDone reply
+  -- What a demand of the Office has as its reply, with what was copied. Of the server nothing is answered here.
+  abbrev pub AnswersDemand : Copied → Demand → Reply → Type 0
+  AnswersDemand Copies demand.Health reply = IsNotDone reply
+  AnswersDemand Copies demand.Metrics reply = IsNotDone reply
+  AnswersDemand Copies (demand.Audit b) reply = AuditsPart (serving old).standing (serving new).standing (is_whole b) b reply
+  AnswersDemand Copies (demand.Why b) reply = AnswersSuch (serving old).standing (serving new).standing (IsWhy b) (kind_of b.json) reply
+  AnswersDemand Copies (demand.Who b) reply = AnswersSuch (serving old).standing (serving new).standing (IsWho b) (kind_of b.json) reply
+  AnswersDemand Copies (demand.Rights b) reply = AnswersSuch (serving old).standing (serving new).standing (IsRights b) (kind_of b.json) reply
+  AnswersDemand Copies (demand.Ask b) reply = AnswersSuch (serving old).standing (serving new).standing (IsAsk b) kind.Text reply
+  AnswersDemand Copies (demand.Show path) reply = AnswersSuch (serving old).standing (serving new).standing (IsShow path) kind.JsonLines reply
+  AnswersDemand Copies (demand.Check bytes strict) reply = RepliesBy kind.Text (ChecksIn (serving old).standing (serving new).standing bytes strict) reply
+  AnswersDemand Copies (demand.Differs bytes strict) reply = RepliesBy kind.Text (DiffersIn (serving old).standing (serving new).standing bytes strict) reply
+  AnswersDemand Copies (demand.Policy bytes) reply = RepliesBy kind.Text (PutsIn bytes) reply
+  AnswersDemand Copies demand.Dump reply = RepliesBy kind.JsonLines (DumpsIn (serving old).standing (serving new).standing) reply
+  AnswersDemand Copies (demand.Backup to) reply = RepliesBy kind.Text (CopiesIn Copies to) reply
+  AnswersDemand Copies demand.Stop reply = IsNotDone reply

@@ -5,6 +5,7 @@ ghost use Rattle.book_desk_answering.specs.Answering as spec;
 ghost use Rattle.book_desk_control.specs.declared.replies.Kind.TheVariants as kinds;
 ghost use Rattle.book_wire_steps.specs.Steps.{OnlyAdopts};
 
+use crate::copying::Copying;
 use crate::replies::{Reply, Texts, not_done};
 use book_desk_administering::Administered;
 use book_desk_control::{AskBody, AuditBody, Demand, Kind, RightsBody, WhoBody, WhyBody, text_in};
@@ -249,24 +250,34 @@ fn put_policy<M: Administered>(
     texts.into_reply(status, Kind::Text)
 }
 
-/// The reply to a demand of a copy.
-fn not_copied(alloc: Global, name: Text) -> Result<Reply, AllocError>
-    ensures { IfOk result spec.IsNotDone }
+/// The reply that tells whether a copy was made.
+fn backup<M: Administered, C: Copying<M>>(
+    alloc: Global,
+    service: &mut M,
+    copier: &mut C,
+    to: Text,
+) -> Result<Reply, AllocError>
+    ensures answers { IfOk result (spec.RepliesBy kinds.Text (spec.CopiesIn
+        (C.copies copier.old service.old service.new copier.new) to)) }
+    ensures only { OnlyAdopts M.Service.serving service.old service.new }
 {
-    drop(name);
-    not_done(alloc)
+    let mut texts = Texts::new(alloc);
+    let status = copier.copy(service, to.as_str(), &mut texts.errors);
+    drop(to);
+    texts.into_reply(status, Kind::Text)
 }
 
 /// The reply to a demand of the Office: what the command of its name writes over the Office in force, and then what it tells, with
-/// its status. Of the server nothing is answered, and no store is copied. An error is want of memory; then too a policy may be
-/// in force.
-pub fn answer<M: Administered>(
+/// its status. A copy is made by `copier`. Of the server nothing is answered. An error is want of memory; then too a policy may
+/// be in force, or a copy made.
+pub fn answer<M: Administered, C: Copying<M>>(
     alloc: Global,
     service: &mut M,
+    copier: &mut C,
     demand: Demand,
 ) -> Result<Reply, AllocError>
-    ensures answers { IfOk result (spec.AnswersDemand M.Service.serving service.old
-        service.new demand) }
+    ensures answers { IfOk result (spec.AnswersDemand M.Service.serving service.old service.new
+        (C.copies copier.old service.old service.new copier.new) demand) }
     ensures only { OnlyAdopts M.Service.serving service.old service.new }
 {
     match demand {
@@ -281,6 +292,6 @@ pub fn answer<M: Administered>(
         Demand::Differs(policy, strict) => differs(alloc, service, policy.into_vec(), strict),
         Demand::Policy(policy) => put_policy(alloc, service, policy.into_vec()),
         Demand::Dump => dump(alloc, service),
-        Demand::Backup(name) => not_copied(alloc, name),
+        Demand::Backup(to) => backup(alloc, service, copier, to),
     }
 }

@@ -4,7 +4,7 @@ ghost use Rattle.std.specs.Prelude.{◌≡◌, ◌++◌, [], IfOk, true};
 ghost use Rattle.book_desk_answering.specs.Answering.{IsNotDone, IsReply, outcome_in};
 
 use book_desk_app::Lines;
-use book_desk_control::{Kind, Outcome, outcome_of_status};
+use book_desk_control::{Ending, Kind, Outcome, outcome_of_status};
 use std::alloc::{AllocError, Global};
 use std::io;
 use std::io::Write;
@@ -14,8 +14,8 @@ use std::io::Write;
 pub struct Reply {
     /// Its status.
     pub outcome: Outcome,
-    /// The status of the command, where it is one.
-    pub status: Option<u8>,
+    /// How the command ended, where it is one.
+    pub ending: Option<Ending>,
     /// What the body is.
     pub kind: Kind,
     /// The body.
@@ -109,10 +109,11 @@ impl Texts {
         ensures { IfOk result (λ reply. (self.errors.is_whole ≡ true)
             × IsReply kind status self.writer.items self.errors.text.items reply) }
     {
+        let told = self.errors.text.len();
         let body = self.into_body()?;
         Ok(Reply {
             outcome: outcome_in(status, body.as_slice()),
-            status: Some(status),
+            ending: Some(Ending { status, told }),
             kind,
             body,
         })
@@ -126,7 +127,7 @@ pub fn not_done(alloc: Global) -> Result<Reply, AllocError>
     let body = Vec::from_slice(alloc, b"{\"error\":\"not-implemented\"}")?;
     Ok(Reply {
         outcome: Outcome::NotImplemented,
-        status: None,
+        ending: None,
         kind: Kind::Json,
         body,
     })

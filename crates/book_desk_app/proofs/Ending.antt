@@ -11,7 +11,7 @@ use Rattle.book_desk_app.specs.declared.text_failures.InputFault.TheVariants as 
 use Rattle.book_desk_app.specs.declared.failures.InitFault.{InitFault}
 use Rattle.book_desk_app.specs.declared.failures.InitFault.TheVariants as inits
 use Rattle.book_desk_app.specs.Failures.{adopt_status, failure_status, init_status, policy_status}
-use Rattle.book_desk_app.specs.Tasks.{EndsWith}
+use Rattle.book_desk_app.specs.Endings.{EndsWith}
 use Rattle.book_desk_app.specs.declared.failures.Failure.{Failure}
 use Rattle.book_desk_app.specs.declared.failures.Failure.TheVariants.{Input, Output, Init, Listen, Policy, Store, Adoption, Stream}
 

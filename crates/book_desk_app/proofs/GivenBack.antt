@@ -9,7 +9,7 @@ use Rattle.book_tables_schema.specs.declared.reopening.Unopened.{Unopened}
 use Rattle.book_tables_schema.specs.declared.reopening.Unopened.TheVariants.{Connection, Store}
 use Rattle.book_tables.specs.declared.opening.OpenFault.{OpenFault}
 use Rattle.book_tables_opening.specs.Reading.{FaultSaysOf, IsRefused, IsUnopened, StandForNone}
-use Rattle.book_desk_app.specs.Runs.{LeavesStore}
+use Rattle.book_desk_app.specs.Stores.{LeavesStore}
 
 -- one with tables, which could not be opened
 pub unopened : {S : Type 0} (g : Ghosts S) (store : Held S) (fault : OpenFault) (back : Unopened S) → (state g store).now.schema ≢ no_schema

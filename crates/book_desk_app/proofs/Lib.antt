@@ -2,8 +2,4 @@ pub mod Common
 pub mod Answering
 pub mod ShortTexts
 pub mod Ending
-pub mod Alike
-pub mod Behind
 pub mod GivenBack
-pub mod InTurn
-pub mod AtOnce

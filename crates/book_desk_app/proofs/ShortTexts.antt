@@ -5,7 +5,7 @@ use Rattle.std.specs.Io.KnownBytes.{IsAtEnd}
 use Rattle.std.proofs.lemmas.List.{append-nil, length-append, length-take, take_all, take-append-le}
 use Rattle.book_desk_app.specs.ShortTexts.{HasTaken}
 use Rattle.book_desk_app.specs.declared.short_texts.TextTest.{TextTest}
-use Rattle.book_wire.proofs.Known.{Consumes-then}
+use Rattle.std.proofs.KnownBytes.{Consumes-trans}
 
 pub consumed_all : (a b : Option (List ℕ)) (xs : List ℕ) → Consumes a b xs → IsAtEnd b → IfSome a (λ input. xs ≡ input)
 consumed_all None b xs p e = tt
@@ -31,7 +31,7 @@ module _ (most : ℕ) (before now after : Option (List ℕ)) (test new : TextTes
   pub kept_more : length kept ≤ most → HasKept most before after new (kept ++ byte ∷ [])
   kept_more few = record {
     taken = has.taken ++ byte ∷ [];
-    consumed = Consumes-then before now after has.taken (byte ∷ []) has.consumed read;
+    consumed = Consumes-trans before now after has.taken (byte ∷ []) has.consumed read;
     tested = more has.taken has.tested;
     front = short_front most has.taken byte kept has.front few;
   }
@@ -39,7 +39,7 @@ module _ (most : ℕ) (before now after : Option (List ℕ)) (test new : TextTes
   pub kept_still : most < length kept → HasKept most before after new kept
   kept_still many = record {
     taken = has.taken ++ byte ∷ [];
-    consumed = Consumes-then before now after has.taken (byte ∷ []) has.consumed read;
+    consumed = Consumes-trans before now after has.taken (byte ∷ []) has.consumed read;
     tested = more has.taken has.tested;
     front = long_front most has.taken byte kept has.front many;
   }

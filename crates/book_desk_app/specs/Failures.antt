@@ -8,6 +8,7 @@ use Rattle.book_office.specs.declared.keepers.StoreFault.TheVariants as keeper_f
 use Rattle.book_policy.specs.FaultNames.{fault_name}
 use Rattle.book_policy.specs.declared.faults.PolicyFault.{PolicyFault}
 use Rattle.book_policy.specs.declared.faults.PolicyFault.TheVariants as policy_faults
+use Rattle.book_wire_serving.specs.declared.faults.StreamFault.TheVariants.{Log as LogFault}
 use Rattle.book_desk_app.specs.ServingFailures.{adoption_text, stream_text}
 use Rattle.book_desk_app.specs.TextFailures.{input_text, input_status}
 use Rattle.book_desk_app.specs.declared.failures.Failure.{Failure}
@@ -41,6 +42,10 @@ failure_text (Policy fault) = codes "policy: " ++ fault_name fault
 failure_text (Store failure) = store_text failure
 failure_text (Adoption failure) = adoption_text failure.fault
 failure_text (Stream failure) = stream_text failure.fault
+
+-- what is told where a line of the log could not be written
+abbrev pub log_failure : Failure
+log_failure = Stream (record { fault = LogFault })
 
 -- 1 is refused input; 3 is memory, the store, or a failed read or write
 abbrev pub policy_status : PolicyFault → ℕ

@@ -10,7 +10,7 @@ use Rattle.book_tables_schema.specs.declared.reopening.Unopened.TheVariants.{Con
 use Rattle.book_tables.specs.declared.opening.OpenFault.{OpenFault}
 use Rattle.book_tables_opening.specs.Reading.{FaultSays, IsRefused}
 use Rattle.book_tables_migrating.specs.Migrating.{IsUnmigrated, StandsForNoneBefore, StandsMigrated}
-use Rattle.book_desk_app.specs.Runs.{store_failure}
+use Rattle.book_desk_app.specs.Stores.{store_failure}
 use Rattle.book_desk_app.specs.declared.failures.Failure.{Failure}
 use Rattle.book_desk_app.specs.declared.failures.Failure.TheVariants.{Output, Store}
 

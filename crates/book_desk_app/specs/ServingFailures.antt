@@ -3,8 +3,8 @@
 use Rattle.std.specs.Prelude.{ℕ, List, codes}
 use Rattle.book_machine.specs.declared.adoptions.AdoptFault.{AdoptFault}
 use Rattle.book_machine.specs.declared.adoptions.AdoptFault.TheVariants.{Full, Unavailable}
-use Rattle.book_wire.specs.declared.stream.StreamFault.{StreamFault}
-use Rattle.book_wire.specs.declared.stream.StreamFault.TheVariants.{Memory, Read, Write, Log}
+use Rattle.book_wire_serving.specs.declared.faults.StreamFault.{StreamFault}
+use Rattle.book_wire_serving.specs.declared.faults.StreamFault.TheVariants.{Memory, Read, Write, Log}
 
 abbrev pub adoption_text : AdoptFault → List ℕ
 adoption_text Full = codes "adopt: full"

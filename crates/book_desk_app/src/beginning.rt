@@ -3,13 +3,13 @@
 ghost use Rattle.std.specs.Prelude.{◌≡◌, IfErr, IfSome, List, OnOk, Option, true};
 ghost use Rattle.std.specs.Io.KnownBytes.{Keeps};
 ghost use Rattle.book_desk_app.specs.Beginnings.{AddsFile, Begins, FailsToBegin, FailsToMake, File, KeepsFiles, MakesBoth, TakesBack, is_named};
-ghost use Rattle.book_desk_app.specs.Tasks.{EndsWith};
+ghost use Rattle.book_desk_app.specs.Endings.{EndsWith};
 ghost use Rattle.book_desk_app.specs.Telling.{TellsFailure};
 ghost use Rattle.book_desk_app.specs.declared.failures.InitFault.TheVariants.{Exists};
 
+use crate::endings::ended;
 use crate::failures::{Failure, InitFault};
 use crate::lines::Lines;
-use crate::tasks::ended;
 use std::io::Write;
 
 /// The name of the policy's file.

@@ -6,10 +6,10 @@ ghost use Rattle.book_desk_app.specs.Migrations.{MigratesStore, migration_line};
 ghost use Rattle.book_desk_app.specs.Telling.{TellsFailure};
 ghost use Rattle.book_desk_app.specs.declared.failures.Failure.TheVariants.{Output};
 
+use crate::endings::ended;
 use crate::failures::Failure;
 use crate::lines::Lines;
 use crate::stores::store_failure;
-use crate::tasks::ended;
 use crate::telling::tell_line;
 use book_tables_migrating::migrate;
 use book_tables_schema::Unopened;

@@ -1,7 +1,7 @@
 //! What is told where a policy was not adopted, or a stream was not served to its end.
 
 use book_machine::AdoptFault;
-use book_wire::StreamFault;
+use book_wire_serving::StreamFault;
 use std::error::Error;
 use std::fmt;
 

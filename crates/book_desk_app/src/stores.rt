@@ -2,7 +2,7 @@
 
 ghost use Rattle.std.specs.Prelude.{◌≡◌, IfErr, IfOk};
 ghost use Rattle.sqlite.specs.Held.{state};
-ghost use Rattle.book_desk_app.specs.Runs.{AreTablesOf, FailsToOpen, store_failure};
+ghost use Rattle.book_desk_app.specs.Stores.{AreTablesOf, FailsToOpen, store_failure};
 
 use crate::failures::StoreFailure;
 use book_tables::{OpenFault, Tables};

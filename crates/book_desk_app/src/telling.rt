@@ -11,7 +11,7 @@ use crate::lines::Lines;
 use crate::text_failures::InputFault;
 use book_machine::AdoptFault;
 use book_policy::PolicyFault;
-use book_wire::StreamFault;
+use book_wire_serving::StreamFault;
 
 fn input_line(fault: InputFault) -> &'static str
     ensures { result.now ≡ input_text fault ++ codes "\n" }

@@ -17,7 +17,7 @@ use Rattle.book_policy_warnings.specs.declared.telling.Told.TheVariants as told
 use Rattle.book_policy_warnings.specs.declared.telling.ToldOver.{ToldOver}
 use Rattle.book_policy_warnings.specs.declared.telling.ToldOver.TheVariants as over
 use Rattle.book_desk_app.specs.Failures.{store_failure}
-use Rattle.book_desk_app.specs.Runs.{AreTablesOf, standing_in}
+use Rattle.book_desk_app.specs.Stores.{AreTablesOf, standing_in}
 use Rattle.book_desk_app.specs.Telling.{TellsFailure}
 use Rattle.book_desk_app.specs.declared.failures.Failure.TheVariants.{Adoption, Input, Output, Policy, Store}
 use Rattle.book_desk_app.specs.declared.failures.StoreFailure.{StoreFailure}

@@ -2,7 +2,7 @@
 
 ghost use Rattle.std.specs.Prelude.{◌≡◌};
 ghost use Rattle.sqlite.specs.Held.{state};
-ghost use Rattle.book_desk_app.specs.Runs.{IsNotHad};
+ghost use Rattle.book_desk_app.specs.Stores.{IsNotHad};
 ghost use Rattle.book_desk_checks.specs.Checking.{ChecksCopy, ChecksOver, ChecksTables, EndsOver, over_status};
 ghost use Rattle.book_tables.specs.declared.tables.Tables.{Tables};
 

@@ -11,6 +11,7 @@ use Rattle.book_desk_control.specs.declared.hearing.Heard.TheVariants.{Part, Ref
 use Rattle.book_desk_control.specs.declared.questions.Question.{Question}
 use Rattle.book_desk_control.specs.declared.refusals.Refusal.{Refusal}
 use Rattle.book_desk_control.specs.declared.refusals.Refusal.TheVariants.{BadBody}
+use Rattle.book_desk_control.specs.declared.replies.Ending.{Ending}
 use Rattle.book_desk_control.specs.declared.replies.Kind.{Kind}
 use Rattle.book_desk_control.specs.declared.replies.Kind.TheVariants.{Json}
 use Rattle.book_desk_control.specs.declared.replies.Outcome.{Outcome}
@@ -22,11 +23,11 @@ abbrev pub is_answered : Exchange → Bool
 is_answered x = not (length x.head == 0)
 
 -- with this reply
-abbrev pub answered : Exchange → Outcome → Option ℕ → Kind → List ℕ → Exchange
-answered x outcome status kind body = record {
+abbrev pub answered : Exchange → Outcome → Option Ending → Kind → List ℕ → Exchange
+answered x outcome ending kind body = record {
   received = x.received;
   is_heard = x.is_heard;
-  head = head_text outcome status kind (length body);
+  head = head_text outcome ending kind (length body);
   body = body;
   head_sent = x.head_sent;
   body_sent = x.body_sent;

@@ -1,6 +1,7 @@
 -- What is answered to who keeps a server (RFC 9112, section 4; own profile).
 use Rattle.std.specs.Prelude.{ℕ, ◌==◌, if◌then◌else◌, List, [], ◌++◌, codes, decimal, Option, Some, None}
 use Rattle.book_desk_control.specs.Questions.{allowed_text, methods_of}
+use Rattle.book_desk_control.specs.declared.replies.Ending.{Ending}
 use Rattle.book_desk_control.specs.declared.replies.Kind.{Kind}
 use Rattle.book_desk_control.specs.declared.replies.Kind.TheVariants.{Json, JsonLines, Text, Metrics}
 use Rattle.book_desk_control.specs.declared.replies.Outcome.{Outcome}
@@ -27,10 +28,15 @@ allow_line NotImplemented = []
 allow_line Unavailable = []
 allow_line Full = []
 
--- the status with which a command over the store would have ended
-abbrev pub exit_line : Option ℕ → List ℕ
-exit_line None = []
-exit_line (Some status) = codes "X-Exit-Status: " ++ (decimal status ++ codes "\r\n")
+abbrev pub field_line : List ℕ → ℕ → List ℕ
+field_line name number = name ++ (decimal number ++ codes "\r\n")
+
+-- the status with which a command over the store would have ended, and how many bytes, the last of the body, it told on standard
+-- error
+abbrev pub ending_lines : Option Ending → List ℕ
+ending_lines None = []
+ending_lines (Some ending) =
+    field_line (codes "X-Exit-Status: ") ending.status ++ field_line (codes "X-Error-Length: ") ending.told
 
 abbrev pub type_line : Kind → List ℕ
 type_line Json = codes "Content-Type: application/json\r\n"
@@ -43,8 +49,9 @@ abbrev pub length_lines : ℕ → List ℕ
 length_lines size = codes "Content-Length: " ++ (decimal size ++ codes "\r\nConnection: close\r\n\r\n")
 
 -- the head of a reply with so long a body
-abbrev pub head_text : Outcome → Option ℕ → Kind → ℕ → List ℕ
-head_text outcome status kind size = status_line outcome ++ (allow_line outcome ++ (exit_line status ++ (type_line kind ++ length_lines size)))
+abbrev pub head_text : Outcome → Option Ending → Kind → ℕ → List ℕ
+head_text outcome ending kind size =
+    status_line outcome ++ (allow_line outcome ++ (ending_lines ending ++ (type_line kind ++ length_lines size)))
 
 -- 0 is answered, 3 is a store that can't be had, and all others are refused
 abbrev pub outcome_of_status : ℕ → Outcome

@@ -9,7 +9,7 @@ use crate::demands::{Demand, demand_of};
 use crate::hearing::{Heard, hear};
 use crate::questions::Question;
 use crate::refusals::{Refusal, outcome_of, refusal_text};
-use crate::replies::{Kind, Outcome, head_of};
+use crate::replies::{Ending, Kind, Outcome, head_of};
 use std::alloc::{AllocError, Global};
 use std::mem;
 
@@ -52,20 +52,20 @@ impl Exchange {
         self.head.len() != 0
     }
 
-    /// Gives it this reply: the status, of a command that with which it would have ended, what the body is, and the body, which
-    /// is not copied. An error is want of memory.
+    /// Gives it this reply: the status, of a command how it ended, what the body is, and the body, which is not copied: what the
+    /// command wrote, then what it told on standard error. An error is want of memory.
     pub fn answer(
         &mut self,
         alloc: Global,
         outcome: Outcome,
-        status: Option<u8>,
+        ending: Option<Ending>,
         kind: Kind,
         body: Vec<u8>,
     ) -> Result<(), AllocError>
-        ensures ok { OnOk result (self.new ≡ spec.answered self.old outcome status kind body.items) }
+        ensures ok { OnOk result (self.new ≡ spec.answered self.old outcome ending kind body.items) }
         ensures err { OnErr result (self.new ≡ self.old) }
     {
-        let head = head_of(alloc, outcome, status, kind, body.len())?;
+        let head = head_of(alloc, outcome, ending, kind, body.len())?;
         self.head = head;
         self.body = Bytes::from_vec(body);
         Ok(())

@@ -27,8 +27,12 @@ fn has_name(name: &[u8], wanted: &[u8]) -> bool
     name.eq_ignore_ascii_case(wanted)
 }
 
-/// The value of a field that may come once.
-fn lone<'b>(
+/// The value of a field that may come once; none where it does not come. The name is equal but for ASCII case.
+///
+/// # Errors
+///
+/// `BadHead` where it comes twice.
+pub fn lone<'b>(
     bytes: &'b [u8],
     headers: &[HeaderSpan],
     name: &[u8],
@@ -57,14 +61,15 @@ fn has_digits_alone(digits: &[u8]) -> bool
     digits.iter().all(|d| d.is_ascii_digit())
 }
 
-fn is_length(digits: &[u8]) -> bool
+/// Whether these are 1 to 10 decimal digits.
+pub fn is_length(digits: &[u8]) -> bool
     ensures { result ≡ spec.is_length digits.now }
 {
     !digits.is_empty() && digits.len() <= 10 && has_digits_alone(digits)
 }
 
 /// The number that decimal digits write.
-fn value_of(digits: &[u8]) -> usize
+pub fn value_of(digits: &[u8]) -> usize
     requires { spec.is_length digits.now ≡ true }
     ensures { result ≡ spec.number_after 0 digits.now }
 {

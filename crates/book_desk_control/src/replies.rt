@@ -42,6 +42,15 @@ pub enum Kind {
     Metrics,
 }
 
+/// How a command ended that was asked.
+#[derive(Clone, Copy)]
+pub struct Ending {
+    /// The status with which a command over the store would have ended.
+    pub status: u8,
+    /// How many bytes, the last of the body, it told on standard error.
+    pub told: usize,
+}
+
 /// The line of the status.
 fn status_line(outcome: Outcome) -> &'static str
     ensures { result.now ≡ spec.status_line outcome }
@@ -101,16 +110,24 @@ fn push_number(text: &mut Bytes, number: u64) -> Result<(), AllocError>
     text.push(digits.format(number).as_bytes())
 }
 
-/// Adds the line that tells how a command would have ended, where one is answered.
-fn push_status(text: &mut Bytes, status: Option<u8>) -> Result<(), AllocError>
-    ensures { OnOk result (text.new ≡ text.old ++ spec.exit_line status) }
+/// Adds a line of a field, whose value is a number.
+fn push_field(text: &mut Bytes, name: &str, number: u64) -> Result<(), AllocError>
+    ensures { OnOk result (text.new ≡ text.old ++ spec.field_line name.now number) }
 {
-    let Some(status) = status else {
+    text.push(name.as_bytes())?;
+    push_number(text, number)?;
+    text.push(b"\r\n")
+}
+
+/// Adds the lines that tell how a command ended, where one is answered.
+fn push_ending(text: &mut Bytes, ending: Option<Ending>) -> Result<(), AllocError>
+    ensures { OnOk result (text.new ≡ text.old ++ spec.ending_lines ending) }
+{
+    let Some(ending) = ending else {
         return Ok(());
     };
-    text.push(b"X-Exit-Status: ")?;
-    push_number(text, status as u64)?;
-    text.push(b"\r\n")
+    push_field(text, "X-Exit-Status: ", ending.status as u64)?;
+    push_field(text, "X-Error-Length: ", ending.told as u64)
 }
 
 /// Adds the lines that tell how long the body is, and that nothing follows it.
@@ -122,21 +139,20 @@ fn push_length(text: &mut Bytes, length: usize) -> Result<(), AllocError>
     text.push(b"\r\nConnection: close\r\n\r\n")
 }
 
-/// The head of a reply with so long a body, and, of a command, the status with which it would have ended. An error is want of
-/// memory.
+/// The head of a reply with so long a body, and, of a command, how it ended. An error is want of memory.
 pub(crate) fn head_of(
     alloc: Global,
     outcome: Outcome,
-    status: Option<u8>,
+    ending: Option<Ending>,
     kind: Kind,
     length: usize,
 ) -> Result<Bytes, AllocError>
-    ensures { IfOk result (λ head. head ≡ spec.head_text outcome status kind length) }
+    ensures { IfOk result (λ head. head ≡ spec.head_text outcome ending kind length) }
 {
     let mut text = Bytes::new(alloc);
     text.push(status_line(outcome).as_bytes())?;
     push_allow(&mut text, outcome)?;
-    push_status(&mut text, status)?;
+    push_ending(&mut text, ending)?;
     text.push(type_line(kind).as_bytes())?;
     push_length(&mut text, length)?;
     Ok(text)

@@ -23,7 +23,7 @@ use Rattle.book_dumps_loading.specs.declared.faults.LoadFault.TheVariants as loa
 use Rattle.book_dumps_reading.specs.Dumped.{dumped_text}
 use Rattle.book_dumps_reading.specs.declared.dumped.Dumped.{Dumped}
 use Rattle.book_desk_app.specs.Failures.{failure_text, store_text}
-use Rattle.book_desk_app.specs.Runs.{standing_in}
+use Rattle.book_desk_app.specs.Stores.{standing_in}
 use Rattle.book_desk_app.specs.declared.failures.Failure.{Failure}
 use Rattle.book_desk_app.specs.declared.failures.StoreFailure.{StoreFailure}
 use Rattle.book_desk_app.specs.declared.failures.StoreFailure.TheVariants as stores

@@ -4,7 +4,7 @@ use Rattle.std.specs.Io.KnownBytes.{Appends}
 use Rattle.sqlite.specs.Held.{Held}
 use Rattle.sqlite.specs.State.{State, HasCleanDisk}
 use Rattle.book_desk_app.specs.Failures.{store_text}
-use Rattle.book_desk_app.specs.Runs.{AreTablesOf, standing_in}
+use Rattle.book_desk_app.specs.Stores.{AreTablesOf, standing_in}
 use Rattle.book_desk_app.specs.declared.failures.StoreFailure.{StoreFailure}
 use Rattle.book_desk_keeping.specs.Changes.{changed_by_all}
 use Rattle.book_desk_keeping.specs.Failures.{fault_status, keeping_text}

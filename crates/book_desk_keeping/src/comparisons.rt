@@ -3,7 +3,7 @@
 ghost use Rattle.std.specs.Prelude.{◌≡◌, Some};
 ghost use Rattle.std.specs.Io.KnownBytes.{Keeps};
 ghost use Rattle.sqlite.specs.Held.{state};
-ghost use Rattle.book_desk_app.specs.Runs.{IsNotHad};
+ghost use Rattle.book_desk_app.specs.Stores.{IsNotHad};
 ghost use Rattle.book_desk_app.specs.Telling.{TellsLine};
 ghost use Rattle.book_desk_keeping.specs.Keeping.{ComparesOver, DoesOver, EndsComparison, ReadsBoth};
 ghost use Rattle.book_dumps_loading.specs.Loading.{Rests};

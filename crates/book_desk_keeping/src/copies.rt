@@ -4,7 +4,7 @@ ghost use Rattle.std.specs.Prelude.{◌≡◌, IfErr, IfOk, OnOk, Some, false, t
 ghost use Rattle.std.specs.Io.KnownBytes.{Keeps};
 ghost use Rattle.sqlite.specs.Held.{state};
 ghost use Rattle.sqlite.specs.State.{HasCleanDisk};
-ghost use Rattle.book_desk_app.specs.Runs.{IsNotHad};
+ghost use Rattle.book_desk_app.specs.Stores.{IsNotHad};
 ghost use Rattle.book_desk_app.specs.Telling.{TellsLine};
 ghost use Rattle.book_desk_keeping.specs.Keeping.{DoesOver, EndsMaking, IsCopyOf, IsForgottenFrom, IsOfSource, LeavesNew, connection_in};
 ghost use Rattle.book_dumps_loading.specs.Loading.{Rests, StandsForText};
@@ -124,6 +124,33 @@ fn copy_of<K: Keeper, T: Alter + Drop>(
     }
 }
 
+/// Makes a copy of the Office of a keeper in the store of a connection without table, index or view, and gives the status of
+/// the program: 0 where it is made, and stands for the same Office, or with `forget` for that Office without its removed
+/// names, with the epoch above where it had some; 1 where its store has a table, an index or a view, or the epoch is the
+/// last; 3 where memory was refused, a store failed, or what was read back is another Office. A failure is told on `errors`.
+/// The Office of the keeper stays. The connection comes back, but where its store could not be opened again; it is as it was
+/// at status 1. Where no copy is made a part of its rows may be written, so it is made under another name.
+pub fn copy_keeper<K: Keeper, T: Alter + Drop, E: Lines>(
+    alloc: Global,
+    keeper: &mut K,
+    fresh: Connection<T>,
+    forget: bool,
+    errors: &mut E,
+) -> (u8, Option<Connection<T>>)
+    ensures rests { Rests (K.standing keeper.old) (K.standing keeper.new) }
+    ensures makes { EndsMaking (state T.Store) (TellsLine (E.is_whole errors.new)
+        (E.Write.contents errors.old) (E.Write.contents errors.new)) fresh
+        (IsCopyOf (state T.Store) forget (K.standing keeper.old) (K.standing keeper.new))
+        result.0 result.1 }
+    ensures silent { result.0 ≡ 0 → Keeps (E.Write.contents errors.old)
+        (E.Write.contents errors.new) }
+{
+    match copy_of(alloc, keeper, fresh, forget) {
+        Ok(made) => (DONE, Some(made)),
+        Err((fault, left)) => (tell_fault(errors, &fault), left),
+    }
+}
+
 /// Copies the tables of a store, and gives them back.
 fn copy_over<S: Alter + Drop, T: Alter + Drop, E: Lines>(
     alloc: Global,
@@ -143,10 +170,8 @@ fn copy_over<S: Alter + Drop, T: Alter + Drop, E: Lines>(
         (E.Write.contents errors.new) }
 {
     let mut tables = tables;
-    match copy_of(alloc, &mut tables, fresh, forget) {
-        Ok(made) => (DONE, tables, Some(made)),
-        Err((fault, left)) => (tell_fault(errors, &fault), tables, left),
-    }
+    let (status, made) = copy_keeper(alloc, &mut tables, fresh, forget, errors);
+    (status, tables, made)
 }
 
 /// Copies a store into that of a connection without table, index or view, and gives the status of the program: 0 where

@@ -4,7 +4,7 @@ ghost use Rattle.std.specs.Prelude.{◌≡◌, ◌∷◌, ◌++◌, [], List, If
 ghost use Rattle.std.specs.List.{AllZip};
 ghost use Rattle.std.specs.Io.KnownBytes.{Keeps};
 ghost use Rattle.sqlite.specs.Held.{state};
-ghost use Rattle.book_desk_app.specs.Runs.{IsNotHad};
+ghost use Rattle.book_desk_app.specs.Stores.{IsNotHad};
 ghost use Rattle.book_desk_app.specs.Telling.{TellsLine};
 ghost use Rattle.book_desk_keeping.specs.Keeping.{DoesOver, LeavesNew};
 ghost use Rattle.book_desk_keeping.specs.Restoring.{EndsRestore, IsOfRestore, IsRestoredFrom, IsToldOf, Restores, RestoresOver, restore_fault};

@@ -5,7 +5,7 @@ use Rattle.std.proofs.lemmas.List.{get_or_default, get_or_past, get_or-set_same,
 use Rattle.std.specs.Prelude.{IfOk, IfSome, OnOk}
 use Rattle.book_wire_serving.specs.Serving.{Answered, Runs, Serving}
 use Rattle.book_wire.specs.Stream.{Exchange, IsPartial, Waits, answered_of}
-use Rattle.book_wire.specs.declared.stream.StreamFault.{StreamFault}
+use Rattle.book_wire_serving.specs.declared.faults.StreamFault.{StreamFault}
 use Rattle.book_wire_steps.specs.Steps.{OnlyAdopts, ServesInSteps}
 use Rattle.book_wire_steps.proofs.Takes.{in_steps_adopted, in_steps_none, in_steps_served, only_sound}
 use Rattle.book_desk_loop.specs.Closing.{DropsSome}

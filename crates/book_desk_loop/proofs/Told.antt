@@ -1,6 +1,6 @@
 -- Faults that are told, and their connections.
 use Rattle.std.proofs.Common.{◌≡◌, ℕ, ◌+◌, true, false, if◌then◌else◌, List, [], ◌∷◌, ◌++◌, Option, Some, None, refl, ap, subst, ◌∙◌, append-nil, arith}
-use Rattle.book_wire.specs.declared.stream.StreamFault.{StreamFault}
+use Rattle.book_wire_serving.specs.declared.faults.StreamFault.{StreamFault}
 use Rattle.book_desk_loop.specs.Serving.{ToldFault, AreTold, is_number, told_of, count_if_none, count_unopened}
 use Rattle.book_desk_loop.proofs.Histories.{same, differs}
 

@@ -3,7 +3,7 @@ use Rattle.std.specs.Prelude.{◌≡◌, ◌≢◌, ◌⊎◌, ℕ, ◌+◌, ◌
 use Rattle.book_wire.specs.Connection.{View, fresh}
 use Rattle.book_wire_serving.specs.Serving.{Serving}
 use Rattle.book_wire.specs.Stream.{Exchange, IsPartial, Waits}
-use Rattle.book_wire.specs.declared.stream.StreamFault.{StreamFault}
+use Rattle.book_wire_serving.specs.declared.faults.StreamFault.{StreamFault}
 use Rattle.book_wire_steps.specs.Steps.{ServesInSteps}
 use Rattle.book_desk_loop.specs.Closing.{DropsSome}
 use Rattle.book_desk_loop.specs.ManyConnections.{History, Entry, AreServed, IsBehind, IsThere, Holds, AllStay, OthersStay, answered_in, own}

@@ -8,8 +8,8 @@ ghost use Rattle.book_wire_steps.specs.Steps.{OnlyAdopts};
 ghost use Rattle.book_desk_loop.specs.ManyConnections.{AllStay, History, Entry, AreServed, TakesBytes, IsAnswered, Holds, OthersStay, entries, receives, is_sent};
 ghost use Rattle.book_desk_loop.specs.Streams.{HasNoWhole, IsDoneAt, IsIdleAt, IsWithinAt};
 
-use book_wire::{Connection, StreamFault, Wire};
-use book_wire_serving::Service;
+use book_wire::{Connection, Wire};
+use book_wire_serving::{Service, StreamFault};
 use book_wire_steps::{Control, Traffic, Wish};
 use std::alloc::{AllocError, Global};
 use std::mem;
@@ -70,6 +70,10 @@ pub struct Connections<M> {
     pub opened: u64,
     /// How many requests were answered. It stays at its last value.
     pub answered: u64,
+    /// How many bytes were taken from connections. It stays at its last value.
+    pub received: u64,
+    /// How many bytes were sent to connections. It stays at its last value.
+    pub sent: u64,
     /// The places.
     pub places: Vec<Option<Accepted>>,
 }
@@ -85,6 +89,8 @@ impl<M: Service> Connections<M> {
             service,
             opened: 0,
             answered: 0,
+            received: 0,
+            sent: 0,
             places: Vec::new(alloc),
         }
     }
@@ -295,14 +301,17 @@ impl<M: Service> Connections<M> {
         ensures opened { self.new.opened ≡ self.old.opened }
     {
         match mem::replace(&mut self.places[place], None) {
-            Some(mut kept) => match kept.connection.did_send(alloc, count) {
-                Ok(()) => {
-                    kept.connection.shrink(alloc);
-                    self.places[place] = Some(kept);
-                    Ok(())
+            Some(mut kept) => {
+                self.sent = self.sent.saturating_add(count as u64);
+                match kept.connection.did_send(alloc, count) {
+                    Ok(()) => {
+                        kept.connection.shrink(alloc);
+                        self.places[place] = Some(kept);
+                        Ok(())
+                    }
+                    Err(refused) => Err(refused),
                 }
-                Err(refused) => Err(refused),
-            },
+            }
             None => Ok(()),
         }
     }
@@ -351,6 +360,7 @@ impl<M: Service> Connections<M> {
         match mem::replace(&mut self.places[place], None) {
             Some(mut accepted) => {
                 self.service.turn_to(accepted.number);
+                self.received = self.received.saturating_add(bytes.len() as u64);
                 let most = most_of_one(accepted.connection.unsent().len());
                 match accepted
                     .connection

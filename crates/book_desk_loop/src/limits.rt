@@ -1,10 +1,10 @@
 //! How many connections are served, and how; what is told of their faults; and why they are served no more.
 
 ghost use Rattle.std.specs.Prelude.{◌≡◌, ◌≢◌, ◌⊎◌, None, Ok, Err, OnOk, Some, false, true};
-ghost use Rattle.book_wire.specs.declared.stream.StreamFault.{StreamFault as Fault};
+ghost use Rattle.book_wire_serving.specs.declared.faults.StreamFault.{StreamFault as Fault};
 ghost use Rattle.book_desk_loop.specs.Serving.{IsOneFewer};
 
-use book_wire::StreamFault;
+use book_wire_serving::StreamFault;
 use std::io;
 use std::io::ErrorKind;
 use std::time::{Duration, Instant};

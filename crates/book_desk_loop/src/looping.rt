@@ -2,7 +2,7 @@
 
 ghost use Rattle.std.specs.Prelude.{◌≡◌, ◌≢◌, ℕ, List, Option, None, Some, IfSome, Ok, Err, IfOk, OnOk, OnErr, true, false};
 ghost use Rattle.book_wire_serving.specs.Serving.{Answered};
-ghost use Rattle.book_wire.specs.declared.stream.StreamFault.{StreamFault as Fault};
+ghost use Rattle.book_wire_serving.specs.declared.faults.StreamFault.{StreamFault as Fault};
 ghost use Rattle.book_desk_loop.specs.Serving.{AreServedAtOnce, AreTold, Begins, BeginsAt, BeginsNone, EndsSo, GoesOn, KeepsOn, LetsGo, Line, LinesStay, MayGoAt, RestStays, ToldFault, TurnsAt, line_at};
 ghost use Rattle.book_desk_loop.specs.Streams.{IsAnsweredAt, IsDoneAt, IsStillAt};
 ghost use Rattle.book_wire_steps.specs.Steps.{ServesInSteps};
@@ -19,8 +19,8 @@ use crate::socket_places::{
     are_none, close_at, close_for_writing, drop_at, join, note_begin, note_queued,
 };
 use crate::sockets::{DRAINED, RESTED, Socket, has_passed, is_late, is_short, passes};
-use book_wire::{StreamFault, Wire};
-use book_wire_serving::Service;
+use book_wire::Wire;
+use book_wire_serving::{Service, StreamFault};
 use book_wire_steps::{Control, Traffic, Wish};
 use std::alloc::Global;
 use std::io::{ErrorKind, Read, Write};
@@ -741,6 +741,8 @@ impl<M: Service, S: Read + Write + OpenStream + Drop> Server<M, S> {
             open: self.open,
             faults,
             answered: self.connections.answered,
+            received: self.connections.received,
+            sent: self.connections.sent,
             shows_nothing,
         }
     }

@@ -4,14 +4,13 @@ ghost use Rattle.std.specs.Prelude.{◌≡◌, ◌≢◌, ◌⊎◌, ℕ, ◌<�
 ghost use Rattle.std.specs.Io.KnownBytes.{Appends, Consumes, IsAtEnd};
 ghost use Rattle.book_wire_serving.specs.Serving.{Runs};
 ghost use Rattle.book_wire.specs.Stream.{Exchange, answered_of};
-ghost use Rattle.book_wire.specs.declared.stream.StreamFault.{StreamFault as Fault};
+ghost use Rattle.book_wire_serving.specs.declared.faults.StreamFault.{StreamFault as Fault};
 ghost use Rattle.book_desk_loop.specs.ManyConnections.{History, Entry, AreServed, Holds, TakesBytes, OthersStay, entries, receives, is_sent, number_at};
 ghost use Rattle.book_desk_loop.specs.declared.connections.Accepted.{Accepted};
 ghost use Rattle.book_desk_loop.specs.Streams.{HasNoWhole, IsAnsweredAt, IsDoneAt, IsStillAt, Serves, TakesATurn, WasAtEnd};
 
 use crate::connections::Connections;
-use book_wire::StreamFault;
-use book_wire_serving::Service;
+use book_wire_serving::{Service, StreamFault};
 use std::alloc::Global;
 use std::io::{ErrorKind, Read, Write};
 use std::net::OpenStream;

@@ -1,7 +1,7 @@
 //! The sockets of connections, each at the place of its connection.
 
 ghost use Rattle.std.specs.Prelude.{◌≡◌, ◌≢◌, ℕ, ◌<◌, None, Some, OnOk, OnErr, length, true, false};
-ghost use Rattle.book_wire.specs.declared.stream.StreamFault.{StreamFault as Fault};
+ghost use Rattle.book_wire_serving.specs.declared.faults.StreamFault.{StreamFault as Fault};
 ghost use Rattle.book_desk_loop.specs.Closing.{DropsSome};
 ghost use Rattle.book_desk_loop.specs.Serving.{Line, LinesStay, OtherLinesStay, line_at};
 

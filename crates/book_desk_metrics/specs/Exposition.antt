@@ -108,6 +108,12 @@ connections_text g =
     ++ (single (codes "book_desk_connection_faults_total") (codes "counter") (codes "Connections that had a fault.") g.faults
     ++ single (codes "book_desk_start_time_seconds") (codes "gauge") (codes "When the server began, in seconds since 1970.") g.since))
 
+-- what was taken from all connections, and sent to them
+abbrev pub bytes_text : Gauges → List ℕ
+bytes_text g =
+    single (codes "book_desk_received_bytes_total") (codes "counter") (codes "Bytes of requests that were taken from connections.") g.received
+    ++ single (codes "book_desk_sent_bytes_total") (codes "counter") (codes "Bytes of replies that were sent to connections.") g.sent
+
 -- what is held, where the store shows it
 abbrev pub held_text : Option Held → List ℕ
 held_text None = []
@@ -117,5 +123,9 @@ held_text (Some h) =
     ++ (single (codes "book_desk_books") (codes "gauge") (codes "Books.") h.books
     ++ single (codes "book_desk_persons") (codes "gauge") (codes "Persons.") h.persons))
 
+-- what is so now
+abbrev pub gauges_text : Gauges → List ℕ
+gauges_text g = connections_text g ++ (bytes_text g ++ held_text g.held)
+
 abbrev pub metrics_text : Counts → Times → Gauges → List ℕ
-metrics_text c t g = replies_text c ++ (denials_text c ++ (seconds_text t ++ (connections_text g ++ held_text g.held)))
+metrics_text c t g = replies_text c ++ (denials_text c ++ (seconds_text t ++ gauges_text g))

@@ -87,6 +87,10 @@ pub struct Gauges {
     pub open: u64,
     /// How many had a fault.
     pub faults: u64,
+    /// How many bytes were taken from connections.
+    pub received: u64,
+    /// How many bytes were sent to connections.
+    pub sent: u64,
     /// When the server began, in seconds since the first instant of 1970.
     pub since: u64,
     /// What the Office has; none where the store shows nothing.
@@ -420,6 +424,26 @@ fn push_connections(out: &mut Vec<u8>, gauges: &Gauges) -> Result<(), AllocError
     )
 }
 
+/// Adds how many bytes were taken from connections, and sent to them.
+fn push_bytes(out: &mut Vec<u8>, gauges: &Gauges) -> Result<(), AllocError>
+    ensures { OnOk result (out.new.items ≡ out.old.items ++ spec.bytes_text gauges.now) }
+{
+    push_single(
+        out,
+        "book_desk_received_bytes_total",
+        "counter",
+        "Bytes of requests that were taken from connections.",
+        gauges.received,
+    )?;
+    push_single(
+        out,
+        "book_desk_sent_bytes_total",
+        "counter",
+        "Bytes of replies that were sent to connections.",
+        gauges.sent,
+    )
+}
+
 /// Adds what the Office has, where the store shows it.
 fn push_held(out: &mut Vec<u8>, held: Option<Held>) -> Result<(), AllocError>
     ensures { OnOk result (out.new.items ≡ out.old.items ++ spec.held_text held) }
@@ -431,6 +455,15 @@ fn push_held(out: &mut Vec<u8>, held: Option<Held>) -> Result<(), AllocError>
     push_single(out, "book_desk_cards", "gauge", "Cards.", held.cards)?;
     push_single(out, "book_desk_books", "gauge", "Books.", held.books)?;
     push_single(out, "book_desk_persons", "gauge", "Persons.", held.persons)
+}
+
+/// Adds what is so now.
+fn push_gauges(out: &mut Vec<u8>, gauges: &Gauges) -> Result<(), AllocError>
+    ensures { OnOk result (out.new.items ≡ out.old.items ++ spec.gauges_text gauges.now) }
+{
+    push_connections(out, gauges)?;
+    push_bytes(out, gauges)?;
+    push_held(out, gauges.held)
 }
 
 /// Adds all metrics.
@@ -446,8 +479,7 @@ fn push_metrics(
     push_all_replies(out, counts)?;
     push_all_denials(out, counts)?;
     push_seconds(out, times)?;
-    push_connections(out, gauges)?;
-    push_held(out, gauges.held)
+    push_gauges(out, gauges)
 }
 
 /// All metrics, in the text format of Prometheus (version 0.0.4; own profile). Of the replies those are left out that were

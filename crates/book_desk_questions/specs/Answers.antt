@@ -19,7 +19,7 @@ use Rattle.book_questions.specs.declared.questions.Question.{Question}
 use Rattle.book_questions_json.specs.HeldBlocks.{TellsRightsObjects}
 use Rattle.book_questions_json.specs.Telling.{TellsWhoObjects, TellsWhyObjects}
 use Rattle.book_desk_app.specs.Failures.{store_text}
-use Rattle.book_desk_app.specs.Runs.{AreTablesOf, standing_in}
+use Rattle.book_desk_app.specs.Stores.{AreTablesOf, standing_in}
 use Rattle.book_desk_app.specs.declared.failures.StoreFailure.{StoreFailure}
 use Rattle.book_desk_questions.specs.Asked.{AsksFor, AsksForNothing, asking_of, caller_in}
 use Rattle.book_desk_questions.specs.Failures.{unanswered_status, unanswered_text}

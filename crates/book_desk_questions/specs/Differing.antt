@@ -12,7 +12,7 @@ use Rattle.book_questions_plans.specs.declared.faults.PlanFault.TheVariants as p
 use Rattle.book_questions_plans.specs.declared.planning.Planned.{Planned}
 use Rattle.book_desk_app.specs.Failures.{failure_status, failure_text, store_failure, store_text}
 use Rattle.book_desk_app.specs.Policies.{GivesNoPolicy, SpellsPolicy}
-use Rattle.book_desk_app.specs.Runs.{AreTablesOf, standing_in}
+use Rattle.book_desk_app.specs.Stores.{AreTablesOf, standing_in}
 use Rattle.book_desk_app.specs.declared.failures.Failure.{Failure}
 use Rattle.book_desk_app.specs.declared.failures.Failure.TheVariants.{Adoption, Output, Store}
 use Rattle.book_desk_app.specs.declared.failures.StoreFailure.{StoreFailure}

@@ -7,7 +7,7 @@ use Rattle.book_dumps.specs.Writing.{Dumps}
 use Rattle.book_dumps.specs.declared.faults.DumpFault.{DumpFault}
 use Rattle.book_dumps.specs.declared.faults.DumpFault.TheVariants as faults
 use Rattle.book_desk_app.specs.Failures.{failure_status, failure_text, store_failure, store_text}
-use Rattle.book_desk_app.specs.Runs.{AreTablesOf, standing_in}
+use Rattle.book_desk_app.specs.Stores.{AreTablesOf, standing_in}
 use Rattle.book_desk_app.specs.declared.failures.Failure.{Failure}
 use Rattle.book_desk_app.specs.declared.failures.Failure.TheVariants.{Output, Store}
 use Rattle.book_desk_app.specs.declared.failures.StoreFailure.{StoreFailure}

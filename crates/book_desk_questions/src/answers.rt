@@ -4,7 +4,7 @@ ghost use Rattle.std.specs.Prelude.{◌≡◌, IfErr, OnOk};
 ghost use Rattle.std.specs.Io.KnownBytes.{Keeps};
 ghost use Rattle.sqlite.specs.Held.{state};
 ghost use Rattle.book_machine.specs.Asking.{Meets, StageAsks};
-ghost use Rattle.book_desk_app.specs.Runs.{IsNotHad};
+ghost use Rattle.book_desk_app.specs.Stores.{IsNotHad};
 ghost use Rattle.book_desk_app.specs.Telling.{TellsLine};
 ghost use Rattle.book_desk_questions.specs.Answers.{Answers, AnswersIn, AnswersOver, AnswersWords, EndsAsked};
 ghost use Rattle.book_desk_questions.specs.Answers.{FailsToAnswer, RunsAsked, TellsAsked, always, shown_at};

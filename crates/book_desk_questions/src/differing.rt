@@ -3,7 +3,7 @@
 ghost use Rattle.std.specs.Prelude.{◌≡◌, ◌++◌, IsTrue};
 ghost use Rattle.std.specs.Io.KnownBytes.{Appends, Keeps};
 ghost use Rattle.sqlite.specs.Held.{state};
-ghost use Rattle.book_desk_app.specs.Runs.{IsNotHad};
+ghost use Rattle.book_desk_app.specs.Stores.{IsNotHad};
 ghost use Rattle.book_desk_app.specs.Telling.{TellsLine};
 ghost use Rattle.book_desk_questions.specs.Differing.{DiffersBy, DiffersIn, DiffersOver, EndsPlan, RunsDiffers, WritesPlan, differs_status};
 ghost use Rattle.book_desk_questions.specs.Differing.{is_unchanged, plan_failure, unplanned_failure};

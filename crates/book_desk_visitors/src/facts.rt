@@ -90,7 +90,7 @@ pub(crate) fn health_reply(
     let body = health_text(alloc, &health)?;
     Ok(Reply {
         outcome,
-        status: None,
+        ending: None,
         kind: Kind::Json,
         body,
     })
@@ -106,13 +106,15 @@ pub(crate) fn metrics_reply(
         came: facts.traffic.came,
         open: facts.traffic.open as u64,
         faults: facts.traffic.faults,
+        received: facts.traffic.received,
+        sent: facts.traffic.sent,
         since: facts.began,
         held: held_of(given),
     };
     let body = metrics_text(alloc, facts.replies, facts.times, &gauges)?;
     Ok(Reply {
         outcome: Outcome::Answered,
-        status: None,
+        ending: None,
         kind: Kind::Metrics,
         body,
     })
@@ -123,7 +125,7 @@ pub(crate) fn stop_reply(alloc: Global) -> Result<Reply, AllocError> {
     let body = Vec::from_slice(alloc, b"{}\n")?;
     Ok(Reply {
         outcome: Outcome::Answered,
-        status: None,
+        ending: None,
         kind: Kind::Json,
         body,
     })

@@ -6,6 +6,7 @@ ghost use Rattle.book_wire_steps.specs.Steps.{OnlyAdopts};
 use crate::facts::Facts;
 use crate::visitors::{Visitor, Went};
 use book_desk_administering::Administered;
+use book_desk_answering::Copying;
 use book_desk_control::Exchange;
 use book_desk_sockets::{Door, LocalDoor, LocalStream};
 use book_wire_steps::Wish;
@@ -155,7 +156,13 @@ impl Places {
     }
 
     /// Gives the connection at a place its turn.
-    fn visit<M: Administered>(&mut self, place: usize, service: &mut M, facts: &Facts<'_>) -> Went
+    fn visit<M: Administered, C: Copying<M>>(
+        &mut self,
+        place: usize,
+        service: &mut M,
+        copier: &mut C,
+        facts: &Facts<'_>,
+    ) -> Went
         ensures { OnlyAdopts M.Service.serving service.old service.new }
     {
         let alloc = self.alloc;
@@ -165,7 +172,7 @@ impl Places {
         let Some(visitor) = there else {
             return Went::On;
         };
-        match visitor.go_on(alloc, service, facts) {
+        match visitor.go_on(alloc, service, copier, facts) {
             Ok(went) => went,
             Err(_) => {
                 *there = None;
@@ -175,12 +182,17 @@ impl Places {
     }
 
     /// Gives each connection its turn, until one was answered.
-    fn visit_all<M: Administered>(&mut self, service: &mut M, facts: &Facts<'_>) -> Went
+    fn visit_all<M: Administered, C: Copying<M>>(
+        &mut self,
+        service: &mut M,
+        copier: &mut C,
+        facts: &Facts<'_>,
+    ) -> Went
         ensures { OnlyAdopts M.Service.serving service.old service.new }
     {
         for step in 0..PLACES {
             let place = (self.first % PLACES + step) % PLACES;
-            let went = self.visit(place, service, facts);
+            let went = self.visit(place, service, copier, facts);
             if went != Went::On {
                 self.first = place + 1;
                 return went;
@@ -190,14 +202,19 @@ impl Places {
     }
 
     /// Takes the connections that wait, and gives each its turn, until one was answered.
-    fn take_all<M: Administered>(&mut self, service: &mut M, facts: &Facts<'_>) -> Went
+    fn take_all<M: Administered, C: Copying<M>>(
+        &mut self,
+        service: &mut M,
+        copier: &mut C,
+        facts: &Facts<'_>,
+    ) -> Went
         ensures { OnlyAdopts M.Service.serving service.old service.new }
     {
         for _ in 0..u16::MAX {
             let Some(place) = self.take() else {
                 return Went::On;
             };
-            let went = self.visit(place, service, facts);
+            let went = self.visit(place, service, copier, facts);
             if went != Went::On {
                 return went;
             }
@@ -206,22 +223,32 @@ impl Places {
     }
 
     /// Gives each connection its turn, and then those that wait, until one was answered.
-    fn go_on<M: Administered>(&mut self, service: &mut M, facts: &Facts<'_>) -> Went
+    fn go_on<M: Administered, C: Copying<M>>(
+        &mut self,
+        service: &mut M,
+        copier: &mut C,
+        facts: &Facts<'_>,
+    ) -> Went
         ensures { OnlyAdopts M.Service.serving service.old service.new }
     {
-        let went = self.visit_all(service, facts);
+        let went = self.visit_all(service, copier, facts);
         if went != Went::On {
             return went;
         }
-        self.take_all(service, facts)
+        self.take_all(service, copier, facts)
     }
 
-    /// A turn of the connections, in which one is answered at most; and what it wishes.
-    pub fn take_turn<M: Administered>(&mut self, service: &mut M, facts: &Facts<'_>) -> Wish
+    /// A turn of the connections, in which one is answered at most; and what it wishes. Copies are made by `copier`.
+    pub fn take_turn<M: Administered, C: Copying<M>>(
+        &mut self,
+        service: &mut M,
+        copier: &mut C,
+        facts: &Facts<'_>,
+    ) -> Wish
         ensures { OnlyAdopts M.Service.serving service.old service.new }
     {
         self.look();
-        match self.go_on(service, facts) {
+        match self.go_on(service, copier, facts) {
             Went::On => Wish::GoOn,
             Went::Again => {
                 self.arm();

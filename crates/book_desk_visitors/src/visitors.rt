@@ -5,7 +5,7 @@ ghost use Rattle.book_wire_steps.specs.Steps.{OnlyAdopts};
 
 use crate::facts::{Facts, Given, health_reply, metrics_reply, stop_reply};
 use book_desk_administering::Administered;
-use book_desk_answering::{Reply, answer};
+use book_desk_answering::{Copying, Reply, answer};
 use book_desk_control::{Demand, Exchange, asks_end};
 use book_desk_sockets::LocalStream;
 use std::alloc::{AllocError, Global};
@@ -82,9 +82,10 @@ fn given<M: Administered>(alloc: Global, service: &mut M) -> Option<Given>
 }
 
 /// The reply to a demand.
-fn reply_to<M: Administered>(
+fn reply_to<M: Administered, C: Copying<M>>(
     alloc: Global,
     service: &mut M,
+    copier: &mut C,
     demand: Demand,
     facts: &Facts<'_>,
 ) -> Result<Reply, AllocError>
@@ -94,7 +95,7 @@ fn reply_to<M: Administered>(
         Asks::Health => health_reply(alloc, facts, given(alloc, service)),
         Asks::Metrics => metrics_reply(alloc, facts, given(alloc, service)),
         Asks::Stop => stop_reply(alloc),
-        Asks::Office => answer(alloc, service, demand),
+        Asks::Office => answer(alloc, service, copier, demand),
     }
 }
 
@@ -147,11 +148,11 @@ impl Visitor {
     fn give(&mut self, alloc: Global, reply: Reply) -> io::Result<()> {
         let Reply {
             outcome,
-            status,
+            ending,
             kind,
             body,
         } = reply;
-        self.exchange.answer(alloc, outcome, status, kind, body)?;
+        self.exchange.answer(alloc, outcome, ending, kind, body)?;
         Ok(())
     }
 
@@ -197,10 +198,11 @@ impl Visitor {
     }
 
     /// Hears what it asks, and gives it its reply.
-    fn answer<M: Administered>(
+    fn answer<M: Administered, C: Copying<M>>(
         &mut self,
         alloc: Global,
         service: &mut M,
+        copier: &mut C,
         facts: &Facts<'_>,
     ) -> io::Result<Went>
         ensures { OnlyAdopts M.Service.serving service.old service.new }
@@ -209,16 +211,17 @@ impl Visitor {
             return Ok(Went::On);
         };
         let ends = asks_end(&demand);
-        let reply = reply_to(alloc, service, demand, facts)?;
+        let reply = reply_to(alloc, service, copier, demand, facts)?;
         self.give(alloc, reply)?;
         Ok(if ends { Went::Ends } else { Went::Again })
     }
 
     /// Hears what it asks, if it has no reply yet.
-    fn answer_once<M: Administered>(
+    fn answer_once<M: Administered, C: Copying<M>>(
         &mut self,
         alloc: Global,
         service: &mut M,
+        copier: &mut C,
         facts: &Facts<'_>,
     ) -> io::Result<Went>
         ensures { OnlyAdopts M.Service.serving service.old service.new }
@@ -226,7 +229,7 @@ impl Visitor {
         if self.exchange.is_answered() {
             return Ok(Went::On);
         }
-        self.answer(alloc, service, facts)
+        self.answer(alloc, service, copier, facts)
     }
 
     /// A turn: it is heard, answered, and closed by the client after the reply.
@@ -234,15 +237,16 @@ impl Visitor {
     /// # Errors
     ///
     /// Where it is to be closed.
-    pub(crate) fn go_on<M: Administered>(
+    pub(crate) fn go_on<M: Administered, C: Copying<M>>(
         &mut self,
         alloc: Global,
         service: &mut M,
+        copier: &mut C,
         facts: &Facts<'_>,
     ) -> io::Result<Went>
         ensures { OnlyAdopts M.Service.serving service.old service.new }
     {
-        let went = self.answer_once(alloc, service, facts)?;
+        let went = self.answer_once(alloc, service, copier, facts)?;
         if went == Went::Ends {
             // It is heard, whatever becomes of the reply.
             let _ = self.close();

@@ -14,6 +14,8 @@ use Rattle.clap.specs.declared.error.kind.ErrorKind.{ErrorKind}
 use Rattle.clap.specs.declared.error.kind.ErrorKind.TheVariants as kind
 use Rattle.book_desk_words.specs.declared.commands.Command.{Command}
 use Rattle.book_desk_words.specs.declared.commands.Command.TheVariants.{Explain, Card, Init, Import, Check, Audit, Migrate, Why, Who, Rights, Ask, Differs, Dump, Show, Load, Compact, Backup, CheckBackup, Restore, Doctor, Denials, Pipe, Serve, Help, Version}
+use Rattle.book_desk_words.specs.declared.offices.Office.{Office}
+use Rattle.book_desk_words.specs.declared.offices.Office.TheVariants.{Store, Control}
 use Rattle.book_desk_words.specs.declared.commands.WordsFault.{WordsFault}
 use Rattle.book_desk_words.specs.declared.commands.WordsFault.TheVariants.{Usage, Memory}
 use Rattle.book_desk_words.specs.WordsFaults.{IsUsage, serve_wants}
@@ -48,29 +50,30 @@ words_rule name = record (word_rule name) { action = Some Append }
 abbrev pub with_store : App → App
 with_store app = with_rule (with_rule app (required_rule (codes "store"))) (flag_rule (codes "cause"))
 
+-- the store, or the control of the server that has it, and whether it is told why the store can't be had
+abbrev pub with_office : App → App
+with_office app =
+    with_rule (with_rule (with_rule app (option_rule (codes "store"))) (option_rule (codes "control"))) (flag_rule (codes "cause"))
+
 abbrev pub init_app : App
 init_app = with_rule (new_app (codes "init")) (word_rule (codes "folder"))
 
 abbrev pub import_app : App
-import_app = with_rule (with_store (new_app (codes "import"))) (word_rule (codes "policy"))
-
--- the same of one that may be named
-abbrev pub with_checked : App → App
-with_checked app = with_rule (with_rule app (option_rule (codes "store"))) (flag_rule (codes "cause"))
+import_app = with_rule (with_office (new_app (codes "import"))) (word_rule (codes "policy"))
 
 abbrev pub check_app : App
-check_app = with_checked (with_rule (with_rule (new_app (codes "check")) (word_rule (codes "policy"))) (flag_rule (codes "strict")))
+check_app = with_office (with_rule (with_rule (new_app (codes "check")) (word_rule (codes "policy"))) (flag_rule (codes "strict")))
 
 abbrev pub differs_app : App
 differs_app =
-    with_rule (with_rule (with_store (new_app (codes "differs"))) (word_rule (codes "policy"))) (flag_rule (codes "strict"))
+    with_rule (with_rule (with_office (new_app (codes "differs"))) (word_rule (codes "policy"))) (flag_rule (codes "strict"))
 
 -- the words that say which part is printed, and what of it
 abbrev pub with_part : App → App
 with_part app = with_rule (with_rule (with_rule app (option_rule (codes "at"))) (flag_rule (codes "books"))) (flag_rule (codes "labels"))
 
 abbrev pub audit_app : App
-audit_app = with_part (with_rule (with_store (new_app (codes "audit"))) (flag_rule (codes "existing")))
+audit_app = with_part (with_rule (with_office (new_app (codes "audit"))) (flag_rule (codes "existing")))
 
 abbrev pub migrate_app : App
 migrate_app = with_store (new_app (codes "migrate"))
@@ -88,7 +91,7 @@ abbrev pub with_places : App → App
 with_places app = with_rule (with_rule app (word_rule (codes "path"))) (last_word_rule (codes "destination"))
 
 abbrev pub why_app : App
-why_app = with_rule (with_places (with_question (with_store (new_app (codes "why"))))) (flag_rule (codes "json"))
+why_app = with_rule (with_places (with_question (with_office (new_app (codes "why"))))) (flag_rule (codes "json"))
 
 -- a privilege, and where
 abbrev pub with_privilege : App → App
@@ -96,7 +99,7 @@ with_privilege app = with_rule (with_rule app (word_rule (codes "privilege"))) (
 
 abbrev pub who_app : App
 who_app =
-    with_rule (with_rule (with_privilege (with_store (new_app (codes "who")))) (flag_rule (codes "denied")))
+    with_rule (with_rule (with_privilege (with_office (new_app (codes "who")))) (flag_rule (codes "denied")))
     (flag_rule (codes "json"))
 
 -- the options that say where rights are told, and whose
@@ -105,7 +108,7 @@ with_scope app = with_rule (with_rule app (option_rule (codes "at"))) (option_ru
 
 abbrev pub rights_app : App
 rights_app =
-    with_rule (with_rule (with_scope (with_store (new_app (codes "rights")))) (flag_rule (codes "shared")))
+    with_rule (with_rule (with_scope (with_office (new_app (codes "rights")))) (flag_rule (codes "shared")))
     (flag_rule (codes "json"))
 
 -- who asks, where, and for what
@@ -114,13 +117,13 @@ with_decision app =
     with_rule (with_rule (with_rule app (word_rule (codes "caller"))) (word_rule (codes "path"))) (words_rule (codes "privilege"))
 
 abbrev pub ask_app : App
-ask_app = with_decision (with_store (new_app (codes "ask")))
+ask_app = with_decision (with_office (new_app (codes "ask")))
 
 abbrev pub dump_app : App
-dump_app = with_store (new_app (codes "dump"))
+dump_app = with_office (new_app (codes "dump"))
 
 abbrev pub show_app : App
-show_app = with_rule (with_store (new_app (codes "show"))) (word_rule (codes "path"))
+show_app = with_rule (with_office (new_app (codes "show"))) (word_rule (codes "path"))
 
 -- one with a number of 64 bits
 abbrev pub whole_rule : Text → Rule
@@ -246,6 +249,39 @@ MayHaveNumber rows id most None = first_of id rows ≡ None
 abbrev pub NamesFile : List Row → Text → Option (String Global) → Type 0
 NamesFile rows id file = option_map string_bytes file ≡ first_of id rows
 
+-- one of two is given
+abbrev pub is_one : Option Text → Option Text → Bool
+is_one (Some file) (Some path) = false
+is_one (Some file) None = true
+is_one None (Some path) = true
+is_one None None = false
+
+-- the words name one of a store's file and a control
+abbrev pub names_one : List Row → Bool
+names_one rows = is_one (first_of (codes "store") rows) (first_of (codes "control") rows)
+
+-- they name both
+abbrev pub names_two : List Row → Bool
+names_two rows = is_some (first_of (codes "store") rows) && is_some (first_of (codes "control") rows)
+
+-- the store's file, or the path of the control, that they name
+abbrev pub IsOffice : List Row → Office → Type 0
+IsOffice rows (Store file) = NamesFile rows (codes "store") (Some file)
+IsOffice rows (Control path) = NamesFile rows (codes "control") (Some path)
+
+-- of the two they name this one alone
+abbrev pub NamesOffice : List Row → Office → Type 0
+NamesOffice rows office = (names_one rows ≡ true) × IsOffice rows office
+
+-- they name this one, if they name any
+abbrev pub IsOfficeIf : List Row → Option Office → Type 0
+IsOfficeIf rows (Some office) = IsOffice rows office
+IsOfficeIf rows None = names_one rows ≡ false
+
+-- they name one of the two at most
+abbrev pub MayNameOffice : List Row → Option Office → Type 0
+MayNameOffice rows office = (names_two rows ≡ false) × IsOfficeIf rows office
+
 -- the texts that the words give under a name, if they do
 abbrev pub HasTexts : List Row → Text → Option (Vec (String Global) Global) → Type 0
 HasTexts rows id texts = option_map (λ (v : Vec (String Global) Global). map string_bytes v.items) texts ≡ all_of id rows
@@ -311,35 +347,35 @@ abbrev pub ReadsAs : Text → List Row → Command → Type 0
 ReadsAs name rows Explain = name ≡ codes "explain"
 ReadsAs name rows Card = name ≡ codes "card"
 ReadsAs name rows (Init folder) = (name ≡ codes "init") × NamesFile rows (codes "folder") (Some folder)
-ReadsAs name rows (Import store policy) =
-    (name ≡ codes "import") × NamesFile rows (codes "store") (Some store) × NamesFile rows (codes "policy") (Some policy)
-ReadsAs name rows (Check policy strict store) =
+ReadsAs name rows (Import office policy) =
+    (name ≡ codes "import") × NamesOffice rows office × NamesFile rows (codes "policy") (Some policy)
+ReadsAs name rows (Check policy strict office) =
     (name ≡ codes "check") × NamesFile rows (codes "policy") (Some policy) × (strict ≡ has_flag rows (codes "strict"))
-    × NamesFile rows (codes "store") store
-ReadsAs name rows (Differs store policy strict) =
-    (name ≡ codes "differs") × NamesFile rows (codes "store") (Some store) × NamesFile rows (codes "policy") (Some policy)
+    × MayNameOffice rows office
+ReadsAs name rows (Differs office policy strict) =
+    (name ≡ codes "differs") × NamesOffice rows office × NamesFile rows (codes "policy") (Some policy)
     × (strict ≡ has_flag rows (codes "strict"))
-ReadsAs name rows (Audit store existing at books labels) =
-    (name ≡ codes "audit") × NamesFile rows (codes "store") (Some store) × (existing ≡ has_flag rows (codes "existing"))
+ReadsAs name rows (Audit office existing at books labels) =
+    (name ≡ codes "audit") × NamesOffice rows office × (existing ≡ has_flag rows (codes "existing"))
     × NamesFile rows (codes "at") at × (books ≡ has_flag rows (codes "books")) × (labels ≡ has_flag rows (codes "labels"))
 ReadsAs name rows (Migrate store) = (name ≡ codes "migrate") × NamesFile rows (codes "store") (Some store)
-ReadsAs name rows (Why store caller what path destination json) =
-    (name ≡ codes "why") × NamesFile rows (codes "store") (Some store) × NamesFile rows (codes "caller") (Some caller) × NamesFile rows (codes "what") (Some what)
+ReadsAs name rows (Why office caller what path destination json) =
+    (name ≡ codes "why") × NamesOffice rows office × NamesFile rows (codes "caller") (Some caller) × NamesFile rows (codes "what") (Some what)
     × NamesFile rows (codes "path") (Some path) × NamesFile rows (codes "destination") destination
     × (leads_on (string_bytes what) ≡ true → is_some destination ≡ true) × (json ≡ has_flag rows (codes "json"))
-ReadsAs name rows (Who store privilege path denied json) =
-    (name ≡ codes "who") × NamesFile rows (codes "store") (Some store) × NamesFile rows (codes "privilege") (Some privilege)
+ReadsAs name rows (Who office privilege path denied json) =
+    (name ≡ codes "who") × NamesOffice rows office × NamesFile rows (codes "privilege") (Some privilege)
     × NamesFile rows (codes "path") (Some path) × (denied ≡ has_flag rows (codes "denied"))
     × (json ≡ has_flag rows (codes "json"))
-ReadsAs name rows (Rights store at caller shared json) =
-    (name ≡ codes "rights") × NamesFile rows (codes "store") (Some store) × NamesFile rows (codes "at") at × NamesFile rows (codes "caller") caller
+ReadsAs name rows (Rights office at caller shared json) =
+    (name ≡ codes "rights") × NamesOffice rows office × NamesFile rows (codes "at") at × NamesFile rows (codes "caller") caller
     × (shared ≡ has_flag rows (codes "shared")) × (json ≡ has_flag rows (codes "json"))
-ReadsAs name rows (Ask store caller path privileges) =
-    (name ≡ codes "ask") × NamesFile rows (codes "store") (Some store) × NamesFile rows (codes "caller") (Some caller)
+ReadsAs name rows (Ask office caller path privileges) =
+    (name ≡ codes "ask") × NamesOffice rows office × NamesFile rows (codes "caller") (Some caller)
     × NamesFile rows (codes "path") (Some path) × HasTexts rows (codes "privilege") (Some privileges)
-ReadsAs name rows (Dump store) = (name ≡ codes "dump") × NamesFile rows (codes "store") (Some store)
-ReadsAs name rows (Show store path) =
-    (name ≡ codes "show") × NamesFile rows (codes "store") (Some store) × NamesFile rows (codes "path") (Some path)
+ReadsAs name rows (Dump office) = (name ≡ codes "dump") × NamesOffice rows office
+ReadsAs name rows (Show office path) =
+    (name ≡ codes "show") × NamesOffice rows office × NamesFile rows (codes "path") (Some path)
 ReadsAs name rows (Load store dump owners at without heir forget_removed new_epoch above) =
     (name ≡ codes "load") × NamesFile rows (codes "store") (Some store) × NamesFile rows (codes "dump") dump
     × HasTexts rows (codes "owner") owners × NamesFile rows (codes "at") at

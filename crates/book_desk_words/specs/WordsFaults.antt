@@ -22,9 +22,9 @@ not_text = codes "invalid UTF-8 was detected in one or more arguments"
 abbrev pub not_time : List ℕ
 not_time = codes "denials wants '--since <TIME>' as 2026-11-29T00:45:58.123Z"
 
--- what the options of serve and load want of each other, and the words of why and backup
+-- what the options of serve, of load and of commands over a store want of each other, and the words of why and backup
 abbrev pub serve_wants : List ℕ
-serve_wants = codes "serve wants '--port <N>' or '--socket <PATH>', with '--mode <OCTAL>', of three or four digits, also '--socket <PATH>', one of '--connections <N>' and '--forever', with '--idle <N>' or '--control <PATH>' also '--at-once <N>', and with '--existing' also '--store <FILE>'; why wants DESTINATION with COPY and MOVE; backup wants one of '--to <NEW>' and '--check <COPY>'; load wants with '--at <BOOK>' also '--owner <FROM=TO>', with '--heir <PRINCIPAL>' also '--without <PERSON>', and with '--above <N>' also '--new-epoch'"
+serve_wants = codes "serve wants '--port <N>' or '--socket <PATH>', with '--mode <OCTAL>', of three or four digits, also '--socket <PATH>', one of '--connections <N>' and '--forever', with '--idle <N>' or '--control <PATH>' also '--at-once <N>', and with '--existing' also '--store <FILE>'; import, differs, audit, why, who, rights, ask, dump and show want one of '--store <FILE>' and '--control <PATH>', and check one at most; why wants DESTINATION with COPY and MOVE; backup wants one of '--to <NEW>' and '--check <COPY>'; load wants with '--at <BOOK>' also '--owner <FROM=TO>', with '--heir <PRINCIPAL>' also '--without <PERSON>', and with '--above <N>' also '--new-epoch'"
 
 -- the words are refused with this, but for want of memory
 abbrev pub IsUsage : List ℕ → WordsFault → Type 0

@@ -10,6 +10,7 @@ ghost use Rattle.book_desk_words.specs.WordsFaults.{IsUsage, not_text, not_time,
 use crate::helps::{NOT_TEXT, NOT_TIME, SERVE_WANTS, USAGE_LINES};
 use crate::keeping::{backup_of, compact_of, doctor_of, load_of, restore_of};
 use crate::listening::{Places, places_of};
+use crate::offices::{Office, office_if, office_in};
 use crate::programs::program;
 use crate::questions::{
     ask_of, denials_of, differs_of, dump_of, rights_of, show_of, who_of, why_of,
@@ -47,8 +48,8 @@ pub enum Command {
     },
     /// Adopt a policy in a store.
     Import {
-        /// The file of the store.
-        store: String,
+        /// Of which Office it asks.
+        office: Office,
         /// The file of the policy.
         policy: String,
     },
@@ -58,13 +59,13 @@ pub enum Command {
         policy: String,
         /// Whether what it leaves open ends with status 1.
         strict: bool,
-        /// The file of a store over which it would be adopted; without one it is adopted in memory.
-        store: Option<String>,
+        /// The Office over which it would be adopted; without one it is adopted over an empty one.
+        office: Option<Office>,
     },
     /// Tell what adopting a policy would change in a store, and what stays.
     Differs {
-        /// The file of the store.
-        store: String,
+        /// Of which Office it asks.
+        office: Office,
         /// The file of the policy.
         policy: String,
         /// Whether a difference ends with status 1.
@@ -72,8 +73,8 @@ pub enum Command {
     },
     /// Print the direct members of groups, and each resource of a store with its owner and its lists.
     Audit {
-        /// The file of the store.
-        store: String,
+        /// Of which Office it asks.
+        office: Office,
         /// Whether the store has to be there already: a file that is missing or empty is no store. It has to be where one of
         /// the following is given.
         existing: bool,
@@ -91,8 +92,8 @@ pub enum Command {
     },
     /// Tell why a caller may do something in a store, or may not.
     Why {
-        /// The file of the store.
-        store: String,
+        /// Of which Office it asks.
+        office: Office,
         /// The bare name of a person; `-` is nobody.
         caller: String,
         /// A method, or a privilege.
@@ -106,8 +107,8 @@ pub enum Command {
     },
     /// Tell to whom a privilege is granted in a store.
     Who {
-        /// The file of the store.
-        store: String,
+        /// Of which Office it asks.
+        office: Office,
         /// The privilege.
         privilege: String,
         /// The path of the resource.
@@ -119,8 +120,8 @@ pub enum Command {
     },
     /// Tell who holds which rights in a store.
     Rights {
-        /// The file of the store.
-        store: String,
+        /// Of which Office it asks.
+        office: Office,
         /// The path at which and below which they are told; without one, those everywhere.
         at: Option<String>,
         /// The bare name of the person whose rights are told; without one, everybody's.
@@ -132,8 +133,8 @@ pub enum Command {
     },
     /// Print what a decision rests on as a text that `Explain` reads.
     Ask {
-        /// The file of the store.
-        store: String,
+        /// Of which Office it asks.
+        office: Office,
         /// The bare name of a person; `-` is nobody.
         caller: String,
         /// The path of the resource.
@@ -143,13 +144,13 @@ pub enum Command {
     },
     /// Print a store as text.
     Dump {
-        /// The file of the store.
-        store: String,
+        /// Of which Office it asks.
+        office: Office,
     },
     /// Print one resource of a store as its line of the dump.
     Show {
-        /// The file of the store.
-        store: String,
+        /// Of which Office it asks.
+        office: Office,
         /// The path of the resource.
         path: String,
     },
@@ -491,23 +492,23 @@ fn init_of(alloc: Global, found: &ArgMatches<'_>) -> Result<Option<Command>, All
     Ok(Some(Command::Init { folder }))
 }
 
-/// The command `import` with what the words give it; none where a file is missing.
+/// The command `import` with what the words give it; none where the policy or the Office is missing.
 fn import_of(alloc: Global, found: &ArgMatches<'_>) -> Result<Option<Command>, AllocError>
     ensures read { IfOk result (λ command. IfSome command
         (ReadsAs (codes "import") (rows_of (found_of found.now)))) }
     ensures none { IfOk result (λ command. IfNone command
         (ReadsNone (codes "import") (rows_of (found_of found.now)))) }
 {
-    let Some(store) = file_in(alloc, found, "store")? else {
+    let Some(office) = office_in(alloc, found)? else {
         return Ok(None);
     };
     let Some(policy) = file_in(alloc, found, "policy")? else {
         return Ok(None);
     };
-    Ok(Some(Command::Import { store, policy }))
+    Ok(Some(Command::Import { office, policy }))
 }
 
-/// The command `check` with what the words give it; none where the file is missing.
+/// The command `check` with what the words give it; none where the policy is missing, or the words name two Offices.
 fn check_of(alloc: Global, found: &ArgMatches<'_>) -> Result<Option<Command>, AllocError>
     ensures read { IfOk result (λ command. IfSome command
         (ReadsAs (codes "check") (rows_of (found_of found.now)))) }
@@ -518,22 +519,24 @@ fn check_of(alloc: Global, found: &ArgMatches<'_>) -> Result<Option<Command>, Al
         return Ok(None);
     };
     let strict = flag_in(found, "strict");
-    let store = file_in(alloc, found, "store")?;
+    let Some(office) = office_if(alloc, found)? else {
+        return Ok(None);
+    };
     Ok(Some(Command::Check {
         policy,
         strict,
-        store,
+        office,
     }))
 }
 
-/// The command `audit` with what the words give it; none where the file is missing.
+/// The command `audit` with what the words give it; none where the Office is missing.
 fn audit_of(alloc: Global, found: &ArgMatches<'_>) -> Result<Option<Command>, AllocError>
     ensures read { IfOk result (λ command. IfSome command
         (ReadsAs (codes "audit") (rows_of (found_of found.now)))) }
     ensures none { IfOk result (λ command. IfNone command
         (ReadsNone (codes "audit") (rows_of (found_of found.now)))) }
 {
-    let Some(store) = file_in(alloc, found, "store")? else {
+    let Some(office) = office_in(alloc, found)? else {
         return Ok(None);
     };
     let existing = flag_in(found, "existing");
@@ -541,7 +544,7 @@ fn audit_of(alloc: Global, found: &ArgMatches<'_>) -> Result<Option<Command>, Al
     let books = flag_in(found, "books");
     let labels = flag_in(found, "labels");
     Ok(Some(Command::Audit {
-        store,
+        office,
         existing,
         at,
         books,
@@ -609,7 +612,7 @@ fn command_named(
 }
 
 /// The command that the matches give; none where they give none, which clap lets come where the options of `serve` or
-/// `load` lack what they want of each other, `why` its destination or `backup` its file, and nowhere else.
+/// `load` lack what they want of each other, `why` its destination, `backup` its file or a command its Office, and nowhere else.
 fn read_command(alloc: Global, matches: &ArgMatches<'_>) -> Result<Option<Command>, AllocError>
     ensures read { IfOk result (λ command. IfSome command
         (IsMatched (subcommand_rows_of matches.now))) }

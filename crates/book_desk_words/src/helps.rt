@@ -4,7 +4,7 @@ pub(crate) const ABOUT: &str =
     "Shared contact books of an office: WebDAV access lists (RFC 3744) and vCards (RFC 6350)";
 
 /// The number of VERSION, at the top of the repository, which `tools/check-streams` compares.
-pub const VERSION: &str = "0.10.0";
+pub const VERSION: &str = "0.11.0";
 
 /// What follows a text of what is wrong with the words.
 pub(crate) const USAGE_LINES: &str =
@@ -16,9 +16,9 @@ pub(crate) const NOT_TEXT: &str = "invalid UTF-8 was detected in one or more arg
 /// What is wrong with a time that is none.
 pub(crate) const NOT_TIME: &str = "denials wants '--since <TIME>' as 2026-11-29T00:45:58.123Z";
 
-/// What the options of `serve` and `load` want of each other, and the words of `why` and `backup`.
+/// What the options of `serve`, of `load` and of commands over a store want of each other, and the words of `why` and `backup`.
 pub(crate) const SERVE_WANTS: &str =
-    "serve wants '--port <N>' or '--socket <PATH>', with '--mode <OCTAL>', of three or four digits, also '--socket <PATH>', one of '--connections <N>' and '--forever', with '--idle <N>' or '--control <PATH>' also '--at-once <N>', and with '--existing' also '--store <FILE>'; why wants DESTINATION with COPY and MOVE; backup wants one of '--to <NEW>' and '--check <COPY>'; load wants with '--at <BOOK>' also '--owner <FROM=TO>', with '--heir <PRINCIPAL>' also '--without <PERSON>', and with '--above <N>' also '--new-epoch'";
+    "serve wants '--port <N>' or '--socket <PATH>', with '--mode <OCTAL>', of three or four digits, also '--socket <PATH>', one of '--connections <N>' and '--forever', with '--idle <N>' or '--control <PATH>' also '--at-once <N>', and with '--existing' also '--store <FILE>'; import, differs, audit, why, who, rights, ask, dump and show want one of '--store <FILE>' and '--control <PATH>', and check one at most; why wants DESTINATION with COPY and MOVE; backup wants one of '--to <NEW>' and '--check <COPY>'; load wants with '--at <BOOK>' also '--owner <FROM=TO>', with '--heir <PRINCIPAL>' also '--without <PERSON>', and with '--above <N>' also '--new-epoch'";
 
 pub(crate) const EXPLAIN: &str = "Reads a question from standard input and prints its decision";
 
@@ -116,7 +116,9 @@ pub(crate) const IMPORT: &str = "Adopts a policy in a store";
 pub(crate) const IMPORT_TEXT: &str = "\
 The policy names persons, groups with their members, books, and entries of access lists. As in:
   book_desk import --store office.db examples/policies/office.toml
-What a policy leaves out stays in the store: to leave something out revokes nothing.
+What a policy leaves out stays in the store: to leave something out revokes nothing. With --control the server adopts it
+between two requests:
+  book_desk import --control office.control examples/policies/office.toml
 
 Output:
   changed, epoch N | unchanged, epoch N
@@ -149,7 +151,7 @@ pub(crate) const CHECKED_STORE: &str =
 
 pub(crate) const CHECK_TEXT: &str = "\
 As in: book_desk check examples/policies/office.toml
-No file is changed. With --store the policy is adopted over a copy of that store in memory, else over an empty one.
+No file is changed. With --store or --control the policy is adopted over a copy of that store in memory, else over an empty one.
 
 Output, where the policy is sound: a line for each thing that it leaves open, with its place; at most 1,000, and then how
 many more. As in
@@ -167,8 +169,8 @@ no name of a fault is bad-key. The names are those of import, which tells the fi
 not TOML has one line, with the line and the column; one of more than 1,048,576 bytes is too-many alone.
   input: read           the policy could not be read
   input: not-utf-8      it is not UTF-8
-  store: FAULT          with --store, as audit
-  adopt: full           with --store, as import
+  store: FAULT          over a store, as audit
+  adopt: full           over a store, as import
 
 Status: 0 sound; 1 a fault, or with --strict a line on standard output; 2 usage; 3 memory, or a failed read or write.
 ";
@@ -189,6 +191,7 @@ With --at, --books or --labels the resources alone are printed, and the store ha
 
 Told on standard error, on a line
   store: FAULT          the store can't be had or read: other-version, no-store, memory, or store
+  control: failed       with --control, also of the other commands: nobody answers at PATH as a control does
   audit: not-found      nothing is there at PATH
   audit: unavailable    with --at, --books or --labels: memory was refused, or the store failed
   output: write         it could not be told
@@ -223,6 +226,9 @@ Status: 0 migrated; 2 usage; 3 the store, memory, or a failed write.
 pub(crate) const WHY: &str = "Tells why a caller may do something in a store, or may not";
 
 pub(crate) const ASKED_STORE: &str = "The file of the store, which has to be there";
+
+pub(crate) const ASKED_CONTROL: &str =
+    "The path of the control of the server that has the store, in the place of --store";
 
 pub(crate) const CALLER: &str = "The name of a person, or - for nobody";
 
@@ -632,7 +638,7 @@ A store is copied while no server has it: stop the server, run audit, which fold
 With --control, which wants --at-once, whoever may open the socket of mode 0600 at PATH asks the server what the commands
 tell of a store, has it adopt a policy, and ends it (the manual page, CONTROL):
   curl --unix-socket office.control http://localhost/health
-  curl --unix-socket office.control -X PUT --data-binary @policy.toml http://localhost/policy
+  book_desk import --control office.control policy.toml
 
 Told on standard error, each on a line: what pipe tells, 'stream: FAULT' for each connection that failed, which ends no
 other, 'listen: failed' where the port or the socket can't be had or a connection can't be taken, 'socket: taken' where

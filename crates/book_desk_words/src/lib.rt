@@ -4,15 +4,17 @@
 //! the words give, with the numbers in range, or help, where the words ask for it.
 //!
 //! Read `commands` first, and `questions` and `keeping`, which have the commands that ask and those that make stores, and
-//! `listening`, which has where `serve` listens; then `programs`, which tells clap of the command line, and `helps`, its texts.
+//! `listening`, which has where `serve` listens, and `offices`, of which Office a command asks; then `programs`, which tells clap of the command line, and `helps`, its texts.
 #![tactic(auto)]
 
 mod commands;
 mod helps;
 mod keeping;
 mod listening;
+mod offices;
 mod programs;
 mod questions;
 
 pub use commands::{Command, WordsFault, command_of, words_not_text, words_not_time};
 pub use helps::VERSION;
+pub use offices::Office;

@@ -2,19 +2,19 @@
 
 ghost use Rattle.std.specs.Prelude.{◌≡◌, IfOk, false, codes};
 ghost use Rattle.clap.specs.Words.{App, Rule, new_app, rule_of, with_rule, with_subcommand};
-ghost use Rattle.book_desk_words.specs.CommandLine.{IsMade, IsProgram, program_app, top_app, ask_app, audit_app, backup_app, check_app, compact_app, denials_app, differs_app, doctor_app, dump_app, import_app, init_app, load_app, migrate_app, pipe_app, restore_app, rights_app, serve_app, show_app, who_app, why_app, flag_rule, last_word_rule, option_rule, options_rule, counted_rule, required_rule, with_asking, with_checked, with_decision, with_ends, with_files, with_first, with_keeping, with_listening, with_owners, with_pace, with_part, with_past, with_places, with_privilege, with_question, with_scope, with_serving, with_store, whole_rule, word_rule, words_rule};
+ghost use Rattle.book_desk_words.specs.CommandLine.{IsMade, IsProgram, program_app, top_app, ask_app, audit_app, backup_app, check_app, compact_app, denials_app, differs_app, doctor_app, dump_app, import_app, init_app, load_app, migrate_app, pipe_app, restore_app, rights_app, serve_app, show_app, who_app, why_app, flag_rule, last_word_rule, option_rule, options_rule, counted_rule, required_rule, with_asking, with_decision, with_ends, with_files, with_first, with_keeping, with_listening, with_office, with_owners, with_pace, with_part, with_past, with_places, with_privilege, with_question, with_scope, with_serving, with_store, whole_rule, word_rule, words_rule};
 
 use crate::helps::{
-    ABOUT, ABOVE, ASK, ASK_TEXT, ASKED_STORE, AT_ONCE, AUDIT, AUDIT_TEXT, BACKUP, BACKUP_CHECK,
-    BACKUP_TEXT, BACKUP_TO, BELOW, BOOKS, CALLER, CARD, CARD_TEXT, CAUSE, CHECK, CHECK_TEXT,
-    CHECKED_STORE, COMPACT, COMPACT_TEXT, CONNECTIONS, CONTROL, DENIALS, DENIALS_TEXT, DENIED,
-    DESTINATION, DIFFERS, DIFFERS_STRICT, DIFFERS_TEXT, DOCTOR, DOCTOR_TEXT, DUMP, DUMP_TEXT,
-    DUMP_WORD, EXISTING, EXPLAIN, FIRST_STORE, FOLDER, FOREVER, FORGET_REMOVED, FOUNDED_STORE,
-    HEIR, IDLE, IMPORT, IMPORT_TEXT, INIT, INIT_TEXT, JSON, KEPT_STORE, LABELS, LOAD, LOAD_TEXT,
-    LOG, LOG_WORD, MIGRATE, MIGRATE_TEXT, MODE, NEW_EPOCH, NEW_STORE, OWNED_AT, OWNER, PERSON,
-    PIPE, PIPE_TEXT, POLICY, POLICY_WORD, PORT, PRIVILEGE, QUESTION, RESOURCE, RESTORE,
-    RESTORE_FROM, RESTORE_TEXT, RESTORED, RIGHTS, RIGHTS_TEXT, SERVE, SERVE_TEXT, SHARED, SHOW,
-    SHOW_TEXT, SINCE, SOCKET, STRICT, VERSION, WHAT, WHO, WHO_TEXT, WHY, WHY_TEXT, WITHOUT,
+    ABOUT, ABOVE, ASK, ASK_TEXT, ASKED_CONTROL, ASKED_STORE, AT_ONCE, AUDIT, AUDIT_TEXT, BACKUP,
+    BACKUP_CHECK, BACKUP_TEXT, BACKUP_TO, BELOW, BOOKS, CALLER, CARD, CARD_TEXT, CAUSE, CHECK,
+    CHECK_TEXT, CHECKED_STORE, COMPACT, COMPACT_TEXT, CONNECTIONS, CONTROL, DENIALS, DENIALS_TEXT,
+    DENIED, DESTINATION, DIFFERS, DIFFERS_STRICT, DIFFERS_TEXT, DOCTOR, DOCTOR_TEXT, DUMP,
+    DUMP_TEXT, DUMP_WORD, EXISTING, EXPLAIN, FIRST_STORE, FOLDER, FOREVER, FORGET_REMOVED,
+    FOUNDED_STORE, HEIR, IDLE, IMPORT, IMPORT_TEXT, INIT, INIT_TEXT, JSON, KEPT_STORE, LABELS,
+    LOAD, LOAD_TEXT, LOG, LOG_WORD, MIGRATE, MIGRATE_TEXT, MODE, NEW_EPOCH, NEW_STORE, OWNED_AT,
+    OWNER, PERSON, PIPE, PIPE_TEXT, POLICY, POLICY_WORD, PORT, PRIVILEGE, QUESTION, RESOURCE,
+    RESTORE, RESTORE_FROM, RESTORE_TEXT, RESTORED, RIGHTS, RIGHTS_TEXT, SERVE, SERVE_TEXT, SHARED,
+    SHOW, SHOW_TEXT, SINCE, SOCKET, STRICT, VERSION, WHAT, WHO, WHO_TEXT, WHY, WHY_TEXT, WITHOUT,
 };
 use clap::{Arg, ArgAction, value_parser};
 use std::alloc::{AllocError, Global};
@@ -82,7 +82,7 @@ fn number_option<'a>(alloc: Global, name: &'a str, help: &'a str, least: u16, mo
         .long(name)
         .value_name("N")
         .help(help)
-        .value_parser(value_parser!(u16).range(least as i64..=most as i64))
+        .value_parser(clap::builder::ValueParser::signed(least as i64, most as i64))
 }
 
 /// An option without a value.
@@ -170,20 +170,22 @@ fn with_store<'a>(alloc: Global, made: Made<'a>, help: &'a str) -> Made<'a>
     with_word(made, flag_option(alloc, "cause", CAUSE))
 }
 
+/// The command with the options that name the file of the store, or the control of the server that has it, and the one that
+/// tells why the store can't be had.
+fn with_office<'a>(alloc: Global, made: Made<'a>, help: &'a str) -> Made<'a>
+    ensures { (app : App) → IsMade app made.entry → IsMade (with_office app) result }
+{
+    let made = with_word(made, value_option(alloc, "store", "FILE", help));
+    let made = with_word(made, value_option(alloc, "control", "PATH", ASKED_CONTROL));
+    with_word(made, flag_option(alloc, "cause", CAUSE))
+}
+
 fn import<'a>(alloc: Global) -> Made<'a>
     ensures { IsMade import_app result }
 {
     let made = begun(alloc, "import", IMPORT, IMPORT_TEXT);
-    let made = with_store(alloc, made, FOUNDED_STORE);
+    let made = with_office(alloc, made, FOUNDED_STORE);
     with_word(made, word_needed(alloc, "policy", "POLICY", POLICY_WORD))
-}
-
-/// The command with the option that names the file of a store, and the one that tells why it can't be had.
-fn with_checked<'a>(alloc: Global, made: Made<'a>) -> Made<'a>
-    ensures { (app : App) → IsMade app made.entry → IsMade (with_checked app) result }
-{
-    let made = with_word(made, value_option(alloc, "store", "FILE", CHECKED_STORE));
-    with_word(made, flag_option(alloc, "cause", CAUSE))
 }
 
 fn check<'a>(alloc: Global) -> Made<'a>
@@ -192,14 +194,14 @@ fn check<'a>(alloc: Global) -> Made<'a>
     let made = begun(alloc, "check", CHECK, CHECK_TEXT);
     let made = with_word(made, word_needed(alloc, "policy", "POLICY", POLICY_WORD));
     let made = with_word(made, flag_option(alloc, "strict", STRICT));
-    with_checked(alloc, made)
+    with_office(alloc, made, CHECKED_STORE)
 }
 
 fn differs<'a>(alloc: Global) -> Made<'a>
     ensures { IsMade differs_app result }
 {
     let made = begun(alloc, "differs", DIFFERS, DIFFERS_TEXT);
-    let made = with_store(alloc, made, ASKED_STORE);
+    let made = with_office(alloc, made, ASKED_STORE);
     let made = with_word(made, word_needed(alloc, "policy", "POLICY", POLICY_WORD));
     with_word(made, flag_option(alloc, "strict", DIFFERS_STRICT))
 }
@@ -217,7 +219,7 @@ fn audit<'a>(alloc: Global) -> Made<'a>
     ensures { IsMade audit_app result }
 {
     let made = begun(alloc, "audit", AUDIT, AUDIT_TEXT);
-    let made = with_store(alloc, made, FOUNDED_STORE);
+    let made = with_office(alloc, made, FOUNDED_STORE);
     let made = with_word(made, flag_option(alloc, "existing", EXISTING));
     with_part(alloc, made)
 }
@@ -252,7 +254,7 @@ fn why<'a>(alloc: Global) -> Made<'a>
     ensures { IsMade why_app result }
 {
     let made = begun(alloc, "why", WHY, WHY_TEXT);
-    let made = with_store(alloc, made, ASKED_STORE);
+    let made = with_office(alloc, made, ASKED_STORE);
     let made = with_question(alloc, made);
     let made = with_places(alloc, made);
     with_word(made, flag_option(alloc, "json", JSON))
@@ -273,7 +275,7 @@ fn who<'a>(alloc: Global) -> Made<'a>
     ensures { IsMade who_app result }
 {
     let made = begun(alloc, "who", WHO, WHO_TEXT);
-    let made = with_store(alloc, made, ASKED_STORE);
+    let made = with_office(alloc, made, ASKED_STORE);
     let made = with_privilege(alloc, made);
     let made = with_word(made, flag_option(alloc, "denied", DENIED));
     with_word(made, flag_option(alloc, "json", JSON))
@@ -291,7 +293,7 @@ fn rights<'a>(alloc: Global) -> Made<'a>
     ensures { IsMade rights_app result }
 {
     let made = begun(alloc, "rights", RIGHTS, RIGHTS_TEXT);
-    let made = with_store(alloc, made, ASKED_STORE);
+    let made = with_office(alloc, made, ASKED_STORE);
     let made = with_scope(alloc, made);
     let made = with_word(made, flag_option(alloc, "shared", SHARED));
     with_word(made, flag_option(alloc, "json", JSON))
@@ -313,7 +315,7 @@ fn ask<'a>(alloc: Global) -> Made<'a>
     ensures { IsMade ask_app result }
 {
     let made = begun(alloc, "ask", ASK, ASK_TEXT);
-    let made = with_store(alloc, made, ASKED_STORE);
+    let made = with_office(alloc, made, ASKED_STORE);
     with_decision(alloc, made)
 }
 
@@ -321,14 +323,14 @@ fn dump<'a>(alloc: Global) -> Made<'a>
     ensures { IsMade dump_app result }
 {
     let made = begun(alloc, "dump", DUMP, DUMP_TEXT);
-    with_store(alloc, made, ASKED_STORE)
+    with_office(alloc, made, ASKED_STORE)
 }
 
 fn show<'a>(alloc: Global) -> Made<'a>
     ensures { IsMade show_app result }
 {
     let made = begun(alloc, "show", SHOW, SHOW_TEXT);
-    let made = with_store(alloc, made, ASKED_STORE);
+    let made = with_office(alloc, made, ASKED_STORE);
     with_word(made, word_needed(alloc, "path", "PATH", RESOURCE))
 }
 

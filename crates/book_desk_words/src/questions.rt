@@ -5,6 +5,7 @@ ghost use Rattle.clap.specs.Words.{found_of, rows_of};
 ghost use Rattle.book_desk_words.specs.CommandLine.{ReadsAs, ReadsNone, leads_on};
 
 use crate::commands::{Command, file_in, flag_in, texts_in};
+use crate::offices::office_in;
 use clap::ArgMatches;
 use std::alloc::{AllocError, Global};
 
@@ -23,7 +24,7 @@ pub(crate) fn why_of(alloc: Global, found: &ArgMatches<'_>) -> Result<Option<Com
     ensures none { IfOk result (λ command. IfNone command
         (ReadsNone (codes "why") (rows_of (found_of found.now)))) }
 {
-    let Some(store) = file_in(alloc, found, "store")? else {
+    let Some(office) = office_in(alloc, found)? else {
         return Ok(None);
     };
     let Some(caller) = file_in(alloc, found, "caller")? else {
@@ -41,7 +42,7 @@ pub(crate) fn why_of(alloc: Global, found: &ArgMatches<'_>) -> Result<Option<Com
     }
     let json = flag_in(found, "json");
     Ok(Some(Command::Why {
-        store,
+        office,
         caller,
         what,
         path,
@@ -57,7 +58,7 @@ pub(crate) fn who_of(alloc: Global, found: &ArgMatches<'_>) -> Result<Option<Com
     ensures none { IfOk result (λ command. IfNone command
         (ReadsNone (codes "who") (rows_of (found_of found.now)))) }
 {
-    let Some(store) = file_in(alloc, found, "store")? else {
+    let Some(office) = office_in(alloc, found)? else {
         return Ok(None);
     };
     let Some(privilege) = file_in(alloc, found, "privilege")? else {
@@ -69,7 +70,7 @@ pub(crate) fn who_of(alloc: Global, found: &ArgMatches<'_>) -> Result<Option<Com
     let denied = flag_in(found, "denied");
     let json = flag_in(found, "json");
     Ok(Some(Command::Who {
-        store,
+        office,
         privilege,
         path,
         denied,
@@ -77,7 +78,7 @@ pub(crate) fn who_of(alloc: Global, found: &ArgMatches<'_>) -> Result<Option<Com
     }))
 }
 
-/// The command `rights` with what the words give it; none where the file is missing.
+/// The command `rights` with what the words give it; none where the Office is missing.
 pub(crate) fn rights_of(
     alloc: Global,
     found: &ArgMatches<'_>,
@@ -87,7 +88,7 @@ pub(crate) fn rights_of(
     ensures none { IfOk result (λ command. IfNone command
         (ReadsNone (codes "rights") (rows_of (found_of found.now)))) }
 {
-    let Some(store) = file_in(alloc, found, "store")? else {
+    let Some(office) = office_in(alloc, found)? else {
         return Ok(None);
     };
     let at = file_in(alloc, found, "at")?;
@@ -95,7 +96,7 @@ pub(crate) fn rights_of(
     let shared = flag_in(found, "shared");
     let json = flag_in(found, "json");
     Ok(Some(Command::Rights {
-        store,
+        office,
         at,
         caller,
         shared,
@@ -110,7 +111,7 @@ pub(crate) fn ask_of(alloc: Global, found: &ArgMatches<'_>) -> Result<Option<Com
     ensures none { IfOk result (λ command. IfNone command
         (ReadsNone (codes "ask") (rows_of (found_of found.now)))) }
 {
-    let Some(store) = file_in(alloc, found, "store")? else {
+    let Some(office) = office_in(alloc, found)? else {
         return Ok(None);
     };
     let Some(caller) = file_in(alloc, found, "caller")? else {
@@ -123,14 +124,14 @@ pub(crate) fn ask_of(alloc: Global, found: &ArgMatches<'_>) -> Result<Option<Com
         return Ok(None);
     };
     Ok(Some(Command::Ask {
-        store,
+        office,
         caller,
         path,
         privileges,
     }))
 }
 
-/// The command `differs` with what the words give it; none where a file is missing.
+/// The command `differs` with what the words give it; none where the policy or the Office is missing.
 pub(crate) fn differs_of(
     alloc: Global,
     found: &ArgMatches<'_>,
@@ -140,7 +141,7 @@ pub(crate) fn differs_of(
     ensures none { IfOk result (λ command. IfNone command
         (ReadsNone (codes "differs") (rows_of (found_of found.now)))) }
 {
-    let Some(store) = file_in(alloc, found, "store")? else {
+    let Some(office) = office_in(alloc, found)? else {
         return Ok(None);
     };
     let Some(policy) = file_in(alloc, found, "policy")? else {
@@ -148,23 +149,23 @@ pub(crate) fn differs_of(
     };
     let strict = flag_in(found, "strict");
     Ok(Some(Command::Differs {
-        store,
+        office,
         policy,
         strict,
     }))
 }
 
-/// The command `dump` with what the words give it; none where the file is missing.
+/// The command `dump` with what the words give it; none where the Office is missing.
 pub(crate) fn dump_of(alloc: Global, found: &ArgMatches<'_>) -> Result<Option<Command>, AllocError>
     ensures read { IfOk result (λ command. IfSome command
         (ReadsAs (codes "dump") (rows_of (found_of found.now)))) }
     ensures none { IfOk result (λ command. IfNone command
         (ReadsNone (codes "dump") (rows_of (found_of found.now)))) }
 {
-    let Some(store) = file_in(alloc, found, "store")? else {
+    let Some(office) = office_in(alloc, found)? else {
         return Ok(None);
     };
-    Ok(Some(Command::Dump { store }))
+    Ok(Some(Command::Dump { office }))
 }
 
 /// The command `show` with what the words give it; none where something is missing.
@@ -174,13 +175,13 @@ pub(crate) fn show_of(alloc: Global, found: &ArgMatches<'_>) -> Result<Option<Co
     ensures none { IfOk result (λ command. IfNone command
         (ReadsNone (codes "show") (rows_of (found_of found.now)))) }
 {
-    let Some(store) = file_in(alloc, found, "store")? else {
+    let Some(office) = office_in(alloc, found)? else {
         return Ok(None);
     };
     let Some(path) = file_in(alloc, found, "path")? else {
         return Ok(None);
     };
-    Ok(Some(Command::Show { store, path }))
+    Ok(Some(Command::Show { office, path }))
 }
 
 /// The command `denials` with what the words give it; none where the file is missing.

@@ -18,8 +18,8 @@ use Rattle.book_wire.specs.Spelling.{refusal_text, wire_name, wire_status}
 use Rattle.book_wire.specs.Stream.{IsOpen, IsLast, Answers, IsServed, Ends, EndsOpen, IsPartial, IsPartOfBodyOf, IsInput, Waits, WaitsFor, FrontRefuses, text_of, answered_of}
 use Rattle.book_wire.specs.declared.turns.Turn.{Turn}
 use Rattle.book_wire.specs.declared.turns.Turn.TheVariants as turn
-use Rattle.book_wire.specs.declared.stream.StreamFault.{StreamFault}
-use Rattle.book_wire.specs.declared.stream.StreamFault.TheVariants as fault
+use Rattle.book_wire_serving.specs.declared.faults.StreamFault.{StreamFault}
+use Rattle.book_wire_serving.specs.declared.faults.StreamFault.TheVariants as fault
 use Rattle.book_wire.specs.Turn.{IsPending, IsTurn, StopsAt, StopsBy, StopsWriting}
 use Rattle.book_wire.specs.Connection.{View, MayWait, IsFed, wanted_after}
 use Rattle.book_wire.specs.Head.{Fields, ◌>>=◌, lone, values_of, length_of, implemented, within, asked_by_head}

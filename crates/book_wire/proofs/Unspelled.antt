@@ -6,8 +6,8 @@ use Rattle.book_machine.specs.Laws.{TellingRepliesChangeNothing}
 use Rattle.book_wire_serving.proofs.Servings.{owed_noted, owed_unavailable}
 use Rattle.book_wire_serving.specs.Serving.{Owes, NotesOwed, ServesAny}
 use Rattle.book_wire.specs.Sending.{IsBegun, IsSentAs, as_sent}
-use Rattle.book_wire.specs.declared.stream.StreamFault.{StreamFault}
-use Rattle.book_wire.specs.declared.stream.StreamFault.TheVariants.{Write}
+use Rattle.book_wire_serving.specs.declared.faults.StreamFault.{StreamFault}
+use Rattle.book_wire_serving.specs.declared.faults.StreamFault.TheVariants.{Write}
 
 -- what was owed for a request was noted, as its reply was sent
 pub noted_serves : TellingRepliesChangeNothing → (old mid new : Serving) (owed : Bool → List ℕ) (name : Option (List ℕ)) (request : Request)

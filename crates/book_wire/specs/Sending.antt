@@ -8,7 +8,7 @@ use Rattle.book_machine.specs.declared.messages.Content.{Content}
 use Rattle.book_machine.specs.declared.messages.Content.TheVariants as content
 use Rattle.book_machine.specs.declared.messages.Reply.{Reply}
 use Rattle.book_machine.specs.declared.refusals.Refusal.TheVariants.{Unavailable}
-use Rattle.book_wire.specs.declared.stream.StreamFault.{StreamFault}
+use Rattle.book_wire_serving.specs.declared.faults.StreamFault.{StreamFault}
 use Rattle.book_wire_json.specs.Pieces.{pieces}
 
 abbrev pub allowed_line : Option AllowedMethods → List ℕ

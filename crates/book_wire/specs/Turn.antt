@@ -2,8 +2,8 @@
 use Rattle.std.specs.Prelude.{◌≡◌, ℕ, ◌<◌, ◌⊎◌, Bool, true, List, [], ◌∷◌, ◌++◌, map, length}
 use Rattle.std.specs.List.{flat_map, AllByRecursion}
 use Rattle.book_wire.specs.declared.head.WireRefusal.{WireRefusal}
-use Rattle.book_wire.specs.declared.stream.StreamFault.{StreamFault}
-use Rattle.book_wire.specs.declared.stream.StreamFault.TheVariants as fault
+use Rattle.book_wire_serving.specs.declared.faults.StreamFault.{StreamFault}
+use Rattle.book_wire_serving.specs.declared.faults.StreamFault.TheVariants as fault
 use Rattle.book_wire.specs.declared.turns.Turn.{Turn}
 use Rattle.book_wire.specs.declared.turns.Turn.TheVariants.{Wait, Answered, Last, Refused}
 use Rattle.book_wire.specs.Requests.{caller_name}

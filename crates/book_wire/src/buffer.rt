@@ -3,8 +3,8 @@
 ghost use Rattle.std.specs.Prelude.{◌≡◌, ℕ, List, [], ◌++◌, ◌<◌, ◌≤◌, ◌+◌, ◌-◌, ◌^◌, length, take, drop, vec_len, IfOk, OnOk, OnErr, IfErr};
 ghost use Rattle.std.specs.Io.KnownBytes.{Consumes, IsAtEnd, Keeps};
 
-use crate::stream::StreamFault;
 use book_limits::{MAX_BODY, MAX_HEAD};
+use book_wire_serving::StreamFault;
 use std::alloc::{AllocError, Global};
 use std::io::Read;
 use std::marker::Model;

@@ -10,10 +10,9 @@ ghost use Rattle.book_wire.specs.Turn.{IsPending, IsTurn, StopsBy, StopsWriting}
 use crate::buffer::Buffer;
 use crate::head::FieldSpans;
 use crate::outgoing::Outgoing;
-use crate::stream::StreamFault;
 use crate::turns::{Turn, answer_one};
 use book_limits::MAX_FIELDS;
-use book_wire_serving::Service;
+use book_wire_serving::{Service, StreamFault};
 use book_wire_targets::{Home, homes};
 use httparse::spans::EMPTY_HEADER_SPAN;
 use matchit::Router;

@@ -26,4 +26,4 @@ mod turns;
 
 pub use connection::{Connection, Wire};
 pub use laws::streams_are_synced;
-pub use stream::{Ended, Served, StreamFault, serve_stream};
+pub use stream::{Ended, Served, serve_stream};

@@ -5,7 +5,7 @@ ghost use Rattle.book_wire.specs.Sending.{left_of};
 
 use crate::bodies::LongBody;
 use crate::buffer::drop_front;
-use crate::stream::StreamFault;
+use book_wire_serving::StreamFault;
 use std::alloc::{AllocError, Global};
 use std::marker::Model;
 

@@ -3,7 +3,7 @@
 ghost use Rattle.std.specs.Prelude.{◌≡◌, List, ◌++◌, OnOk, IfErr, ℕ};
 ghost use Rattle.std.specs.Io.KnownBytes.{Appends};
 
-use crate::stream::StreamFault;
+use book_wire_serving::StreamFault;
 use std::io::Write;
 
 /// Writes a whole text. A write that fails, or takes nothing, is not repeated.

@@ -13,9 +13,9 @@ ghost use Rattle.book_wire.specs.Spelling.{allow_line, body_bytes, close_line, h
 use crate::bodies::{Chunk, LongBody, MAX_REPLY_HEAD, first_chunk};
 use crate::head::WireRefusal;
 use crate::outgoing::Outgoing;
-use crate::stream::StreamFault;
 use arrayvec::ArrayString;
 use book_machine::{AllowedMethods, Content, Refusal, Reply};
+use book_wire_serving::StreamFault;
 use book_wire_targets::phrase;
 use itoa::Buffer;
 use std::alloc::{AllocError, Global};

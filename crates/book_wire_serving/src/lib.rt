@@ -7,6 +7,8 @@
 //! Read `services`.
 #![tactic(auto)]
 
+mod faults;
 mod services;
 
+pub use faults::StreamFault;
 pub use services::{LogFault, Service};

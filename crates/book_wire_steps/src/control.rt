@@ -16,6 +16,10 @@ pub struct Traffic {
     pub faults: u64,
     /// How many requests were answered.
     pub answered: u64,
+    /// How many bytes were taken from connections. It stays at its last value.
+    pub received: u64,
+    /// How many bytes were sent to connections. It stays at its last value.
+    pub sent: u64,
     /// Whether the store shows nothing.
     pub shows_nothing: bool,
 }

@@ -1,5 +1,6 @@
 //! Demands that come over a control, and their replies.
 
+use crate::backups::{Copier, DUMP_AFTER, check_copy};
 use crate::checks::{check_fact, check_text};
 use crate::machines::{FAULTS, FAULTY, MORE, OPEN, POLICY, machine};
 use book_desk_administering::Administered;
@@ -8,26 +9,31 @@ use book_desk_control::{Demand, Exchange};
 use std::alloc::Global;
 use std::process::Abort;
 
-/// The method and the target of a request, its body, how the head of the reply begins, and the body of that.
-type Row = (&'static str, &'static str, &'static str, &'static str);
+/// The method and the target of a request, its body, how the head of the reply begins, how much is told on standard error,
+/// what the body is, and the body.
+type Row = (
+    &'static str,
+    &'static str,
+    &'static str,
+    usize,
+    &'static str,
+    &'static str,
+);
 
-const TEXT: &str =
-    "HTTP/1.1 200 OK\r\nX-Exit-Status: 0\r\nContent-Type: text/plain; charset=utf-8\r\n";
+const ANSWERED: &str = "HTTP/1.1 200 OK\r\nX-Exit-Status: 0\r\n";
 
-const LINES: &str = "HTTP/1.1 200 OK\r\nX-Exit-Status: 0\r\nContent-Type: application/x-ndjson\r\n";
+const REFUSED: &str = "HTTP/1.1 400 Bad Request\r\nX-Exit-Status: 1\r\n";
 
-const REFUSED: &str =
-    "HTTP/1.1 400 Bad Request\r\nX-Exit-Status: 1\r\nContent-Type: text/plain; charset=utf-8\r\n";
+const TEXT: &str = "Content-Type: text/plain; charset=utf-8\r\n";
 
-const REFUSED_LINES: &str =
-    "HTTP/1.1 400 Bad Request\r\nX-Exit-Status: 1\r\nContent-Type: application/x-ndjson\r\n";
-
-const NOT_DONE: &str = "HTTP/1.1 501 Not Implemented\r\nContent-Type: application/json\r\n";
+const LINES: &str = "Content-Type: application/x-ndjson\r\n";
 
 const ROWS: &[Row] = &[
     (
         "GET /audit",
         "",
+        ANSWERED,
+        0,
         TEXT,
         "epoch 1\n\
          member /groups/staff /people/bob\n\
@@ -45,6 +51,8 @@ const ROWS: &[Row] = &[
     (
         "POST /audit",
         "{\"books\":true}",
+        ANSWERED,
+        0,
         TEXT,
         "/ owner -\n\
          /books owner -\n\
@@ -58,12 +66,16 @@ const ROWS: &[Row] = &[
     (
         "POST /audit",
         "{\"at\":\"/people/ann\",\"labels\":true}",
+        ANSWERED,
+        0,
         TEXT,
         "/people/ann owner - label \"\"\n",
     ),
     (
         "POST /why",
         "{\"caller\":\"bob\",\"what\":\"DELETE\",\"path\":\"/books/sales/a.vcf\"}",
+        ANSWERED,
+        0,
         TEXT,
         "denied unbind at /books/sales, none granted\n\
          need unbind at /books/sales\n \
@@ -73,11 +85,15 @@ const ROWS: &[Row] = &[
         "POST /why",
         "{\"caller\":\"zoe\",\"what\":\"GET\",\"path\":\"/books/sales\"}",
         REFUSED,
+        20,
+        TEXT,
         "why: unknown-caller\n",
     ),
     (
         "POST /who",
         "{\"privilege\":\"bind\",\"path\":\"/people\",\"denied\":true}",
+        ANSWERED,
+        0,
         TEXT,
         "nobody\n bind denied, none granted\n\
          /people/ann\n bind denied, none granted\n\
@@ -86,6 +102,8 @@ const ROWS: &[Row] = &[
     (
         "POST /rights",
         "{\"at\":\"/books/sales\",\"caller\":\"bob\",\"json\":true}",
+        ANSWERED,
+        0,
         LINES,
         "{\"caller\":\"/people/bob\",\"cards\":null,\"path\":\"/books/sales\",\"privileges\":[\"read\"]}\n\
          {\"caller\":\"/people/bob\",\"cards\":1,\"path\":\"/books/sales/a.vcf\",\"privileges\":[\"read\"]}\n",
@@ -93,6 +111,8 @@ const ROWS: &[Row] = &[
     (
         "POST /ask",
         "{\"caller\":\"bob\",\"path\":\"/books/sales\",\"privileges\":[\"read\"]}",
+        ANSWERED,
+        0,
         TEXT,
         "member /groups/staff /people/bob\n\
          caller /people/bob\n\
@@ -104,31 +124,40 @@ const ROWS: &[Row] = &[
     (
         "POST /show",
         "{\"path\":\"/people/ann\"}",
+        ANSWERED,
+        0,
         LINES,
         "{\"path\":\"/people/ann\"}\n",
     ),
     (
         "POST /show",
         "{\"path\":\"/people/zoe\"}",
-        REFUSED_LINES,
+        REFUSED,
+        16,
+        LINES,
         "show: not-found\n",
     ),
-    ("POST /check?strict", FAULTY, REFUSED, FAULTS),
-    ("POST /check", POLICY, TEXT, OPEN),
-    ("POST /check?strict", POLICY, REFUSED, OPEN),
+    ("POST /check?strict", FAULTY, REFUSED, 125, TEXT, FAULTS),
+    ("POST /check", POLICY, ANSWERED, 0, TEXT, OPEN),
+    ("POST /check?strict", POLICY, REFUSED, 0, TEXT, OPEN),
     (
         "POST /differs?strict",
         MORE,
         REFUSED,
+        0,
+        TEXT,
         "+ /people/cyd owner -\n+ /people/cyd label \"\"\ndiffers in 2\n",
     ),
-    ("PUT /policy", MORE, TEXT, "changed, epoch 2\n"),
-    ("PUT /policy", FAULTY, REFUSED, FAULTS),
+    ("PUT /policy", MORE, ANSWERED, 0, TEXT, "changed, epoch 2\n"),
+    ("PUT /policy", FAULTY, REFUSED, 125, TEXT, FAULTS),
+    ("POST /backup", "{\"to\":\"b\"}", ANSWERED, 0, TEXT, ""),
     (
         "POST /backup",
-        "{\"to\":\"b\"}",
-        NOT_DONE,
-        "{\"error\":\"not-implemented\"}",
+        "{\"to\":\"there\"}",
+        REFUSED,
+        15,
+        TEXT,
+        "backup: exists\n",
     ),
 ];
 
@@ -157,33 +186,49 @@ fn demand_of(
     heard.expect(rt, "memory").expect(rt, "a demand")
 }
 
+/// How the head of a reply begins.
+fn head_of(rt: &impl Abort, alloc: Global, begins: &str, told: usize, kind: &str) -> String {
+    let text = format!(in alloc; "{begins}X-Error-Length: {told}\r\n{kind}");
+    text.expect(rt, "memory")
+}
+
 /// Answers a demand, and compares the reply.
-fn compare<M: Administered>(rt: &impl Abort, alloc: Global, service: &mut M, row: &Row) {
-    let (asked, body, head, wanted) = row;
+fn compare<M: Administered>(
+    rt: &impl Abort,
+    alloc: Global,
+    service: &mut M,
+    copier: &mut Copier,
+    row: &Row,
+) {
+    let (asked, body, begins, told, kind_line, wanted) = row;
     let mut exchange = Exchange::new(alloc);
     let demand = demand_of(rt, alloc, &mut exchange, asked, body);
-    let reply = answer(alloc, service, demand).expect(rt, "memory");
+    let reply = answer(alloc, service, copier, demand).expect(rt, "memory");
     let Reply {
         outcome,
-        status,
+        ending,
         kind,
         body: bytes,
     } = reply;
     exchange
-        .answer(alloc, outcome, status, kind, bytes)
+        .answer(alloc, outcome, ending, kind, bytes)
         .expect(rt, "memory");
-    let told = sent(rt, alloc, &mut exchange);
-    check_fact(rt, told.as_str().starts_with(*head), asked);
-    let told = sent(rt, alloc, &mut exchange);
-    check_text(rt, told.as_str(), wanted, asked);
+    let head = head_of(rt, alloc, begins, *told, kind_line);
+    let text = sent(rt, alloc, &mut exchange);
+    check_fact(rt, text.as_str().starts_with(head.as_str()), asked);
+    let text = sent(rt, alloc, &mut exchange);
+    check_text(rt, text.as_str(), wanted, asked);
 }
 
+/// The last copy is of the Office with the policy that was put.
 #[test]
 fn demands_are_answered(rt: HostRuntime) {
     let alloc = rt.alloc();
     let mut machine = machine(&rt, alloc);
+    let mut copier = Copier::new(alloc);
     for row in ROWS {
-        compare(&rt, alloc, &mut machine, row);
+        compare(&rt, alloc, &mut machine, &mut copier, row);
     }
+    check_copy(&rt, alloc, copier, DUMP_AFTER);
     drop(machine);
 }

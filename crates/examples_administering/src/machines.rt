@@ -46,6 +46,20 @@ pub(crate) const OPEN: &str = "/: nobody may change its list\n\
     /books/sales: what it grants to owners stays with who leaves a group\n\
     ann: ACL /books/sales (grant /people/ann all); then GET /books/sales/* is granted\n";
 
+/// The dump of the Office of the policy, with ann's card.
+pub(crate) const DUMP: &str = "{\"epoch\":1}\n\
+    {\"path\":\"/\"}\n\
+    {\"path\":\"/books\"}\n\
+    {\"path\":\"/books/sales\",\"owner\":\"/people/ann\",\
+    \"own\":[{\"who\":\"owner\",\"grant\":[\"all\"]},{\"who\":\"/groups/staff\",\"grant\":[\"read\"]}],\"number\":1}\n\
+    {\"path\":\"/books/sales/a.vcf\",\"owner\":\"/people/ann\",\"number\":1,\"text\":\"any\"}\n\
+    {\"path\":\"/groups\"}\n\
+    {\"path\":\"/groups/staff\",\"members\":[\"/people/bob\"]}\n\
+    {\"path\":\"/people\"}\n\
+    {\"path\":\"/people/ann\"}\n\
+    {\"path\":\"/people/bob\"}\n\
+    {\"lines\":10}\n";
+
 /// What is asked.
 #[derive(Clone, Copy, Drop)]
 pub(crate) enum Errand {
@@ -220,23 +234,7 @@ const ROWS: &[Row] = &[
          /people/bob owner -\n",
         "",
     ),
-    (
-        Errand::Dump,
-        0,
-        "{\"epoch\":1}\n\
-         {\"path\":\"/\"}\n\
-         {\"path\":\"/books\"}\n\
-         {\"path\":\"/books/sales\",\"owner\":\"/people/ann\",\
-         \"own\":[{\"who\":\"owner\",\"grant\":[\"all\"]},{\"who\":\"/groups/staff\",\"grant\":[\"read\"]}],\"number\":1}\n\
-         {\"path\":\"/books/sales/a.vcf\",\"owner\":\"/people/ann\",\"number\":1,\"text\":\"any\"}\n\
-         {\"path\":\"/groups\"}\n\
-         {\"path\":\"/groups/staff\",\"members\":[\"/people/bob\"]}\n\
-         {\"path\":\"/people\"}\n\
-         {\"path\":\"/people/ann\"}\n\
-         {\"path\":\"/people/bob\"}\n\
-         {\"lines\":10}\n",
-        "",
-    ),
+    (Errand::Dump, 0, DUMP, ""),
     (Errand::Check(POLICY, false), 0, OPEN, ""),
     (Errand::Check(POLICY, true), 1, OPEN, ""),
     (Errand::Check(FAULTY, false), 1, "", FAULTS),

@@ -11,43 +11,43 @@ const COMMANDS: &[(&str, &str)] = &[
     ("init office", "Init { folder: \"office\" }"),
     (
         "import --store office.db office.toml",
-        "Import { store: \"office.db\", policy: \"office.toml\" }",
+        "Import { office: Store(\"office.db\"), policy: \"office.toml\" }",
     ),
     (
         "import office.toml --store=office.db",
-        "Import { store: \"office.db\", policy: \"office.toml\" }",
+        "Import { office: Store(\"office.db\"), policy: \"office.toml\" }",
     ),
     (
         "check office.toml",
-        "Check { policy: \"office.toml\", strict: false, store: None }",
+        "Check { policy: \"office.toml\", strict: false, office: None }",
     ),
     (
         "check office.toml --store office.db",
-        "Check { policy: \"office.toml\", strict: false, store: Some(\"office.db\") }",
+        "Check { policy: \"office.toml\", strict: false, office: Some(Store(\"office.db\")) }",
     ),
     (
         "check --strict office.toml",
-        "Check { policy: \"office.toml\", strict: true, store: None }",
+        "Check { policy: \"office.toml\", strict: true, office: None }",
     ),
     (
         "audit --store office.db",
-        "Audit { store: \"office.db\", existing: false, at: None, books: false, labels: false }",
+        "Audit { office: Store(\"office.db\"), existing: false, at: None, books: false, labels: false }",
     ),
     (
         "audit --existing --store office.db",
-        "Audit { store: \"office.db\", existing: true, at: None, books: false, labels: false }",
+        "Audit { office: Store(\"office.db\"), existing: true, at: None, books: false, labels: false }",
     ),
     (
         "audit --labels --store office.db --at /books --books",
-        "Audit { store: \"office.db\", existing: false, at: Some(\"/books\"), books: true, labels: true }",
+        "Audit { office: Store(\"office.db\"), existing: false, at: Some(\"/books\"), books: true, labels: true }",
     ),
     (
         "differs --store office.db office.toml",
-        "Differs { store: \"office.db\", policy: \"office.toml\", strict: false }",
+        "Differs { office: Store(\"office.db\"), policy: \"office.toml\", strict: false }",
     ),
     (
         "differs office.toml --strict --store office.db",
-        "Differs { store: \"office.db\", policy: \"office.toml\", strict: true }",
+        "Differs { office: Store(\"office.db\"), policy: \"office.toml\", strict: true }",
     ),
     (
         "load --store new.db",
@@ -99,11 +99,11 @@ const COMMANDS: &[(&str, &str)] = &[
     ),
     (
         "ask --store office.db - /books read",
-        "Ask { store: \"office.db\", caller: \"-\", path: \"/books\", privileges: [\"read\"] }",
+        "Ask { office: Store(\"office.db\"), caller: \"-\", path: \"/books\", privileges: [\"read\"] }",
     ),
     (
         "ask bob /books/a/b.vcf read --store office.db write-acl",
-        "Ask { store: \"office.db\", caller: \"bob\", path: \"/books/a/b.vcf\", privileges: [\"read\", \"write-acl\"] }",
+        "Ask { office: Store(\"office.db\"), caller: \"bob\", path: \"/books/a/b.vcf\", privileges: [\"read\", \"write-acl\"] }",
     ),
     (
         "migrate --store office.db",
@@ -111,45 +111,88 @@ const COMMANDS: &[(&str, &str)] = &[
     ),
     (
         "why --store office.db - GET /books",
-        "Why { store: \"office.db\", caller: \"-\", what: \"GET\", path: \"/books\", destination: None, json: false }",
+        "Why { office: Store(\"office.db\"), caller: \"-\", what: \"GET\", path: \"/books\", destination: None, json: false }",
     ),
     (
         "why bob COPY /books/a/b.vcf /books/c/d.vcf --store office.db",
-        "Why { store: \"office.db\", caller: \"bob\", what: \"COPY\", path: \"/books/a/b.vcf\", destination: Some(\"/books/c/d.vcf\"), json: false }",
+        "Why { office: Store(\"office.db\"), caller: \"bob\", what: \"COPY\", path: \"/books/a/b.vcf\", destination: Some(\"/books/c/d.vcf\"), json: false }",
     ),
     ("why --store office.db bob MOVE /books/a/b.vcf", SERVE_WANTS),
     (
         "who --store office.db read /books",
-        "Who { store: \"office.db\", privilege: \"read\", path: \"/books\", denied: false, json: false }",
+        "Who { office: Store(\"office.db\"), privilege: \"read\", path: \"/books\", denied: false, json: false }",
     ),
     (
         "who read --denied /books --store office.db",
-        "Who { store: \"office.db\", privilege: \"read\", path: \"/books\", denied: true, json: false }",
+        "Who { office: Store(\"office.db\"), privilege: \"read\", path: \"/books\", denied: true, json: false }",
     ),
     (
         "why --json --store office.db bob read /books",
-        "Why { store: \"office.db\", caller: \"bob\", what: \"read\", path: \"/books\", destination: None, json: true }",
+        "Why { office: Store(\"office.db\"), caller: \"bob\", what: \"read\", path: \"/books\", destination: None, json: true }",
     ),
     (
         "who read /books --store office.db --json",
-        "Who { store: \"office.db\", privilege: \"read\", path: \"/books\", denied: false, json: true }",
+        "Who { office: Store(\"office.db\"), privilege: \"read\", path: \"/books\", denied: false, json: true }",
     ),
     (
         "rights --store office.db --json",
-        "Rights { store: \"office.db\", at: None, caller: None, shared: false, json: true }",
+        "Rights { office: Store(\"office.db\"), at: None, caller: None, shared: false, json: true }",
     ),
     (
         "rights --store office.db",
-        "Rights { store: \"office.db\", at: None, caller: None, shared: false, json: false }",
+        "Rights { office: Store(\"office.db\"), at: None, caller: None, shared: false, json: false }",
     ),
     (
         "rights --shared --caller bob --at /books --store office.db",
-        "Rights { store: \"office.db\", at: Some(\"/books\"), caller: Some(\"bob\"), shared: true, json: false }",
+        "Rights { office: Store(\"office.db\"), at: Some(\"/books\"), caller: Some(\"bob\"), shared: true, json: false }",
     ),
-    ("dump --store office.db", "Dump { store: \"office.db\" }"),
+    (
+        "dump --store office.db",
+        "Dump { office: Store(\"office.db\") }",
+    ),
     (
         "show --store office.db /books/a",
-        "Show { store: \"office.db\", path: \"/books/a\" }",
+        "Show { office: Store(\"office.db\"), path: \"/books/a\" }",
+    ),
+    (
+        "import office.toml --control office.control",
+        "Import { office: Control(\"office.control\"), policy: \"office.toml\" }",
+    ),
+    (
+        "check --control office.control --strict office.toml",
+        "Check { policy: \"office.toml\", strict: true, office: Some(Control(\"office.control\")) }",
+    ),
+    (
+        "audit --control=office.control --at /books",
+        "Audit { office: Control(\"office.control\"), existing: false, at: Some(\"/books\"), books: false, labels: false }",
+    ),
+    (
+        "differs --control office.control --strict office.toml",
+        "Differs { office: Control(\"office.control\"), policy: \"office.toml\", strict: true }",
+    ),
+    (
+        "why --control office.control bob GET /books",
+        "Why { office: Control(\"office.control\"), caller: \"bob\", what: \"GET\", path: \"/books\", destination: None, json: false }",
+    ),
+    (
+        "who --control office.control read /books",
+        "Who { office: Control(\"office.control\"), privilege: \"read\", path: \"/books\", denied: false, json: false }",
+    ),
+    (
+        "rights --control office.control",
+        "Rights { office: Control(\"office.control\"), at: None, caller: None, shared: false, json: false }",
+    ),
+    (
+        "ask --control office.control bob /books read bind",
+        "Ask { office: Control(\"office.control\"), caller: \"bob\", path: \"/books\", privileges: [\"read\", \"bind\"] }",
+    ),
+    (
+        "dump --control office.control",
+        "Dump { office: Control(\"office.control\") }",
+    ),
+    (
+        "show /books --control office.control",
+        "Show { office: Control(\"office.control\"), path: \"/books\" }",
     ),
     (
         "denials office.log",
@@ -233,15 +276,7 @@ const REFUSED: &[(&str, &str)] = &[
         "2 error: unexpected argument 'other' found",
     ),
     (
-        "import office.toml",
-        "2 error: the following required arguments were not provided:",
-    ),
-    (
         "import --store office.db",
-        "2 error: the following required arguments were not provided:",
-    ),
-    (
-        "audit",
         "2 error: the following required arguments were not provided:",
     ),
     (
@@ -254,14 +289,6 @@ const REFUSED: &[(&str, &str)] = &[
     ),
     (
         "differs --store office.db",
-        "2 error: the following required arguments were not provided:",
-    ),
-    (
-        "rights --at /books",
-        "2 error: the following required arguments were not provided:",
-    ),
-    (
-        "dump",
         "2 error: the following required arguments were not provided:",
     ),
     (
@@ -324,6 +351,25 @@ const REFUSED: &[(&str, &str)] = &[
         "serve --port 0 --forever --at-once 1 --idle 3601",
         "2 error: invalid value '3601' for '--idle <N>': 3601 is not in 1..=3600",
     ),
+    ("import office.toml", SERVE_WANTS),
+    ("differs office.toml", SERVE_WANTS),
+    ("audit", SERVE_WANTS),
+    ("why bob GET /books", SERVE_WANTS),
+    ("who read /books", SERVE_WANTS),
+    ("rights --at /books", SERVE_WANTS),
+    ("ask bob /books read", SERVE_WANTS),
+    ("dump", SERVE_WANTS),
+    ("show /books", SERVE_WANTS),
+    ("import --store a.db --control c office.toml", SERVE_WANTS),
+    ("differs --store a.db --control c office.toml", SERVE_WANTS),
+    ("check --store a.db --control c office.toml", SERVE_WANTS),
+    ("audit --store a.db --control c", SERVE_WANTS),
+    ("why --store a.db --control c bob GET /books", SERVE_WANTS),
+    ("who --store a.db --control c read /books", SERVE_WANTS),
+    ("rights --store a.db --control c", SERVE_WANTS),
+    ("ask --store a.db --control c bob /books read", SERVE_WANTS),
+    ("dump --store a.db --control c", SERVE_WANTS),
+    ("show --store a.db --control c /books", SERVE_WANTS),
     ("serve --connections 1", SERVE_WANTS),
     ("serve --port 0", SERVE_WANTS),
     ("serve --port 0 --mode 0660 --connections 1", SERVE_WANTS),
@@ -339,9 +385,9 @@ const REFUSED: &[(&str, &str)] = &[
     ("serve --port 0 --connections 1 --existing", SERVE_WANTS),
 ];
 
-/// What is told where the options of `serve` or `load` lack what they want of each other.
+/// What is told where options lack what they want of each other.
 const SERVE_WANTS: &str =
-    "2 error: serve wants '--port <N>' or '--socket <PATH>', with '--mode <OCTAL>', of three or four digits, also '--socket <PATH>', one of '--connections <N>' and '--forever', with '--idle <N>' or '--control <PATH>' also '--at-once <N>', and with '--existing' also '--store <FILE>'; why wants DESTINATION with COPY and MOVE; backup wants one of '--to <NEW>' and '--check <COPY>'; load wants with '--at <BOOK>' also '--owner <FROM=TO>', with '--heir <PRINCIPAL>' also '--without <PERSON>', and with '--above <N>' also '--new-epoch'";
+    "2 error: serve wants '--port <N>' or '--socket <PATH>', with '--mode <OCTAL>', of three or four digits, also '--socket <PATH>', one of '--connections <N>' and '--forever', with '--idle <N>' or '--control <PATH>' also '--at-once <N>', and with '--existing' also '--store <FILE>'; import, differs, audit, why, who, rights, ask, dump and show want one of '--store <FILE>' and '--control <PATH>', and check one at most; why wants DESTINATION with COPY and MOVE; backup wants one of '--to <NEW>' and '--check <COPY>'; load wants with '--at <BOOK>' also '--owner <FROM=TO>', with '--heir <PRINCIPAL>' also '--without <PERSON>', and with '--above <N>' also '--new-epoch'";
 
 /// The status, and the first line of what is told.
 fn first_line(alloc: Global, fault: &WordsFault) -> Result<String, AllocError> {

@@ -1,5 +1,6 @@
 //! Files to begin with, in a folder that takes so many: both are made, or none.
 
+use crate::checks::{check_bytes, check_fact, check_text};
 use book_desk_app::{Beginning, Folder, InitFault, Noting, begin};
 use std::alloc::Global;
 use std::process::Abort;
@@ -108,10 +109,10 @@ fn check(rt: &(impl Abort + AllocGlobal), row: &Row<'_>) {
     let mut writer = Vec::new(alloc);
     let mut errors = Noting::new(Vec::new(alloc));
     let status = begin(&mut drawer, &beginning, &mut writer, &mut errors);
-    assert_eq!(rt; status, wanted);
-    assert_eq!(rt; writer.as_slice(), written.as_bytes());
-    assert_eq!(rt; errors.into_inner().as_slice(), told.as_bytes());
-    assert_eq!(rt; files_of(rt, alloc, &drawer).as_str(), files);
+    check_fact(rt, status == wanted, "a status");
+    check_bytes(rt, writer.as_slice(), written.as_bytes());
+    check_bytes(rt, errors.into_inner().as_slice(), told.as_bytes());
+    check_text(rt, files_of(rt, alloc, &drawer).as_str(), files);
 }
 
 #[test]

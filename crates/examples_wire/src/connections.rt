@@ -1,8 +1,11 @@
 //! Connections over loopback, one after the other: one that is cut or fails ends no other, and each that fails is told.
 
+use crate::checks::{check_bytes, check_fact};
 use crate::logs::logged;
 use crate::offices::{POLICY, machine};
-use book_desk_app::{Noting, serve_connections};
+use book_desk_app::Noting;
+use book_desk_serving::serve_connections;
+use book_wire_serving::Service;
 use std::cell::Cell;
 use std::io;
 use std::io::{ErrorKind, Read, Write};
@@ -156,23 +159,27 @@ fn send(rt: &impl Abort, mut stream: &TcpStream, client: &Client<'_>) {
     stream.shutdown(Shutdown::Write).expect(rt, "a request");
 }
 
-/// Serves the connections of a row.
-fn check_served(rt: &(impl Abort + AllocGlobal + Clock), doors: &Doors<'_>, row: &Row<'_>) {
-    let (_, count, sound, told) = *row;
+/// Serves so many connections: how it ends, and what is told of them.
+fn check_served<M: Service>(
+    rt: &(impl Abort + AllocGlobal + Clock),
+    service: &mut M,
+    doors: &Doors<'_>,
+    count: u64,
+    sound: Option<bool>,
+    told: &str,
+) {
     let alloc = rt.alloc();
-    let mut machine = machine(rt, alloc, POLICY);
     let mut errors = Noting::new(Vec::new(alloc));
-    let served = serve_connections(rt, alloc, &mut machine, doors, count, &mut errors);
-    drop(machine);
-    assert_eq!(rt; served.ok(), sound);
-    assert_eq!(rt; errors.into_inner().as_slice(), told.as_bytes());
+    let served = serve_connections(rt, alloc, service, doors, count, &mut errors);
+    check_fact(rt, served.ok() == sound, "how it ended");
+    check_bytes(rt, errors.into_inner().as_slice(), told.as_bytes());
 }
 
 /// Reads what a client is sent.
 fn check_told(rt: &(impl Abort + AllocGlobal), mut stream: &TcpStream, client: &Client<'_>) {
     let mut reply = Vec::new(rt.alloc());
     stream.read_to_end(&mut reply).expect(rt, "a reply");
-    assert_eq!(rt; reply.as_slice(), client.told.as_bytes());
+    check_bytes(rt, reply.as_slice(), client.told.as_bytes());
 }
 
 /// Serves a row whose clients are connected; all is sent before the first is accepted, and read after the last.
@@ -182,7 +189,7 @@ fn check(
     streams: &[TcpStream],
     row: &Row<'_>,
 ) {
-    let (clients, ..) = *row;
+    let (clients, count, sound, told) = *row;
     for (stream, client) in streams.iter().zip(clients) {
         send(rt, stream, client);
     }
@@ -191,7 +198,9 @@ fn check(
         clients,
         next: Cell::new(0),
     };
-    check_served(rt, &doors, row);
+    let mut machine = machine(rt, rt.alloc(), POLICY);
+    check_served(rt, &mut machine, &doors, count, sound, told);
+    drop(machine);
     for (stream, client) in streams.iter().zip(clients) {
         check_told(rt, stream, client);
     }
@@ -239,15 +248,12 @@ fn a_log_that_fails_ends_them(rt: HostRuntime) {
         clients: &clients,
         next: Cell::new(0),
     };
-    let mut errors = Noting::new(Vec::new(alloc));
     let mut kept = logged(&rt, alloc, 2);
-    let served = serve_connections(&rt, alloc, &mut kept, &doors, 4, &mut errors);
+    check_served(&rt, &mut kept, &doors, 4, Some(false), "log: write\n");
     let (machine, lines) = kept.release();
     drop(machine);
-    assert_eq!(rt; served.ok(), Some(false));
-    assert_eq!(rt; errors.into_inner().as_slice(), "log: write\n".as_bytes());
-    assert_eq!(rt; lines.told.as_slice(), LINES.as_bytes());
-    assert_eq!(rt; doors.next.get(), 3);
+    check_bytes(&rt, lines.told.as_slice(), LINES.as_bytes());
+    check_fact(&rt, doors.next.get() == 3, "three accepted");
     for (stream, client) in streams.iter().zip(&clients[..3]) {
         check_told(&rt, stream, client);
     }

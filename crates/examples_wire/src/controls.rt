@@ -1,8 +1,8 @@
 //! What is asked of a server beside its connections, and what is answered.
 
 use book_desk_control::{
-    Counts, Demand, Exchange, Health, Kind, Outcome, Sizes, WhyBody, asks_end, health_outcome,
-    health_text, outcome_of_status, text_in,
+    Counts, Demand, Ending, Exchange, Health, Kind, Outcome, Sizes, WhyBody, asks_end,
+    health_outcome, health_text, outcome_of_status, text_in,
 };
 use book_office_values::Text;
 use std::alloc::Global;
@@ -343,7 +343,7 @@ fn word(text: &Option<Text>) -> &str {
     text_in(text).unwrap_or("none")
 }
 
-fn text_of(bytes: &[u8]) -> &str {
+pub(crate) fn text_of(bytes: &[u8]) -> &str {
     match str::from_utf8(bytes) {
         Ok(text) => text,
         Err(_) => "no text",
@@ -440,7 +440,11 @@ fn told(rt: &(impl Abort + AllocGlobal), demand: &Demand) -> String {
 }
 
 /// Brings bytes, and tells what they ask, in words; empty where they ask nothing.
-fn asked(rt: &(impl Abort + AllocGlobal), exchange: &mut Exchange, bytes: &[u8]) -> String {
+pub(crate) fn asked(
+    rt: &(impl Abort + AllocGlobal),
+    exchange: &mut Exchange,
+    bytes: &[u8],
+) -> String {
     let demand = exchange.bring(rt.alloc(), bytes).expect(rt, "memory");
     match demand {
         Some(demand) => {
@@ -451,7 +455,7 @@ fn asked(rt: &(impl Abort + AllocGlobal), exchange: &mut Exchange, bytes: &[u8])
     }
 }
 
-fn is_text(rt: &impl Abort, text: &str, wanted: &str) {
+pub(crate) fn is_text(rt: &impl Abort, text: &str, wanted: &str) {
     assert_eq!(rt; text, wanted);
 }
 
@@ -460,7 +464,7 @@ fn is_answered(rt: &impl Abort, exchange: &Exchange, wanted: bool) {
 }
 
 /// All that is left to be sent, in pieces of at most seven bytes.
-fn sent(rt: &(impl Abort + AllocGlobal), exchange: &mut Exchange) -> Vec<u8> {
+pub(crate) fn sent(rt: &(impl Abort + AllocGlobal), exchange: &mut Exchange) -> Vec<u8> {
     let mut all = Vec::new(rt.alloc());
     for _ in 0..10_000 {
         let unsent = exchange.unsent();
@@ -643,8 +647,13 @@ fn health_is_told(rt: HostRuntime) {
     );
 }
 
-/// A reply's status, that of the command, what its body is, the body, and what is sent.
-type Answer = (Outcome, Option<u8>, Kind, &'static str, &'static str);
+/// How a command ended that told so many bytes on standard error.
+fn ended(status: u8, told: usize) -> Option<Ending> {
+    Some(Ending { status, told })
+}
+
+/// A reply's status, how the command ended, what its body is, the body, and what is sent.
+type Answer = (Outcome, Option<Ending>, Kind, &'static str, &'static str);
 
 fn is_sent(rt: &(impl Abort + AllocGlobal), answer: &Answer) {
     let mut exchange = Exchange::new(rt.alloc());
@@ -662,45 +671,45 @@ fn replies_are_sent(rt: HostRuntime) {
     let answers = [
         (
             outcome_of_status(0),
-            Some(0),
+            ended(0, 0),
             Kind::Text,
             "yes\n",
-            "HTTP/1.1 200 OK\r\nX-Exit-Status: 0\r\nContent-Type: text/plain; charset=utf-8\r\nContent-Length: 4\r\nConnection: close\r\n\r\nyes\n",
+            "HTTP/1.1 200 OK\r\nX-Exit-Status: 0\r\nX-Error-Length: 0\r\nContent-Type: text/plain; charset=utf-8\r\nContent-Length: 4\r\nConnection: close\r\n\r\nyes\n",
         ),
         (
             outcome_of_status(1),
-            Some(1),
+            ended(1, 13),
             Kind::Text,
             "policy: full\n",
-            "HTTP/1.1 400 Bad Request\r\nX-Exit-Status: 1\r\nContent-Type: text/plain; charset=utf-8\r\nContent-Length: 13\r\nConnection: close\r\n\r\npolicy: full\n",
+            "HTTP/1.1 400 Bad Request\r\nX-Exit-Status: 1\r\nX-Error-Length: 13\r\nContent-Type: text/plain; charset=utf-8\r\nContent-Length: 13\r\nConnection: close\r\n\r\npolicy: full\n",
         ),
         (
             outcome_of_status(2),
-            Some(2),
+            ended(2, 0),
             Kind::Text,
             "",
-            "HTTP/1.1 400 Bad Request\r\nX-Exit-Status: 2\r\nContent-Type: text/plain; charset=utf-8\r\nContent-Length: 0\r\nConnection: close\r\n\r\n",
+            "HTTP/1.1 400 Bad Request\r\nX-Exit-Status: 2\r\nX-Error-Length: 0\r\nContent-Type: text/plain; charset=utf-8\r\nContent-Length: 0\r\nConnection: close\r\n\r\n",
         ),
         (
             outcome_of_status(3),
-            Some(3),
+            ended(3, 13),
             Kind::Text,
             "store: store\n",
-            "HTTP/1.1 503 Service Unavailable\r\nX-Exit-Status: 3\r\nContent-Type: text/plain; charset=utf-8\r\nContent-Length: 13\r\nConnection: close\r\n\r\nstore: store\n",
+            "HTTP/1.1 503 Service Unavailable\r\nX-Exit-Status: 3\r\nX-Error-Length: 13\r\nContent-Type: text/plain; charset=utf-8\r\nContent-Length: 13\r\nConnection: close\r\n\r\nstore: store\n",
         ),
         (
             Outcome::Full,
-            Some(1),
+            ended(1, 12),
             Kind::Text,
             "adopt: full\n",
-            "HTTP/1.1 507 Insufficient Storage\r\nX-Exit-Status: 1\r\nContent-Type: text/plain; charset=utf-8\r\nContent-Length: 12\r\nConnection: close\r\n\r\nadopt: full\n",
+            "HTTP/1.1 507 Insufficient Storage\r\nX-Exit-Status: 1\r\nX-Error-Length: 12\r\nContent-Type: text/plain; charset=utf-8\r\nContent-Length: 12\r\nConnection: close\r\n\r\nadopt: full\n",
         ),
         (
             Outcome::Answered,
-            Some(0),
+            ended(0, 3),
             Kind::JsonLines,
             "{}\n{}\n",
-            "HTTP/1.1 200 OK\r\nX-Exit-Status: 0\r\nContent-Type: application/x-ndjson\r\nContent-Length: 6\r\nConnection: close\r\n\r\n{}\n{}\n",
+            "HTTP/1.1 200 OK\r\nX-Exit-Status: 0\r\nX-Error-Length: 3\r\nContent-Type: application/x-ndjson\r\nContent-Length: 6\r\nConnection: close\r\n\r\n{}\n{}\n",
         ),
         (
             Outcome::Answered,

@@ -1,5 +1,6 @@
 //! Conversations: requests on one connection, each with its reply. Each form of a body of a reply is told once.
 
+use crate::checks::check_text;
 use crate::offices::{POLICY, WHOLE, answered};
 use std::alloc::Global;
 use std::process::Abort;
@@ -374,7 +375,7 @@ fn check(rt: &impl Abort, alloc: Global, policy: &str, turns: &[Turn<'_>]) {
         push_turn(rt, &mut input, &mut wanted, turn);
     }
     let answer = answered(rt, alloc, policy, input.as_str().as_bytes(), WHOLE);
-    assert_eq!(rt; answer.text.as_str(), wanted.as_str());
+    check_text(rt, answer.text.as_str(), wanted.as_str());
 }
 
 #[test]

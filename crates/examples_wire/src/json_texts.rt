@@ -1,5 +1,6 @@
 //! Texts of JSON that are written token by token (RFC 8259).
 
+use crate::checks::check_bytes;
 use book_json_texts::CompactText;
 use std::alloc::AllocError;
 
@@ -33,7 +34,7 @@ fn strings_are_escaped(rt: HostRuntime) {
     for (string, wanted) in STRINGS {
         text.restart();
         text.string(string).expect(&rt, "memory");
-        assert_eq!(rt; text.as_bytes(), wanted.as_bytes());
+        check_bytes(&rt, text.as_bytes(), wanted.as_bytes());
     }
 }
 
@@ -59,8 +60,9 @@ fn write_each(text: &mut CompactText) -> Result<(), AllocError> {
 fn commas_stand_between_values(rt: HostRuntime) {
     let mut text = CompactText::over(Vec::new(rt.alloc()));
     write_each(&mut text).expect(&rt, "memory");
-    assert_eq!(rt;
+    check_bytes(
+        &rt,
         text.as_bytes(),
-        "{\"a\":[0,\"b\",true,false,null,{}],\"c\":18446744073709551615}".as_bytes()
+        "{\"a\":[0,\"b\",true,false,null,{}],\"c\":18446744073709551615}".as_bytes(),
     );
 }

@@ -7,9 +7,13 @@
 #![tactic(auto)]
 
 #[cfg(test)]
+mod asking;
+#[cfg(test)]
 mod beginnings;
 #[cfg(test)]
 mod bodies;
+#[cfg(test)]
+mod checks;
 #[cfg(test)]
 mod connections;
 #[cfg(test)]

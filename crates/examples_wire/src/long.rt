@@ -1,12 +1,14 @@
 //! Bodies of more than 65,536 bytes, which are made while they are sent: what is sent is each whole body, and behind it
 //! the reply to what was asked next.
 
-use crate::offices::{Cutting, POLICY, WHOLE, answered, machine};
+use crate::checks::{check_bytes, check_fact};
+use crate::offices::{Cutting, POLICY, WHOLE, answered};
 use crate::streams::{check_answer, check_cut_off};
+use crate::together::opened;
 use book_desk_loop::{Connections, Turn, go_on};
 use book_machine::Machine;
 use book_office::MemoryKeeper;
-use book_wire::{Ended, Served, Wire};
+use book_wire::{Ended, Served};
 use std::alloc::Global;
 use std::io;
 use std::io::{ErrorKind, Read, Write};
@@ -102,7 +104,7 @@ fn report(rt: &impl Abort, alloc: Global, first: usize) -> String {
 /// Adds the reply with the body, which is longer than two chunks.
 fn push_reply(rt: &impl Abort, alloc: Global, text: &mut String, body: &str) {
     let length = body.len();
-    assert!(rt; length > 131_072);
+    check_fact(rt, length > 131_072, "a long reply");
     let head = format!(in alloc;
         "HTTP/1.1 207 Multi-Status\r\nContent-Type: application/json\r\nContent-Length: {length}\r\n\r\n"
     );
@@ -141,9 +143,10 @@ fn long_bodies_are_whole(rt: HostRuntime) {
     for write in [7, 8_191, 1_000_000] {
         let cutting = Cutting { write, ..WHOLE };
         let answer = answered(&rt, alloc, POLICY, input.as_bytes(), cutting);
-        assert!(&rt;
+        check_fact(
+            &rt,
             answer.text.as_str() == wanted.as_str(),
-            "writes of {write}"
+            "the whole text",
         );
         check_answer(&rt, alloc, &answer, wanted.as_str(), served, 1_000);
     }
@@ -217,6 +220,9 @@ fn turns(
     Turn::Again
 }
 
+/// The reply to the one that removes a card.
+const REMOVED: &str = "HTTP/1.1 204 No Content\r\n\r\n";
+
 /// A client stops reading within a listing, while another removes a card: what the first one is sent then is the
 /// listing as it was when it was asked for, and the reply to what it asked next.
 #[test]
@@ -232,20 +238,17 @@ fn a_listing_is_as_it_was_asked_for(rt: HostRuntime) {
         "DELETE {CARD}1999.vcf HTTP/1.1\r\nx-office-caller: ann\r\n\r\n"
     );
     let removal = removal.expect(&rt, "memory");
-    let wire = Wire::new(alloc).expect(&rt, "memory");
-    let mut connections = Connections::new(alloc, wire, machine(&rt, alloc, POLICY));
     let mut first = new_client(alloc, asked.as_str(), 113_000);
     let mut second = new_client(alloc, removal.as_str(), usize::MAX);
-    assert_eq!(rt; connections.open(alloc).ok(), Some(0));
-    assert_eq!(rt; connections.open(alloc).ok(), Some(1));
-    assert_eq!(rt; turns(alloc, &mut connections, 0, &mut first), Turn::Waits);
-    assert_eq!(rt; turns(alloc, &mut connections, 1, &mut second), Turn::Ended);
-    assert_eq!(rt;
-        second.told.as_slice(),
-        "HTTP/1.1 204 No Content\r\n\r\n".as_bytes()
-    );
+    let mut connections = opened(&rt, 2);
+    let turn = turns(alloc, &mut connections, 0, &mut first);
+    check_fact(&rt, turn == Turn::Waits, "the first one waits");
+    let turn = turns(alloc, &mut connections, 1, &mut second);
+    check_fact(&rt, turn == Turn::Ended, "the second one ended");
     first.room = usize::MAX;
-    assert_eq!(rt; turns(alloc, &mut connections, 0, &mut first), Turn::Ended);
-    assert_eq!(rt; first.told.as_slice(), wanted.as_bytes());
+    let turn = turns(alloc, &mut connections, 0, &mut first);
+    check_fact(&rt, turn == Turn::Ended, "the first one ended");
     drop(connections);
+    check_bytes(&rt, second.told.as_slice(), REMOVED.as_bytes());
+    check_bytes(&rt, first.told.as_slice(), wanted.as_bytes());
 }

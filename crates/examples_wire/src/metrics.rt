@@ -70,6 +70,12 @@ book_desk_connection_faults_total 1
 # HELP book_desk_start_time_seconds When the server began, in seconds since 1970.
 # TYPE book_desk_start_time_seconds gauge
 book_desk_start_time_seconds 1790000000
+# HELP book_desk_received_bytes_total Bytes of requests that were taken from connections.
+# TYPE book_desk_received_bytes_total counter
+book_desk_received_bytes_total 2047
+# HELP book_desk_sent_bytes_total Bytes of replies that were sent to connections.
+# TYPE book_desk_sent_bytes_total counter
+book_desk_sent_bytes_total 65536
 # HELP book_desk_epoch The epoch.
 # TYPE book_desk_epoch gauge
 book_desk_epoch 3
@@ -88,6 +94,8 @@ const GAUGES: Gauges = Gauges {
     came: 7,
     open: 2,
     faults: 1,
+    received: 2_047,
+    sent: 65_536,
     since: 1_790_000_000,
     held: Some(Held {
         epoch: 3,

@@ -3,7 +3,8 @@
 use book_machine::Machine;
 use book_office::MemoryKeeper;
 use book_policy::read_policy;
-use book_wire::{Served, StreamFault, serve_stream};
+use book_wire::{Served, serve_stream};
+use book_wire_serving::StreamFault;
 use std::alloc::Global;
 use std::io;
 use std::io::{ErrorKind, Read, Write};

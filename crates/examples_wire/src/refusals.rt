@@ -1,5 +1,6 @@
 //! Refusals as their bodies tell them, each by its name.
 
+use crate::checks::check_bytes;
 use crate::texts::body_bytes;
 use book_machine::{Content, Refusal};
 use std::alloc::Global;
@@ -7,7 +8,7 @@ use std::process::Abort;
 
 fn check(rt: &impl Abort, alloc: Global, refusal: Refusal, wanted: &str) {
     let text = body_bytes(rt, alloc, &Content::Refusal(refusal));
-    assert_eq!(rt; text.as_slice(), wanted.as_bytes());
+    check_bytes(rt, text.as_slice(), wanted.as_bytes());
 }
 
 /// The preconditions of RFC 3744 (section 8.1.1) and RFC 6578 (section 3.2) have their names there; the others are of

@@ -1,5 +1,6 @@
 //! Bodies that no request of the examples has as its reply.
 
+use crate::checks::check_bytes;
 use crate::texts::body_bytes;
 use book_lists::Name;
 use book_machine::{Content, NamedCard};
@@ -40,13 +41,14 @@ fn nothing_is_listed_and_changes_remain(rt: HostRuntime) {
     let listing = Content::Listing(Items::new(alloc));
     let text = body_bytes(&rt, alloc, &listing);
     drop(listing);
-    assert_eq!(rt; text.as_slice(), "{\"responses\":[]}".as_bytes());
+    check_bytes(&rt, text.as_slice(), "{\"responses\":[]}".as_bytes());
     let report = Content::Synced(cut_report(&rt, alloc));
     let text = body_bytes(&rt, alloc, &report);
     drop(report);
-    assert_eq!(rt;
+    check_bytes(
+        &rt,
         text.as_slice(),
-        "{\"responses\":[{\"href\":\"/books/sales/f.vcf\",\"status\":404},{\"href\":\"/books/sales\",\"status\":507}],\"sync-token\":\"data:,sales/2/2\"}".as_bytes()
+        "{\"responses\":[{\"href\":\"/books/sales/f.vcf\",\"status\":404},{\"href\":\"/books/sales\",\"status\":507}],\"sync-token\":\"data:,sales/2/2\"}".as_bytes(),
     );
 }
 
@@ -67,12 +69,13 @@ fn no_name_is_null(rt: HostRuntime) {
     let names = Content::Names(name(&rt, alloc, "sales"), Items::new(alloc));
     let text = body_bytes(&rt, alloc, &names);
     drop(names);
-    assert_eq!(rt; text.as_slice(), "{\"names\":[]}".as_bytes());
+    check_bytes(&rt, text.as_slice(), "{\"names\":[]}".as_bytes());
     let names = Content::Names(name(&rt, alloc, "sales"), unnamed(&rt, alloc));
     let text = body_bytes(&rt, alloc, &names);
     drop(names);
-    assert_eq!(rt;
+    check_bytes(
+        &rt,
         text.as_slice(),
-        "{\"names\":[{\"fn\":null,\"href\":\"/books/sales/x.vcf\"}]}".as_bytes()
+        "{\"names\":[{\"fn\":null,\"href\":\"/books/sales/x.vcf\"}]}".as_bytes(),
     );
 }

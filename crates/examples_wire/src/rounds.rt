@@ -1,5 +1,6 @@
 //! Connections at once over loopback, by a clock of the test's own: whose turn it is, which is closed, and when.
 
+use crate::checks::{check_bytes, check_fact};
 use crate::logs::logged;
 use crate::offices::{POLICY, machine};
 use book_desk_loop::{Faults, Limits, Readiness, Stop, Woken, close_in_stages, serve_at_once};
@@ -7,8 +8,7 @@ use book_machine::{AdoptFault, Adopted, Machine};
 use book_office::{MemoryKeeper, Policy};
 use book_office_faults::Fused;
 use book_policy::read_policy;
-use book_wire::StreamFault;
-use book_wire_serving::Service;
+use book_wire_serving::{Service, StreamFault};
 use book_wire_steps::{Control, Traffic, Wish};
 use std::alloc::Global;
 use std::cell::Cell;
@@ -302,7 +302,20 @@ struct Doors<'a> {
     next: Cell<usize>,
 }
 
-impl Doors<'_> {
+impl<'a> Doors<'a> {
+    /// No call is refused.
+    fn new(listener: &'a TcpListener, clients: &'a [Client<'a>]) -> Doors<'a> {
+        Doors {
+            listener,
+            clients,
+            refused: 0,
+            before: 0,
+            times: 0,
+            calls: Cell::new(0),
+            next: Cell::new(0),
+        }
+    }
+
     /// Whether this call fails. It is counted.
     fn refuses(&self) -> bool {
         let calls = self.calls.get();
@@ -396,15 +409,38 @@ fn total_of(row: &Row<'_>) -> u16 {
     }
 }
 
-/// Serves the connections of a row.
-fn check_served(rt: &(impl Abort + AllocGlobal), doors: &Doors<'_>, row: &Row<'_>) {
-    let alloc = rt.alloc();
+/// How it ended, how many connections had a fault, and how many whole seconds passed.
+type Ended = (Result<(), Stop>, u64, u64);
+
+/// Serves the connections, and gives the service back.
+fn served<M: Service, C: Control<M>>(
+    alloc: Global,
+    service: M,
+    doors: &Doors<'_>,
+    control: &mut C,
+    limits: Limits,
+) -> (M, Ended) {
     let time = Time {
         passed: Cell::new(Duration::ZERO),
     };
     let mut script = Script::new(alloc, &time);
-    let mut watcher = Watcher::new(None);
     let mut told = Told { faults: 0 };
+    let (service, ended) = serve_at_once(
+        alloc,
+        service,
+        doors,
+        &mut script,
+        control,
+        limits,
+        &mut told,
+    );
+    (service, (ended, told.faults, time.passed.get().as_secs()))
+}
+
+/// Serves the connections of a row.
+fn check_served(rt: &(impl Abort + AllocGlobal), doors: &Doors<'_>, row: &Row<'_>) {
+    let alloc = rt.alloc();
+    let mut watcher = Watcher::new(None);
     let limits = Limits {
         at_once: row.at_once,
         total: Some(total_of(row)),
@@ -415,19 +451,12 @@ fn check_served(rt: &(impl Abort + AllocGlobal), doors: &Doors<'_>, row: &Row<'_
         gives_way: row.gives_way,
         is_administered: false,
     };
-    let (machine, served) = serve_at_once(
-        alloc,
-        machine(rt, alloc, POLICY),
-        doors,
-        &mut script,
-        &mut watcher,
-        limits,
-        &mut told,
-    );
+    let machine = machine(rt, alloc, POLICY);
+    let (machine, (ended, faults, seconds)) = served(alloc, machine, doors, &mut watcher, limits);
     drop(machine);
-    assert_eq!(rt; served.is_ok(), row.served);
-    assert_eq!(rt; told.faults, row.faults);
-    assert_eq!(rt; time.passed.get().as_secs(), row.seconds);
+    check_fact(rt, ended.is_ok() == row.served, "how it ended");
+    check_fact(rt, faults == row.faults, "the faults");
+    check_fact(rt, seconds == row.seconds, "the seconds");
 }
 
 /// Sends all that a client sends.
@@ -443,7 +472,7 @@ fn send(rt: &impl Abort, mut stream: &TcpStream, client: &Client<'_>) {
 fn check_told(rt: &(impl Abort + AllocGlobal), mut stream: &TcpStream, client: &Client<'_>) {
     let mut reply = Vec::new(rt.alloc());
     stream.read_to_end(&mut reply).expect(rt, "a reply");
-    assert_eq!(rt; reply.as_slice(), client.told.as_bytes());
+    check_bytes(rt, reply.as_slice(), client.told.as_bytes());
 }
 
 /// Serves a row whose clients are connected; all is sent before the first is accepted, and read after the last.
@@ -499,21 +528,8 @@ fn a_store_that_fails_ends_it(rt: HostRuntime) {
     };
     send(&rt, &stream, &client);
     let clients = [client];
-    let doors = Doors {
-        listener: &listener,
-        clients: &clients,
-        refused: 0,
-        before: 0,
-        times: 0,
-        calls: Cell::new(0),
-        next: Cell::new(0),
-    };
-    let time = Time {
-        passed: Cell::new(Duration::ZERO),
-    };
-    let mut script = Script::new(alloc, &time);
+    let doors = Doors::new(&listener, &clients);
     let mut watcher = Watcher::new(None);
-    let mut told = Told { faults: 0 };
     let limits = Limits {
         at_once: 1,
         total: None,
@@ -522,34 +538,31 @@ fn a_store_that_fails_ends_it(rt: HostRuntime) {
         is_administered: true,
     };
     let keeper = Fused::new(machine(&rt, alloc, POLICY).release(), 0);
-    let (machine, served) = serve_at_once(
-        alloc,
-        Machine::new(keeper),
-        &doors,
-        &mut script,
-        &mut watcher,
-        limits,
-        &mut told,
-    );
+    let machine = Machine::new(keeper);
+    let (machine, (ended, faults, _)) = served(alloc, machine, &doors, &mut watcher, limits);
     drop(machine);
-    assert_eq!(rt; served, Err(Stop::Store));
-    assert_eq!(rt; told.faults, 0);
+    check_fact(&rt, ended == Err(Stop::Store), "how it ended");
+    check_fact(&rt, faults == 0, "no fault");
     check_told(&rt, &stream, &client);
-    assert_eq!(rt; told_last(watcher.traffic), Some((1, 1, 0, 2, true)));
+    let told = told_last(watcher.traffic);
+    check_fact(&rt, told == Some((1, 1, 0, 2, true)), "what is told");
 }
 
 /// How many connections came, are there and had a fault, how many requests were answered, and whether the store shows nothing.
 type Counts = (u64, usize, u64, u64, bool);
 
+/// How many bytes were taken from connections, and sent to them.
+type Bytes = (u64, u64);
+
 /// Whether the server is administered; how many come in all; after how many replies the control wishes an end; and what it is
 /// told last.
-const WISHES: &[(bool, Option<u16>, u64, Option<Counts>)] = &[
+const WISHES: &[(bool, Option<u16>, u64, Option<Counts>, Option<Bytes>)] = &[
     // None is accepted.
-    (true, None, 0, Some((0, 0, 0, 0, false))),
+    (true, None, 0, Some((0, 0, 0, 0, false)), Some((0, 0))),
     // The idle one is closed a second after the wish.
-    (true, None, 1, Some((2, 1, 0, 1, false))),
+    (true, None, 1, Some((2, 1, 0, 1, false)), Some((28, 99))),
     // Where it is not, the control has no turn.
-    (false, Some(2), 0, None),
+    (false, Some(2), 0, None, None),
 ];
 
 /// What a control was told.
@@ -564,29 +577,23 @@ fn told_last(traffic: Option<Traffic>) -> Option<Counts> {
     ))
 }
 
+/// How many bytes it was told of.
+fn bytes_told(traffic: Option<Traffic>) -> Option<Bytes> {
+    let told = traffic?;
+    Some((told.received, told.sent))
+}
+
 /// An idle connection and one that asks, and a control that wishes an end.
 #[test]
 fn a_wish_ends_it(rt: HostRuntime) {
     let alloc = rt.alloc();
-    for (may, total, after, wanted) in WISHES {
+    for (may, total, after, wanted, bytes) in WISHES {
         let listener = TcpListener::bind(&rt, "127.0.0.1:0").expect(&rt, "a listener");
         let address = listener.local_addr().expect(&rt, "an address");
         let idle = TcpStream::connect(&rt, address).expect(&rt, "a connection");
         let stream = TcpStream::connect(&rt, address).expect(&rt, "a connection");
         send(&rt, &stream, &ENDS);
-        let doors = Doors {
-            listener: &listener,
-            clients: &[IDLE, ENDS],
-            refused: 0,
-            before: 0,
-            times: 0,
-            calls: Cell::new(0),
-            next: Cell::new(0),
-        };
-        let time = Time {
-            passed: Cell::new(Duration::ZERO),
-        };
-        let mut script = Script::new(alloc, &time);
+        let doors = Doors::new(&listener, &[IDLE, ENDS]);
         let mut watcher = Watcher::new(Some(*after));
         let limits = Limits {
             at_once: 2,
@@ -595,19 +602,14 @@ fn a_wish_ends_it(rt: HostRuntime) {
             gives_way: true,
             is_administered: *may,
         };
-        let mut told = Told { faults: 0 };
-        let (kept, served) = serve_at_once(
-            alloc,
-            machine(&rt, alloc, POLICY),
-            &doors,
-            &mut script,
-            &mut watcher,
-            limits,
-            &mut told,
-        );
-        drop(kept);
-        assert_eq!(rt; served, Ok(()));
-        assert_eq!(rt; told_last(watcher.traffic), *wanted);
+        let machine = machine(&rt, alloc, POLICY);
+        let (machine, (ended, _, _)) = served(alloc, machine, &doors, &mut watcher, limits);
+        drop(machine);
+        check_fact(&rt, ended == Ok(()), "how it ended");
+        let told = told_last(watcher.traffic);
+        check_fact(&rt, told == *wanted, "what is told");
+        let told = bytes_told(watcher.traffic);
+        check_fact(&rt, told == *bytes, "how many bytes are told");
         drop(idle);
     }
 }
@@ -680,26 +682,13 @@ fn a_policy_is_adopted_between_requests(rt: HostRuntime) {
         };
         send(&rt, &stream, &client);
         let clients = [client];
-        let doors = Doors {
-            listener: &listener,
-            clients: &clients,
-            refused: 0,
-            before: 0,
-            times: 0,
-            calls: Cell::new(0),
-            next: Cell::new(0),
-        };
-        let time = Time {
-            passed: Cell::new(Duration::ZERO),
-        };
-        let mut script = Script::new(alloc, &time);
+        let doors = Doors::new(&listener, &clients);
         let policy = read_policy(alloc, LATER).ok().expect(&rt, "a policy");
         let mut adopter = Adopter {
             alloc,
             policy,
             adopted: None,
         };
-        let mut told = Told { faults: 0 };
         let limits = Limits {
             at_once: 1,
             total: Some(1),
@@ -707,18 +696,11 @@ fn a_policy_is_adopted_between_requests(rt: HostRuntime) {
             gives_way: false,
             is_administered: *administered,
         };
-        let (kept, served) = serve_at_once(
-            alloc,
-            machine(&rt, alloc, POLICY),
-            &doors,
-            &mut script,
-            &mut adopter,
-            limits,
-            &mut told,
-        );
-        drop(kept);
-        assert_eq!(rt; served, Ok(()));
-        assert_eq!(rt; adopter.adopted, *adopted);
+        let machine = machine(&rt, alloc, POLICY);
+        let (machine, (ended, _, _)) = served(alloc, machine, &doors, &mut adopter, limits);
+        drop(machine);
+        check_fact(&rt, ended == Ok(()), "how it ended");
+        check_fact(&rt, adopter.adopted == *adopted, "what was adopted");
         check_told(&rt, &stream, &client);
     }
 }
@@ -741,21 +723,8 @@ fn a_log_that_fails_ends_it(rt: HostRuntime) {
     };
     send(&rt, &stream, &client);
     let clients = [client];
-    let doors = Doors {
-        listener: &listener,
-        clients: &clients,
-        refused: 0,
-        before: 0,
-        times: 0,
-        calls: Cell::new(0),
-        next: Cell::new(0),
-    };
-    let time = Time {
-        passed: Cell::new(Duration::ZERO),
-    };
-    let mut script = Script::new(alloc, &time);
+    let doors = Doors::new(&listener, &clients);
     let mut watcher = Watcher::new(None);
-    let mut told = Told { faults: 0 };
     let limits = Limits {
         at_once: 1,
         total: None,
@@ -763,20 +732,13 @@ fn a_log_that_fails_ends_it(rt: HostRuntime) {
         gives_way: false,
         is_administered: false,
     };
-    let (kept, served) = serve_at_once(
-        alloc,
-        logged(&rt, alloc, 1),
-        &doors,
-        &mut script,
-        &mut watcher,
-        limits,
-        &mut told,
-    );
+    let kept = logged(&rt, alloc, 1);
+    let (kept, (ended, faults, _)) = served(alloc, kept, &doors, &mut watcher, limits);
     let (machine, lines) = kept.release();
     drop(machine);
-    assert_eq!(rt; lines.told.as_slice(), LINE.as_bytes());
-    assert_eq!(rt; served, Err(Stop::Log));
-    assert_eq!(rt; told.faults, 0);
+    check_bytes(&rt, lines.told.as_slice(), LINE.as_bytes());
+    check_fact(&rt, ended == Err(Stop::Log), "how it ended");
+    check_fact(&rt, faults == 0, "no fault");
     check_told(&rt, &stream, &client);
 }
 
@@ -792,7 +754,8 @@ fn late_bytes_are_dropped(rt: HostRuntime) {
     close_in_stages(&rt, &mut stream);
     let mut told = Vec::new(rt.alloc());
     client.read_to_end(&mut told).expect(&rt, "an end");
-    assert_eq!(rt; told.len(), 0);
+    check_fact(&rt, told.is_empty(), "no reply");
     let mut rest = [0u8; 8];
-    assert_eq!(rt; stream.read(&mut rest).ok(), Some(0));
+    let count = stream.read(&mut rest).ok();
+    check_fact(&rt, count == Some(0), "the end");
 }

@@ -1,5 +1,6 @@
 //! A port and a Unix socket as one listener, and how a socket's file is made.
 
+use crate::checks::check_fact;
 use book_desk_sockets::{Door, Found, Ground, Line, NotMade, SocketPath, accept_from, make_socket};
 use std::cell::Cell;
 use std::io::{self, ErrorKind};
@@ -79,8 +80,8 @@ fn a_connection_comes_from_either(rt: HostRuntime) {
             Ok(Line::Local(number)) => Ok(number.saturating_add(100)),
             Err(error) => Err(error.kind()),
         };
-        assert_eq!(rt; came, *wanted);
-        assert_eq!(rt; asked.get(), *count);
+        check_fact(&rt, came == *wanted, "what came");
+        check_fact(&rt, asked.get() == *count, "how often it was asked");
     }
 }
 
@@ -172,8 +173,8 @@ fn a_socket_takes_its_name_when_it_is_whole(rt: HostRuntime) {
             done: Vec::new(rt.alloc()),
         };
         let made = make_socket(&mut steps, 0o660);
-        assert_eq!(rt; made, *wanted);
-        assert_eq!(rt; steps.done.as_slice(), *done);
+        check_fact(&rt, made == *wanted, "what was made");
+        check_fact(&rt, steps.done.as_slice() == *done, "what was done");
     }
 }
 
@@ -232,13 +233,21 @@ fn a_socket_that_answers_stays(rt: HostRuntime) {
     let path = format!(in rt.alloc(); "{folder}/socket").expect(&rt, "memory");
     fs::create_dir(&rt, folder.as_str()).expect(&rt, "a folder");
     let (first, second, third) = sockets(&rt, path.as_str()).expect(&rt, "sockets");
-    assert_eq!(rt; first, (None, Some(0o640)));
-    assert_eq!(rt; second, (None, Some(0o600)));
-    assert_eq!(rt; third, (Some(NotMade::Taken), Some(0o660)));
+    check_fact(&rt, first == (None, Some(0o640)), "a new socket");
+    check_fact(
+        &rt,
+        second == (None, Some(0o600)),
+        "one in the place of one that is gone",
+    );
+    check_fact(
+        &rt,
+        third == (Some(NotMade::Taken), Some(0o660)),
+        "one that answers stays",
+    );
     let left = removed(&rt, path.as_str()).expect(&rt, "memory");
-    assert_eq!(rt; left, (true, false));
+    check_fact(&rt, left == (true, false), "it is removed");
     let file = beside_a_file(&rt, path.as_str()).expect(&rt, "a file");
-    assert_eq!(rt; file, (Some(NotMade::Failed), true));
+    check_fact(&rt, file == (Some(NotMade::Failed), true), "a file stays");
     // The folder in which sockets are made is gone: this one is empty.
     fs::remove_dir(&rt, folder.as_str()).expect(&rt, "an empty folder");
 }

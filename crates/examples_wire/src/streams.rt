@@ -1,7 +1,9 @@
 //! Streams of requests and their replies, byte for byte, in pieces of several sizes; and streams that fail.
 
+use crate::checks::{check_fact, check_text};
 use crate::offices::{Cutting, Outcome, POLICY, WHOLE, answered};
-use book_wire::{Ended, Served, StreamFault};
+use book_wire::{Ended, Served};
+use book_wire_serving::StreamFault;
 use std::alloc::Global;
 use std::process::Abort;
 
@@ -105,7 +107,7 @@ pub(crate) fn check_answer(
     served: Served,
     changes: u64,
 ) {
-    assert_eq!(rt; answer.text.as_str(), text);
+    check_text(rt, answer.text.as_str(), text);
     check_end(rt, alloc, answer, Ok(served), changes);
 }
 
@@ -118,9 +120,17 @@ pub(crate) fn check_cut_off(
     behind: usize,
     changes: u64,
 ) {
-    assert!(rt; text.starts_with(answer.text.as_str()));
+    check_fact(
+        rt,
+        text.starts_with(answer.text.as_str()),
+        "a beginning of the text",
+    );
     let length = answer.text.len();
-    assert!(rt; behind < length && length < text.len());
+    check_fact(
+        rt,
+        behind < length && length < text.len(),
+        "cut within the text",
+    );
     check_end(rt, alloc, answer, Err(StreamFault::Write), changes);
 }
 
@@ -169,8 +179,8 @@ fn other_bytes_and_fronts_change_nothing(rt: HostRuntime) {
     for (length, _) in CUT.as_bytes().iter().enumerate() {
         let front = &CUT.as_bytes()[..length];
         let answer = answered(&rt, alloc, POLICY, front, WHOLE);
-        assert!(rt; answer.served.is_ok());
-        assert!(rt; has_changes(&rt, alloc, &answer, 0));
+        check_fact(&rt, answer.served.is_ok(), "it is served");
+        check_fact(&rt, has_changes(&rt, alloc, &answer, 0), "no change");
     }
 }
 
@@ -191,8 +201,12 @@ fn check_front(
     served: Result<Served, StreamFault>,
     changes: u64,
 ) {
-    assert!(rt; THREE_CREATED.starts_with(answer.text.as_str()));
-    assert_eq!(rt; answer.text.len(), length);
+    check_fact(
+        rt,
+        THREE_CREATED.starts_with(answer.text.as_str()),
+        "a beginning of the text",
+    );
+    check_fact(rt, answer.text.len() == length, "the length");
     check_end(rt, alloc, answer, served, changes);
 }
 

@@ -1,5 +1,6 @@
 //! Targets, methods by their names, and phrases.
 
+use crate::checks::{check_fact, check_text, check_text_of};
 use book_rights::Method;
 use book_wire_targets::{homes, method_named, path_in, phrase, target_path};
 use std::alloc::Global;
@@ -72,11 +73,11 @@ fn asked(rt: &impl Abort, alloc: Global, text: &str, is_target: bool) -> String 
 fn targets_ask_for_paths(rt: HostRuntime) {
     for (target, wanted) in TARGETS {
         let answer = asked(&rt, rt.alloc(), target, true);
-        assert_eq!(rt; answer.as_str(), *wanted, "{target:?}");
+        check_text_of(&rt, answer.as_str(), wanted, target);
     }
     for (text, wanted) in SPELLED {
         let answer = asked(&rt, rt.alloc(), text, false);
-        assert_eq!(rt; answer.as_str(), *wanted, "{text:?}");
+        check_text_of(&rt, answer.as_str(), wanted, text);
     }
 }
 
@@ -132,9 +133,9 @@ const PHRASES: &[(u16, &str)] = &[
 #[test]
 fn methods_and_statuses_have_names(rt: HostRuntime) {
     for (name, method) in METHODS {
-        assert_eq!(rt; method_named(name.as_bytes()), *method, "{name:?}");
+        check_fact(&rt, method_named(name.as_bytes()) == *method, name);
     }
     for (status, wanted) in PHRASES {
-        assert_eq!(rt; phrase(*status), *wanted, "{status}");
+        check_text(&rt, phrase(*status), wanted);
     }
 }

@@ -1,6 +1,7 @@
 //! Connections at once, without sockets: each is answered as it is alone, however its bytes are cut and mixed with those
 //! of others, and the requests of all are one run.
 
+use crate::checks::{check_bytes, check_fact};
 use crate::offices::{POLICY, machine};
 use book_desk_loop::Connections;
 use book_machine::Machine;
@@ -69,12 +70,19 @@ const STEPS: &[Step<'static>] = &[
 ];
 
 /// The connections of so many clients, at the first places.
-fn opened(rt: &(impl Abort + AllocGlobal), clients: usize) -> Connections<Machine<MemoryKeeper>> {
+pub(crate) fn opened(
+    rt: &(impl Abort + AllocGlobal),
+    clients: usize,
+) -> Connections<Machine<MemoryKeeper>> {
     let alloc = rt.alloc();
     let wire = Wire::new(alloc).expect(rt, "memory");
     let mut connections = Connections::new(alloc, wire, machine(rt, alloc, POLICY));
     for place in 0..clients {
-        assert_eq!(rt; connections.open(alloc).ok(), Some(place));
+        check_fact(
+            rt,
+            connections.open(alloc).ok() == Some(place),
+            "the next place",
+        );
     }
     connections
 }
@@ -113,7 +121,7 @@ fn check_told(
     text: &str,
 ) {
     let unsent = connections.unsent(place).expect(rt, "a connection");
-    assert_eq!(rt; unsent, text.as_bytes());
+    check_bytes(rt, unsent, text.as_bytes());
     let count = unsent.len();
     let sent = connections.did_send(rt.alloc(), place, count);
     sent.ok().expect(rt, "memory");
@@ -165,6 +173,10 @@ fn requests_that_alternate_are_one_run(rt: HostRuntime) {
     }
     // A place is taken again by the next connection.
     connections.let_go(0);
-    assert_eq!(rt; connections.open(rt.alloc()).ok(), Some(0));
+    check_fact(
+        &rt,
+        connections.open(rt.alloc()).ok() == Some(0),
+        "a place that is free again",
+    );
     drop(connections);
 }

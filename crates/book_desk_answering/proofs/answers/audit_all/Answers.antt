@@ -1,7 +1,7 @@
 use Rattle.std.proofs.Common.{◌≡◌, ℕ, Bool, List, Some}
 use Rattle.std.specs.Io.KnownBytes.{Keeps}
 use Rattle.book_desk_app.specs.Audits.{Audits, FailsToAudit}
-use Rattle.book_desk_app.specs.Tasks.{EndsWith}
+use Rattle.book_desk_app.specs.Endings.{EndsWith}
 use Rattle.book_desk_app.specs.Telling.{TellsFailure}
 use Rattle.book_desk_answering.specs.Answering.{AuditsIn}
 use Rattle.book_office.specs.Keeping.{Standing}

@@ -1,9 +1,15 @@
 use Rattle.book_desk_app.proofs.Common.{◌≡◌, ◌++◌, [], ◌∙◌, length, List, ℕ, sym, subst, ap, arith}
-use Rattle.std.proofs.Common.{◌-◌, take, drop}
-use Rattle.std.proofs.lemmas.List.{append-nil, length-drop, length-take, take_all, take-append-drop, take_rest}
+use Rattle.std.proofs.Common.{◌+◌, ◌-◌, take, drop}
+use Rattle.std.proofs.lemmas.List.{append-nil, drop-take, length-drop, length-take, take_all, take-append-drop, take_rest, take-take}
 use Rattle.std.specs.Io.KnownBytes.{Appends}
-use Rattle.book_wire.proofs.Known.{Appends-then, Appends-kept, take_further}
+use Rattle.std.proofs.KnownBytes.{Appends-trans, Appends-kept}
 use Rattle.book_desk_app.proofs.lines.put_text.Goals as goal
+
+take_further : (xs : List ℕ) (i n : ℕ) → take i xs ++ take n (drop i xs) ≡ take (i + n) xs
+take_further xs i n =
+    ap (λ (t : List ℕ). take i xs ++ t) (sym (drop-take i n xs))
+    ∙ ap (λ (t : List ℕ). t ++ drop i (take (i + n) xs)) (sym (take-take i (i + n) xs (omega arith)))
+    ∙ take-append-drop i (take (i + n) xs)
 
 pub returns-in-Ok-eq0-clause-front : goal.returns-in-Ok-eq0-clause-front
 returns-in-Ok-eq0-clause-front g c =
@@ -16,7 +22,7 @@ returns-in-Ok-eq0-clause-front g c =
       sym (take-append-drop at text),
       let P : List ℕ → Type 0 = λ t. Appends (g.W.Write.contents c.args.writer.now) (g.W.Write.contents c.write.new.self) t in
           subst P (ap (λ (t : List ℕ). take at text ++ t) none ∙ append-nil (take at text))
-          (Appends-then _ _ _ (take at text) _ c.loop-written.invariant.1 c.in-Ok-eq0.ensures.bytes),
+          (Appends-trans _ _ _ (take at text) _ c.loop-written.invariant.1 c.in-Ok-eq0.ensures.bytes),
     )
 
 pub returns-in-Err-clause-front : goal.returns-in-Err-clause-front
@@ -41,7 +47,7 @@ returns-in-Ok-eq0-clause-cut g c _ =
       λ none. (let n : length (drop at text) ≡ 0 = ap length none in omega (arith, n, length-drop at text)),
       let P : List ℕ → Type 0 = λ t. Appends (g.W.Write.contents c.args.writer.now) (g.W.Write.contents c.write.new.self) t in
           subst P (ap (λ (t : List ℕ). take at text ++ t) none ∙ append-nil (take at text))
-          (Appends-then _ _ _ (take at text) _ c.loop-written.invariant.1 c.in-Ok-eq0.ensures.bytes),
+          (Appends-trans _ _ _ (take at text) _ c.loop-written.invariant.1 c.in-Ok-eq0.ensures.bytes),
     )
 
 pub returns-in-Err-clause-cut : goal.returns-in-Err-clause-cut
@@ -62,7 +68,7 @@ loop-written-preserved g c =
     let P : List ℕ → Type 0 = λ t. Appends (g.W.Write.contents c.args.writer.now) (g.W.Write.contents c.write.new.self) t in (
       omega (arith, c.in-Ok.ensures.bound, length-take (length text - at) (drop at text), length-drop at text),
       subst P (ap (λ (t : List ℕ). take at text ++ take c.in-Ok.count t) (take_rest text at) ∙ take_further text at c.in-Ok.count)
-          (Appends-then _ _ _ (take at text) _ c.loop-written.invariant.1 c.in-Ok.ensures.bytes),
+          (Appends-trans _ _ _ (take at text) _ c.loop-written.invariant.1 c.in-Ok.ensures.bytes),
     )
 
 pub returns-clause-front : goal.returns-clause-front

@@ -1,5 +1,5 @@
 use Rattle.std.proofs.Common.{◌≡◌}
-use Rattle.book_wire.specs.declared.stream.StreamFault.{StreamFault}
+use Rattle.book_wire_serving.specs.declared.faults.StreamFault.{StreamFault}
 use Rattle.book_desk_loop.specs.declared.moves.Turn.{Turn}
 use Rattle.book_desk_loop.specs.declared.moves.Turn.TheVariants.{Again, Failed}
 use Rattle.book_desk_loop.proofs.Streams.{at_end_then, still_then, turn_sent, turn_then}

@@ -1,5 +1,5 @@
 use Rattle.std.proofs.Common.{◌≡◌, true, refl, ap, ◌∙◌, subst, rules}
-use Rattle.book_wire.specs.declared.stream.StreamFault.{StreamFault}
+use Rattle.book_wire_serving.specs.declared.faults.StreamFault.{StreamFault}
 use Rattle.book_desk_loop.specs.ManyConnections.{Holds}
 use Rattle.book_desk_loop.specs.declared.connections.Accepted.{Accepted}
 use Rattle.book_desk_loop.specs.declared.connections.Connections.{Connections}

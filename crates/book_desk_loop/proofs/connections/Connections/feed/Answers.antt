@@ -4,8 +4,8 @@ use Rattle.book_wire.specs.Connection.{View}
 use Rattle.book_wire.specs.Stream.{Exchange, IsPartial, answered_of}
 use Rattle.std.proofs.lemmas.List.{get_or-set_same, length-set}
 use Rattle.book_wire_serving.specs.Serving.{Answered, Runs, Serving, Stays}
-use Rattle.book_wire.specs.declared.stream.StreamFault.{StreamFault}
-use Rattle.book_wire.specs.declared.stream.StreamFault.TheVariants.{Memory, Read, Write, Log}
+use Rattle.book_wire_serving.specs.declared.faults.StreamFault.{StreamFault}
+use Rattle.book_wire_serving.specs.declared.faults.StreamFault.TheVariants.{Memory, Read, Write, Log}
 use Rattle.book_wire.specs.Turn.{StopsBy}
 use Rattle.book_desk_loop.proofs.Histories.{feeds, loses, starves, set_again, holds_read, holds_one, same_closing}
 use Rattle.book_wire_serving.proofs.Servings.{runs_none, runs_then}

@@ -1,5 +1,0 @@
-use Rattle.book_desk_app.proofs.Common.{◌∙◌}
-use Rattle.book_desk_app.proofs.memory.perform_in_memory.Goals as goal
-
-pub returns-clause-ends : goal.returns-clause-ends
-returns-clause-ends g c = (_, rw (c.new-machine.ensures ∙ c.new.ensures.value) at c.perform.ensures.ends)

@@ -1,0 +1,4 @@
+pub mod Questions
+pub mod Heads
+pub mod Replies
+pub mod Asking

@@ -1,0 +1,26 @@
+//! The files of this host that the program reads and makes: those of stores and policies, the drafts of stores that get
+//! their name when they are whole, the folder of `init`; and why one can't be had, told in words where that is wanted.
+//!
+//! It stands on `book_desk_app`, whose failures it gives, on `book_tables_files`, which opens a store over its two files, and
+//! on `sqlite_std_file`, which is such a file. Of the system's files no contract says anything: `tools/try-faults`,
+//! `tools/check-lost`, `tools/check-unsynced` and `tools/check-loads` try them. It is apart from the program so that it is
+//! proved beside the crates that the program waits for.
+//!
+//! Read `files` first, then `drafts`, `folders`, `causes`, and `progress`, which tells stages where a person looks.
+#![tactic(auto)]
+
+mod causes;
+mod drafts;
+mod files;
+mod folders;
+mod progress;
+
+pub use causes::{Cause, tell_cause, tell_row, wants_causes};
+pub use drafts::{Draft, empty_log, is_free, is_unused, remove};
+pub use files::{
+    CopyConnection, FileConnection, Named, Opened, close, length_of, log_name, open_backup_copy,
+    open_copied, open_former, open_inputs, open_locked_copy, open_store_named, open_untold_copy,
+    open_viewed, read_dump_bytes, read_policy_file, real_path, viewed,
+};
+pub use folders::{DiskFolder, make_folder, remove_folder};
+pub use progress::{Stage, tell_stage};
