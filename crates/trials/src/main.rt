@@ -1,6 +1,6 @@
 //! Trials of what no contract says, over keepers and stores: `trials pairs` asks three keepers the same, `trials
 //! faults [store] [memory]` lets a store fail and memory be refused, and `trials stops [KIND ..]` stops each kind of edit
-//! of a store at each write. `trials store [FILE]` and `trials echo REQUEST REPLY` print and serve what `measures` has.
+//! of a store at each write. `trials echo REQUEST REPLY` serves an echo, for `tools/measure-waits`.
 //!
 //! Without a word it does what the gate runs: `WITHOUT_WORDS`. Each prints what it tried; the status is 1 where something is
 //! wrong. They are one program, since each program is proved once more for what it drops. Read `pairs`, `faults` and `stops`,
@@ -8,16 +8,16 @@
 #![tactic(auto)]
 
 mod disks;
+mod echo;
 mod faults;
-mod measures;
 mod offices;
 mod pairs;
 mod policies;
 mod stops;
 
 use anyhow::Result;
+use echo::echo;
 use faults::try_faults;
-use measures::{print_store_times, serve_echo};
 use pairs::compare_all;
 use std::alloc::Global;
 use std::env;
@@ -26,7 +26,7 @@ use std::process::ExitCode;
 use stops::try_stops;
 
 const WORDS: &str =
-    "trials: the words are pairs, faults with store and memory, stops with the kinds of edits, store with a file, or echo with two numbers\n";
+    "trials: the words are pairs, faults with store and memory, stops with the kinds of edits, or echo with two numbers\n";
 
 const USAGE: u8 = 2;
 
@@ -37,6 +37,14 @@ const WITHOUT_WORDS: [&[&str]; 3] = [
     &["stops", "put-new", "put-over", "remove-card", "adopt-other"],
 ];
 
+/// The number that a word spells, or 1.
+fn number(word: Option<&&str>) -> usize {
+    match word {
+        Some(word) => word.parse::<usize>().unwrap_or(1),
+        None => 1,
+    }
+}
+
 /// Does what the first word names, with the words after it: whether nothing is wrong; none where it names nothing.
 fn tried(rt: &HostRuntime, first: &str, others: &[&str]) -> Result<Option<bool>> {
     let is_right = match first {
@@ -46,12 +54,8 @@ fn tried(rt: &HostRuntime, first: &str, others: &[&str]) -> Result<Option<bool>>
         }
         "faults" => try_faults(rt, others),
         "stops" => try_stops(rt, others)?,
-        "store" => {
-            print_store_times(rt, others.first())?;
-            true
-        }
         "echo" => {
-            serve_echo(rt, others)?;
+            echo(rt, number(others.get(0)), number(others.get(1)))?;
             true
         }
         _ => return Ok(None),

@@ -1,5 +1,5 @@
-//! One Office, three keepers: the same requests over a keeper in memory, over tables in memory, and over tables on two
-//! disks behind a cache, which are closed and opened again; and whether the replies are the same, byte for byte, and none
+//! One Office, three keepers: the same requests over a keeper in memory, over tables on two disks, and over such tables
+//! behind a cache, which are closed and opened again; and whether the replies are the same, byte for byte, and none
 //! of them says that the store failed. It prints how many replies there are, how many differ, and how many are
 //! `unavailable`; the same of the questions about the Office that is left; and how many replies there are of each status.
 //!
@@ -66,7 +66,7 @@ fn compare_keepers(rt: &impl Print, alloc: Global, name: &str, steps: &[Step]) -
     let memory = told_by_memory(alloc, steps)?;
     print_statuses(rt, memory.steps.as_str())?;
     let tables = told_by_tables(alloc, steps)?;
-    print_comparison(rt, "tables in memory", &memory, &tables)?;
+    print_comparison(rt, "tables on disks", &memory, &tables)?;
     let disks = told_by_disks(alloc, steps)?;
     print_comparison(rt, "tables on disks behind a cache", &memory, &disks)
 }

@@ -1,4 +1,5 @@
-//! The keepers: in memory, in tables in memory, and in tables on two disks behind a cache, as the program serves.
+//! The keepers: in memory, in tables on two disks, and in such tables behind a cache, as the program serves. The disks
+//! are in memory; a second kind of store would double what the trials take to be proved and built.
 
 use crate::disks::{Store, created, files_of, new_store, opened, store_of};
 use crate::pairs::questions::questions;
@@ -59,7 +60,7 @@ fn told_over<S: Alter + Drop>(alloc: Global, store: Connection<S>, steps: &[Step
 }
 
 pub(crate) fn told_by_tables(alloc: Global, steps: &[Step]) -> Result<Told> {
-    told_over(alloc, Connection::open_in_memory(alloc)?, steps)
+    told_over(alloc, new_store(alloc, SEEDS[0])?, steps)
 }
 
 /// What the steps tell over the tables of a new store behind a cache, and the store.
