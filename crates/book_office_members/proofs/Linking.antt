@@ -1,6 +1,7 @@
 -- Links of one card more, names of one card more, and sets of one text more.
 use Rattle.book_office_members.proofs.Common.{◌≡◌, inl, inr, ℕ, true, cond, ◌||◌, List, [], ◌∷◌, ◌++◌, map, Option, Some, None, unwrap_or, sym, ap, ◌∙◌, refl, nat_list_cmp_total, insert, has_path, pairs_in, groups_at, path_cmp, NamesTo, names_at, AreNamesOf, CardRef}
-use Rattle.std.proofs.Common.{Bool, false, ◌&&◌, filter}
+use Rattle.std.proofs.Common.{Bool, false, ◌&&◌, filter, if◌then◌else◌}
+use Rattle.std.proofs.lemmas.Option.{none-some}
 use Rattle.std.proofs.lemmas.Cmp.{nat_list_eq_equiv}
 use Rattle.std.proofs.lemmas.List.{append-nil}
 use Rattle.std.proofs.lemmas.List.Folds.{list_any-append}
@@ -13,10 +14,11 @@ use Rattle.std.specs.Map.{lookup, keys_of}
 use Rattle.std.specs.Str.{bytes_eq}
 use Rattle.book_lists.specs.GroupEntries.{GroupEntries}
 use Rattle.book_lists.proofs.GroupLists.{contains-pairs_in}
-use Rattle.book_lists.proofs.Pairing.{same_path}
+use Rattle.book_lists.proofs.Pairing.{path_itself, same_path}
 use Rattle.book_office_values.proofs.NameMapLaws.{put_at, put_back}
-use Rattle.book_office_members.specs.Reaching.{pushed_at}
-use Rattle.book_office_members.specs.Steps.{has_uid, names_with}
+use Rattle.book_office_members.specs.Reaching.{line_by, pushed_at, uid_among}
+use Rattle.book_office_members.specs.Steps.{has_uid, is_uid, member_line, names_with}
+use Rattle.book_office_members.specs.declared.members.MemberLine.{MemberLine}
 
 -- one text more in a set
 pub text_more : (old now new : set.FinSet path_cmp) (texts : List (List ℕ)) (text : List ℕ)
@@ -82,18 +84,44 @@ names_with_more (c ∷ cs) card q =
       | false ↦ names_with_more cs card q
     ]
 
--- a card without a UID, and one that has it
-pub index_same : (index : NamesTo (List (List ℕ))) (cards : List CardRef) (card : CardRef) → card.uid ≡ None
-    → ((uid : List ℕ) → names_at index uid ≡ names_with cards uid) → (uid : List ℕ) → names_at index uid ≡ names_with (cards ++ card ∷ []) uid
-index_same index cards card none before uid =
-    before uid ∙ sym (append-nil (names_with cards uid))
-    ∙ sym (names_with_more cards card uid ∙ ap (λ (u : Option (List ℕ)). names_with cards uid ++ cond (has_uid uid (record { name = card.name; uid = u; members = card.members })) (card.name ∷ []) []) none)
+-- a card without this UID, and one that has another or this
+pub index_same : (index : NamesTo (List (List ℕ))) (cards : List CardRef) (card : CardRef) (uid : List ℕ) → has_uid uid card ≡ false
+    → names_at index uid ≡ names_with cards uid → names_at index uid ≡ names_with (cards ++ card ∷ []) uid
+index_same index cards card uid apart before =
+    before ∙ sym (append-nil (names_with cards uid))
+    ∙ sym (names_with_more cards card uid ∙ ap (λ b. names_with cards uid ++ cond b (card.name ∷ []) []) apart)
 
-pub index_more : (index new : NamesTo (List (List ℕ))) (cards : List CardRef) (card : CardRef) (u : List ℕ) → card.uid ≡ Some u → new ≡ pushed_at index u card.name
-    → ((uid : List ℕ) → names_at index uid ≡ names_with cards uid) → (uid : List ℕ) → names_at new uid ≡ names_with (cards ++ card ∷ []) uid
-index_more index new cards card u some is before uid =
-    ap (λ m. names_at m uid) is ∙ name_pushed index u card.name uid ∙ ap (λ r. r ++ cond (bytes_eq u uid) (card.name ∷ []) []) (before uid)
+pub index_more : (index new : NamesTo (List (List ℕ))) (cards : List CardRef) (card : CardRef) (u uid : List ℕ) → card.uid ≡ Some u → new ≡ pushed_at index u card.name
+    → names_at index uid ≡ names_with cards uid → names_at new uid ≡ names_with (cards ++ card ∷ []) uid
+index_more index new cards card u uid some is before =
+    ap (λ m. names_at m uid) is ∙ name_pushed index u card.name uid ∙ ap (λ r. r ++ cond (bytes_eq u uid) (card.name ∷ []) []) before
     ∙ sym (names_with_more cards card uid ∙ ap (λ (o : Option (List ℕ)). names_with cards uid ++ cond (has_uid uid (record { name = card.name; uid = o; members = card.members })) (card.name ∷ []) []) some)
+
+-- a UID that is wanted is the card's
+pub wanted_is : (wanted : set.FinSet path_cmp) (uid : Option (List ℕ)) (u : List ℕ) → uid_among wanted uid ≡ Some u → uid ≡ Some u
+wanted_is wanted None u e = e
+wanted_is wanted (Some v) u e =
+    elim (set.contains wanted v) as (λ b. (if b then Some v else None) ≡ Some u → Some v ≡ Some u) [ true ↦ λ h. h | false ↦ λ h. absurd (none-some u h) ] e
+
+-- where none is, the card has no UID that is wanted
+pub unwanted : (wanted : set.FinSet path_cmp) (uid : Option (List ℕ)) (q : List ℕ) → uid_among wanted uid ≡ None → set.contains wanted q ≡ true → is_uid q uid ≡ false
+unwanted wanted None q e is = refl
+unwanted wanted (Some v) q e is =
+    elim (bytes_eq v q) as (λ b. bytes_eq v q ≡ b → b ≡ false) [
+      | true ↦ λ same. absurd (none-some v (sym (ap (λ b. if b then Some v else None) (sym (ap (set.contains wanted) (same_path v q same) ∙ is)) ∙ e)))
+      | false ↦ λ _. refl
+    ] refl
+
+-- lines by a map that has the names at their values
+pub lines_by : (index : NamesTo (List (List ℕ))) (cards : List CardRef) (values : List (List ℕ))
+    → ((q : List ℕ) → has_path values q ≡ true → names_at index q ≡ names_with cards q) → map (line_by index) values ≡ map (member_line cards) values
+lines_by index cards [] same = refl
+lines_by index cards (v ∷ vs) same =
+    λ i. record { value = v; names = same v (ap (λ b. b || has_path vs v) (path_itself v)) i } ∷ lines_by index cards vs (λ q has. same q (ap (λ b. bytes_eq v q || b) has ∙ or_true (bytes_eq v q))) i
+  where
+    or_true : (b : Bool) → (b || true) ≡ true
+    or_true true = refl
+    or_true false = refl
 
 -- ---- names of one card more
 module _ (Fact : CardRef → Type 0) where

@@ -1,5 +1,5 @@
 -- What is reached, as it is searched for: links from UID to UID, each from the UID of a card to one that it names.
-use Rattle.std.specs.Prelude.{◌≡◌, ◌↔◌, ◌&&◌, ℕ, Bool, true, false, List, ◌++◌, ◌∷◌, [], Option, Some, None, unwrap_or}
+use Rattle.std.specs.Prelude.{◌≡◌, ◌↔◌, ◌&&◌, ℕ, Bool, true, false, List, ◌++◌, ◌∷◌, [], Option, Some, None, unwrap_or, if◌then◌else◌}
 use Rattle.std.specs.FinMap.{get, insert}
 use Rattle.std.specs.FinSet as set
 use Rattle.std.specs.List.{list_any}
@@ -7,8 +7,9 @@ use Rattle.book_lists.specs.Circles.{has_path}
 use Rattle.book_lists.specs.Memberships.{Memberships, Belongs}
 use Rattle.book_lists.specs.Principals.{path_cmp}
 use Rattle.book_office_values.specs.Names.{NamesTo}
-use Rattle.book_office_members.specs.Steps.{has_uid, has_member}
+use Rattle.book_office_members.specs.Steps.{has_uid, has_member, names_with}
 use Rattle.book_office_members.specs.declared.card_refs.CardRef.{CardRef}
+use Rattle.book_office_members.specs.declared.members.MemberLine.{MemberLine}
 
 -- a link leads from a UID to each member of a card that has it
 abbrev pub is_link : List ℕ → List ℕ → CardRef → Bool
@@ -36,3 +37,16 @@ names_at index uid = unwrap_or (get index uid) []
 
 abbrev pub pushed_at : NamesTo (List (List ℕ)) → List ℕ → List ℕ → NamesTo (List (List ℕ))
 pushed_at index uid name = insert index uid (names_at index uid ++ name ∷ [])
+
+-- the UID, if it is one of a set
+abbrev pub uid_among : set.FinSet path_cmp → Option (List ℕ) → Option (List ℕ)
+uid_among wanted None = None
+uid_among wanted (Some uid) = if set.contains wanted uid then Some uid else None
+
+-- the map has the names of the cards at each UID of a set
+abbrev pub HasNamesOf : List CardRef → set.FinSet path_cmp → NamesTo (List (List ℕ)) → Type 0
+HasNamesOf cards wanted index = (uid : List ℕ) → set.contains wanted uid ≡ true → names_at index uid ≡ names_with cards uid
+
+-- a MEMBER line, with the names that the map has at its value
+abbrev pub line_by : NamesTo (List (List ℕ)) → List ℕ → MemberLine
+line_by index value = record { value = value; names = names_at index value }

@@ -51,13 +51,17 @@ impl Links {
         }
     }
 
-    /// Adds a link from a text to each of others. The text is looked up and copied once. An error is want of memory.
+    /// Adds a link from a text to each of others. The text is looked up and copied once, where there are any. An error is
+    /// want of memory.
     pub(crate) fn add_all(&mut self, start: &Text, ends: &[Text]) -> Result<(), AllocError>
         ensures { OnOk result ((to from : List ℕ)
             → set.contains self.new (record { group = to; member = from }) ≡
             ((bytes_eq start.now from && has_path ends.now to) || set.contains self.old
             (record { group = to; member = from }))) }
     {
+        if ends.is_empty() {
+            return Ok(());
+        }
         add_targets(self.alloc, &mut self.targets, start, ends)
     }
 

@@ -1,8 +1,11 @@
 //! The members of a card: what its MEMBER lines lead to, and what steps reach.
 
 ghost use Rattle.std.specs.Prelude.{◌≡◌, ◌++◌, ◌∷◌, [], ℕ, List, true, IfOk, OnOk, map};
-ghost use Rattle.book_office_members.specs.Reaching.{AreLinks, names_at, pushed_at, uid_in};
-ghost use Rattle.book_office_members.specs.Steps.{AreMembers, AreMembersOf, AreNamesOf, IsReached, card_named, names_with, member_line};
+ghost use Rattle.std.specs.FinSet as set;
+ghost use Rattle.std.specs.Option.{option_copied};
+ghost use Rattle.book_lists.specs.Circles.{has_path};
+ghost use Rattle.book_office_members.specs.Reaching.{AreLinks, HasNamesOf, line_by, names_at, pushed_at, uid_among, uid_in};
+ghost use Rattle.book_office_members.specs.Steps.{AreMembers, AreMembersOf, AreNamesOf, IsReached, card_named, member_line};
 
 use crate::card_refs::{CardRef, card_named};
 use crate::links::Links;
@@ -48,18 +51,40 @@ fn push_name(
     Ok(())
 }
 
-/// The names of the cards by their UIDs, those of each UID in the order of the cards.
-fn names_by_uid(alloc: Global, cards: &[CardRef]) -> Result<TextMap<Items<Name>>, AllocError>
-    ensures { IfOk result (λ index. (uid : List ℕ)
-        → names_at index uid ≡ names_with cards.now uid) }
+/// The UID of the card, if it has one that is wanted.
+fn wanted_uid<'a>(wanted: &TextSet, card: &'a CardRef) -> Option<&'a Text>
+    ensures { option_copied result ≡ uid_among wanted.now card.entry.now.uid }
+{
+    match &card.uid {
+        Some(uid) if wanted.has(uid) => Some(uid),
+        _ => None,
+    }
+}
+
+/// The names of the cards by their UIDs, where these are wanted, those of each UID in the order of the cards.
+fn names_by_uid(
+    alloc: Global,
+    cards: &[CardRef],
+    wanted: &TextSet,
+) -> Result<TextMap<Items<Name>>, AllocError>
+    ensures { IfOk result (HasNamesOf cards.now wanted.now) }
 {
     let mut index = TextMap::new(alloc);
     for card in cards {
-        if let Some(uid) = &card.uid {
+        if let Some(uid) = wanted_uid(wanted, card) {
             push_name(alloc, &mut index, uid, card.name.clone()?)?;
         }
     }
     Ok(index)
+}
+
+/// The texts of a list, as a set.
+fn set_of(alloc: Global, texts: &[Text]) -> Result<TextSet, AllocError>
+    ensures { IfOk result (λ s. (q : List ℕ) → set.contains s q ≡ has_path texts.now q) }
+{
+    let mut set = TextSet::new(alloc);
+    set.insert_all(texts)?;
+    Ok(set)
 }
 
 /// Copies of the names of a UID.
@@ -76,6 +101,23 @@ fn copied_names(
     }
 }
 
+/// The MEMBER lines with these values, each with its names in the index.
+fn lines_by(
+    alloc: Global,
+    index: &TextMap<Items<Name>>,
+    values: &[Text],
+) -> Result<Vec<MemberLine>, AllocError>
+    ensures { IfOk result (λ lines. lines.items ≡ map (line_by index.now) values.now) }
+{
+    let mut lines = Vec::new(alloc);
+    for value in values {
+        let names = copied_names(alloc, index, value)?;
+        let value = value.clone()?;
+        lines.push(MemberLine { value, names })?;
+    }
+    Ok(lines)
+}
+
 /// The MEMBER lines with these values, each with the names of its cards.
 fn lines_of(
     alloc: Global,
@@ -84,14 +126,9 @@ fn lines_of(
 ) -> Result<Vec<MemberLine>, AllocError>
     ensures { IfOk result (λ lines. lines.items ≡ map (member_line cards.now) values.now) }
 {
-    let index = names_by_uid(alloc, cards)?;
-    let mut lines = Vec::new(alloc);
-    for value in values {
-        let names = copied_names(alloc, &index, value)?;
-        let value = value.clone()?;
-        lines.push(MemberLine { value, names })?;
-    }
-    Ok(lines)
+    let wanted = set_of(alloc, values)?;
+    let index = names_by_uid(alloc, cards, &wanted)?;
+    lines_by(alloc, &index, values)
 }
 
 /// The links from the UID of each card to its members.
@@ -157,8 +194,8 @@ fn members_of(alloc: Global, cards: &[CardRef], card: &CardRef) -> Result<Member
 /// The members of the card with the name among these cards (RFC 6350, section 6.6.5); none where no card has the name.
 /// An error is want of memory.
 ///
-/// The number of comparisons grows with the cards and their members, and with the logarithm of their number; beside
-/// them the cost is that of the names that are answered.
+/// Each UID is looked for among the values of the card's MEMBER lines, and among what steps reach; only cards that have
+/// members are held by their UIDs. Beside that the cost is that of the names that are answered.
 pub fn members_among(alloc: Global, cards: &[CardRef], name: &Name) -> Result<Members, AllocError>
     ensures { IfOk result (AreMembersOf cards.now (card_named cards.now name.now)) }
 {
