@@ -14,7 +14,7 @@ use crate::limits::{
     Ended, Faults, Limits, Stop, StoreState, fault_of, fewer, is_endless, none_left, stop_of, tell,
 };
 use crate::moves::{Turn, take_turn};
-use crate::readiness::Readiness;
+use crate::readiness::{EVENTS, Readiness};
 use crate::socket_places::{
     are_none, close_at, close_for_writing, drop_at, join, note_begin, note_queued,
 };
@@ -46,8 +46,10 @@ struct Server<M, S> {
     open: usize,
     /// How many more are to come; none where there is no end.
     left: Option<u16>,
-    /// Those that may go on at once.
+    /// Those that may go on at once, each once. There is room for each that has a place, so that none asks for memory.
     again: Vec<usize>,
+    /// The same room, for those that come to be so while these have their turn.
+    next: Vec<usize>,
     /// Whether one may wait to be accepted.
     waiting: bool,
     /// Whether none could be accepted, and may be later.
@@ -133,6 +135,8 @@ impl<M: Service, S: Read + Write + OpenStream + Drop> Server<M, S> {
         ensures err { OnErr result (BeginsNone S.remaining S.contents M.serving self.old
             self.new) }
     {
+        self.again.reserve(self.open.saturating_add(1))?;
+        self.next.reserve(self.open.saturating_add(1))?;
         stream.set_nonblocking(true)?;
         // Without it a reply in two writes waits for the client's acknowledgement of the first.
         let _ = stream.set_nodelay(true);
@@ -571,10 +575,13 @@ impl<M: Service, S: Read + Write + OpenStream + Drop> Server<M, S> {
         ensures { GoesOn S.remaining S.contents M.serving F.tells self.old faults.old self.new
             faults.new }
     {
-        let places = mem::replace(&mut self.again, Vec::new(alloc));
+        let next = mem::replace(&mut self.next, Vec::new(alloc));
+        let mut places = mem::replace(&mut self.again, next);
         for place in &places {
             self.give_turn(alloc, *place, memory, now, faults)?;
         }
+        places.clear();
+        self.next = places;
         Ok(())
     }
 
@@ -862,7 +869,7 @@ impl<M: Service, S: Read + Write + OpenStream + Drop> Server<M, S> {
             EndsSo S.remaining S.contents M.serving ended self.new failures) }
     {
         let mut memory = vec![in alloc; 0u8; READ]?;
-        let mut ready = Vec::new(alloc);
+        let mut ready = Vec::with_capacity(alloc, EVENTS)?;
         let mut swept = readiness.now()?;
         for _ in 0..u64::MAX {
             if let Some(ended) = self.ended(failures) {
@@ -946,6 +953,7 @@ pub fn serve_at_once<
         open: 0,
         left: limits.total,
         again: Vec::new(alloc),
+        next: Vec::new(alloc),
         waiting: true,
         paused: false,
         short: false,

@@ -50,7 +50,7 @@ const LISTENER: Token = Token(usize::MAX);
 const CONTROL: Token = Token(usize::MAX - 1);
 
 /// The most events of one wait.
-const EVENTS: usize = 256;
+pub(crate) const EVENTS: usize = 256;
 
 /// Readiness as the system tells it.
 #[derive(Drop)]

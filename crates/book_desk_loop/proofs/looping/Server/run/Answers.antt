@@ -25,3 +25,6 @@ pub returns-in_err-swept-2-clause-goes : goal.returns-in_err-swept-2-clause-goes
 returns-in_err-swept-2-clause-goes g c =
     goes_then g.S.Read.remaining g.S.Write.contents g.M.Service.serving g.F.Faults.tells c.args.self.now c.loop.self c.round.new.self c.args.faults.now c.loop.faults c.round.new.faults
     c.loop.invariant c.round.ensures
+
+pub returns-in_err-ready-clause-goes : goal.returns-in_err-ready-clause-goes
+returns-in_err-ready-clause-goes g c = goes_none g.S.Read.remaining g.S.Write.contents g.M.Service.serving g.F.Faults.tells c.args.self.now c.args.faults.now
