@@ -1,5 +1,5 @@
 -- The command line (own profile): the words that it has, and the command that clap's matches of them give.
-use Rattle.std.specs.Prelude.{◌≡◌, ◌≢◌, ◌⊎◌, ◌&&◌, ◌||◌, not, ℕ, ◌≤◌, pos, Bool, true, false, List, [], codes, Result, IfOk, Option, Some, None, is_none, is_some, length, String, option_map, map, string_bytes, bytes_eq, Vec}
+use Rattle.std.specs.Prelude.{◌≡◌, ◌≢◌, ◌⊎◌, ◌&&◌, ◌||◌, not, ℕ, ◌≤◌, pos, Bool, true, false, List, [], ◌∷◌, ◌++◌, codes, fold, Result, IfOk, Option, Some, None, is_none, is_some, length, String, option_map, map, string_bytes, bytes_eq, Vec}
 use Rattle.std.specs.declared.alloc.AllocError.{AllocError}
 use Rattle.std.specs.declared.alloc.Global.{Global}
 use Rattle.std.specs.Str.Parse.{IsNumeral, digits_value, without_leading_plus}
@@ -46,85 +46,6 @@ word_rule name = record (new_rule name) { value_names = 1; required = true }
 abbrev pub words_rule : Text → Rule
 words_rule name = record (word_rule name) { action = Some Append }
 
--- the store, and whether it is told why it can't be had
-abbrev pub with_store : App → App
-with_store app = with_rule (with_rule app (required_rule (codes "store"))) (flag_rule (codes "cause"))
-
--- the store, or the control of the server that has it, and whether it is told why the store can't be had
-abbrev pub with_office : App → App
-with_office app =
-    with_rule (with_rule (with_rule app (option_rule (codes "store"))) (option_rule (codes "control"))) (flag_rule (codes "cause"))
-
-abbrev pub init_app : App
-init_app = with_rule (new_app (codes "init")) (word_rule (codes "folder"))
-
-abbrev pub import_app : App
-import_app = with_rule (with_office (new_app (codes "import"))) (word_rule (codes "policy"))
-
-abbrev pub check_app : App
-check_app = with_office (with_rule (with_rule (new_app (codes "check")) (word_rule (codes "policy"))) (flag_rule (codes "strict")))
-
-abbrev pub differs_app : App
-differs_app =
-    with_rule (with_rule (with_office (new_app (codes "differs"))) (word_rule (codes "policy"))) (flag_rule (codes "strict"))
-
--- the words that say which part is printed, and what of it
-abbrev pub with_part : App → App
-with_part app = with_rule (with_rule (with_rule app (option_rule (codes "at"))) (flag_rule (codes "books"))) (flag_rule (codes "labels"))
-
-abbrev pub audit_app : App
-audit_app = with_part (with_rule (with_office (new_app (codes "audit"))) (flag_rule (codes "existing")))
-
-abbrev pub migrate_app : App
-migrate_app = with_store (new_app (codes "migrate"))
-
--- a word that may follow, and follows no option's name
-abbrev pub last_word_rule : Text → Rule
-last_word_rule name = record (new_rule name) { value_names = 1 }
-
--- who asks, and what
-abbrev pub with_question : App → App
-with_question app = with_rule (with_rule app (word_rule (codes "caller"))) (word_rule (codes "what"))
-
--- where, and the destination
-abbrev pub with_places : App → App
-with_places app = with_rule (with_rule app (word_rule (codes "path"))) (last_word_rule (codes "destination"))
-
-abbrev pub why_app : App
-why_app = with_rule (with_places (with_question (with_office (new_app (codes "why"))))) (flag_rule (codes "json"))
-
--- a privilege, and where
-abbrev pub with_privilege : App → App
-with_privilege app = with_rule (with_rule app (word_rule (codes "privilege"))) (word_rule (codes "path"))
-
-abbrev pub who_app : App
-who_app =
-    with_rule (with_rule (with_privilege (with_office (new_app (codes "who")))) (flag_rule (codes "denied")))
-    (flag_rule (codes "json"))
-
--- the options that say where rights are told, and whose
-abbrev pub with_scope : App → App
-with_scope app = with_rule (with_rule app (option_rule (codes "at"))) (option_rule (codes "caller"))
-
-abbrev pub rights_app : App
-rights_app =
-    with_rule (with_rule (with_scope (with_office (new_app (codes "rights")))) (flag_rule (codes "shared")))
-    (flag_rule (codes "json"))
-
--- who asks, where, and for what
-abbrev pub with_decision : App → App
-with_decision app =
-    with_rule (with_rule (with_rule app (word_rule (codes "caller"))) (word_rule (codes "path"))) (words_rule (codes "privilege"))
-
-abbrev pub ask_app : App
-ask_app = with_decision (with_office (new_app (codes "ask")))
-
-abbrev pub dump_app : App
-dump_app = with_office (new_app (codes "dump"))
-
-abbrev pub show_app : App
-show_app = with_rule (with_office (new_app (codes "show"))) (word_rule (codes "path"))
-
 -- one with a number of 64 bits
 abbrev pub whole_rule : Text → Rule
 whole_rule name = record (option_rule name) { parser = Some (parsers.Unsigned 0 18446744073709551615) }
@@ -133,65 +54,129 @@ whole_rule name = record (option_rule name) { parser = Some (parsers.Unsigned 0 
 abbrev pub options_rule : Text → Rule
 options_rule name = record (option_rule name) { action = Some Append }
 
+-- a word that may follow, and follows no option's name
+abbrev pub last_word_rule : Text → Rule
+last_word_rule name = record (new_rule name) { value_names = 1 }
+
+-- a command of this name whose arguments have these rules, in this order
+abbrev pub command_app : Text → List Rule → App
+command_app name rules = fold with_rule (new_app name) rules
+
+-- the store, and whether it is told why it can't be had
+abbrev pub store_rules : List Rule
+store_rules = required_rule (codes "store") ∷ flag_rule (codes "cause") ∷ []
+
+-- the store, or the control of the server that has it, and whether it is told why the store can't be had
+abbrev pub office_rules : List Rule
+office_rules = option_rule (codes "store") ∷ option_rule (codes "control") ∷ flag_rule (codes "cause") ∷ []
+
+abbrev pub explain_app : App
+explain_app = new_app (codes "explain")
+
+abbrev pub card_app : App
+card_app = new_app (codes "card")
+
+abbrev pub init_app : App
+init_app = command_app (codes "init") (word_rule (codes "folder") ∷ [])
+
+abbrev pub import_app : App
+import_app = command_app (codes "import") (office_rules ++ word_rule (codes "policy") ∷ [])
+
+abbrev pub check_app : App
+check_app = command_app (codes "check") (word_rule (codes "policy") ∷ flag_rule (codes "strict") ∷ office_rules)
+
+abbrev pub differs_app : App
+differs_app = command_app (codes "differs") (office_rules ++ word_rule (codes "policy") ∷ flag_rule (codes "strict") ∷ [])
+
+-- which part is printed, and what of it
+abbrev pub part_rules : List Rule
+part_rules = option_rule (codes "at") ∷ flag_rule (codes "books") ∷ flag_rule (codes "labels") ∷ []
+
+abbrev pub audit_app : App
+audit_app = command_app (codes "audit") (office_rules ++ flag_rule (codes "existing") ∷ part_rules)
+
+abbrev pub migrate_app : App
+migrate_app = command_app (codes "migrate") store_rules
+
+-- who asks, what, and where
+abbrev pub why_app : App
+why_app =
+    command_app (codes "why") (office_rules ++ word_rule (codes "caller") ∷ word_rule (codes "what") ∷ word_rule (codes "path")
+    ∷ last_word_rule (codes "destination") ∷ flag_rule (codes "json") ∷ [])
+
+-- a privilege, and where
+abbrev pub who_app : App
+who_app =
+    command_app (codes "who") (office_rules ++ word_rule (codes "privilege") ∷ word_rule (codes "path") ∷ flag_rule (codes "denied")
+    ∷ flag_rule (codes "json") ∷ [])
+
+-- where rights are told, and whose
+abbrev pub rights_app : App
+rights_app =
+    command_app (codes "rights") (office_rules ++ option_rule (codes "at") ∷ option_rule (codes "caller") ∷ flag_rule (codes "shared")
+    ∷ flag_rule (codes "json") ∷ [])
+
+-- who asks, where, and for what
+abbrev pub ask_app : App
+ask_app =
+    command_app (codes "ask") (office_rules ++ word_rule (codes "caller") ∷ word_rule (codes "path") ∷ words_rule (codes "privilege") ∷ [])
+
+abbrev pub dump_app : App
+dump_app = command_app (codes "dump") office_rules
+
+abbrev pub show_app : App
+show_app = command_app (codes "show") (office_rules ++ word_rule (codes "path") ∷ [])
+
 -- who owns what was somebody's
-abbrev pub with_owners : App → App
-with_owners app =
-    with_rule (with_rule (with_rule (with_rule app (options_rule (codes "owner"))) (option_rule (codes "at"))) (options_rule (codes "without")))
-    (option_rule (codes "heir"))
+abbrev pub owners_rules : List Rule
+owners_rules =
+    options_rule (codes "owner") ∷ option_rule (codes "at") ∷ options_rule (codes "without") ∷ option_rule (codes "heir") ∷ []
 
 -- what of the past is left out
-abbrev pub with_past : App → App
-with_past app =
-    with_rule (with_rule (with_rule app (flag_rule (codes "forget-removed"))) (flag_rule (codes "new-epoch"))) (whole_rule (codes "above"))
+abbrev pub past_rules : List Rule
+past_rules = flag_rule (codes "forget-removed") ∷ flag_rule (codes "new-epoch") ∷ whole_rule (codes "above") ∷ []
 
 abbrev pub load_app : App
-load_app =
-    with_past (with_owners (with_rule (with_store (new_app (codes "load"))) (last_word_rule (codes "dump"))))
+load_app = command_app (codes "load") (store_rules ++ last_word_rule (codes "dump") ∷ owners_rules ++ past_rules)
 
 abbrev pub compact_app : App
-compact_app = with_rule (with_store (new_app (codes "compact"))) (flag_rule (codes "forget-removed"))
+compact_app = command_app (codes "compact") (store_rules ++ flag_rule (codes "forget-removed") ∷ [])
 
 abbrev pub backup_app : App
-backup_app =
-    with_rule (with_rule (with_store (new_app (codes "backup"))) (option_rule (codes "to"))) (option_rule (codes "check"))
+backup_app = command_app (codes "backup") (store_rules ++ option_rule (codes "to") ∷ option_rule (codes "check") ∷ [])
 
 abbrev pub restore_app : App
-restore_app =
-    with_rule (with_rule (with_store (new_app (codes "restore"))) (required_rule (codes "from"))) (words_rule (codes "path"))
+restore_app = command_app (codes "restore") (store_rules ++ required_rule (codes "from") ∷ words_rule (codes "path") ∷ [])
 
 abbrev pub doctor_app : App
-doctor_app = with_rule (new_app (codes "doctor")) (required_rule (codes "store"))
+doctor_app = command_app (codes "doctor") (required_rule (codes "store") ∷ [])
 
 -- a log, and what of it is told, and how
 abbrev pub denials_app : App
-denials_app =
-    with_rule (with_rule (with_rule (new_app (codes "denials")) (word_rule (codes "log"))) (option_rule (codes "since"))) (flag_rule (codes "json"))
+denials_app = command_app (codes "denials") (word_rule (codes "log") ∷ option_rule (codes "since") ∷ flag_rule (codes "json") ∷ [])
 
--- the options that name the files of the store, of the policy and of the log
-abbrev pub with_files : App → App
-with_files app =
-    with_rule (with_rule (with_rule (with_rule app (option_rule (codes "store"))) (option_rule (codes "policy"))) (flag_rule (codes "cause")))
-    (option_rule (codes "log"))
+-- the files of the store, of the policy and of the log, and whether it is told why the store can't be had
+abbrev pub files_rules : List Rule
+files_rules = option_rule (codes "store") ∷ option_rule (codes "policy") ∷ flag_rule (codes "cause") ∷ option_rule (codes "log") ∷ []
 
 abbrev pub pipe_app : App
-pipe_app = with_files (new_app (codes "pipe"))
+pipe_app = command_app (codes "pipe") files_rules
 
--- the options that say how many connections are served
-abbrev pub with_ends : App → App
-with_ends app = with_rule (with_rule app (counted_rule (codes "connections") 1 10000)) (flag_rule (codes "forever"))
+-- where is listened
+abbrev pub listening_rules : List Rule
+listening_rules = counted_rule (codes "port") 0 65535 ∷ option_rule (codes "socket") ∷ option_rule (codes "mode") ∷ []
 
--- the options that say how many are served at once, for how long, and who administers them
-abbrev pub with_pace : App → App
-with_pace app =
-    with_rule (with_rule (with_rule app (counted_rule (codes "at-once") 1 1000)) (counted_rule (codes "idle") 1 3600)) (option_rule (codes "control"))
+-- how many connections are served
+abbrev pub ends_rules : List Rule
+ends_rules = counted_rule (codes "connections") 1 10000 ∷ flag_rule (codes "forever") ∷ []
 
--- the options that say where is listened
-abbrev pub with_listening : App → App
-with_listening app =
-    with_rule (with_rule (with_rule app (counted_rule (codes "port") 0 65535)) (option_rule (codes "socket"))) (option_rule (codes "mode"))
+-- how many are served at once, for how long, and who administers them
+abbrev pub pace_rules : List Rule
+pace_rules = counted_rule (codes "at-once") 1 1000 ∷ counted_rule (codes "idle") 1 3600 ∷ option_rule (codes "control") ∷ []
 
 abbrev pub serve_app : App
-serve_app = with_files (with_rule (with_pace (with_ends (with_listening (new_app (codes "serve"))))) (flag_rule (codes "existing")))
+serve_app =
+    command_app (codes "serve") (listening_rules ++ ends_rules ++ pace_rules ++ flag_rule (codes "existing") ∷ files_rules)
 
 -- the program, whose words have no name of a program before them
 abbrev pub top_app : App
@@ -201,7 +186,7 @@ top_app = on_top (λ s. record s { no_binary_name = true; subcommand_required = 
 abbrev pub with_first : App → App
 with_first app =
     with_subcommand (with_subcommand (with_subcommand (with_subcommand (with_subcommand app
-    (new_app (codes "explain")).top) (new_app (codes "card")).top) init_app.top) import_app.top) audit_app.top
+    explain_app.top) card_app.top) init_app.top) import_app.top) audit_app.top
 
 -- those that migrate, tell why, serve and check
 abbrev pub with_serving : App → App

@@ -4,9 +4,11 @@
 //! the words give, with the numbers in range, or help, where the words ask for it.
 //!
 //! Read `commands` first, and `questions` and `keeping`, which have the commands that ask and those that make stores, and
-//! `listening`, which has where `serve` listens, and `offices`, of which Office a command asks; then `programs`, which tells clap of the command line, and `helps`, its texts.
+//! `listening`, which has where `serve` listens, and `offices`, of which Office a command asks; then `programs`, which
+//! tells clap of the command line, `arguments`, which has the arguments of each command, and `helps`, its texts.
 #![tactic(auto)]
 
+mod arguments;
 mod commands;
 mod helps;
 mod keeping;

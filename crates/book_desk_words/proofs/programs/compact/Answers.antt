@@ -1,4 +1,4 @@
 use Rattle.book_desk_words.proofs.programs.compact.Goals as goal
 
 pub returns : goal.returns
-returns c = c.with_word.ensures _ _ (c.with_store-made.ensures _ c.begun-made.ensures) c.flag_option.ensures.rule
+returns c = c.command.ensures

@@ -1,4 +1,4 @@
 use Rattle.book_desk_words.proofs.programs.explain.Goals as goal
 
 pub returns : goal.returns
-returns c = c.begun.ensures
+returns c = c.command.ensures

@@ -1,4 +1,4 @@
 use Rattle.book_desk_words.proofs.programs.import.Goals as goal
 
 pub returns : goal.returns
-returns c = c.with_word.ensures _ _ (c.with_office-made.ensures _ c.begun-made.ensures) c.word_needed.ensures.rule
+returns c = c.command.ensures

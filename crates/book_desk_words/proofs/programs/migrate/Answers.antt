@@ -1,4 +1,4 @@
 use Rattle.book_desk_words.proofs.programs.migrate.Goals as goal
 
 pub returns : goal.returns
-returns c = c.with_store.ensures _ c.begun-made.ensures
+returns c = c.command.ensures

@@ -1,4 +1,0 @@
-use Rattle.book_desk_words.proofs.programs.with_past.Goals as goal
-
-pub returns : goal.returns
-returns c = λ app is. c.with_word.ensures _ _ (c.with_word-made-2.ensures _ _ (c.with_word-made.ensures _ _ is c.flag_option.ensures.rule) c.flag_option-2.ensures.rule) c.whole_option.ensures.rule

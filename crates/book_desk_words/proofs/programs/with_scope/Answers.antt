@@ -1,4 +1,0 @@
-use Rattle.book_desk_words.proofs.programs.with_scope.Goals as goal
-
-pub returns : goal.returns
-returns c = λ app is. c.with_word.ensures _ _ (c.with_word-made.ensures _ _ is c.value_option.ensures.rule) c.value_option-2.ensures.rule
