@@ -1,6 +1,6 @@
 //! Books that others reach: from above, as owners who left, and by a listing.
 
-use crate::gaps_telling::told;
+use crate::gaps_telling::compare;
 
 /// An entry at `/books` lets everybody read. Of the books, `a` says nothing; `b` denies who is not known; `c` closes to all,
 /// `d` and `e` to who is not staff, by one list or the other; `f` denies staff; `g` closes the reading alone; `h` grants it
@@ -109,9 +109,5 @@ const TOLD: &[(&str, &str)] = &[
 
 #[test]
 fn books_that_others_reach_are_told(rt: HostRuntime) {
-    let alloc = rt.alloc();
-    for (policy, wanted) in TOLD {
-        let text = told(&rt, alloc, policy);
-        assert_eq!(rt; text.as_str(), *wanted);
-    }
+    compare(&rt, rt.alloc(), TOLD);
 }

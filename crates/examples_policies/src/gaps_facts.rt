@@ -1,6 +1,6 @@
 //! A policy for each fact of one resource or one caller, one that has none, and one that has each fact once.
 
-use crate::gaps_telling::told;
+use crate::gaps_telling::compare;
 
 /// Ann and bob are staff, who may do everything with the book, and change each list.
 const SOUND: &str = "version = 1\n\
@@ -112,9 +112,5 @@ const TOLD: &[(&str, &str)] = &[
 
 #[test]
 fn each_fact_is_told_where_it_holds(rt: HostRuntime) {
-    let alloc = rt.alloc();
-    for (policy, wanted) in TOLD {
-        let text = told(&rt, alloc, policy);
-        assert_eq!(rt; text.as_str(), *wanted);
-    }
+    compare(&rt, rt.alloc(), TOLD);
 }

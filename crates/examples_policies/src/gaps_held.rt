@@ -1,8 +1,9 @@
 //! What a person holds at a resource. Ann is in the group staff, and bob owns the book sales.
 
-use crate::gaps_telling::keeper;
+use crate::checks::check_fact;
+use crate::making::adopted;
 use book_lists::{Caller, Circle, Name, Principal};
-use book_office::{Keeper, MemoryKeeper};
+use book_office::Keeper;
 use book_office_values::Path;
 use book_policy_gaps::held_at;
 use book_rights::{Leaf, LeafSet, Privilege};
@@ -20,7 +21,7 @@ const POLICY: &str = "version = 1\n\
     [[entry]]\nat = \"/books/sales\"\nwho = \"/groups/staff\"\ninvert = true\ndeny = [\"all\"]\n";
 
 /// The principals to which a person belongs.
-fn circle(rt: &impl Abort, alloc: Global, keeper: &mut MemoryKeeper, person: &str) -> Circle {
+fn circle<K: Keeper>(rt: &impl Abort, alloc: Global, keeper: &mut K, person: &str) -> Circle {
     let parsed = Name::parse(alloc, person).expect(rt, "memory");
     let name = parsed.expect(rt, "a name");
     let caller = Caller::Known(Principal::person(alloc, &name).expect(rt, "memory"));
@@ -29,11 +30,14 @@ fn circle(rt: &impl Abort, alloc: Global, keeper: &mut MemoryKeeper, person: &st
 
 /// Compares what a person holds at a path.
 fn compare(rt: &impl Abort, alloc: Global, person: &str, at: &str, wanted: LeafSet) {
-    let mut keeper = keeper(rt, alloc, POLICY);
-    let circle = circle(rt, alloc, &mut keeper, person);
     let path = Path::parse(alloc, at).expect(rt, "a path");
+    let mut keeper = adopted(rt, alloc, POLICY);
+    let circle = circle(rt, alloc, &mut keeper, person);
     let held = held_at(alloc, &mut keeper, &circle, &path).expect(rt, "memory");
-    assert!(rt; held == wanted, "what is held");
+    drop(keeper);
+    drop(circle);
+    drop(path);
+    check_fact(rt, held == wanted, at);
 }
 
 #[test]

@@ -7,6 +7,8 @@
 #![tactic(auto)]
 
 #[cfg(test)]
+mod checks;
+#[cfg(test)]
 mod gaps_books;
 #[cfg(test)]
 mod gaps_facts;
@@ -14,6 +16,8 @@ mod gaps_facts;
 mod gaps_held;
 #[cfg(test)]
 mod gaps_telling;
+#[cfg(test)]
+mod making;
 #[cfg(test)]
 mod warnings_comparing;
 #[cfg(test)]

@@ -1,10 +1,11 @@
 //! An Office, copied out of a keeper: each last change is in the copy, those of removed names too; without cards it has none.
 
+use crate::checks::check_text;
+use crate::making::{act, adopted};
 use book_lists::{Name, Principal};
 use book_office::{Edit, Keeper, MemoryKeeper};
 use book_office_copies::{copy, copy_without_cards};
 use book_office_values::{Office, Path, Text};
-use book_policy::read_policy;
 use std::alloc::Global;
 use std::process::Abort;
 
@@ -28,14 +29,8 @@ fn name(rt: &impl Abort, alloc: Global, text: &str) -> Name {
     parsed.expect(rt, "a name")
 }
 
-/// Makes an edit.
-fn act(rt: &impl Abort, alloc: Global, keeper: &mut MemoryKeeper, edit: Edit) {
-    keeper.act(alloc, &edit).expect(rt, "memory");
-    drop(edit);
-}
-
 /// Puts a card with a text into the book team.
-fn put(rt: &impl Abort, alloc: Global, keeper: &mut MemoryKeeper, card: &str, text: &str) {
+fn put<K: Keeper>(rt: &impl Abort, alloc: Global, keeper: &mut K, card: &str, text: &str) {
     let edit = Edit::PutCard {
         book: name(rt, alloc, "team"),
         card: name(rt, alloc, card),
@@ -47,9 +42,7 @@ fn put(rt: &impl Abort, alloc: Global, keeper: &mut MemoryKeeper, card: &str, te
 
 /// A keeper of the Office of the example.
 fn keeper(rt: &impl Abort, alloc: Global) -> MemoryKeeper {
-    let mut keeper = MemoryKeeper::new(alloc);
-    let policy = read_policy(alloc, POLICY).expect(rt, "a policy");
-    act(rt, alloc, &mut keeper, Edit::Adopt { policy });
+    let mut keeper = adopted(rt, alloc, POLICY);
     put(rt, alloc, &mut keeper, "a", "one");
     put(rt, alloc, &mut keeper, "b", "two");
     put(rt, alloc, &mut keeper, "a", "three");
@@ -63,18 +56,21 @@ fn keeper(rt: &impl Abort, alloc: Global) -> MemoryKeeper {
 }
 
 /// The members of the group staff, a line for each.
-fn push_members(rt: &impl Abort, alloc: Global, keeper: &mut MemoryKeeper, told: &mut String) {
+fn push_members<K: Keeper>(rt: &impl Abort, alloc: Global, keeper: &mut K, told: &mut String) {
     let staff = name(rt, alloc, "staff");
     let group = Principal::group(alloc, &staff).expect(rt, "memory");
     let pairs = keeper.members(alloc, &group).expect(rt, "memory");
-    for pair in &pairs.list().expect(rt, "memory") {
+    let list = pairs.list().expect(rt, "memory");
+    for pair in &list {
         told.push_str(pair.member.text()).expect(rt, "memory");
         told.push_str("\n").expect(rt, "memory");
     }
+    drop(list);
+    drop(pairs);
 }
 
 /// The number of the book team, and its last changes, a line for each.
-fn push_changes(rt: &impl Abort, alloc: Global, keeper: &mut MemoryKeeper, told: &mut String) {
+fn push_changes<K: Keeper>(rt: &impl Abort, alloc: Global, keeper: &mut K, told: &mut String) {
     let team = name(rt, alloc, "team");
     let changes = keeper
         .changes_after(alloc, &team, 0, None)
@@ -84,6 +80,7 @@ fn push_changes(rt: &impl Abort, alloc: Global, keeper: &mut MemoryKeeper, told:
         .expect(rt, "memory")
         .expect(rt, "a book");
     let number = book.number;
+    drop(book);
     let line = format!(in alloc; "{number}\n").expect(rt, "memory");
     told.push_str(line.as_str()).expect(rt, "memory");
     for change in changes.as_slice() {
@@ -95,15 +92,17 @@ fn push_changes(rt: &impl Abort, alloc: Global, keeper: &mut MemoryKeeper, told:
         let line = format!(in alloc; "{number} {name} {text}\n").expect(rt, "memory");
         told.push_str(line.as_str()).expect(rt, "memory");
     }
+    drop(changes);
 }
 
-/// What is told of an Office.
-fn told(rt: &impl Abort, alloc: Global, office: Office) -> String {
-    let mut keeper = MemoryKeeper::from_office(office);
+/// What is told of an Office is this.
+fn check(rt: &impl Abort, alloc: Global, office: Office, wanted: &str) {
     let mut told = String::new(alloc);
+    let mut keeper = MemoryKeeper::from_office(office);
     push_members(rt, alloc, &mut keeper, &mut told);
     push_changes(rt, alloc, &mut keeper, &mut told);
-    told
+    drop(keeper);
+    check_text(rt, told.as_str(), wanted);
 }
 
 #[test]
@@ -111,18 +110,20 @@ fn copies_have_every_change(rt: HostRuntime) {
     let alloc = rt.alloc();
     let mut keeper = keeper(&rt, alloc);
     let whole = copy(alloc, &mut keeper).expect(&rt, "memory");
-    assert_eq!(rt; told(&rt, alloc, whole).as_str(), TOLD);
+    check(&rt, alloc, whole, TOLD);
     let bare = copy_without_cards(alloc, &mut keeper).expect(&rt, "memory");
-    assert_eq!(rt; told(&rt, alloc, bare).as_str(), BARE);
+    check(&rt, alloc, bare, BARE);
+    drop(keeper);
 }
 
 /// A number that is above each last change stays, as where names are known no more.
 #[test]
 fn copies_have_the_numbers_of_books(rt: HostRuntime) {
     let alloc = rt.alloc();
+    let team = name(&rt, alloc, "team");
     let mut first = keeper(&rt, alloc);
     let mut office = copy(alloc, &mut first).expect(&rt, "memory");
-    let team = name(&rt, alloc, "team");
+    drop(first);
     office
         .books
         .get_mut(&team)
@@ -131,5 +132,7 @@ fn copies_have_the_numbers_of_books(rt: HostRuntime) {
         .raise(9);
     let mut raised = MemoryKeeper::from_office(office);
     let whole = copy(alloc, &mut raised).expect(&rt, "memory");
-    assert_eq!(rt; told(&rt, alloc, whole).as_str(), RAISED);
+    drop(raised);
+    drop(team);
+    check(&rt, alloc, whole, RAISED);
 }

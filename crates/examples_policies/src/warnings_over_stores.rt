@@ -2,9 +2,10 @@
 //! whoever is not in the group law, by the book's own list; dan is in it, and so is the group partners, in which nobody is;
 //! nobody may set the members of the group law. The policies name ada, dan and the book law, and no group.
 
+use crate::checks::{check_fact, check_text};
 use book_machine::AdoptFault;
 use book_office_copies::copy_without_cards;
-use book_office_values::Office;
+use book_office_values::{Items, Office};
 use book_policy::read_policy;
 use book_policy_openings::adopted;
 use book_policy_warnings::{Told, ToldOver, Warning, tell_policy_over, warnings_of, warnings_over};
@@ -57,18 +58,22 @@ const EXAMPLES: &[(&str, &str, &str)] = &[
 fn store(rt: &impl Abort, alloc: Global) -> Office {
     let policy = read_policy(alloc, STORE).expect(rt, "a policy");
     let mut machine = adopted(alloc, &policy).expect(rt, "memory");
-    copy_without_cards(alloc, &mut machine.keeper).expect(rt, "memory")
+    drop(policy);
+    let office = copy_without_cards(alloc, &mut machine.keeper).expect(rt, "memory");
+    drop(machine);
+    office
 }
 
-/// The lines of openings among warnings.
-fn opening_lines(rt: &impl Abort, alloc: Global, warnings: &[Warning]) -> String {
+/// The lines of openings among warnings are these.
+fn check_openings(rt: &impl Abort, alloc: Global, warnings: Items<Warning>, wanted: &str) {
     let mut told = String::new(alloc);
-    for warning in warnings {
+    for warning in warnings.as_slice() {
         if matches!(warning, Warning::Opens(_)) {
             warning.push_line(alloc, &mut told).expect(rt, "memory");
         }
     }
-    told
+    drop(warnings);
+    check_text(rt, told.as_str(), wanted);
 }
 
 /// Compares what is told over the Office, and of the policy alone.
@@ -77,15 +82,10 @@ fn compare(rt: &impl Abort, alloc: Global, example: &(&str, &str, &str)) {
     let text = format!(in alloc; "{NAMED}{more}").expect(rt, "memory");
     let policy = read_policy(alloc, text.as_str()).expect(rt, "a policy");
     let warnings = warnings_over(alloc, &policy, store(rt, alloc)).expect(rt, "room");
-    assert_eq!(rt;
-        opening_lines(rt, alloc, warnings.as_slice()).as_str(),
-        over
-    );
+    check_openings(rt, alloc, warnings, over);
     let warnings = warnings_of(alloc, &policy).expect(rt, "memory");
-    assert_eq!(rt;
-        opening_lines(rt, alloc, warnings.as_slice()).as_str(),
-        alone
-    );
+    drop(policy);
+    check_openings(rt, alloc, warnings, alone);
 }
 
 #[test]
@@ -97,15 +97,13 @@ fn openings_over_an_office_are_told(rt: HostRuntime) {
 
 /// What is told of a policy's file over an Office whose epoch is this.
 fn told_at(rt: &impl Abort, alloc: Global, epoch: u64) -> (ToldOver, Vec<u8>) {
-    let mut start = store(rt, alloc);
-    start.epoch = epoch;
-    let bytes = String::from_str(alloc, NAMED)
-        .expect(rt, "memory")
-        .into_bytes();
+    let named = String::from_str(alloc, NAMED).expect(rt, "memory");
     let mut lines = Vec::new(alloc);
     let mut errors = Vec::new(alloc);
-    let told = tell_policy_over(alloc, bytes, start, &mut lines, &mut errors);
-    assert!(rt; errors.is_empty(), "no fault");
+    let mut start = store(rt, alloc);
+    start.epoch = epoch;
+    let told = tell_policy_over(alloc, named.into_bytes(), start, &mut lines, &mut errors);
+    check_fact(rt, errors.is_empty(), "no fault");
     (told, lines)
 }
 
@@ -118,16 +116,12 @@ const LINES: &str = "group partners: nobody is in it\n\
 fn a_file_is_told_over_an_office(rt: HostRuntime) {
     let alloc = rt.alloc();
     let (told, lines) = told_at(&rt, alloc, 1);
-    assert!(rt;
-        told == ToldOver::Told(Told::Sound(true)),
-        "a policy with warnings"
-    );
-    assert_eq!(rt;
-        str::from_utf8(lines.as_slice()).expect(&rt, "a text"),
-        LINES
-    );
+    let sound = told == ToldOver::Told(Told::Sound(true));
+    check_fact(&rt, sound, "a policy with warnings");
+    let text = str::from_utf8(lines.as_slice()).expect(&rt, "a text");
+    check_text(&rt, text, LINES);
     // At the last epoch, 2^53 - 1, no policy is adopted.
     let (told, lines) = told_at(&rt, alloc, 9_007_199_254_740_991);
-    assert!(rt; told == ToldOver::Full, "no room");
-    assert!(rt; lines.is_empty(), "nothing is written");
+    check_fact(&rt, told == ToldOver::Full, "no room");
+    check_fact(&rt, lines.is_empty(), "nothing is written");
 }
