@@ -1,7 +1,10 @@
 //! What differs in the two Offices: first their memberships, then their resources, then the rights.
 
+use crate::checks::check_text;
 use crate::differs_offices::{after, before};
+use book_office::Keeper;
 use book_questions_changes::differences;
+use std::alloc::Global;
 use std::process::Abort;
 
 /// A resource that is new has each of its lines after `+ `. An owner that differs has a line of each sign, and a list
@@ -30,24 +33,23 @@ const FORWARD: &str = "- member /groups/staff /people/ann\n\
     gained /books/sales/c.vcf of 1 /people/bob bind\n\
     differs in 22\n";
 
+/// How the second Office differs from the first one.
+fn check<K: Keeper + Drop>(rt: &impl Abort, alloc: Global, mut was: K, mut is: K, wanted: &str) {
+    let text = differences(alloc, &mut was, &mut is).expect(rt, "memory");
+    drop(was);
+    drop(is);
+    check_text(rt, text.as_str(), wanted);
+}
+
 #[test]
 fn what_differs_is_told(rt: HostRuntime) {
     let alloc = rt.alloc();
-    let mut was = before(&rt, alloc);
-    let mut is = after(&rt, alloc);
-    let text = differences(alloc, &mut was, &mut is).expect(&rt, "memory");
-    assert_eq!(rt; text.as_str(), FORWARD);
-    drop(was);
-    drop(is);
+    check(&rt, alloc, before(&rt, alloc), after(&rt, alloc), FORWARD);
 }
 
 #[test]
 fn one_office_is_unchanged(rt: HostRuntime) {
     let alloc = rt.alloc();
-    let mut was = after(&rt, alloc);
-    let mut is = after(&rt, alloc);
-    let text = differences(alloc, &mut was, &mut is).expect(&rt, "memory");
-    assert_eq!(rt; text.as_str(), "unchanged\n");
-    drop(was);
-    drop(is);
+    let (was, is) = (after(&rt, alloc), after(&rt, alloc));
+    check(&rt, alloc, was, is, "unchanged\n");
 }

@@ -1,5 +1,6 @@
 //! What a policy leaves that names less than the Office after has: neither the persons bob and cyd nor the group staff.
 
+use crate::checks::check_text;
 use crate::differs_offices::after;
 use book_policy::read_policy;
 use book_questions_stays::stays;
@@ -26,7 +27,7 @@ fn what_is_not_named_stays(rt: HostRuntime) {
     let mut keeper = after(&rt, alloc);
     let policy = read_policy(alloc, LESS).expect(&rt, "a policy");
     let text = stays(alloc, &mut keeper, &policy).expect(&rt, "memory");
-    assert_eq!(rt; text.as_str(), LEFT);
+    check_text(&rt, text.as_str(), LEFT);
     drop(policy);
     drop(keeper);
 }

@@ -2,8 +2,11 @@
 //! the one after, bob reads them by that group; ann, who owns the book, may add to it, and bob, who owns the cards, has
 //! the same leaf there. The own list of the third card, which is in the Office after alone, denies bob to read it.
 
+use crate::checks::check_text;
 use crate::differs_offices::{after, before};
+use book_office::Keeper;
 use book_questions_differs::rights_differences;
+use std::alloc::Global;
 use std::process::Abort;
 
 /// Nobody stands first. What is lost stands before what is gained. The two cards with equal owners and lists are told
@@ -31,15 +34,19 @@ const BACKWARD: &str = "lost /books/new nobody read\n\
     lost /books/sales/a.vcf of 2 /people/bob read bind\n\
     lost /books/sales/c.vcf of 1 /people/bob bind\n";
 
+/// The rights that the second Office has lost and gained.
+fn check<K: Keeper>(rt: &impl Abort, alloc: Global, was: &mut K, is: &mut K, wanted: &str) {
+    let text = rights_differences(alloc, was, is).expect(rt, "memory");
+    check_text(rt, text.as_str(), wanted);
+}
+
 #[test]
 fn lost_and_gained_rights_are_told(rt: HostRuntime) {
     let alloc = rt.alloc();
     let mut was = before(&rt, alloc);
     let mut is = after(&rt, alloc);
-    let forward = rights_differences(alloc, &mut was, &mut is).expect(&rt, "memory");
-    assert_eq!(rt; forward.as_str(), FORWARD);
-    let backward = rights_differences(alloc, &mut is, &mut was).expect(&rt, "memory");
-    assert_eq!(rt; backward.as_str(), BACKWARD);
+    check(&rt, alloc, &mut was, &mut is, FORWARD);
+    check(&rt, alloc, &mut is, &mut was, BACKWARD);
     drop(was);
     drop(is);
 }
@@ -49,8 +56,7 @@ fn one_office_does_not_differ_from_itself(rt: HostRuntime) {
     let alloc = rt.alloc();
     let mut was = after(&rt, alloc);
     let mut is = after(&rt, alloc);
-    let text = rights_differences(alloc, &mut was, &mut is).expect(&rt, "memory");
-    assert_eq!(rt; text.as_str(), "");
+    check(&rt, alloc, &mut was, &mut is, "");
     drop(was);
     drop(is);
 }

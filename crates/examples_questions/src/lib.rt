@@ -7,6 +7,8 @@
 #![tactic(auto)]
 
 #[cfg(test)]
+mod checks;
+#[cfg(test)]
 mod differs_facts;
 #[cfg(test)]
 mod differs_offices;
@@ -14,6 +16,8 @@ mod differs_offices;
 mod differs_staying;
 #[cfg(test)]
 mod differs_texts;
+#[cfg(test)]
+mod making;
 #[cfg(test)]
 mod questions_chains;
 #[cfg(test)]

@@ -1,8 +1,9 @@
 //! By which chain of groups an entry applies.
 
+use crate::checks::check_text;
+use crate::making::adopted;
 use book_machine::Machine;
-use book_office::{Edit, Keeper, MemoryKeeper};
-use book_policy::read_policy;
+use book_office::MemoryKeeper;
 use book_questions::{question_of, why};
 use std::alloc::Global;
 use std::process::Abort;
@@ -59,12 +60,7 @@ const ASKED: &[(&str, &str, &str, &str)] = &[
 ];
 
 fn machine(rt: &impl Abort, alloc: Global) -> Machine<MemoryKeeper> {
-    let mut keeper = MemoryKeeper::new(alloc);
-    let policy = read_policy(alloc, POLICY).expect(rt, "a policy");
-    let edit = Edit::Adopt { policy };
-    keeper.act(alloc, &edit).expect(rt, "memory");
-    drop(edit);
-    Machine::new(keeper)
+    Machine::new(adopted(rt, alloc, POLICY))
 }
 
 /// What follows the line of the need.
@@ -80,7 +76,7 @@ fn the_chain_by_which_an_entry_applies_is_told(rt: HostRuntime) {
         let question = question_of(alloc, privilege, path, None).expect(&rt, "memory");
         let question = question.expect(&rt, "a privilege");
         let text = why(alloc, &mut machine, Some(caller), &question).expect(&rt, "mapped");
-        assert_eq!(rt; leaf_lines(text.as_str()), *wanted);
+        check_text(&rt, leaf_lines(text.as_str()), wanted);
     }
     drop(machine);
 }

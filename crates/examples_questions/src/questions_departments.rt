@@ -6,10 +6,10 @@
 //! written by sales, and finn may add to it; of the lobby all may see the names. A card of sales is shared with gus, and
 //! one is finn's.
 
-use book_lists::{Entry, Name, Principal, Who};
+use crate::checks::check_told;
+use crate::making::{adopted, push_entry, put_card, set_list};
 use book_machine::Machine;
-use book_office::{Edit, Items, Keeper, MemoryKeeper, Path, Text};
-use book_policy::read_policy;
+use book_office::{Items, Keeper, MemoryKeeper, Path};
 use book_questions_rights::rights;
 use book_rights::Privilege;
 use std::alloc::Global;
@@ -37,53 +37,17 @@ const POLICY: &str = "version = 1\n\
     [[entry]]\nat = \"/books/sales\"\nwho = \"/people/finn\"\ngrant = [\"bind\"]\n\
     [[entry]]\nat = \"/books/sales\"\nwho = \"owner\"\ngrant = [\"read\", \"write-content\"]\n";
 
-pub(crate) fn name(rt: &impl Abort, alloc: Global, word: &str) -> Name {
-    let name = Name::parse(alloc, word).expect(rt, "memory");
-    name.expect(rt, "a name")
-}
-
-fn principal(rt: &impl Abort, alloc: Global, word: &str) -> Principal {
-    let principal = Principal::parse(alloc, word).expect(rt, "memory");
-    principal.expect(rt, "a principal")
-}
-
-/// Puts a card of an owner into the book sales.
-fn put_card(rt: &impl Abort, alloc: Global, keeper: &mut MemoryKeeper, card: &str, owner: &str) {
-    let edit = Edit::PutCard {
-        book: name(rt, alloc, "sales"),
-        card: name(rt, alloc, card),
-        owner: Some(principal(rt, alloc, owner)),
-        text: Text::copy_of(alloc, "any").expect(rt, "memory"),
-    };
-    keeper.act(alloc, &edit).expect(rt, "memory");
-    drop(edit);
-}
-
 /// Shares the card `c.vcf` with gus.
-fn share(rt: &impl Abort, alloc: Global, keeper: &mut MemoryKeeper) {
+fn share<K: Keeper>(rt: &impl Abort, alloc: Global, keeper: &mut K) {
     let mut entries = Items::new(alloc);
-    let entry = Entry {
-        who: Who::Href(principal(rt, alloc, "/people/gus")),
-        invert: false,
-        deny: false,
-        set: Privilege::Read.leaves(),
-    };
-    entries.push(entry).expect(rt, "memory");
-    let edit = Edit::SetList {
-        path: Path::Card(name(rt, alloc, "sales"), name(rt, alloc, "c.vcf")),
-        entries,
-    };
-    keeper.act(alloc, &edit).expect(rt, "memory");
-    drop(edit);
+    let read = Privilege::Read.leaves();
+    push_entry(rt, alloc, &mut entries, "/people/gus", false, false, read);
+    set_list(rt, alloc, keeper, "c.vcf", entries);
 }
 
 /// A machine over the company.
 pub(crate) fn company(rt: &impl Abort, alloc: Global) -> Machine<MemoryKeeper> {
-    let mut keeper = MemoryKeeper::new(alloc);
-    let policy = read_policy(alloc, POLICY).expect(rt, "a policy");
-    let edit = Edit::Adopt { policy };
-    keeper.act(alloc, &edit).expect(rt, "memory");
-    drop(edit);
+    let mut keeper = adopted(rt, alloc, POLICY);
     put_card(rt, alloc, &mut keeper, "a.vcf", "/people/ann");
     put_card(rt, alloc, &mut keeper, "b.vcf", "/people/ann");
     put_card(rt, alloc, &mut keeper, "c.vcf", "/people/ann");
@@ -194,13 +158,11 @@ const ASKED: &[Asked] = &[
     (Some("ann"), "/books/none", false, "not-found"),
 ];
 
-fn compare(rt: &impl Abort, alloc: Global, machine: &mut Machine<MemoryKeeper>, asked: &Asked) {
+fn compare<K: Keeper>(rt: &impl Abort, alloc: Global, machine: &mut Machine<K>, asked: &Asked) {
     let (name, text, shared, wanted) = asked;
     let path = Path::parse(alloc, text).ok();
-    match rights(alloc, machine, *name, &path, *shared) {
-        Ok(text) => assert_eq!(rt; text.as_str(), *wanted),
-        Err(refusal) => assert_eq!(rt; refusal.name(), *wanted),
-    }
+    let told = rights(alloc, machine, *name, &path, *shared);
+    check_told(rt, told, wanted);
 }
 
 #[test]

@@ -7,9 +7,10 @@
 //! 5. of `/books`, `deny /people/bob read`;
 //! 6. of `/`, `grant all read bind`.
 
+use crate::checks::check_told;
 use crate::questions_offices::machine;
 use book_machine::Machine;
-use book_office::{MemoryKeeper, Path};
+use book_office::{Keeper, Path};
 use book_questions::who;
 use book_rights::Privilege;
 use std::alloc::Global;
@@ -50,14 +51,12 @@ const ASKED: &[Asked] = &[
     ("read", "/books/none", false, "not-found"),
 ];
 
-fn compare(rt: &impl Abort, alloc: Global, machine: &mut Machine<MemoryKeeper>, asked: &Asked) {
+fn compare<K: Keeper>(rt: &impl Abort, alloc: Global, machine: &mut Machine<K>, asked: &Asked) {
     let (word, text, denied, wanted) = asked;
     let privilege = Privilege::from_name(word).expect(rt, "a privilege");
     let path = Path::parse(alloc, text).ok();
-    match who(alloc, machine, privilege, &path, *denied) {
-        Ok(text) => assert_eq!(rt; text.as_str(), *wanted),
-        Err(refusal) => assert_eq!(rt; refusal.name(), *wanted),
-    }
+    let told = who(alloc, machine, privilege, &path, *denied);
+    check_told(rt, told, wanted);
 }
 
 #[test]

@@ -1,10 +1,11 @@
 //! Answers as objects, of the Office of `offices` and of the company of `departments`. The lists in force are written out in
 //! `whys` and `everybody`.
 
+use crate::checks::check_told;
 use crate::questions_departments::company;
 use crate::questions_offices::machine;
 use book_machine::Machine;
-use book_office::{MemoryKeeper, Path};
+use book_office::{Keeper, Path};
 use book_questions::question_of;
 use book_questions_json::{rights_objects, who_objects, why_objects};
 use book_rights::Privilege;
@@ -84,35 +85,29 @@ const RIGHTS: &[(&str, &str, bool, &str)] = &[
     ("gus", "/books/none", false, "not-found"),
 ];
 
-fn compare_whys(rt: &impl Abort, alloc: Global, machine: &mut Machine<MemoryKeeper>) {
+fn compare_whys<K: Keeper>(rt: &impl Abort, alloc: Global, machine: &mut Machine<K>) {
     for (name, word, path, wanted) in WHYS {
         let question = question_of(alloc, word, path, None).expect(rt, "memory");
         let question = question.expect(rt, "a method or a privilege");
-        match why_objects(alloc, machine, *name, &question) {
-            Ok(text) => assert_eq!(rt; text.as_str(), *wanted),
-            Err(refusal) => assert_eq!(rt; refusal.name(), *wanted),
-        }
+        let told = why_objects(alloc, machine, *name, &question);
+        check_told(rt, told, wanted);
     }
 }
 
-fn compare_who(rt: &impl Abort, alloc: Global, machine: &mut Machine<MemoryKeeper>) {
+fn compare_who<K: Keeper>(rt: &impl Abort, alloc: Global, machine: &mut Machine<K>) {
     for (word, path, denied, wanted) in WHO {
         let privilege = Privilege::from_name(word).expect(rt, "a privilege");
         let path = Path::parse(alloc, path).ok();
-        match who_objects(alloc, machine, privilege, &path, *denied) {
-            Ok(text) => assert_eq!(rt; text.as_str(), *wanted),
-            Err(refusal) => assert_eq!(rt; refusal.name(), *wanted),
-        }
+        let told = who_objects(alloc, machine, privilege, &path, *denied);
+        check_told(rt, told, wanted);
     }
 }
 
-fn compare_rights(rt: &impl Abort, alloc: Global, machine: &mut Machine<MemoryKeeper>) {
+fn compare_rights<K: Keeper>(rt: &impl Abort, alloc: Global, machine: &mut Machine<K>) {
     for (name, path, shared, wanted) in RIGHTS {
         let path = Path::parse(alloc, path).ok();
-        match rights_objects(alloc, machine, Some(name), &path, *shared) {
-            Ok(text) => assert_eq!(rt; text.as_str(), *wanted),
-            Err(refusal) => assert_eq!(rt; refusal.name(), *wanted),
-        }
+        let told = rights_objects(alloc, machine, Some(name), &path, *shared);
+        check_told(rt, told, wanted);
     }
 }
 

@@ -1,8 +1,10 @@
 //! Audits of parts of the company of `departments`.
 
-use crate::questions_departments::{company, name};
+use crate::checks::check_told;
+use crate::making::{act, name};
+use crate::questions_departments::company;
 use book_machine::Machine;
-use book_office::{Edit, Keeper, MemoryKeeper, Path, Text};
+use book_office::{Edit, Keeper, Path, Text};
 use book_questions_audit::{Wanted, audit_part};
 use std::alloc::Global;
 use std::process::Abort;
@@ -60,27 +62,24 @@ const ASKED: &[Asked] = &[
     ("/books/none", false, false, "not-found"),
 ];
 
-fn compare(rt: &impl Abort, alloc: Global, machine: &mut Machine<MemoryKeeper>, asked: &Asked) {
+fn compare<K: Keeper>(rt: &impl Abort, alloc: Global, machine: &mut Machine<K>, asked: &Asked) {
     let (text, listed, labels, wanted) = asked;
     let path = Path::parse(alloc, text).ok();
     let words = Wanted {
         listed: *listed,
         labels: *labels,
     };
-    match audit_part(alloc, machine, &path, words) {
-        Ok(text) => assert_eq!(rt; text.as_str(), *wanted),
-        Err(refusal) => assert_eq!(rt; refusal.name(), *wanted),
-    }
+    let told = audit_part(alloc, machine, &path, words);
+    check_told(rt, told, wanted);
 }
 
 /// Labels gus.
-fn set_label(rt: &impl Abort, alloc: Global, machine: &mut Machine<MemoryKeeper>) {
+fn set_label<K: Keeper>(rt: &impl Abort, alloc: Global, machine: &mut Machine<K>) {
     let edit = Edit::SetLabel {
         path: Path::Person(name(rt, alloc, "gus")),
         label: Text::copy_of(alloc, "a \"guest\"\n").expect(rt, "memory"),
     };
-    machine.keeper.act(alloc, &edit).expect(rt, "memory");
-    drop(edit);
+    act(rt, alloc, &mut machine.keeper, edit);
 }
 
 #[test]

@@ -1,9 +1,9 @@
 //! What adopting a policy would leave and change. The Office is the empty one that adopted a policy; then bob's card was put
 //! into the book sales, and it got a list of its own.
 
-use crate::questions_offices::{name, principal};
-use book_lists::{Entry, Who};
-use book_office::{Edit, Items, Keeper, MemoryKeeper, Path, Text};
+use crate::checks::check_text;
+use crate::making::{adopted, push_entry, put_card, set_list};
+use book_office::{Items, Keeper, MemoryKeeper};
 use book_policy::read_policy;
 use book_questions_plans::plan;
 use book_rights::Privilege;
@@ -49,61 +49,35 @@ const CHANGES: &str = "- member /groups/staff /people/ann\n\
     gained /books/sales/a.vcf of 1 /people/bob bind\n\
     differs in 14\n";
 
-/// Puts the card `a.vcf` of bob into the book sales.
-fn put_card(rt: &impl Abort, alloc: Global, keeper: &mut MemoryKeeper) {
-    let edit = Edit::PutCard {
-        book: name(rt, alloc, "sales"),
-        card: name(rt, alloc, "a.vcf"),
-        owner: Some(principal(rt, alloc, "/people/bob")),
-        text: Text::copy_of(alloc, "any").expect(rt, "memory"),
-    };
-    keeper.act(alloc, &edit).expect(rt, "memory");
-    drop(edit);
-}
-
 /// Gives the card its own list: `deny /people/bob read`.
-fn set_list(rt: &impl Abort, alloc: Global, keeper: &mut MemoryKeeper) {
+fn deny_bob<K: Keeper>(rt: &impl Abort, alloc: Global, keeper: &mut K) {
     let mut entries = Items::new(alloc);
-    let entry = Entry {
-        who: Who::Href(principal(rt, alloc, "/people/bob")),
-        invert: false,
-        deny: true,
-        set: Privilege::Read.leaves(),
-    };
-    entries.push(entry).expect(rt, "memory");
-    let edit = Edit::SetList {
-        path: Path::Card(name(rt, alloc, "sales"), name(rt, alloc, "a.vcf")),
-        entries,
-    };
-    keeper.act(alloc, &edit).expect(rt, "memory");
-    drop(edit);
+    let read = Privilege::Read.leaves();
+    push_entry(rt, alloc, &mut entries, "/people/bob", false, true, read);
+    set_list(rt, alloc, keeper, "a.vcf", entries);
 }
 
 /// A keeper of the Office.
 fn keeper(rt: &impl Abort, alloc: Global) -> MemoryKeeper {
-    let mut keeper = MemoryKeeper::new(alloc);
-    let policy = read_policy(alloc, BEFORE).expect(rt, "a policy");
-    let edit = Edit::Adopt { policy };
-    keeper.act(alloc, &edit).expect(rt, "memory");
-    drop(edit);
-    put_card(rt, alloc, &mut keeper);
-    set_list(rt, alloc, &mut keeper);
+    let mut keeper = adopted(rt, alloc, BEFORE);
+    put_card(rt, alloc, &mut keeper, "a.vcf", "/people/bob");
+    deny_bob(rt, alloc, &mut keeper);
     keeper
 }
 
 /// Compares what adopting a policy would leave and change.
-fn compare(
+fn compare<K: Keeper>(
     rt: &impl Abort,
     alloc: Global,
-    keeper: &mut MemoryKeeper,
+    keeper: &mut K,
     policy: &str,
     stays: &str,
     changes: &str,
 ) {
     let policy = read_policy(alloc, policy).expect(rt, "a policy");
     let told = plan(alloc, keeper, &policy).expect(rt, "memory");
-    assert_eq!(rt; told.stays.as_str(), stays);
-    assert_eq!(rt; told.changes.as_str(), changes);
+    check_text(rt, told.stays.as_str(), stays);
+    check_text(rt, told.changes.as_str(), changes);
     drop(policy);
     drop(told);
 }

@@ -1,10 +1,12 @@
 //! Decisions as texts that `explain` reads, and its answers, in the company of `departments`.
 
-use crate::questions_departments::{company, name};
+use crate::checks::check_text;
+use crate::making::set_list;
+use crate::questions_departments::company;
 use book_lists::{Entry, Who};
 use book_lists_explain::explain;
-use book_machine::Machine;
-use book_office::{Edit, Items, Keeper, MemoryKeeper, Path};
+use book_machine::{Machine, Refusal};
+use book_office::{Items, Keeper, Path, Text};
 use book_questions_asked::ask;
 use book_rights::Privilege;
 use std::alloc::Global;
@@ -68,23 +70,39 @@ const ASKED: &[Asked] = &[
     (Some("ann"), "/books/none", "read", "not-found", ""),
 ];
 
-fn compare(rt: &impl Abort, alloc: Global, machine: &mut Machine<MemoryKeeper>, asked: &Asked) {
+/// Compares a text with what explains it, or the name of a refusal.
+fn check_restated(
+    rt: &impl Abort,
+    alloc: Global,
+    asked: Result<Option<Text>, Refusal>,
+    wanted: &str,
+    answer: &str,
+) {
+    match &asked {
+        Ok(Some(text)) => {
+            check_text(rt, text.as_str(), wanted);
+            let told = explain(alloc, text.as_str()).expect(rt, "an answer");
+            check_text(rt, told.as_str(), answer);
+        }
+        Ok(None) => check_text(rt, "too many", wanted),
+        Err(refusal) => check_text(rt, refusal.name(), wanted),
+    }
+    drop(asked);
+}
+
+fn compare<K: Keeper>(rt: &impl Abort, alloc: Global, machine: &mut Machine<K>, asked: &Asked) {
     let (name, path, word, wanted, answer) = asked;
     let privilege = Privilege::from_name(word).expect(rt, "a privilege");
     let path = Path::parse(alloc, path).ok();
-    match ask(alloc, machine, *name, &path, privilege.leaves()) {
-        Ok(text) => {
-            let text = text.expect(rt, "few enough");
-            assert_eq!(rt; text.as_str(), *wanted);
-            let told = explain(alloc, text.as_str()).expect(rt, "an answer");
-            assert_eq!(rt; told.as_str(), *answer);
-        }
-        Err(refusal) => assert_eq!(rt; refusal.name(), *wanted),
-    }
+    let asked = ask(alloc, machine, *name, &path, privilege.leaves());
+    check_restated(rt, alloc, asked, wanted, answer);
 }
 
+/// More entries are in force than are told.
+const TOO_MANY: Asked = (Some("ann"), "/books/sales/a.vcf", "read", "too many", "");
+
 /// Gives a card 62 entries of its own, with which 67 are in force.
-fn lengthen(rt: &impl Abort, alloc: Global, machine: &mut Machine<MemoryKeeper>) {
+fn lengthen<K: Keeper>(rt: &impl Abort, alloc: Global, machine: &mut Machine<K>) {
     let mut entries = Items::new(alloc);
     for _ in 0..62 {
         let entry = Entry {
@@ -95,12 +113,7 @@ fn lengthen(rt: &impl Abort, alloc: Global, machine: &mut Machine<MemoryKeeper>)
         };
         entries.push(entry).expect(rt, "memory");
     }
-    let edit = Edit::SetList {
-        path: Path::Card(name(rt, alloc, "sales"), name(rt, alloc, "a.vcf")),
-        entries,
-    };
-    machine.keeper.act(alloc, &edit).expect(rt, "memory");
-    drop(edit);
+    set_list(rt, alloc, &mut machine.keeper, "a.vcf", entries);
 }
 
 #[test]
@@ -111,15 +124,6 @@ fn a_decision_is_told_so_that_it_is_worked_out_again(rt: HostRuntime) {
         compare(&rt, alloc, &mut machine, asked);
     }
     lengthen(&rt, alloc, &mut machine);
-    let path = Path::parse(alloc, "/books/sales/a.vcf").ok();
-    let told = ask(
-        alloc,
-        &mut machine,
-        Some("ann"),
-        &path,
-        Privilege::Read.leaves(),
-    );
-    assert!(&rt; matches!(&told, Ok(None)));
-    drop(told);
+    compare(&rt, alloc, &mut machine, &TOO_MANY);
     drop(machine);
 }

@@ -11,9 +11,10 @@
 //!
 //! and those of a resource above it have the same order without the ones that stand below it.
 
+use crate::checks::{check_text, check_told};
 use crate::questions_offices::machine;
 use book_machine::Machine;
-use book_office::MemoryKeeper;
+use book_office::Keeper;
 use book_questions::{question_of, why};
 use std::alloc::Global;
 use std::process::Abort;
@@ -196,20 +197,20 @@ fn destination(word: &str) -> Option<&str> {
     }
 }
 
-fn compare(
+fn compare<K: Keeper>(
     rt: &impl Abort,
     alloc: Global,
-    machine: &mut Machine<MemoryKeeper>,
+    machine: &mut Machine<K>,
     asked: &str,
     wanted: &str,
 ) {
     let to = destination(word(asked, 3));
     match question_of(alloc, word(asked, 1), word(asked, 2), to).expect(rt, "memory") {
-        None => assert_eq!(rt; "unknown-privilege", wanted),
-        Some(question) => match why(alloc, machine, caller(word(asked, 0)), &question) {
-            Ok(text) => assert_eq!(rt; text.as_str(), wanted),
-            Err(refusal) => assert_eq!(rt; refusal.name(), wanted),
-        },
+        None => check_text(rt, "unknown-privilege", wanted),
+        Some(question) => {
+            let told = why(alloc, machine, caller(word(asked, 0)), &question);
+            check_told(rt, told, wanted);
+        }
     }
 }
 
