@@ -220,7 +220,10 @@ const REFUSED: &[(&str, &str)] = &[
 /// The fault; nothing for a card.
 fn fault_of(rt: &impl Abort, alloc: Global, text: &str) -> String {
     match read_card(alloc, text) {
-        Ok(_) => String::new(alloc),
+        Ok(card) => {
+            drop(card);
+            String::new(alloc)
+        }
         Err(fault) => format!(in alloc; "{fault}").expect(rt, "memory"),
     }
 }
@@ -332,10 +335,11 @@ fn tell_card(rt: &impl Abort, answer: &mut String, card: &Card) {
 
 fn check_card(rt: &impl Abort, alloc: Global, text: &str, wanted: &str) {
     let card = read_card(alloc, text).ok().expect(rt, "a card");
+    check_fact(rt, card.line_count() == card.lines().count(), text);
     let mut answer = String::new(alloc);
     tell_card(rt, &mut answer, &card);
+    drop(card);
     check_text(rt, answer.as_str(), wanted, text);
-    check_fact(rt, card.line_count() == card.lines().count(), text);
 }
 
 #[test]
@@ -363,6 +367,28 @@ fn cards_say_what_their_lines_say(rt: HostRuntime) {
     );
 }
 
+const NO_LINES: &[&str] = &[
+    "TEL;TYPE=a\"b:c",
+    ".TEL:c",
+    "a..TEL:c",
+    "a.b.TEL:c",
+    "T_EL:c",
+    "TEL;=a:c",
+    "TEL;A:c",
+    "TEL;A=\"b:c",
+    "TEL",
+    ":c",
+    "",
+];
+
+const LINES: &[&str] = &[
+    "TEL:",
+    "TEL;A=:",
+    "TEL;A=,\"\",:c",
+    "TEL;A= b c:",
+    "9-a.T-1:",
+];
+
 #[test]
 fn lines_have_fields(rt: HostRuntime) {
     let line = Line::read("item1.TEL;TYPE=\"cell:a\",home;PREF=1:+1 555");
@@ -376,28 +402,10 @@ fn lines_have_fields(rt: HostRuntime) {
         "parameters",
     );
     check_text(&rt, line.value, "+1 555", "a value");
-    for text in [
-        "TEL;TYPE=a\"b:c",
-        ".TEL:c",
-        "a..TEL:c",
-        "a.b.TEL:c",
-        "T_EL:c",
-        "TEL;=a:c",
-        "TEL;A:c",
-        "TEL;A=\"b:c",
-        "TEL",
-        ":c",
-        "",
-    ] {
+    for text in NO_LINES {
         check_fact(&rt, Line::read(text).is_none(), text);
     }
-    for text in [
-        "TEL:",
-        "TEL;A=:",
-        "TEL;A=,\"\",:c",
-        "TEL;A= b c:",
-        "9-a.T-1:",
-    ] {
+    for text in LINES {
         check_fact(&rt, Line::read(text).is_some(), text);
     }
 }

@@ -3,16 +3,11 @@
 ghost use Rattle.std.specs.Prelude.{◌≡◌, IfOk};
 
 use crate::checks::{check_fact, check_text};
+use crate::names::named;
 use book_lists::Name;
 use book_office_values::{Book, Changes, Items, NameMap, Properties, StoredCard, Text};
 use std::alloc::{AllocError, Global};
 use std::process::Abort;
-
-fn named(rt: &impl Abort, alloc: Global, text: &str) -> Name {
-    Name::parse(alloc, text)
-        .expect(rt, "memory")
-        .expect(rt, "a name")
-}
 
 /// A copy of a list is the list, where a copy of an item is the item.
 fn copied_texts(texts: &Items<Text>) -> Result<Items<Text>, AllocError>
@@ -189,6 +184,7 @@ fn cards_are_told_beside_removed_names(rt: HostRuntime) {
         let names = NAMES.as_slice().get(..len).expect(&rt, "so many");
         let book = book_of(&rt, alloc, names, ["c", "q", "a"].as_slice());
         check_cards_of(&rt, alloc, &book);
+        drop(book);
     }
 }
 

@@ -1,11 +1,11 @@
 //! The texts that `explain` answers.
 
 use crate::checks::check_text;
+use crate::entry_lines::leaves;
 use book_lists_explain::{
     ExplainFault, ExplainFaultKind, answers_are_one, answers_exclude_faults, explain,
     explain_faults_are_one, short_privileges, texts_have_answers_or_faults,
 };
-use book_rights::{Leaf, LeafSet, Privilege};
 use std::alloc::Global;
 use std::process::Abort;
 
@@ -245,33 +245,31 @@ fn members_and_entries_are_counted(rt: HostRuntime) {
     }
 }
 
+/// Privileges whose leaves make a set, and the short names of that set.
+const SHORT: &[(&str, &str)] = &[
+    ("-", ""),
+    ("all", " all"),
+    ("write+read+read-acl", " read write read-acl"),
+    // half of `read` is named by its leaf
+    ("write+x-read-texts", " x-read-texts write"),
+    ("x-read-names+bind", " bind x-read-names"),
+];
+
+fn check_short(rt: &impl Abort, alloc: Global, names: &str, wanted: &str) {
+    let set = leaves(names).expect(rt, names);
+    let short = short_privileges(alloc, set).expect(rt, "memory");
+    let mut told = String::new(alloc);
+    for privilege in short.iter() {
+        told.push(' ').expect(rt, "memory");
+        told.push_str(privilege.name()).expect(rt, "memory");
+    }
+    check_text(rt, told.as_str(), wanted, names);
+}
+
 #[test]
 fn short_names_stand_for_whole_aggregates(rt: HostRuntime) {
-    let write = Privilege::Write.leaves();
-    let cases: [(LeafSet, &[Privilege]); 5] = [
-        (LeafSet::empty(), &[]),
-        (LeafSet::all(), &[Privilege::All]),
-        (
-            write.union(Privilege::Read.leaves()).with(Leaf::ReadAcl),
-            &[
-                Privilege::Read,
-                Privilege::Write,
-                Privilege::One(Leaf::ReadAcl),
-            ],
-        ),
-        // half of `read` is named by its leaf
-        (
-            write.with(Leaf::ReadTexts),
-            &[Privilege::One(Leaf::ReadTexts), Privilege::Write],
-        ),
-        (
-            LeafSet::empty().with(Leaf::ReadNames).with(Leaf::Bind),
-            &[Privilege::One(Leaf::Bind), Privilege::One(Leaf::ReadNames)],
-        ),
-    ];
-    for (set, names) in cases {
-        let short = short_privileges(rt.alloc(), set).expect(&rt, "memory");
-        assert_eq!(rt; short.as_slice(), names, "{set:?}");
+    for (names, wanted) in SHORT {
+        check_short(&rt, rt.alloc(), names, wanted);
     }
 }
 

@@ -28,6 +28,8 @@ mod lists;
 #[cfg(test)]
 mod masks;
 #[cfg(test)]
+mod names;
+#[cfg(test)]
 mod paths;
 #[cfg(test)]
 mod policies_in_toml;

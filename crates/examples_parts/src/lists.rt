@@ -23,24 +23,26 @@ fn check_name(rt: &impl Abort, alloc: Global, text: &str, is_name: bool) {
     check_fact(rt, told == expected, text);
 }
 
+/// A text, and whether it is a name.
+const NAMES: &[(&str, bool)] = &[
+    ("ann", true),
+    ("a.b_c-1.", true),
+    ("-", true),
+    (LONGEST, true),
+    (TOO_LONG, false),
+    ("", false),
+    (".ann", false),
+    ("an n", false),
+    ("ann/", false),
+    ("a+b", false),
+    ("änn", false),
+];
+
 #[test]
 fn names_are_read(rt: HostRuntime) {
     check_fact(&rt, LONGEST.len() == 64 && TOO_LONG.len() == 65, "lengths");
-    let cases = [
-        ("ann", true),
-        ("a.b_c-1.", true),
-        ("-", true),
-        (LONGEST, true),
-        (TOO_LONG, false),
-        ("", false),
-        (".ann", false),
-        ("an n", false),
-        ("ann/", false),
-        ("a+b", false),
-        ("änn", false),
-    ];
-    for (text, is_name) in cases {
-        check_name(&rt, rt.alloc(), text, is_name);
+    for (text, is_name) in NAMES {
+        check_name(&rt, rt.alloc(), text, *is_name);
     }
 }
 
@@ -50,23 +52,25 @@ fn check_principal(rt: &impl Abort, alloc: Global, text: &str, path: Option<&str
     check_fact(rt, told == path, text);
 }
 
+/// A text, and the path of its principal.
+const PRINCIPALS: &[(&str, Option<&str>)] = &[
+    ("/people/ann", Some("/people/ann")),
+    ("/people/ann/", Some("/people/ann")),
+    ("/groups/a_b-c.1", Some("/groups/a_b-c.1")),
+    ("/people/ann//", None),
+    ("/people/", None),
+    ("/people/.ann", None),
+    ("/people/an n", None),
+    ("/people/ann/card", None),
+    ("/books/sales", None),
+    ("people/ann", None),
+    ("", None),
+];
+
 #[test]
 fn paths_of_principals_are_read(rt: HostRuntime) {
-    let cases = [
-        ("/people/ann", Some("/people/ann")),
-        ("/people/ann/", Some("/people/ann")),
-        ("/groups/a_b-c.1", Some("/groups/a_b-c.1")),
-        ("/people/ann//", None),
-        ("/people/", None),
-        ("/people/.ann", None),
-        ("/people/an n", None),
-        ("/people/ann/card", None),
-        ("/books/sales", None),
-        ("people/ann", None),
-        ("", None),
-    ];
-    for (text, path) in cases {
-        check_principal(&rt, rt.alloc(), text, path);
+    for (text, path) in PRINCIPALS {
+        check_principal(&rt, rt.alloc(), text, *path);
     }
     for (name, is_one) in [(LONGEST, true), (TOO_LONG, false)] {
         let path = format!(in rt.alloc(); "/people/{name}").expect(&rt, "memory");
@@ -172,6 +176,18 @@ fn pairs_are_a_set(rt: HostRuntime) {
     check_listed(&rt, &pairs, LISTED);
 }
 
+/// The principals that are asked about.
+const ASKED: &[&str] = &[
+    "/people/ann",
+    "/people/bob",
+    "/people/cid",
+    "/groups/crew",
+    "/groups/guests",
+    "/groups/house",
+    "/groups/own",
+    "/groups/staff",
+];
+
 fn check_circle(
     rt: &impl Abort,
     alloc: Global,
@@ -181,18 +197,9 @@ fn check_circle(
 ) {
     let circle = circle(rt, alloc, pairs, person);
     check_fact(rt, circle.is_known() == person.is_some(), "a known caller");
-    for path in [
-        "/people/ann",
-        "/people/bob",
-        "/people/cid",
-        "/groups/crew",
-        "/groups/guests",
-        "/groups/house",
-        "/groups/own",
-        "/groups/staff",
-    ] {
+    for path in ASKED {
         let belongs = circle.has(&named(rt, alloc, path));
-        check_fact(rt, belongs == within.contains(&path), path);
+        check_fact(rt, belongs == within.contains(path), path);
     }
 }
 

@@ -2,17 +2,12 @@
 
 use crate::checks::{check_fact, check_text};
 use crate::lists::{LONGEST, TOO_LONG};
-use book_lists::Name;
+use crate::names::named;
 use book_office_values::{
     Kind, Path, PathFault, levels_go_up, push_book_path, push_card_path, texts_spell_one_path,
 };
 use std::alloc::Global;
 use std::process::Abort;
-
-fn named(rt: &impl Abort, alloc: Global, text: &str) -> Name {
-    let name = Name::parse(alloc, text).expect(rt, "memory");
-    name.expect(rt, "a name")
-}
 
 fn at(rt: &impl Abort, alloc: Global, text: &str) -> Path {
     Path::parse(alloc, text).ok().expect(rt, "a path")
@@ -43,56 +38,59 @@ fn check_spelled(
     path.known();
 }
 
+/// A text, the text of its path, that of the path above, and the kind.
+const SPELLED: &[(&str, &str, &str, Kind)] = &[
+    ("/", "/", "", Kind::Root),
+    ("/people", "/people", "/", Kind::Home),
+    ("/people/", "/people", "/", Kind::Home),
+    ("/groups", "/groups", "/", Kind::Home),
+    ("/groups/", "/groups", "/", Kind::Home),
+    ("/books", "/books", "/", Kind::Home),
+    ("/books/", "/books", "/", Kind::Home),
+    ("/people/ann", "/people/ann", "/people", Kind::Person),
+    ("/people/ann/", "/people/ann", "/people", Kind::Person),
+    ("/groups/legal", "/groups/legal", "/groups", Kind::Group),
+    ("/groups/legal/", "/groups/legal", "/groups", Kind::Group),
+    ("/books/law", "/books/law", "/books", Kind::Book),
+    ("/books/law/", "/books/law", "/books", Kind::Book),
+    (
+        "/books/law/a.vcf",
+        "/books/law/a.vcf",
+        "/books/law",
+        Kind::Card,
+    ),
+    ("/books/law/law", "/books/law/law", "/books/law", Kind::Card),
+];
+
 #[test]
 fn paths_are_spelled(rt: HostRuntime) {
-    let cases = [
-        ("/", "/", "", Kind::Root),
-        ("/people", "/people", "/", Kind::Home),
-        ("/people/", "/people", "/", Kind::Home),
-        ("/groups", "/groups", "/", Kind::Home),
-        ("/groups/", "/groups", "/", Kind::Home),
-        ("/books", "/books", "/", Kind::Home),
-        ("/books/", "/books", "/", Kind::Home),
-        ("/people/ann", "/people/ann", "/people", Kind::Person),
-        ("/people/ann/", "/people/ann", "/people", Kind::Person),
-        ("/groups/legal", "/groups/legal", "/groups", Kind::Group),
-        ("/groups/legal/", "/groups/legal", "/groups", Kind::Group),
-        ("/books/law", "/books/law", "/books", Kind::Book),
-        ("/books/law/", "/books/law", "/books", Kind::Book),
-        (
-            "/books/law/a.vcf",
-            "/books/law/a.vcf",
-            "/books/law",
-            Kind::Card,
-        ),
-        ("/books/law/law", "/books/law/law", "/books/law", Kind::Card),
-    ];
-    for (spelled, text, above, kind) in cases {
-        check_spelled(&rt, rt.alloc(), spelled, text, above, kind);
+    for (spelled, text, above, kind) in SPELLED {
+        check_spelled(&rt, rt.alloc(), spelled, text, above, *kind);
     }
 }
 
+const NO_PATHS: &[&str] = &[
+    "",
+    "people",
+    "//",
+    "/x",
+    "/peoples",
+    "/people//",
+    "/people/ann//",
+    "/people/ann/x",
+    "/books//",
+    "/books//a.vcf",
+    "/books/.a",
+    "/books/law/.a",
+    "/books/law//",
+    "/books/law/a.vcf/",
+    "/books/law/a.vcf/x",
+    "/books/law/ä.vcf",
+];
+
 #[test]
 fn other_texts_spell_no_path(rt: HostRuntime) {
-    let cases = [
-        "",
-        "people",
-        "//",
-        "/x",
-        "/peoples",
-        "/people//",
-        "/people/ann//",
-        "/people/ann/x",
-        "/books//",
-        "/books//a.vcf",
-        "/books/.a",
-        "/books/law/.a",
-        "/books/law//",
-        "/books/law/a.vcf/",
-        "/books/law/a.vcf/x",
-        "/books/law/ä.vcf",
-    ];
-    for text in cases {
+    for text in NO_PATHS {
         let answer = Path::parse(rt.alloc(), text);
         check_fact(&rt, matches!(answer, Err(PathFault::BadPath)), text);
     }
@@ -106,16 +104,18 @@ fn check_compared(rt: &impl Abort, alloc: Global, text: &str, other: &str, are_o
     check_fact(rt, (copy == other) == are_one, text);
 }
 
+/// Two texts, and whether they spell one path.
+const COMPARED: &[(&str, &str, bool)] = &[
+    ("/books/law/a.vcf", "/books/law/a.vcf", true),
+    ("/books/law/a.vcf", "/books/law/b.vcf", false),
+    ("/people/ann", "/groups/ann", false),
+    ("/books/law", "/books/law/", true),
+];
+
 #[test]
 fn paths_are_compared(rt: HostRuntime) {
-    let cases = [
-        ("/books/law/a.vcf", "/books/law/a.vcf", true),
-        ("/books/law/a.vcf", "/books/law/b.vcf", false),
-        ("/people/ann", "/groups/ann", false),
-        ("/books/law", "/books/law/", true),
-    ];
-    for (text, other, are_one) in cases {
-        check_compared(&rt, rt.alloc(), text, other, are_one);
+    for (text, other, are_one) in COMPARED {
+        check_compared(&rt, rt.alloc(), text, other, *are_one);
     }
     texts_spell_one_path();
     levels_go_up();

@@ -147,7 +147,11 @@ fn policies_are_read(rt: HostRuntime) {
     let alloc = rt.alloc();
     for (text, wanted) in POLICIES {
         let answer = match read_policy(alloc, text) {
-            Ok(policy) => told(&rt, alloc, &policy),
+            Ok(policy) => {
+                let told = told(&rt, alloc, &policy);
+                drop(policy);
+                told
+            }
             Err(fault) => format!(in alloc; "{fault}").expect(&rt, "memory"),
         };
         check_text(&rt, answer.as_str(), wanted, text);
@@ -329,7 +333,10 @@ const FAULTS: &[(&str, &str)] = &[
 /// The name of the fault of a text; `none` where it has none.
 fn fault_of(rt: &impl Abort, alloc: Global, text: &str) -> String {
     match read_policy(alloc, text) {
-        Ok(_) => String::from_str(alloc, "none").expect(rt, "memory"),
+        Ok(policy) => {
+            drop(policy);
+            String::from_str(alloc, "none").expect(rt, "memory")
+        }
         Err(fault) => format!(in alloc; "{fault}").expect(rt, "memory"),
     }
 }

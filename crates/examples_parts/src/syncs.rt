@@ -7,26 +7,25 @@
 ghost use Rattle.book_office_sync.specs.Copies.{IsLimit};
 
 use crate::checks::{check_fact, check_text};
-use book_lists::{Caller, Entry, Name, Pairs, Principal, Who};
+use crate::entry_lines::word;
+use crate::names::named;
+use book_lists::{Caller, Entry, Pairs, Principal, Who};
 use book_office::{
     Book, Changes, Edit, Items, Keeper, MemoryKeeper, NameMap, Office, Properties, StoredCard, Text,
 };
-use book_office_sync::{Item, Limit, Replica, Token, apply_report, edits_lead_on, sync_report};
+use book_office_sync::{
+    Item, Limit, Replica, Report, Token, apply_report, edits_lead_on, sync_report,
+};
 use book_rights::{Leaf, Privilege};
 use std::alloc::Global;
 use std::process::Abort;
-
-fn name(rt: &impl Abort, alloc: Global, text: &str) -> Name {
-    let name = Name::parse(alloc, text).expect(rt, "memory");
-    name.expect(rt, "a name")
-}
 
 fn text(rt: &impl Abort, alloc: Global, text: &str) -> Text {
     Text::copy_of(alloc, text).expect(rt, "memory")
 }
 
 fn person(rt: &impl Abort, alloc: Global, text: &str) -> Principal {
-    Principal::person(alloc, &name(rt, alloc, text)).expect(rt, "memory")
+    Principal::person(alloc, &named(rt, alloc, text)).expect(rt, "memory")
 }
 
 fn reading(who: Who, deny: bool) -> Entry {
@@ -55,8 +54,8 @@ fn empty_book(alloc: Global) -> Book {
     }
 }
 
-fn add(rt: &impl Abort, alloc: Global, book: &mut Book, named: &str, card: StoredCard) {
-    let key = name(rt, alloc, named);
+fn add(rt: &impl Abort, alloc: Global, book: &mut Book, key: &str, card: StoredCard) {
+    let key = named(rt, alloc, key);
     assert!(rt; book.changes.number() < 10);
     book.changes.touch(&key).expect(rt, "memory");
     book.cards.insert(key, card).expect(rt, "memory");
@@ -74,9 +73,9 @@ fn sales(rt: &impl Abort, alloc: Global) -> Book {
 
 fn books(rt: &impl Abort, alloc: Global) -> NameMap<Book> {
     let mut books = NameMap::new(alloc);
-    for (named, book) in [("law", empty_book(alloc)), ("sales", sales(rt, alloc))] {
+    for (key, book) in [("law", empty_book(alloc)), ("sales", sales(rt, alloc))] {
         books
-            .insert(name(rt, alloc, named), book)
+            .insert(named(rt, alloc, key), book)
             .expect(rt, "memory");
     }
     books
@@ -84,9 +83,9 @@ fn books(rt: &impl Abort, alloc: Global) -> NameMap<Book> {
 
 fn persons(rt: &impl Abort, alloc: Global) -> NameMap<Properties> {
     let mut persons = NameMap::new(alloc);
-    for named in ["ann", "bob"] {
+    for key in ["ann", "bob"] {
         persons
-            .insert(name(rt, alloc, named), Properties::empty(alloc, None))
+            .insert(named(rt, alloc, key), Properties::empty(alloc, None))
             .expect(rt, "memory");
     }
     persons
@@ -109,15 +108,10 @@ fn office(rt: &impl Abort, alloc: Global) -> Office {
     }
 }
 
-/// The word at an index; empty where the line has fewer.
-fn word(line: &str, index: usize) -> &str {
-    line.split(' ').nth(index).unwrap_or("")
-}
-
 /// `put CARD TEXT`, `remove CARD`, `copy CARD CARD` and `move CARD CARD`, all in sales, and `take BOOK`.
 fn edit(rt: &impl Abort, alloc: Global, line: &str) -> Edit {
-    let first = name(rt, alloc, word(line, 1));
-    let book = name(rt, alloc, "sales");
+    let first = named(rt, alloc, word(line, 1));
+    let book = named(rt, alloc, "sales");
     match word(line, 0) {
         "put" => Edit::PutCard {
             book,
@@ -129,15 +123,15 @@ fn edit(rt: &impl Abort, alloc: Global, line: &str) -> Edit {
         "copy" => Edit::CopyCard {
             from_book: book,
             from_card: first,
-            to_book: name(rt, alloc, "sales"),
-            to_card: name(rt, alloc, word(line, 2)),
+            to_book: named(rt, alloc, "sales"),
+            to_card: named(rt, alloc, word(line, 2)),
             owner: None,
         },
         "move" => Edit::MoveCard {
             from_book: book,
             from_card: first,
-            to_book: name(rt, alloc, "sales"),
-            to_card: name(rt, alloc, word(line, 2)),
+            to_book: named(rt, alloc, "sales"),
+            to_card: named(rt, alloc, word(line, 2)),
         },
         _ => Edit::RemoveBook { book: first },
     }
@@ -168,30 +162,9 @@ fn tell(rt: &impl Abort, answer: &mut String, item: &Item) {
     }
 }
 
-/// The report of a line `sync CALLER BOOK TOKEN LIMIT`, where `-` is nobody and no token, and the limit may be left out; the
-/// replica takes it over.
-fn sync<K: Keeper>(
-    rt: &impl Abort,
-    alloc: Global,
-    keeper: &mut K,
-    replica: &mut Replica,
-    line: &str,
-) -> String {
-    let caller = match word(line, 1) {
-        "-" => Caller::Nobody,
-        named => Caller::Known(person(rt, alloc, named)),
-    };
-    let circle = keeper.circle(alloc, &caller).expect(rt, "memory");
-    let book = name(rt, alloc, word(line, 2));
-    let token = Token::parse(alloc, word(line, 3)).expect(rt, "memory");
-    let limit = limit(rt, word(line, 4));
-    let report = sync_report(alloc, keeper, &circle, &book, token.as_ref(), limit);
+/// What a report says: a line for each item, and its token.
+fn report_text(rt: &impl Abort, alloc: Global, report: &Report) -> String {
     let mut answer = String::new(alloc);
-    let Some(report) = report.expect(rt, "memory") else {
-        answer.push_str("not valid").expect(rt, "memory");
-        return answer;
-    };
-    apply_report(replica, &report).expect(rt, "memory");
     for item in report.items.as_slice() {
         tell(rt, &mut answer, item);
     }
@@ -203,9 +176,50 @@ fn sync<K: Keeper>(
     answer
 }
 
+/// What a report says, which the replica takes over; none where the token is not valid.
+fn taken_over(
+    rt: &impl Abort,
+    alloc: Global,
+    replica: &mut Replica,
+    report: Option<Report>,
+) -> String {
+    let Some(report) = report else {
+        return String::from_str(alloc, "not valid").expect(rt, "memory");
+    };
+    apply_report(replica, &report).expect(rt, "memory");
+    let answer = report_text(rt, alloc, &report);
+    drop(report);
+    answer
+}
+
+/// The report of a line `sync CALLER BOOK TOKEN LIMIT`, where `-` is nobody and no token, and the limit may be left out; the
+/// replica takes it over.
+fn sync<K: Keeper>(
+    rt: &impl Abort,
+    alloc: Global,
+    keeper: &mut K,
+    replica: &mut Replica,
+    line: &str,
+) -> String {
+    let caller = match word(line, 1) {
+        "-" => Caller::Nobody,
+        caller => Caller::Known(person(rt, alloc, caller)),
+    };
+    let circle = keeper.circle(alloc, &caller).expect(rt, "memory");
+    drop(caller);
+    let book = named(rt, alloc, word(line, 2));
+    let token = Token::parse(alloc, word(line, 3)).expect(rt, "memory");
+    let limit = limit(rt, word(line, 4));
+    let report = sync_report(alloc, keeper, &circle, &book, token.as_ref(), limit);
+    drop(circle);
+    drop(book);
+    drop(token);
+    taken_over(rt, alloc, replica, report.expect(rt, "memory"))
+}
+
 /// What the replica has at the name of a line `has CARD`.
 fn has(rt: &impl Abort, alloc: Global, replica: &Replica, line: &str) -> String {
-    match replica.get(&name(rt, alloc, word(line, 1))) {
+    match replica.get(&named(rt, alloc, word(line, 1))) {
         Some(seen) => {
             let number = seen.number;
             let label = seen.label.as_str();
@@ -214,6 +228,11 @@ fn has(rt: &impl Abort, alloc: Global, replica: &Replica, line: &str) -> String 
         }
         None => String::from_str(alloc, "nothing").expect(rt, "memory"),
     }
+}
+
+fn act<K: Keeper>(rt: &impl Abort, alloc: Global, keeper: &mut K, edit: Edit) {
+    keeper.act(alloc, &edit).expect(rt, "memory");
+    drop(edit);
 }
 
 fn answer<K: Keeper>(
@@ -231,8 +250,7 @@ fn answer<K: Keeper>(
             format!(in alloc; "{count}").expect(rt, "memory")
         }
         _ => {
-            let edit = edit(rt, alloc, line);
-            keeper.act(alloc, &edit).expect(rt, "memory");
+            act(rt, alloc, keeper, edit(rt, alloc, line));
             String::new(alloc)
         }
     }
@@ -256,6 +274,8 @@ fn follow(rt: &impl Abort, alloc: Global, steps: &[(&str, &str)]) {
     for (line, wanted) in steps {
         take(rt, alloc, &mut keeper, &mut replica, line, wanted);
     }
+    drop(keeper);
+    drop(replica);
 }
 
 /// A name that may not be read is left out at first, and later told as removed; a name is told once, with the number of

@@ -18,66 +18,69 @@ fn check_spelled(rt: &impl Abort, alloc: Global, text: &str, book: &str, epoch: 
     check_text(rt, again.as_str(), text, text);
 }
 
+/// The text of a token, its book, its epoch, and its number.
+const SPELLED: &[(&str, &str, u64, u64)] = &[
+    ("data:,sales/2/3", "sales", 2, 3),
+    ("data:,law/0/0", "law", 0, 0),
+    ("data:,7/10/100", "7", 10, 100),
+    ("data:,Data_-./1/20", "Data_-.", 1, 20),
+    (
+        "data:,sales/9007199254740991/9007199254740991",
+        "sales",
+        9_007_199_254_740_991,
+        9_007_199_254_740_991,
+    ),
+];
+
 /// The text of a token tells its parts, and the parts give the text again.
 #[test]
 fn tokens_are_spelled(rt: HostRuntime) {
-    let cases = [
-        ("data:,sales/2/3", "sales", 2, 3),
-        ("data:,law/0/0", "law", 0, 0),
-        ("data:,7/10/100", "7", 10, 100),
-        ("data:,Data_-./1/20", "Data_-.", 1, 20),
-        (
-            "data:,sales/9007199254740991/9007199254740991",
-            "sales",
-            9_007_199_254_740_991,
-            9_007_199_254_740_991,
-        ),
-    ];
-    for (text, book, epoch, number) in cases {
-        check_spelled(&rt, rt.alloc(), text, book, epoch, number);
+    for (text, book, epoch, number) in SPELLED {
+        check_spelled(&rt, rt.alloc(), text, book, *epoch, *number);
     }
     texts_tell_tokens();
 }
 
+const NO_TOKENS: &[&str] = &[
+    "",
+    "data:,",
+    "data:,sales",
+    "data:,sales/2",
+    "data:,sales/2/",
+    "data:,sales//3",
+    "data:,/2/3",
+    "sales/2/3",
+    "data:sales/2/3",
+    "data:;,sales/2/3",
+    "http:,sales/2/3",
+    "DATA:,sales/2/3",
+    " data:,sales/2/3",
+    "data:,sales/2/3 ",
+    "data:,sales/2/3\n",
+    "data:,sales/2/3/",
+    "data:,sales/2/3/4",
+    "data:,sales/02/3",
+    "data:,sales/2/03",
+    "data:,sales/00/3",
+    "data:,sales/2/00",
+    "data:,sales/+2/3",
+    "data:,sales/2/+3",
+    "data:,sales/-2/3",
+    "data:,sales/2.0/3",
+    "data:,sales/0x2/3",
+    "data:,sales/2/3a",
+    "data:,sales/2/٣",
+    "data:,sales/9007199254740992/3",
+    "data:,sales/2/9007199254740992",
+    "data:,sales/18446744073709551618/3",
+    "data:,.sales/2/3",
+    "data:,sä/2/3",
+    "data:,/books/sales/2/3",
+];
+
 #[test]
 fn other_texts_spell_no_token(rt: HostRuntime) {
-    let cases = [
-        "",
-        "data:,",
-        "data:,sales",
-        "data:,sales/2",
-        "data:,sales/2/",
-        "data:,sales//3",
-        "data:,/2/3",
-        "sales/2/3",
-        "data:sales/2/3",
-        "data:;,sales/2/3",
-        "http:,sales/2/3",
-        "DATA:,sales/2/3",
-        " data:,sales/2/3",
-        "data:,sales/2/3 ",
-        "data:,sales/2/3\n",
-        "data:,sales/2/3/",
-        "data:,sales/2/3/4",
-        "data:,sales/02/3",
-        "data:,sales/2/03",
-        "data:,sales/00/3",
-        "data:,sales/2/00",
-        "data:,sales/+2/3",
-        "data:,sales/2/+3",
-        "data:,sales/-2/3",
-        "data:,sales/2.0/3",
-        "data:,sales/0x2/3",
-        "data:,sales/2/3a",
-        "data:,sales/2/٣",
-        "data:,sales/9007199254740992/3",
-        "data:,sales/2/9007199254740992",
-        "data:,sales/18446744073709551618/3",
-        "data:,.sales/2/3",
-        "data:,sä/2/3",
-        "data:,/books/sales/2/3",
-    ];
-    for text in cases {
+    for text in NO_TOKENS {
         check_fact(&rt, read(&rt, rt.alloc(), text).is_none(), text);
     }
 }
