@@ -1,5 +1,6 @@
 //! Writers that take little, or fail: what they took is a beginning of the text.
 
+use crate::checks::check_fact;
 use crate::dumps_offices::keeper;
 use book_dumps::{DumpFault, dump};
 use std::alloc::Global;
@@ -31,19 +32,20 @@ impl Write for Cut {
 
 /// What a writer with so much room took, and whether the dump failed there.
 fn cut_at(rt: &impl Abort, alloc: Global, room: usize) -> (Vec<u8>, bool) {
-    let mut keeper = keeper(rt, alloc);
     let mut cut = Cut {
         taken: Vec::new(alloc),
         room,
     };
-    let failed = match dump(alloc, &mut keeper, &mut cut) {
+    let mut keeper = keeper(rt, alloc);
+    let dumped = dump(alloc, &mut keeper, &mut cut);
+    drop(keeper);
+    let failed = match dumped {
         Ok(()) => false,
         Err(fault) => {
-            assert!(rt; fault == DumpFault::Write, "a write failed");
+            check_fact(rt, fault == DumpFault::Write, "a write failed");
             true
         }
     };
-    drop(keeper);
     (cut.taken, failed)
 }
 
@@ -51,15 +53,13 @@ fn cut_at(rt: &impl Abort, alloc: Global, room: usize) -> (Vec<u8>, bool) {
 fn a_cut_text_is_a_beginning(rt: HostRuntime) {
     let alloc = rt.alloc();
     let (whole, failed) = cut_at(&rt, alloc, 10_000);
-    assert!(rt; !failed, "room for the whole text");
+    check_fact(&rt, !failed, "room for the whole text");
     let last = whole.len().saturating_sub(1);
     for room in [0, 1, 11, 12, 500, last] {
         let (taken, failed) = cut_at(&rt, alloc, room);
-        assert!(rt; failed, "too little room");
-        assert!(rt; taken.len() == room, "as much as there is room for");
-        assert!(rt;
-            whole.as_slice().starts_with(taken.as_slice()),
-            "a beginning of the text"
-        );
+        check_fact(&rt, failed, "too little room");
+        check_fact(&rt, taken.len() == room, "as much as there is room for");
+        let begins = whole.as_slice().starts_with(taken.as_slice());
+        check_fact(&rt, begins, "a beginning of the text");
     }
 }

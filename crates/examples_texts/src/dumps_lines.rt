@@ -1,5 +1,7 @@
-//! A small dump, line by line, and the same with one other line.
+//! A small dump, line by line, the same with one other line or with other parts, and what is made of it.
 
+use crate::checks::check_text;
+use book_dumps_changes::Changed;
 use book_dumps_reading::{Dumped, ReadFault, dump_bytes, read_dump};
 use std::alloc::Global;
 use std::process::Abort;
@@ -40,6 +42,52 @@ pub(crate) fn text(rt: &impl Abort, alloc: Global) -> String {
 /// What the text of a dump tells.
 pub(crate) fn read(rt: &impl Abort, alloc: Global, text: &str) -> Dumped {
     read_dump(alloc, text.as_bytes()).expect(rt, "a dump")
+}
+
+/// Parts of a dump, each with what is in its place.
+pub(crate) type Turns = &'static [(&'static str, &'static str)];
+
+/// The dump itself.
+pub(crate) const AS_IT_IS: Turns = &[];
+
+/// The dump with some parts in the place of others.
+fn turned(rt: &impl Abort, alloc: Global, turns: Turns) -> String {
+    let mut wanted = text(rt, alloc);
+    for (old, new) in turns {
+        let (front, back) = wanted
+            .as_str()
+            .split_once(*old)
+            .expect(rt, "a part of the dump");
+        let turned = format!(in alloc; "{front}{new}{back}").expect(rt, "memory");
+        wanted = turned;
+    }
+    wanted
+}
+
+/// What the dump with some parts in the place of others tells.
+pub(crate) fn dump_with(rt: &impl Abort, alloc: Global, turns: Turns) -> Dumped {
+    let text = turned(rt, alloc, turns);
+    read(rt, alloc, text.as_str())
+}
+
+/// The text of what was made has to be the dump with some parts in the place of others.
+fn check_dumped(rt: &impl Abort, alloc: Global, dumped: &Dumped, turns: Turns) {
+    let wanted = turned(rt, alloc, turns);
+    let made = written(rt, alloc, dumped);
+    check_text(rt, made.as_str(), wanted.as_str());
+}
+
+/// The change has to tell this, and to make the dump with some parts in the place of others.
+pub(crate) fn check_changed(
+    rt: &impl Abort,
+    alloc: Global,
+    changed: Changed,
+    told: &str,
+    turns: Turns,
+) {
+    check_text(rt, changed.told.as_str(), told);
+    check_dumped(rt, alloc, &changed.dumped, turns);
+    drop(changed);
 }
 
 /// The text of what a dump tells.

@@ -34,13 +34,13 @@ fn principal(rt: &impl Abort, alloc: Global, word: &str) -> Principal {
     principal.expect(rt, "a principal")
 }
 
-fn act(rt: &impl Abort, alloc: Global, keeper: &mut MemoryKeeper, edit: Edit) {
+fn act<K: Keeper>(rt: &impl Abort, alloc: Global, keeper: &mut K, edit: Edit) {
     keeper.act(alloc, &edit).expect(rt, "memory");
     drop(edit);
 }
 
 /// Puts a card of ann's into the book sales.
-fn put_card(rt: &impl Abort, alloc: Global, keeper: &mut MemoryKeeper, card: &str) {
+fn put_card<K: Keeper>(rt: &impl Abort, alloc: Global, keeper: &mut K, card: &str) {
     let edit = Edit::PutCard {
         book: name(rt, alloc, "sales"),
         card: name(rt, alloc, card),
@@ -51,7 +51,7 @@ fn put_card(rt: &impl Abort, alloc: Global, keeper: &mut MemoryKeeper, card: &st
 }
 
 /// Removes a card of the book sales.
-fn remove_card(rt: &impl Abort, alloc: Global, keeper: &mut MemoryKeeper, card: &str) {
+fn remove_card<K: Keeper>(rt: &impl Abort, alloc: Global, keeper: &mut K, card: &str) {
     let edit = Edit::RemoveCard {
         book: name(rt, alloc, "sales"),
         card: name(rt, alloc, card),
@@ -65,7 +65,7 @@ pub(crate) fn card_path(rt: &impl Abort, alloc: Global) -> Path {
 }
 
 /// Gives the card a label with a line feed, a character of two bytes, a quote and a backslash.
-fn set_label(rt: &impl Abort, alloc: Global, keeper: &mut MemoryKeeper) {
+fn set_label<K: Keeper>(rt: &impl Abort, alloc: Global, keeper: &mut K) {
     let edit = Edit::SetLabel {
         path: card_path(rt, alloc),
         label: Text::copy_of(alloc, "Bo\nß \"q\" \\").expect(rt, "memory"),
@@ -74,7 +74,7 @@ fn set_label(rt: &impl Abort, alloc: Global, keeper: &mut MemoryKeeper) {
 }
 
 /// Gives the card its own list: `deny not /groups/staff read`, and a grant to itself of nothing.
-fn set_list(rt: &impl Abort, alloc: Global, keeper: &mut MemoryKeeper) {
+fn set_list<K: Keeper>(rt: &impl Abort, alloc: Global, keeper: &mut K) {
     let mut entries = Items::new(alloc);
     let first = Entry {
         who: Who::Href(principal(rt, alloc, "/groups/staff")),

@@ -1,11 +1,12 @@
 //! Dumps that are read, and texts that are none, each with the line and the key at which it is wrong.
 
+use crate::checks::{check_fact, check_number, check_text};
 use crate::dumps_lines::{read, text, text_with, told_of, written};
 use crate::dumps_offices::keeper;
 use book_dumps::dump;
+use book_dumps_reading::Dumped;
 use std::alloc::Global;
 use std::process::Abort;
-use std::str;
 
 /// A line in the place of another one, by its number, and what is told of the text.
 const FAULTS: [(usize, &str, &str); 58] = [
@@ -233,31 +234,53 @@ const FAULTS: [(usize, &str, &str); 58] = [
     (12, "{\"lines\":11}\n", "line 13: last-line"),
 ];
 
+/// The text of the Office of the examples.
+fn office(rt: &impl Abort, alloc: Global) -> String {
+    let mut bytes = Vec::new(alloc);
+    let mut keeper = keeper(rt, alloc);
+    let done = dump(alloc, &mut keeper, &mut bytes);
+    drop(keeper);
+    check_fact(rt, done.is_ok(), "memory");
+    String::from_utf8(bytes).expect(rt, "a text")
+}
+
+/// What a dump tells is written as this text.
+fn check_written(rt: &impl Abort, alloc: Global, dumped: Dumped, wanted: &str) {
+    let told = written(rt, alloc, &dumped);
+    drop(dumped);
+    check_text(rt, told.as_str(), wanted);
+}
+
+/// What is told of a text that is no dump is this.
+fn check_told(rt: &impl Abort, alloc: Global, text: &[u8], wanted: &str) {
+    let told = told_of(rt, alloc, text);
+    check_text(rt, told.as_str(), wanted);
+}
+
+/// What is told of the dump with another line is this.
+fn check_line(rt: &impl Abort, alloc: Global, number: usize, line: &str, wanted: &str) {
+    let text = text_with(rt, alloc, number, line);
+    check_told(rt, alloc, text.as_bytes(), wanted);
+}
+
 #[test]
 fn a_dump_of_an_office_is_read_as_it_is(rt: HostRuntime) {
     let alloc = rt.alloc();
-    let mut keeper = keeper(&rt, alloc);
-    let mut bytes = Vec::new(alloc);
-    let done = dump(alloc, &mut keeper, &mut bytes);
-    assert!(rt; done.is_ok(), "memory");
-    let office = str::from_utf8(bytes.as_slice()).expect(&rt, "a text");
-    let dumped = read(&rt, alloc, office);
-    assert_eq!(rt; dumped.epoch, 2);
-    assert_eq!(rt; dumped.lines.len(), 12);
-    assert_eq!(rt; written(&rt, alloc, &dumped).as_str(), office);
+    let office = office(&rt, alloc);
+    let dumped = read(&rt, alloc, office.as_str());
+    check_number(&rt, dumped.epoch, 2);
+    check_number(&rt, dumped.lines.len() as u64, 12);
+    check_written(&rt, alloc, dumped, office.as_str());
     let small = text(&rt, alloc);
     let dumped = read(&rt, alloc, small.as_str());
-    assert_eq!(rt; written(&rt, alloc, &dumped).as_str(), small.as_str());
-    drop(keeper);
+    check_written(&rt, alloc, dumped, small.as_str());
 }
 
 #[test]
 fn a_wrong_line_is_told(rt: HostRuntime) {
     let alloc = rt.alloc();
     for (number, line, wanted) in FAULTS {
-        let text = text_with(&rt, alloc, number, line);
-        let told = told_of(&rt, alloc, text.as_bytes());
-        assert_eq!(rt; told.as_str(), wanted, "{line}");
+        check_line(&rt, alloc, number, line, wanted);
     }
 }
 
@@ -279,24 +302,21 @@ fn limits_are_told(rt: HostRuntime) {
         let line = format!(in alloc; "{{\"path\":\"/\",\"own\":[{entries}]}}").expect(
             &rt, "memory",
         );
-        let text = text_with(&rt, alloc, 2, line.as_str());
-        assert_eq!(rt; told_of(&rt, alloc, text.as_bytes()).as_str(), wanted);
+        check_line(&rt, alloc, 2, line.as_str(), wanted);
     }
     for (count, wanted) in [(256, "read"), (257, "line 2: too-long\nkey: label")] {
         let label = repeated(&rt, alloc, "x", count, "");
         let line = format!(in alloc; "{{\"path\":\"/\",\"label\":\"{label}\"}}").expect(
             &rt, "memory",
         );
-        let text = text_with(&rt, alloc, 2, line.as_str());
-        assert_eq!(rt; told_of(&rt, alloc, text.as_bytes()).as_str(), wanted);
+        check_line(&rt, alloc, 2, line.as_str(), wanted);
     }
     for (count, wanted) in [(65536, "read"), (65537, "line 6: too-long\nkey: text")] {
         let card = repeated(&rt, alloc, "x", count, "");
         let line = format!(in alloc;
             "{{\"path\":\"/books/a/c\",\"number\":7,\"text\":\"{card}\"}}"
         ).expect(&rt, "memory");
-        let text = text_with(&rt, alloc, 6, line.as_str());
-        assert_eq!(rt; told_of(&rt, alloc, text.as_bytes()).as_str(), wanted);
+        check_line(&rt, alloc, 6, line.as_str(), wanted);
     }
 }
 
@@ -372,7 +392,7 @@ fn a_large_office_is_read(rt: HostRuntime) {
     ];
     for (books, cards, persons, wanted) in rows {
         let text = large(&rt, alloc, books, cards, persons);
-        assert_eq!(rt; told_of(&rt, alloc, text.as_bytes()).as_str(), wanted);
+        check_told(&rt, alloc, text.as_bytes(), wanted);
     }
 }
 
@@ -382,23 +402,11 @@ fn a_text_that_ends_otherwise_is_told(rt: HostRuntime) {
     let whole = text(&rt, alloc);
     let bytes = whole.as_bytes();
     let cut = bytes.len().saturating_sub(1);
-    assert_eq!(rt;
-        told_of(&rt, alloc, &bytes[..cut]).as_str(),
-        "line 12: last-line"
-    );
+    check_told(&rt, alloc, &bytes[..cut], "line 12: last-line");
     let before = bytes.len().saturating_sub("{\"lines\":11}\n".len());
-    assert_eq!(rt;
-        told_of(&rt, alloc, &bytes[..before]).as_str(),
-        "line 12: last-line"
-    );
-    assert_eq!(rt; told_of(&rt, alloc, b"").as_str(), "line 1: last-line");
-    assert_eq!(rt;
-        told_of(&rt, alloc, b"{\"epoch\":7}\n\xff\n").as_str(),
-        "line 2: bad-line"
-    );
+    check_told(&rt, alloc, &bytes[..before], "line 12: last-line");
+    check_told(&rt, alloc, b"", "line 1: last-line");
+    check_told(&rt, alloc, b"{\"epoch\":7}\n\xff\n", "line 2: bad-line");
     let early = "{\"epoch\":7}\n{\"path\":\"/\"}\n{\"lines\":2}\n";
-    assert_eq!(rt;
-        told_of(&rt, alloc, early.as_bytes()).as_str(),
-        "line 3: bad-line\nkey: path"
-    );
+    check_told(&rt, alloc, early.as_bytes(), "line 3: bad-line\nkey: path");
 }

@@ -1,11 +1,11 @@
 //! The text of the Office, and the lines of single resources.
 
+use crate::checks::{check_fact, check_text};
 use crate::dumps_offices::{card_path, keeper, name};
 use book_dumps::{dump, show};
 use book_office::{Keeper, MemoryKeeper, Path};
 use std::alloc::Global;
 use std::process::Abort;
-use std::str;
 
 /// The card: its own list has an inverted entry, and one of no name.
 const CARD: &str =
@@ -38,9 +38,8 @@ const AFTER: &str = "{\"path\":\"/groups\"}\n\
 fn dumped<K: Keeper>(rt: &impl Abort, alloc: Global, keeper: &mut K) -> String {
     let mut bytes = Vec::new(alloc);
     let dumped = dump(alloc, keeper, &mut bytes);
-    assert!(rt; dumped.is_ok(), "memory");
-    let text = str::from_utf8(bytes.as_slice()).expect(rt, "a text");
-    String::from_str(alloc, text).expect(rt, "memory")
+    check_fact(rt, dumped.is_ok(), "memory");
+    String::from_utf8(bytes).expect(rt, "a text")
 }
 
 #[test]
@@ -48,13 +47,13 @@ fn an_office_is_dumped_as_text(rt: HostRuntime) {
     let alloc = rt.alloc();
     let mut keeper = keeper(&rt, alloc);
     let text = dumped(&rt, alloc, &mut keeper);
+    drop(keeper);
     let rest = text
         .as_str()
         .strip_prefix(BEFORE)
         .expect(&rt, "the lines before the card");
     let rest = rest.strip_prefix(CARD).expect(&rt, "the card");
-    assert_eq!(rt; rest, AFTER);
-    drop(keeper);
+    check_text(&rt, rest, AFTER);
 }
 
 #[test]
@@ -62,10 +61,10 @@ fn an_empty_office_is_dumped_as_text(rt: HostRuntime) {
     let alloc = rt.alloc();
     let mut keeper = MemoryKeeper::new(alloc);
     let text = dumped(&rt, alloc, &mut keeper);
+    drop(keeper);
     let wanted =
         "{\"epoch\":0}\n{\"path\":\"/\"}\n{\"path\":\"/books\"}\n{\"path\":\"/groups\"}\n{\"path\":\"/people\"}\n{\"lines\":5}\n";
-    assert_eq!(rt; text.as_str(), wanted);
-    drop(keeper);
+    check_text(&rt, text.as_str(), wanted);
 }
 
 #[test]
@@ -75,9 +74,9 @@ fn a_resource_is_shown_as_its_line(rt: HostRuntime) {
     let path = card_path(&rt, alloc);
     let shown = show(alloc, &mut keeper, &path).expect(&rt, "memory");
     let line = shown.expect(&rt, "a card");
-    assert_eq!(rt; line.as_str(), CARD);
+    check_text(&rt, line.as_str(), CARD);
     let removed = Path::Card(name(&rt, alloc, "sales"), name(&rt, alloc, "c.vcf"));
     let none = show(alloc, &mut keeper, &removed).expect(&rt, "memory");
-    assert!(rt; none.is_none(), "a removed name is no resource");
     drop(keeper);
+    check_fact(&rt, none.is_none(), "a removed name is no resource");
 }

@@ -6,6 +6,8 @@
 #![tactic(auto)]
 
 #[cfg(test)]
+mod checks;
+#[cfg(test)]
 mod dumps_changes;
 #[cfg(test)]
 mod dumps_cuts;

@@ -1,5 +1,6 @@
 //! A log with each kind of line, texts that are none, and what is told of the denials.
 
+use crate::checks::{check_bytes, check_fact, check_text};
 use book_log_denials::{Form, Groups, LogFault, Unread, count_line, groups_of, read_log};
 use book_log_lines::{Time, push_line};
 use json::Scratch;
@@ -65,38 +66,43 @@ const FAULTS: [(&str, u64); 8] = [
     ),
 ];
 
-/// What is told of the denials of a log, from a time on if there is one.
-fn told(rt: &impl Abort, alloc: Global, form: Form, log: &str, since: Option<&str>) -> String {
-    let lines = read_log(alloc, log.as_bytes()).expect(rt, "a log");
-    let since = match since {
-        Some(text) => Time::parse(alloc, text).expect(rt, "memory"),
-        None => None,
-    };
-    let groups = groups_of(alloc, form, lines.as_slice(), since.as_ref()).expect(rt, "memory");
+/// The lines of groups of denials are these.
+fn check_groups(rt: &impl Abort, alloc: Global, form: Form, groups: &Groups, wanted: &str) {
     let mut text = String::new(alloc);
     groups
         .push_lines(alloc, form, &mut text)
         .expect(rt, "memory");
-    text
+    check_text(rt, text.as_str(), wanted);
+}
+
+/// What is told of the denials of a log is this, from a time on if there is one.
+fn check_told(
+    rt: &impl Abort,
+    alloc: Global,
+    form: Form,
+    log: &str,
+    since: Option<&str>,
+    wanted: &str,
+) {
+    let since = match since {
+        Some(text) => Time::parse(alloc, text).expect(rt, "memory"),
+        None => None,
+    };
+    let lines = read_log(alloc, log.as_bytes()).expect(rt, "a log");
+    let groups = groups_of(alloc, form, lines.as_slice(), since.as_ref()).expect(rt, "memory");
+    drop(lines);
+    check_groups(rt, alloc, form, &groups, wanted);
+    drop(groups);
 }
 
 #[test]
 fn denials_are_told_in_groups(rt: HostRuntime) {
     let alloc = rt.alloc();
-    let all = told(&rt, alloc, Form::Text, LOG, None);
-    assert_eq!(rt; all.as_str(), TOLD);
-    let some = told(
-        &rt,
-        alloc,
-        Form::Text,
-        LOG,
-        Some("2026-11-29T09:00:05.000Z"),
-    );
-    assert_eq!(rt; some.as_str(), TOLD_SINCE);
-    let none = told(&rt, alloc, Form::Text, "", None);
-    assert_eq!(rt; none.as_str(), "");
-    let objects = told(&rt, alloc, Form::Object, LOG, None);
-    assert_eq!(rt; objects.as_str(), OBJECTS);
+    check_told(&rt, alloc, Form::Text, LOG, None, TOLD);
+    let since = Some("2026-11-29T09:00:05.000Z");
+    check_told(&rt, alloc, Form::Text, LOG, since, TOLD_SINCE);
+    check_told(&rt, alloc, Form::Text, "", None, "");
+    check_told(&rt, alloc, Form::Object, LOG, None, OBJECTS);
 }
 
 #[test]
@@ -107,13 +113,9 @@ fn a_line_is_counted_by_itself(rt: HostRuntime) {
     for line in LOG.as_bytes().split_inclusive(|byte| *byte == b'\n') {
         count_line(alloc, &mut scratch, Form::Text, &mut groups, None, line).expect(&rt, "a line");
     }
-    let mut text = String::new(alloc);
-    groups
-        .push_lines(alloc, Form::Text, &mut text)
-        .expect(&rt, "memory");
-    assert_eq!(rt; text.as_str(), TOLD);
+    check_groups(&rt, alloc, Form::Text, &groups, TOLD);
     let unread = count_line(alloc, &mut scratch, Form::Text, &mut groups, None, b"{}\n");
-    assert!(rt; unread == Err(Unread::Bad), "no line");
+    check_fact(&rt, unread == Err(Unread::Bad), "no line");
 }
 
 #[test]
@@ -124,16 +126,15 @@ fn a_log_is_written_as_it_was_read(rt: HostRuntime) {
     for line in lines.as_slice() {
         push_line(alloc, &mut bytes, line).expect(&rt, "memory");
     }
-    assert_eq!(rt; bytes.as_slice(), LOG.as_bytes());
+    drop(lines);
+    check_bytes(&rt, bytes.as_slice(), LOG.as_bytes());
 }
 
 #[test]
 fn a_line_that_is_none_is_told(rt: HostRuntime) {
     let alloc = rt.alloc();
     for (text, number) in FAULTS {
-        match read_log(alloc, text.as_bytes()) {
-            Ok(_) => assert!(rt; false, "{text}"),
-            Err(fault) => assert_eq!(rt; fault, LogFault::BadLine(number)),
-        }
+        let fault = read_log(alloc, text.as_bytes()).err();
+        check_fact(&rt, fault == Some(LogFault::BadLine(number)), text);
     }
 }

@@ -1,6 +1,8 @@
 //! What the line of an edit tells: the cards that it touched, each with its number, and the epoch after it.
 
-use crate::log_serving::{CARD, check, kept_by, output_of, request};
+use crate::log_serving::{
+    CARD, check_noted, check_served, check_taken, kept_by, output_of, request,
+};
 use book_machine::{Body, Patch};
 use book_office_values::{Items, Path, Text};
 use book_rights::Method;
@@ -114,14 +116,14 @@ fn lines_tell_what_edits_did(rt: HostRuntime) {
     let alloc = rt.alloc();
     let mut kept = kept_by(&rt, alloc, POLICY, output_of(alloc, 1_000, 1_000), 0, 0);
     for (method, path, destination, has, status) in EDITS {
+        let to = match destination {
+            Some(text) => Path::parse(alloc, text).ok(),
+            None => None,
+        };
         let mut asked = request(&rt, alloc, method, path, body(&rt, alloc, has));
-        if let Some(text) = destination {
-            asked.destination = Path::parse(alloc, text).ok();
-        }
-        check(&rt, kept.serve(alloc, Some("ann"), &asked), status);
-        assert_eq!(rt; kept.note(true), Ok(()));
+        asked.destination = to;
+        check_served(&rt, alloc, &mut kept, Some("ann"), asked, status);
+        check_noted(&rt, &mut kept, true, Ok(()));
     }
-    let (machine, output) = kept.release();
-    drop(machine);
-    assert_eq!(rt; output.taken.as_slice(), LOG.as_bytes());
+    check_taken(&rt, kept, LOG.as_bytes());
 }

@@ -1,8 +1,9 @@
 //! A machine that keeps a log: what is noted of each reply, and a log that fails.
 
+use crate::checks::{check_bytes, check_fact, check_number};
 use book_log_lines::{Adoption, Time};
 use book_log_service::{Clock, Logged};
-use book_machine::{Body, Depth, Flag, Machine, Reply, Request};
+use book_machine::{Body, Depth, Flag, Machine, Request};
 use book_office::{MemoryKeeper, Path};
 use book_office_values::Text;
 use book_policy::read_policy;
@@ -148,29 +149,79 @@ pub(crate) fn request(
     }
 }
 
-/// Ann puts a card.
-fn put(rt: &impl Abort, alloc: Global, kept: &mut Kept) -> Reply {
-    let text = Text::copy_of(alloc, CARD).expect(rt, "memory");
-    let asked = request(
-        rt,
-        alloc,
-        Method::Put,
-        "/books/sales/a.vcf",
-        Body::Text(text),
-    );
-    kept.serve(alloc, Some("ann"), &asked)
-}
-
-/// A caller asks for a card.
-fn get(rt: &impl Abort, alloc: Global, kept: &mut Kept, name: Option<&str>, path: &str) -> Reply {
-    let asked = request(rt, alloc, Method::Get, path, Body::Empty);
-    kept.serve(alloc, name, &asked)
-}
-
-pub(crate) fn check(rt: &impl Abort, reply: Reply, status: u16) {
+/// A caller asks for this, and the reply has this status.
+pub(crate) fn check_served<M: Service>(
+    rt: &impl Abort,
+    alloc: Global,
+    kept: &mut M,
+    name: Option<&str>,
+    asked: Request,
+    status: u16,
+) {
+    let reply = kept.serve(alloc, name, &asked);
+    drop(asked);
     let told = reply.status;
     drop(reply);
-    assert_eq!(rt; told, status);
+    check_number(rt, u64::from(told), u64::from(status));
+}
+
+/// Ann puts a card, which is made.
+fn check_put<M: Service>(rt: &impl Abort, alloc: Global, kept: &mut M) {
+    let body = Body::Text(Text::copy_of(alloc, CARD).expect(rt, "memory"));
+    let asked = request(rt, alloc, Method::Put, "/books/sales/a.vcf", body);
+    check_served(rt, alloc, kept, Some("ann"), asked, 201);
+}
+
+/// A caller asks for a card, and the reply has this status.
+fn check_get<M: Service>(
+    rt: &impl Abort,
+    alloc: Global,
+    kept: &mut M,
+    name: Option<&str>,
+    path: &str,
+    status: u16,
+) {
+    let asked = request(rt, alloc, Method::Get, path, Body::Empty);
+    check_served(rt, alloc, kept, name, asked, status);
+}
+
+/// The line of the last request is noted, sent or not, or the log failed, as it is wanted.
+pub(crate) fn check_noted<M: Service>(
+    rt: &impl Abort,
+    kept: &mut M,
+    sent: bool,
+    wanted: Result<(), LogFault>,
+) {
+    let noted = kept.note(sent);
+    check_fact(rt, noted == wanted, "a line of the log");
+}
+
+/// The line of a refusal is noted, or the log failed, as it is wanted.
+fn check_refused<M: Service>(
+    rt: &impl Abort,
+    kept: &mut M,
+    status: u16,
+    word: &str,
+    wanted: Result<(), LogFault>,
+) {
+    let noted = kept.note_refusal(status, word);
+    check_fact(rt, noted == wanted, "a line of a refusal");
+}
+
+/// Whether the log failed.
+fn check_failed<M: Service>(rt: &impl Abort, kept: &M, wanted: bool) {
+    check_fact(
+        rt,
+        kept.has_failed_log() == wanted,
+        "whether the log failed",
+    );
+}
+
+/// The log has these bytes.
+pub(crate) fn check_taken(rt: &impl Abort, kept: Kept, wanted: &[u8]) {
+    let (machine, output) = kept.release();
+    drop(machine);
+    check_bytes(rt, output.taken.as_slice(), wanted);
 }
 
 /// An edit, a denial with its entry, a refusal, a reply that could not be sent, a name that is none, a request that
@@ -190,33 +241,36 @@ fn each_reply_has_its_line(rt: HostRuntime) {
     let alloc = rt.alloc();
     let mut kept = kept(&rt, alloc, 50, 1_000);
     kept.turn_to(7);
-    check(&rt, put(&rt, alloc, &mut kept), 201);
-    assert_eq!(rt; kept.note(true), Ok(()));
-    let reply = get(&rt, alloc, &mut kept, Some("bob"), "/books/sales/a.vcf");
-    check(&rt, reply, 403);
-    assert_eq!(rt; kept.note(true), Ok(()));
+    check_put(&rt, alloc, &mut kept);
+    check_noted(&rt, &mut kept, true, Ok(()));
+    check_get(
+        &rt,
+        alloc,
+        &mut kept,
+        Some("bob"),
+        "/books/sales/a.vcf",
+        403,
+    );
+    check_noted(&rt, &mut kept, true, Ok(()));
     kept.turn_to(8);
-    let reply = get(&rt, alloc, &mut kept, None, "/books/sales/b.vcf");
-    check(&rt, reply, 404);
-    assert_eq!(rt; kept.note(true), Ok(()));
-    let reply = get(&rt, alloc, &mut kept, None, "/books/sales/a.vcf");
-    check(&rt, reply, 200);
-    assert_eq!(rt; kept.note(false), Ok(()));
-    let reply = get(
+    check_get(&rt, alloc, &mut kept, None, "/books/sales/b.vcf", 404);
+    check_noted(&rt, &mut kept, true, Ok(()));
+    check_get(&rt, alloc, &mut kept, None, "/books/sales/a.vcf", 200);
+    check_noted(&rt, &mut kept, false, Ok(()));
+    check_get(
         &rt,
         alloc,
         &mut kept,
         Some("a\"b\\c\n"),
         "/books/sales/a.vcf",
+        400,
     );
-    check(&rt, reply, 400);
-    assert_eq!(rt; kept.note(true), Ok(()));
-    assert_eq!(rt; kept.note_refusal(431, "head-too-large"), Ok(()));
-    assert_eq!(rt; kept.note_adoption(alloc, Adoption::Unchanged, 1), Ok(()));
-    assert!(rt; !kept.has_failed_log());
-    let (machine, output) = kept.release();
-    drop(machine);
-    assert_eq!(rt; output.taken.as_slice(), LOG.as_bytes());
+    check_noted(&rt, &mut kept, true, Ok(()));
+    check_refused(&rt, &mut kept, 431, "head-too-large", Ok(()));
+    let noted = kept.note_adoption(alloc, Adoption::Unchanged, 1);
+    check_fact(&rt, noted == Ok(()), "a line of an adoption");
+    check_failed(&rt, &kept, false);
+    check_taken(&rt, kept, LOG.as_bytes());
 }
 
 /// A write that fails is told, and nothing is written after it, though later writes would be taken.
@@ -225,18 +279,15 @@ fn a_log_that_fails_stays_so(rt: HostRuntime) {
     let alloc = rt.alloc();
     let mut kept = kept(&rt, alloc, 50, 1);
     kept.turn_to(7);
-    check(&rt, put(&rt, alloc, &mut kept), 201);
-    assert_eq!(rt; kept.note(true), Err(LogFault));
-    assert!(rt; kept.has_failed_log());
+    check_put(&rt, alloc, &mut kept);
+    check_noted(&rt, &mut kept, true, Err(LogFault));
+    check_failed(&rt, &kept, true);
     kept.writer.writes = 1_000;
-    let reply = get(&rt, alloc, &mut kept, None, "/books/sales/a.vcf");
-    check(&rt, reply, 200);
-    assert_eq!(rt; kept.note(true), Err(LogFault));
-    assert_eq!(rt; kept.note_refusal(400, "bad-head"), Err(LogFault));
-    assert_eq!(rt; kept.failures(), 0);
-    let (machine, output) = kept.release();
-    drop(machine);
-    assert_eq!(rt; output.taken.as_slice(), &LOG.as_bytes()[..50]);
+    check_get(&rt, alloc, &mut kept, None, "/books/sales/a.vcf", 200);
+    check_noted(&rt, &mut kept, true, Err(LogFault));
+    check_refused(&rt, &mut kept, 400, "bad-head", Err(LogFault));
+    check_number(&rt, kept.failures(), 0);
+    check_taken(&rt, kept, &LOG.as_bytes()[..50]);
 }
 
 /// An edit, a request for which memory was refused, one for which it was refused before it was read, and one that was
@@ -254,20 +305,16 @@ fn refused_memory_fails_no_log(rt: HostRuntime) {
     let alloc = rt.alloc();
     let mut kept = kept_with(&rt, alloc, output_of(alloc, 50, 1_000), 2, 2);
     kept.turn_to(7);
-    check(&rt, put(&rt, alloc, &mut kept), 201);
-    assert_eq!(rt; kept.note(true), Ok(()));
+    check_put(&rt, alloc, &mut kept);
+    check_noted(&rt, &mut kept, true, Ok(()));
     kept.turn_to(8);
-    let reply = get(&rt, alloc, &mut kept, None, "/books/sales/b.vcf");
-    check(&rt, reply, 503);
-    assert_eq!(rt; kept.note(true), Ok(()));
-    assert_eq!(rt; kept.note_refusal(503, "unavailable"), Ok(()));
-    let reply = get(&rt, alloc, &mut kept, None, "/books/sales/b.vcf");
-    check(&rt, reply, 404);
-    assert_eq!(rt; kept.note(true), Ok(()));
-    assert!(rt; !kept.has_failed_log());
-    let (machine, output) = kept.release();
-    drop(machine);
-    assert_eq!(rt; output.taken.as_slice(), REFUSED_LOG.as_bytes());
+    check_get(&rt, alloc, &mut kept, None, "/books/sales/b.vcf", 503);
+    check_noted(&rt, &mut kept, true, Ok(()));
+    check_refused(&rt, &mut kept, 503, "unavailable", Ok(()));
+    check_get(&rt, alloc, &mut kept, None, "/books/sales/b.vcf", 404);
+    check_noted(&rt, &mut kept, true, Ok(()));
+    check_failed(&rt, &kept, false);
+    check_taken(&rt, kept, REFUSED_LOG.as_bytes());
 }
 
 /// No other line stands for that of a refusal, and before a line could be made there is none for a request.
@@ -275,11 +322,11 @@ fn refused_memory_fails_no_log(rt: HostRuntime) {
 fn a_line_without_memory_fails_the_log(rt: HostRuntime) {
     let alloc = rt.alloc();
     let mut kept = kept_with(&rt, alloc, output_of(alloc, 50, 1_000), 1, 1);
-    assert_eq!(rt; kept.note_refusal(431, "head-too-large"), Err(LogFault));
-    assert!(rt; kept.has_failed_log());
+    check_refused(&rt, &mut kept, 431, "head-too-large", Err(LogFault));
+    check_failed(&rt, &kept, true);
     drop(kept);
     let mut kept = kept_with(&rt, alloc, output_of(alloc, 50, 1_000), 0, 2);
-    let reply = get(&rt, alloc, &mut kept, None, "/books/sales/b.vcf");
-    check(&rt, reply, 503);
-    assert!(rt; kept.has_failed_log());
+    check_get(&rt, alloc, &mut kept, None, "/books/sales/b.vcf", 503);
+    check_failed(&rt, &kept, true);
+    drop(kept);
 }
