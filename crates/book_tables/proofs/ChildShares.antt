@@ -164,7 +164,7 @@ module _ (db : Database) (book : IsBook db) where
   rules : IsDatabase (record { schema = book_schema; trees = db.trees })
   rules = subst (λ k. IsDatabase (record { schema = k; trees = db.trees })) book.schema book.rules
 
-  numbered : (row : Row) → Has rows.entries row → IsNumbered row
+  pub numbered : (row : Row) → Has rows.entries row → IsNumbered row
   numbered row there =
       let types = (and_parts (are_typed None 0 ace_columns (drop 1 row)) (has_computed ace2_table row) (all_has _ rows.entries row (rules.obeys.rules Datatype).1.1.1.1.1.0 there)).0 in
       let node = and_parts _ _ (all_has (λ r. are_present None 0 ace_columns r ≡ true) rows.entries row (rules.obeys.rules NotNull).1.1.1.1.1.0 there) in

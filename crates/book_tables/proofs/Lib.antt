@@ -46,6 +46,7 @@ pub mod ChangesTold
 pub mod ChildrenTold
 pub mod NodeShares
 pub mod ChildShares
+pub mod BareSpans
 pub mod PageShares
 pub mod ToldRows
 pub mod Turns

@@ -1,10 +1,11 @@
 -- What is told of rows with their lists.
-use Rattle.book_tables.proofs.Common.{◌≡◌, arith, ℕ, List, [], ◌∷◌, ◌++◌, map, codes, Option, Some, None, option_map, unwrap_or, refl, sym, ap, subst, ◌∙◌, IsPermutation, Int, id_in, Database, Row, State, same_Some, Changed, Listed, rowid, some_apart, rows_of, IsBook, Looks, is_under, ShowsListing, child_shown, ShowsChanges, card_shown, removed_shown, row_at, DoNotFall, child_among}
+use Rattle.book_tables.proofs.Common.{◌≡◌, arith, ℕ, ℤ, List, [], ◌∷◌, ◌++◌, map, codes, Option, Some, None, option_map, unwrap_or, refl, sym, ap, subst, ◌∙◌, IsPermutation, Int, id_in, Database, Row, State, same_Some, Changed, Listed, rowid, some_apart, rows_of, IsBook, Looks, is_under, ShowsListing, child_shown, ShowsChanges, card_shown, removed_shown, row_at, DoNotFall, child_among}
 use Rattle.std.proofs.lemmas.List.Sorted.{length_permutation, IsPermutation-refl, IsPermutation-trans}
 use Rattle.book_tables_rows.specs.declared.nodes.FoundNode.{FoundNode}
 use Rattle.book_tables_rows.specs.Lists as lists
 use Rattle.book_tables_rows.specs.Lists.{AreFirst, ShowsFirst, ShowsChildren, ShowsChildEntries, changed_number_place, removed_number_place}
 use Rattle.book_tables_rows.specs.Nodes.{Finds, Told, told, told_of}
+use Rattle.book_tables.specs.Children.{ShowsChildrenOf}
 use Rattle.book_tables.specs.LastChanges.{AreCardChangesAt, ShowsCardChanges, AreChangesAt, ShowsCards}
 use Rattle.book_tables.proofs.ChildShares.{do_not_fall, shares_are}
 
@@ -121,9 +122,16 @@ none_listed s path front found is finds = (finds.0, λ book. go book (row_at (ro
     go book None e = refl
     go book (Some node) e = some_apart (sym (ap (option_map told_of) e) ∙ sym (finds.1 book) ∙ ap (option_map told) is)
 
+-- with the lists that are told of all of them
+pub children_joined : (s : State) (id : ℤ) (front : List ℕ) (rows entries : List Row) (children : List Listed) → ShowsChildEntries s id entries → (DoNotFall entries → children ≡ map (child_among entries front) rows)
+    → ShowsChildrenOf s id front rows children
+children_joined s id front rows entries children shows joined book rows_are =
+    let entries_are = shows.1 book in
+    joined (subst DoNotFall (sym entries_are) (do_not_fall s.now book (is_under (Int id)))) ∙ (λ i. map (child_among (entries_are i) front) (rows_are i)) ∙ shares_are s.now book id front
+    ∙ ap (map (child_shown (rows_of s.now.trees) front)) (sym rows_are)
+
 module _ (old first second : State) (path front : List ℕ) (f : FoundNode) (found : Option FoundNode) (is : found ≡ Some f) (finds : Finds old path (option_map told found)) (look : Looks old first) (look_on : Looks first second)
-    (rows entries : List Row) (shows : ShowsChildren first f.id rows) (shows_entries : ShowsChildEntries second f.id entries) (children : List Listed)
-    (joined : DoNotFall entries → children ≡ map (child_among entries front) rows) where
+    (rows : List Row) (shows : ShowsChildren first f.id rows) (children : List Listed) (are : ShowsChildrenOf second f.id front rows children) where
   listed_at : IsBook old.now → (r : Option Row) → row_at (rows_of old.now.trees) path ≡ r
       → children ≡ unwrap_or (option_map (λ node. map (child_shown (rows_of old.now.trees) front) (lists.children_of (id_in (rowid node)) (rows_of old.now.trees))) r) []
   listed_at book None e = some_apart (sym (ap (option_map told) is) ∙ finds.1 book ∙ ap (option_map told_of) e)
@@ -134,12 +142,10 @@ module _ (old first second : State) (path front : List ℕ) (f : FoundNode) (fou
       let b1 : IsBook first.now = subst IsBook (sym e1) book in
       let e2 : second.now ≡ old.now = look_on.same b1 ∙ e1 in
       let b2 : IsBook second.now = subst IsBook (sym e2) book in
-      let rows_are : rows ≡ lists.children_of (id_in (rowid node)) (rows_of old.now.trees) =
-      shows.1 b1 ∙ ap (λ (d : Database). lists.children_of f.id (rows_of d.trees)) e1 ∙ ap (λ k. lists.children_of k (rows_of old.now.trees)) id in
-      let entries_are : entries ≡ lists.child_entries (id_in (rowid node)) (rows_of old.now.trees) =
-      shows_entries.1 b2 ∙ ap (λ (d : Database). lists.child_entries f.id (rows_of d.trees)) e2 ∙ ap (λ k. lists.child_entries k (rows_of old.now.trees)) id in
-      joined (subst DoNotFall (sym entries_are) (do_not_fall old.now book (is_under (Int (id_in (rowid node))))))
-      ∙ (λ i. map (child_among (entries_are i) front) (rows_are i)) ∙ shares_are old.now book (id_in (rowid node)) front
+      let rows_are : rows ≡ lists.children_of f.id (rows_of old.now.trees) = shows.1 b1 ∙ ap (λ (d : Database). lists.children_of f.id (rows_of d.trees)) e1 in
+      are b2 (rows_are ∙ ap (λ (d : Database). lists.children_of f.id (rows_of d.trees)) (sym e2))
+      ∙ ap (λ (d : Database). map (child_shown (rows_of d.trees) front) rows) e2
+      ∙ ap (map (child_shown (rows_of old.now.trees) front)) (rows_are ∙ ap (λ k. lists.children_of k (rows_of old.now.trees)) id)
 
   pub all_listed : ShowsListing old path front children
   all_listed = (finds.0, λ book. listed_at book (row_at (rows_of old.now.trees) path) refl)

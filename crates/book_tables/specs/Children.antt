@@ -1,5 +1,5 @@
 -- The children of a resource: how many there are, what their paths' texts begin with, and their names.
-use Rattle.std.specs.Prelude.{◌≡◌, ℕ, List, [], ◌++◌, true, false, map, filter, drop, length, codes, option_map, unwrap_or, IsTrue}
+use Rattle.std.specs.Prelude.{◌≡◌, ℕ, ℤ, List, [], ◌++◌, true, false, map, filter, drop, length, codes, option_map, unwrap_or, IsTrue}
 use Rattle.sqlite.specs.declared.types.Value.TheVariants.{Int}
 use Rattle.sqlite.specs.Edit.{id_in}
 use Rattle.sqlite.specs.Order.{Row}
@@ -63,6 +63,10 @@ listed_shown front protected own row = record {
 
 abbrev pub child_shown : Rows → List ℕ → Row → Listed
 child_shown rows front row = listed_shown front (list_in rows.entries (Int (id_in (child_id row))) true) (list_in rows.entries (Int (id_in (child_id row))) false) row
+
+-- an open connection shows the children of the node with a number, where these are their rows
+abbrev pub ShowsChildrenOf : State → ℤ → List ℕ → List Row → List Listed → Type 0
+ShowsChildrenOf s id front rows children = IsBook s.now → rows ≡ lists.children_of id (rows_of s.now.trees) → children ≡ map (child_shown (rows_of s.now.trees) front) rows
 
 -- an open connection shows the children of the node at a path, in order of their paths; none where no row has it
 abbrev pub ShowsListing : State → List ℕ → List ℕ → List Listed → Type 0

@@ -12,6 +12,7 @@ pub mod Children
 pub mod LastChanges
 pub mod Adopting
 pub mod Shares
+pub mod Spans
 pub mod Levels
 pub mod Groups
 pub mod Searching

@@ -16,6 +16,7 @@ ghost use Rattle.book_tables.specs.Shares.{DoNotFall, card_among};
 use crate::faults::fault_of;
 use crate::reading::owner_of;
 use crate::shares::{entries_of_node, list_told};
+use crate::spans::have_no_entries;
 use crate::tables::{Tables, book_text};
 use book_limits::LAST_NUMBER;
 use book_lists::{Entry, Name};
@@ -127,7 +128,7 @@ fn last_of(rows: &[Row]) -> Result<Option<u64>, Error>
 /// The changes of the first so many cards of the book with a number that are changed after another, whose rows these are
 /// in order of change number. One look-up has the lists of all of them: those of the cards that are changed after that
 /// number, and no later than the last of these.
-pub(crate) fn cards_of<S: Alter>(
+fn cards_with_lists<S: Alter>(
     alloc: Global,
     transaction: &mut Transaction<'_, S>,
     book: i64,
@@ -152,6 +153,33 @@ pub(crate) fn cards_of<S: Alter>(
     };
     let entries = changed_entry_rows(transaction, book, number, last)?;
     cards_joined(alloc, front, rows, &entries)
+}
+
+/// The same; where it is told that none of the cards has an entry, their lists are not looked up.
+pub(crate) fn cards_of<S: Alter>(
+    alloc: Global,
+    transaction: &mut Transaction<'_, S>,
+    book: i64,
+    number: u64,
+    front: &str,
+    rows: &[Row],
+) -> Result<Vec<Changed>, Error>
+    requires { number < 2 ^ 53 }
+    ensures same_reference { transaction.new.conn.ghost_name ≡ transaction.old.conn.ghost_name }
+    ensures survives { Survives (state S.Store transaction.old.conn.now)
+        (state S.Store transaction.new.conn.now) (λ _. ⊥) }
+    ensures kept { Keeps (state S.Store transaction.old.conn.now)
+        (state S.Store transaction.new.conn.now) }
+    ensures stays { Spares (state S.Store transaction.old.conn.now)
+        (state S.Store transaction.new.conn.now) result }
+    ensures shown { HasCleanDisk (state S.Store transaction.new.conn.now)
+        → IfOk result (λ changes. ShowsCards
+        (state S.Store transaction.old.conn.now) book number front.now rows.now changes.items) }
+{
+    if have_no_entries(transaction, rows)? {
+        return cards_joined(alloc, front, rows, &[]);
+    }
+    cards_with_lists(alloc, transaction, book, number, front, rows)
 }
 
 /// Adds the changes of removed names.

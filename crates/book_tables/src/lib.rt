@@ -45,6 +45,7 @@ mod searching;
 mod settings;
 mod settling;
 mod shares;
+mod spans;
 mod tables;
 
 pub use laws::tables_stand_for_one_office;

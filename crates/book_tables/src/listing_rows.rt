@@ -10,13 +10,14 @@ ghost use Rattle.book_office_values.specs.Paths.{path_text};
 ghost use Rattle.book_tables_rows.specs.Lists.{ShowsCount};
 ghost use Rattle.book_tables_rows.specs.Steps.{Keeps, Spares, Stays};
 ghost use Rattle.book_tables.specs.Keeps.{standing_of};
-ghost use Rattle.book_tables.specs.Children.{ShowsChildCount, ShowsListing, listed_shown, text_above};
+ghost use Rattle.book_tables.specs.Children.{ShowsChildCount, ShowsChildrenOf, ShowsListing, listed_shown, text_above};
 ghost use Rattle.book_tables.specs.Shares.{DoNotFall, child_among};
 
 use crate::changes::name_behind;
 use crate::faults::fault_of;
 use crate::reading::{kind_of, owner_of};
 use crate::shares::{entries_of_node, list_told};
+use crate::spans::have_no_entries;
 use crate::tables::{Tables, text_of};
 use book_lists::{Entry, Name, Principal};
 use book_office::{Listed, StoreFault};
@@ -166,6 +167,54 @@ fn children_listed(
     Ok(children)
 }
 
+/// The children of the node with a number, whose rows are given, with their lists, among the entries of all of them.
+fn children_joined<S: Alter>(
+    alloc: Global,
+    transaction: &mut Transaction<'_, S>,
+    node: i64,
+    front: &str,
+    rows: &[Row],
+) -> Result<Vec<Listed>, Error>
+    ensures same_reference { transaction.new.conn.ghost_name ≡ transaction.old.conn.ghost_name }
+    ensures survives { Survives (state S.Store transaction.old.conn.now)
+        (state S.Store transaction.new.conn.now) (λ _. ⊥) }
+    ensures kept { Keeps (state S.Store transaction.old.conn.now)
+        (state S.Store transaction.new.conn.now) }
+    ensures stays { Spares (state S.Store transaction.old.conn.now)
+        (state S.Store transaction.new.conn.now) result }
+    ensures shown { HasCleanDisk (state S.Store transaction.new.conn.now)
+        → IfOk result (λ children. ShowsChildrenOf
+        (state S.Store transaction.old.conn.now) node front.now rows.now children.items) }
+{
+    let entries = child_entry_rows(transaction, node)?;
+    children_listed(alloc, front, rows, &entries)
+}
+
+/// The same; where it is told that none has an entry, their entries are not looked up.
+fn children_told<S: Alter>(
+    alloc: Global,
+    transaction: &mut Transaction<'_, S>,
+    node: i64,
+    front: &str,
+    rows: &[Row],
+) -> Result<Vec<Listed>, Error>
+    ensures same_reference { transaction.new.conn.ghost_name ≡ transaction.old.conn.ghost_name }
+    ensures survives { Survives (state S.Store transaction.old.conn.now)
+        (state S.Store transaction.new.conn.now) (λ _. ⊥) }
+    ensures kept { Keeps (state S.Store transaction.old.conn.now)
+        (state S.Store transaction.new.conn.now) }
+    ensures stays { Spares (state S.Store transaction.old.conn.now)
+        (state S.Store transaction.new.conn.now) result }
+    ensures shown { HasCleanDisk (state S.Store transaction.new.conn.now)
+        → IfOk result (λ children. ShowsChildrenOf
+        (state S.Store transaction.old.conn.now) node front.now rows.now children.items) }
+{
+    if have_no_entries(transaction, rows)? {
+        return children_listed(alloc, front, rows, &[]);
+    }
+    children_joined(alloc, transaction, node, front, rows)
+}
+
 /// The children of the node at a path, in order of their paths; none where no row has the path.
 fn listing_at<S: Alter>(
     alloc: Global,
@@ -190,8 +239,7 @@ fn listing_at<S: Alter>(
     let id = node.id;
     drop(node);
     let rows = child_rows(transaction, id)?;
-    let entries = child_entry_rows(transaction, id)?;
-    children_listed(alloc, front, &rows, &entries)
+    children_told(alloc, transaction, id, front, &rows)
 }
 
 /// The same, in a transaction of its own.
@@ -217,8 +265,9 @@ fn shown_listing<S: Alter>(
 }
 
 impl<S: Alter> Tables<S> {
-    /// The children of a resource, in byte order of their names; none where none is mapped. Three
-    /// statements, however many there are. `Memory` is want of memory, `Store` any other failure of the store.
+    /// The children of a resource, in byte order of their names; none where none is mapped. At most four
+    /// statements, however many there are: their entries are not looked up where more than eight have none. `Memory` is
+    /// want of memory, `Store` any other failure of the store.
     pub fn children(&mut self, alloc: Global, path: &Path) -> Result<Items<Listed>, StoreFault>
         ensures { Reads (standing_of (state S.Store self.old.connection) self.old.failures)
             (standing_of (state S.Store self.new.connection) self.new.failures) result

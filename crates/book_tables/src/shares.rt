@@ -14,7 +14,7 @@ use sqlite::{Error, Row};
 use std::alloc::Global;
 
 /// The whole number in a column; 0 where there is none.
-fn int_at(row: &Row, at: usize) -> i64
+pub(crate) fn int_at(row: &Row, at: usize) -> i64
     ensures { result ≡ id_in (column row.now at) }
 {
     match row.get_ref(at) {

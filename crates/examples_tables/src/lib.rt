@@ -30,6 +30,8 @@ mod lists;
 #[cfg(test)]
 mod loads;
 #[cfg(test)]
+mod looked;
+#[cfg(test)]
 mod migrated;
 #[cfg(test)]
 mod new_tables;
