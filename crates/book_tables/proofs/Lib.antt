@@ -29,7 +29,7 @@ pub mod ListedRows
 pub mod JoinedMembers
 pub mod PushedItems
 pub mod PairsTold
-pub mod OtherPairs
+pub mod RowsOfPairs
 pub mod ReachedGroups
 pub mod SettledReach
 pub mod LevelsTold

@@ -14,7 +14,7 @@ use Rattle.book_tables.proofs.Looking.{has_text}
 -- ---- a pair is added
 
 -- the row of a pair tells that pair and no other
-tells_one : (m e : Membership) (row : Row) → pair_group row ≡ Text e.group → pair_member row ≡ Text e.member → tells_member m row ≡ eq_by_cmp membership_cmp m e
+pub tells_one : (m e : Membership) (row : Row) → pair_group row ≡ Text e.group → pair_member row ≡ Text e.member → tells_member m row ≡ eq_by_cmp membership_cmp m e
 tells_one m e row group member =
     (λ i. (has_text 0 row e.group m.group group ∙ is_eq-slice_cmp e.group m.group) i && (has_text 1 row e.member m.member member ∙ is_eq-slice_cmp e.member m.member) i)
     ∙ sym (same_membership e m)

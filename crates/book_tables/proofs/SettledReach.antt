@@ -17,21 +17,6 @@ use Rattle.book_tables.proofs.Looking.{all_of_all, find-deleted}
 use Rattle.book_tables.proofs.PairsTold.{AreTold, any_found, any_mapped, pairs_shown}
 use Rattle.book_tables.proofs.RenewedReach.{more_pairs, reach_alone}
 
--- ---- two lists of pairs
-
--- where neither has what the other lacks, they have the same
-pub same_pairs : (pairs others : Memberships) (gone come : List Pair) → ((m : Membership) → is_among gone m ≡ (set.contains pairs m && not (set.contains others m)))
-    → ((m : Membership) → is_among come m ≡ (set.contains others m && not (set.contains pairs m))) → gone ≡ [] → come ≡ []
-    → (m : Membership) → set.contains pairs m ≡ set.contains others m
-same_pairs pairs others gone come gone_are come_are no_gone no_come m =
-    both (set.contains pairs m) (set.contains others m) (ap (λ g. is_among g m) (sym no_gone) ∙ gone_are m) (ap (λ c. is_among c m) (sym no_come) ∙ come_are m)
-  where
-    both : (a b : Bool) → false ≡ (a && not b) → false ≡ (b && not a) → a ≡ b
-    both true true g c = refl
-    both true false g c = sym g
-    both false true g c = c
-    both false false g c = refl
-
 -- ---- what was read
 
 -- some row tells the pair exactly where some row of `reach` pairs the two

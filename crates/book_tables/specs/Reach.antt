@@ -38,10 +38,6 @@ pair_of m = record { group = m.group; member = m.member }
 abbrev pub is_among : List Pair → Membership → Bool
 is_among pairs m = list_any (λ (p : Pair). bytes_eq p.group m.group && bytes_eq p.member m.member) pairs
 
--- a pair is added to some, unless it is among others
-abbrev pub PushesOther : Membership → Memberships → List Pair → List Pair → Type 0
-PushesOther pair others old new = (m : Membership) → is_among new m ≡ (is_among old m || (eq_by_cmp membership_cmp m pair && not (set.contains others m)))
-
 -- the pairs that go and those that come where direct memberships become others: those with a chain of the old ones alone, and of the new ones alone
 pub record Renews (old new : Memberships) (gone come : List Pair) : Type 0 where
   pub gone_are : (m : Membership) → (is_among gone m ≡ true) ↔ (Chain old m.member m.group × ¬ Chain new m.member m.group)

@@ -482,7 +482,8 @@ fn compare_places(
 }
 
 /// What differs between an Office and what it becomes, but for cards and changes. The steps grow with the resources
-/// other than cards, and with groups times pairs. An error is want of memory.
+/// other than cards, and with groups times pairs; no closure is made where the pairs are the same. An error is want of
+/// memory.
 pub(crate) fn compare_offices(
     alloc: Global,
     old: &Office,

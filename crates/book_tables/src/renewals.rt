@@ -1,6 +1,6 @@
 //! How `reach` is renewed: the pairs that go and those that come where direct memberships become others.
 
-ghost use Rattle.std.specs.Prelude.{◌≡◌, ◌&&◌, not, IfOk, OnOk, map};
+ghost use Rattle.std.specs.Prelude.{◌≡◌, ◌&&◌, not, IfOk, map};
 ghost use Rattle.std.specs.FinSet as set;
 ghost use Rattle.std.specs.List.{list_any};
 ghost use Rattle.std.specs.Ordering.{eq_by_cmp};
@@ -9,11 +9,12 @@ ghost use Rattle.book_lists.specs.declared.memberships.Membership.{Membership as
 ghost use Rattle.book_office.specs.Edits.{members_set};
 ghost use Rattle.book_office.specs.Keeping.{Reads};
 ghost use Rattle.book_tables_rows.specs.Reach.{pair_said};
-ghost use Rattle.book_tables.specs.Reach.{PushesOther, Renews, RenewsNearby, is_among, pair_of};
+ghost use Rattle.book_tables.specs.Reach.{Renews, RenewsNearby, is_among, pair_of};
 
 use crate::nearby::{Directs, met_among, near};
 use crate::searching::Search;
-use book_lists::{Membership, Pairs, Principal, closure};
+use book_lists::{Membership, Pairs, Principal};
+use book_lists_reach::{Reach, reach_of};
 use book_office::{StoreFault, with_members};
 use book_tables_rows::ReachRow;
 use std::alloc::{AllocError, Global};
@@ -37,72 +38,64 @@ fn row_of(alloc: Global, pair: &Membership) -> Result<ReachRow, AllocError>
     })
 }
 
-/// Adds the row of a pair, unless it is among others.
-fn push_other(
-    alloc: Global,
-    rows: &mut Vec<ReachRow>,
-    pair: &Membership,
-    others: &Pairs,
-) -> Result<(), AllocError>
-    ensures { OnOk result (PushesOther pair.now others.now (map pair_said rows.old.items)
-        (map pair_said rows.new.items)) }
-{
-    if others.has(&pair.group, &pair.member) {
-        return Ok(());
-    }
-    rows.push(row_of(alloc, pair)?)?;
-    Ok(())
-}
-
-/// The pairs of a list that are not among others.
-fn others_in(
-    alloc: Global,
-    list: &[Membership],
-    others: &Pairs,
-) -> Result<Vec<ReachRow>, AllocError>
+/// The rows of pairs.
+fn rows_of_pairs(alloc: Global, list: &[Membership]) -> Result<Vec<ReachRow>, AllocError>
     ensures { IfOk result (λ rows. (m : MembershipOf) → is_among (map pair_said rows.items) m
-        ≡ (list_any (eq_by_cmp membership_cmp m) list.now && not (set.contains others.now m))) }
+        ≡ list_any (eq_by_cmp membership_cmp m) list.now) }
 {
     let mut rows = Vec::new(alloc);
     'pairs: for pair in list {
-        push_other(alloc, &mut rows, pair, others)?;
+        rows.push(row_of(alloc, pair)?)?;
     }
     Ok(rows)
 }
 
-/// The pairs that are not among others.
-pub(crate) fn without(
-    alloc: Global,
-    pairs: &Pairs,
-    others: &Pairs,
-) -> Result<Vec<ReachRow>, AllocError>
+/// The rows of the pairs that are not among others.
+fn without(alloc: Global, pairs: &Reach, others: &Reach) -> Result<Vec<ReachRow>, AllocError>
     ensures { IfOk result (λ rows. (m : MembershipOf) → is_among (map pair_said rows.items) m
         ≡ (set.contains pairs.now m && not (set.contains others.now m))) }
 {
-    let list = pairs.list()?;
-    others_in(alloc, list.as_slice(), others)
+    let list = pairs.without(others)?;
+    rows_of_pairs(alloc, list.as_slice())
 }
 
 /// The rows of all pairs.
-pub(crate) fn all_pairs(alloc: Global, pairs: &Pairs) -> Result<Vec<ReachRow>, AllocError>
+pub(crate) fn all_pairs(alloc: Global, pairs: &Reach) -> Result<Vec<ReachRow>, AllocError>
     ensures { IfOk result (λ rows. (m : MembershipOf)
         → is_among (map pair_said rows.items) m ≡ set.contains pairs.now m) }
 {
-    let none = Pairs::new(alloc);
-    without(alloc, pairs, &none)
+    let list = pairs.list()?;
+    rows_of_pairs(alloc, list.as_slice())
 }
 
-/// What goes and what comes where direct memberships become others: `closure` of both, and their difference. An error
+/// What goes and what comes where direct memberships become others: the closures of both, and their difference.
+fn renewal_between(alloc: Global, old: Reach, new: &Pairs) -> Result<Renewal, AllocError>
+    ensures { IfOk result (λ r. Renews old new.now (map pair_said r.gone.items)
+        (map pair_said r.come.items)) }
+{
+    let before = old.closed()?;
+    let after = reach_of(alloc, new)?;
+    let gone = without(alloc, &before, &after)?;
+    let come = without(alloc, &after, &before)?;
+    Ok(Renewal { gone, come })
+}
+
+/// What goes and what comes where direct memberships become others. Nothing is closed where they are the same. An error
 /// is want of memory.
 pub(crate) fn renewal_of(alloc: Global, old: &Pairs, new: &Pairs) -> Result<Renewal, AllocError>
     ensures { IfOk result (λ r. Renews old.now new.now (map pair_said r.gone.items)
         (map pair_said r.come.items)) }
 {
-    let before = closure(old)?;
-    let after = closure(new)?;
-    let gone = without(alloc, &before, &after)?;
-    let come = without(alloc, &after, &before)?;
-    Ok(Renewal { gone, come })
+    let direct = Reach::of(alloc, old)?;
+    let list = new.list()?;
+    if direct.are_those_of(list.as_slice())? {
+        return Ok(Renewal {
+            gone: Vec::new(alloc),
+            come: Vec::new(alloc),
+        });
+    }
+    drop(list);
+    renewal_between(alloc, direct, new)
 }
 
 /// What goes and what comes where a group gets direct members.

@@ -3,10 +3,11 @@
 ghost use Rattle.std.specs.Prelude.{◌≡◌, List, [], IfOk, IfSome, IsTrue, OnOk};
 ghost use Rattle.std.specs.FinSet as set;
 ghost use Rattle.std.specs.List.{list_any};
+ghost use Rattle.std.specs.Ordering.{eq_by_cmp};
 ghost use Rattle.sqlite.specs.declared.types.Value.TheVariants.{Text};
 ghost use Rattle.sqlite.specs.Held.{state};
 ghost use Rattle.sqlite.specs.State.{HasCleanDisk, Survives};
-ghost use Rattle.book_lists.specs.Memberships.{IsReachOf, Memberships};
+ghost use Rattle.book_lists.specs.Memberships.{IsReachOf, Memberships, membership_cmp};
 ghost use Rattle.book_lists.specs.declared.memberships.Membership.{Membership as MembershipOf};
 ghost use Rattle.book_tables_rows.specs.Lists.{pair_group, pair_member};
 ghost use Rattle.book_tables_rows.specs.Steps.{Becomes, Keeps};
@@ -16,8 +17,9 @@ ghost use Rattle.book_tables.specs.Listing.{tells_member};
 ghost use Rattle.book_tables.specs.Reach.{TellsSettled, is_among};
 
 use crate::members::pairs_of;
-use crate::renewals::{all_pairs, without};
-use book_lists::{Membership, Pairs, Principal, closure};
+use crate::renewals::all_pairs;
+use book_lists::{Membership, Principal};
+use book_lists_reach::{Reach, reach_of};
 use book_tables_rows::{clear_reach, member_rows, reach_rows, renew_reach};
 use sqlite::{Alter, Error, Row, Transaction};
 use std::alloc::{AllocError, Global};
@@ -52,59 +54,46 @@ fn pair_told(alloc: Global, row: &Row) -> Result<Option<Membership>, Error>
 }
 
 /// The pairs that rows tell; none where one tells none.
-fn pairs_told(alloc: Global, rows: &[Row]) -> Result<Option<Pairs>, Error>
+fn pairs_told(alloc: Global, rows: &[Row]) -> Result<Option<Vec<Membership>>, Error>
     ensures { IfOk result (λ pairs. IfSome pairs (λ p. (m : MembershipOf)
-        → set.contains p m ≡ list_any (tells_member m) rows.now)) }
+        → list_any (eq_by_cmp membership_cmp m) p.items ≡ list_any (tells_member m) rows.now)) }
 {
-    let mut pairs = Pairs::new(alloc);
+    let mut pairs = Vec::new(alloc);
     'rows: for row in rows {
         let Some(pair) = pair_told(alloc, row)? else {
             return Ok(None);
         };
-        pairs.add(pair.group, pair.member)?;
+        pairs.push(pair)?;
     }
     Ok(Some(pairs))
 }
 
-/// Whether there are the same pairs, where it is true.
-fn are_same(alloc: Global, pairs: &Pairs, others: &Pairs) -> Result<bool, AllocError>
-    ensures { IfOk result (λ same. IsTrue same → (m : MembershipOf)
-        → set.contains pairs.now m ≡ set.contains others.now m) }
-{
-    let gone = without(alloc, pairs, others)?;
-    if !gone.is_empty() {
-        return Ok(false);
-    }
-    let come = without(alloc, others, pairs)?;
-    Ok(come.is_empty())
-}
-
 /// Whether rows tell exactly those pairs, where it is true.
-fn tell_all(alloc: Global, rows: &[Row], wanted: &Pairs) -> Result<bool, Error>
+fn tell_all(alloc: Global, rows: &[Row], wanted: &Reach) -> Result<bool, Error>
     ensures { IfOk result (λ same. IsTrue same → (m : MembershipOf)
         → list_any (tells_member m) rows.now ≡ set.contains wanted.now m) }
 {
     let Some(told) = pairs_told(alloc, rows)? else {
         return Ok(false);
     };
-    Ok(are_same(alloc, &told, wanted)?)
+    Ok(wanted.are_those_of(told.as_slice())?)
 }
 
 /// The pairs that chains of the direct members, which rows tell, lead to.
-fn wanted_of(alloc: Global, members: &[Row]) -> Result<Pairs, Error>
+fn wanted_of(alloc: Global, members: &[Row]) -> Result<Reach, Error>
     ensures { IfOk result (λ wanted. (pairs : Memberships)
         × ((m : MembershipOf) → set.contains pairs m ≡ list_any (tells_member m) members.now)
         × IsReachOf pairs wanted) }
 {
     let pairs = pairs_of(alloc, members)?;
-    Ok(closure(&pairs)?)
+    Ok(reach_of(alloc, &pairs)?)
 }
 
 /// Takes out all rows of `reach`, and adds those of pairs.
 fn write_reach<S: Alter>(
     alloc: Global,
     transaction: &mut Transaction<'_, S>,
-    wanted: &Pairs,
+    wanted: &Reach,
 ) -> Result<(), Error>
     ensures same_reference { transaction.new.conn.ghost_name ≡ transaction.old.conn.ghost_name }
     ensures survives { Survives (state S.Store transaction.old.conn.now)

@@ -36,6 +36,8 @@ mod migrated;
 #[cfg(test)]
 mod new_tables;
 #[cfg(test)]
+mod numbers;
+#[cfg(test)]
 mod opened;
 #[cfg(test)]
 mod openings;

@@ -1,14 +1,13 @@
-use Rattle.book_tables.proofs.Common.{◌&&◌, not, ap, ◌∙◌, IfOk-weaker, Memberships, membership_cmp}
-use mathlib.Core.Bool.{and-true}
+use Rattle.book_tables.proofs.Common.{◌≡◌, sym, ap, ◌∙◌, list_any, eq_by_cmp, IfOk-weaker, List, Memberships, Membership, membership_cmp, memberships_total}
 use Rattle.std.specs.FinSet as set
-use Rattle.std.specs.FinSet.{contains-empty}
+use Rattle.std.specs.FinSet.{contains-from_list}
 use Rattle.book_tables.proofs.renewals.all_pairs.Goals as goal
 
 pub returns : goal.returns
 returns c =
-    let pairs = c.args.pairs.now in
-    IfOk-weaker c.without.result _ _ (λ rows are m.
+    let list : List Membership = c.in_ok-list.list.items in
+    IfOk-weaker c.rows_of_pairs.result _ _ (λ rows are m.
     are m
-    ∙ ap (λ (others : Memberships). set.contains pairs m && not (set.contains others m)) c.new-none.ensures
-    ∙ ap (λ b. set.contains pairs m && not b) (contains-empty membership_cmp m)
-    ∙ and-true (set.contains pairs m)) c.without.ensures
+    ∙ ap (λ (l : List Membership). list_any (eq_by_cmp membership_cmp m) l) c.as_slice.ensures.value
+    ∙ sym (contains-from_list memberships_total list m)
+    ∙ ap (λ (pairs : Memberships). set.contains pairs m) c.in_ok-list.ensures) c.rows_of_pairs.ensures
