@@ -165,6 +165,7 @@ fn ask_effective<K: Keeper>(
         let list = if found.protected { "protected" } else { "own" };
         tell_entry(rt, alloc, answer, from.as_str(), list, &found.entry);
     }
+    drop(entries);
 }
 
 /// The number, the name, and the bytes of the card's text with its label, or that the name was removed.
@@ -236,7 +237,10 @@ fn belongs<K: Keeper>(
         _ => Caller::Known(principal(rt, alloc, person)),
     };
     let circle = keeper.circle(alloc, &caller).expect(rt, "memory");
-    circle.has(&principal(rt, alloc, within))
+    drop(caller);
+    let belongs = circle.has(&principal(rt, alloc, within));
+    drop(circle);
+    belongs
 }
 
 /// A count of the keeper's: its failures, its pairs, or the epoch.

@@ -1,14 +1,15 @@
 //! The audit text, byte for byte (own profile).
 
+use crate::checks::check_text;
 use crate::edited_offices::{add_book, keeper, put, set_list};
-use book_office::MemoryKeeper;
+use book_office::Keeper;
 use book_office_audit::audit_text;
 use std::alloc::Global;
 use std::process::Abort;
 
-fn compare(rt: &impl Abort, alloc: Global, keeper: &mut MemoryKeeper, wanted: &str) {
+fn compare<K: Keeper>(rt: &impl Abort, alloc: Global, keeper: &mut K, wanted: &str) {
     let text = audit_text(alloc, keeper).expect(rt, "memory");
-    assert_eq!(rt; text.as_str(), wanted);
+    check_text(rt, text.as_str(), wanted, "an audit");
 }
 
 /// The Office of the policy alone.

@@ -19,13 +19,16 @@ const OFFICE_POLICY: &str = "version = 1\n\
     [[entry]]\nat = \"/books/law\"\nwho = \"/people/bob\"\ngrant = [\"read\", \"unbind\"]\n\
     [[entry]]\nat = \"/groups\"\nwho = \"/people/ann\"\ngrant = [\"read\", \"write-properties\"]\nprotected = true\n";
 
-/// The keeper of the empty Office that adopted the policy.
-pub(crate) fn keeper(rt: &impl Abort, alloc: Global) -> MemoryKeeper {
-    let mut keeper = MemoryKeeper::new(alloc);
-    let policy = read_policy(alloc, OFFICE_POLICY).expect(rt, "a policy");
-    let edit = Edit::Adopt { policy };
+fn act<K: Keeper>(rt: &impl Abort, alloc: Global, keeper: &mut K, edit: Edit) {
     keeper.act(alloc, &edit).expect(rt, "memory");
     drop(edit);
+}
+
+/// The keeper of the empty Office that adopted the policy.
+pub(crate) fn keeper(rt: &impl Abort, alloc: Global) -> MemoryKeeper {
+    let policy = read_policy(alloc, OFFICE_POLICY).expect(rt, "a policy");
+    let mut keeper = MemoryKeeper::new(alloc);
+    act(rt, alloc, &mut keeper, Edit::Adopt { policy });
     keeper
 }
 
@@ -42,10 +45,10 @@ fn entry(rt: &impl Abort, alloc: Global, line: &str) -> Entry {
 }
 
 /// Puts a card with a text into a book.
-pub(crate) fn put(
+pub(crate) fn put<K: Keeper>(
     rt: &impl Abort,
     alloc: Global,
-    keeper: &mut MemoryKeeper,
+    keeper: &mut K,
     at: (&str, &str),
     owner: &str,
     content: &str,
@@ -56,15 +59,14 @@ pub(crate) fn put(
         owner: Some(principal(rt, alloc, owner)),
         text: text(rt, alloc, content),
     };
-    keeper.act(alloc, &edit).expect(rt, "memory");
-    drop(edit);
+    act(rt, alloc, keeper, edit);
 }
 
 /// Gives a resource an own list.
-pub(crate) fn set_list(
+pub(crate) fn set_list<K: Keeper>(
     rt: &impl Abort,
     alloc: Global,
-    keeper: &mut MemoryKeeper,
+    keeper: &mut K,
     at: &str,
     lines: &[&str],
 ) {
@@ -76,25 +78,23 @@ pub(crate) fn set_list(
         path: path(rt, alloc, at),
         entries,
     };
-    keeper.act(alloc, &edit).expect(rt, "memory");
-    drop(edit);
+    act(rt, alloc, keeper, edit);
 }
 
 /// Makes a book without owner.
-pub(crate) fn add_book(rt: &impl Abort, alloc: Global, keeper: &mut MemoryKeeper, book: &str) {
+pub(crate) fn add_book<K: Keeper>(rt: &impl Abort, alloc: Global, keeper: &mut K, book: &str) {
     let edit = Edit::AddBook {
         book: name(rt, alloc, book),
         owner: None,
     };
-    keeper.act(alloc, &edit).expect(rt, "memory");
-    drop(edit);
+    act(rt, alloc, keeper, edit);
 }
 
 /// The circle of a person; that of nobody at a dash.
-pub(crate) fn circle(
+pub(crate) fn circle<K: Keeper>(
     rt: &impl Abort,
     alloc: Global,
-    keeper: &mut MemoryKeeper,
+    keeper: &mut K,
     caller: &str,
 ) -> Circle {
     let caller = match caller {

@@ -4,6 +4,7 @@ ghost use Rattle.std.specs.Prelude.{◌≡◌, ℕ};
 ghost use Rattle.examples_requests.specs.Unpromised.{unpromised};
 ghost use Rattle.book_office.specs.Keeping.{failures_after};
 
+use crate::checks::{check_fact, check_text};
 use crate::offices::office;
 use crate::scripts::{Step, answer, follow};
 use book_lists::{Caller, Circle, Name, Pairs};
@@ -194,10 +195,10 @@ const LEFT: &[Step] = &[
 fn check(rt: &impl Abort, alloc: Global, machine: &mut Machine<Failing>, line: &str, wanted: &str) {
     let told = answer(rt, alloc, machine, line);
     if told.as_str() == "503 unavailable" || told.as_str() == "unavailable" {
-        let told = answer(rt, alloc, machine, line);
-        assert_eq!(rt; told.as_str(), wanted, "{line}, again");
+        let again = answer(rt, alloc, machine, line);
+        check_text(rt, again.as_str(), wanted, line);
     } else {
-        assert_eq!(rt; told.as_str(), wanted, "{line}");
+        check_text(rt, told.as_str(), wanted, line);
     }
 }
 
@@ -205,7 +206,7 @@ fn check_all(rt: &impl Abort, alloc: Global, machine: &mut Machine<Failing>) {
     for (line, wanted) in STEPS {
         check(rt, alloc, machine, line, wanted);
     }
-    assert_eq!(rt; machine.keeper.failures(), 1);
+    check_fact(rt, machine.keeper.failures() == 1, "one failure");
 }
 
 fn memory_of(machine: Machine<Failing>) -> Machine<MemoryKeeper> {

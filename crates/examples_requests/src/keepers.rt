@@ -1,5 +1,6 @@
 //! A keeper in memory, asked and edited through the trait by edits that fit.
 
+use crate::checks::check_fact;
 use crate::scripts::{Step, run_on, run_on_new};
 use book_office::{
     StoreFault, access_changes_raise_the_epoch, edits_within_the_limits_fit,
@@ -191,5 +192,6 @@ fn laws_are_called(rt: HostRuntime) {
     resources_stand_in_place();
     resources_tell_the_office();
     touched_names_alone_change();
-    assert_eq!(rt; StoreFault::from(AllocError), StoreFault::Memory);
+    let fault = StoreFault::from(AllocError);
+    check_fact(&rt, fault == StoreFault::Memory, "memory");
 }

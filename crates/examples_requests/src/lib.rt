@@ -15,6 +15,8 @@ mod audits;
 #[cfg(test)]
 mod bodies;
 #[cfg(test)]
+mod checks;
+#[cfg(test)]
 mod denials;
 #[cfg(test)]
 mod edited_offices;

@@ -1,9 +1,10 @@
 //! The members of group cards (RFC 6350, section 6.6.5).
 
+use crate::checks::check_text;
 use crate::edited_offices::{circle, keeper, put, set_list};
 use crate::words::{name, word};
 use book_lists::Name;
-use book_office::{Items, MemoryKeeper};
+use book_office::{Items, Keeper};
 use book_office_members::{Members, equal_views_have_equal_members, group_members};
 use std::alloc::Global;
 use std::process::Abort;
@@ -34,7 +35,7 @@ fn card_text(rt: &impl Abort, alloc: Global, line: &str) -> String {
 }
 
 /// Puts the cards of the lines into the book sales; `no card` is a text that is no card.
-fn put_all(rt: &impl Abort, alloc: Global, keeper: &mut MemoryKeeper, lines: &[&str]) {
+fn put_all<K: Keeper>(rt: &impl Abort, alloc: Global, keeper: &mut K, lines: &[&str]) {
     for line in lines {
         if word(line, 1) == "no" {
             let content = "BEGIN:VCARD\r\nVERSION:4.0\r\nUID:urn:p\r\nEND:VCARD\r\n";
@@ -81,10 +82,10 @@ fn members_text(rt: &impl Abort, alloc: Global, members: &Members) -> String {
 }
 
 /// What the person is told of the card in the book sales.
-fn told(
+fn told<K: Keeper>(
     rt: &impl Abort,
     alloc: Global,
-    keeper: &mut MemoryKeeper,
+    keeper: &mut K,
     person: &str,
     card: &str,
 ) -> String {
@@ -92,18 +93,21 @@ fn told(
     let book = name(rt, alloc, "sales");
     let card = name(rt, alloc, card);
     let members = group_members(alloc, keeper, &circle, &book, &card).expect(rt, "memory");
-    members_text(rt, alloc, &members)
+    drop(circle);
+    let text = members_text(rt, alloc, &members);
+    drop(members);
+    text
 }
 
-fn compare(
+fn compare<K: Keeper>(
     rt: &impl Abort,
     alloc: Global,
-    keeper: &mut MemoryKeeper,
+    keeper: &mut K,
     asked: &[(&str, &str, &str)],
 ) {
     for (person, card, wanted) in asked {
         let members = told(rt, alloc, keeper, person, card);
-        assert_eq!(rt; members.as_str(), *wanted, "{person} {card}");
+        check_text(rt, members.as_str(), wanted, card);
     }
 }
 

@@ -1,5 +1,6 @@
 //! The policies of the examples, and adopting them.
 
+use crate::checks::{check_fact, check_text};
 use crate::words::{entry, number, text, word};
 use book_machine::{AdoptFault, Machine};
 use book_office::{BookPart, EntryPart, GroupPart, Items, Keeper, PersonPart, Policy, Text};
@@ -359,17 +360,25 @@ fn is_policy(rt: &impl Abort, alloc: Global, more: &[&str]) -> bool {
     is_one
 }
 
+/// The first of several lines.
+fn first<'a>(lines: &[&'a str]) -> &'a str {
+    match lines.first() {
+        Some(line) => *line,
+        None => "",
+    }
+}
+
 #[test]
 fn faulty_parts_make_no_policy(rt: HostRuntime) {
     for more in FAULTS {
-        assert!(rt; !is_policy(&rt, rt.alloc(), more), "{more:?}");
+        check_fact(&rt, !is_policy(&rt, rt.alloc(), more), first(more));
     }
 }
 
 #[test]
 fn parts_within_the_limits_make_a_policy(rt: HostRuntime) {
     for more in FINE {
-        assert!(rt; is_policy(&rt, rt.alloc(), more), "{more:?}");
+        check_fact(&rt, is_policy(&rt, rt.alloc(), more), first(more));
     }
 }
 
@@ -385,8 +394,9 @@ const MEMBERS: &[(&[&str], bool)] = &[
 fn a_group_may_have_1000_members(rt: HostRuntime) {
     for (lines, is_one) in MEMBERS {
         let policy = policy_of(&rt, rt.alloc(), lines, &[]);
-        assert_eq!(rt; policy.is_some(), *is_one, "{lines:?}");
+        let made = policy.is_some();
         drop(policy);
+        check_fact(&rt, made == *is_one, first(lines));
     }
 }
 
@@ -407,20 +417,24 @@ fn tell_tables(rt: &impl Abort, answer: &mut String, policy: &Policy) {
     write!(answer, "{members} members, {entries} entries").expect(rt, "memory");
 }
 
+/// What the policy `other` says.
+const OTHER: &str =
+    "ann [Ann], gus [Gus], zoe [], parts of - [Parts], sales of /groups/staff [Sold], 2 members, 4 entries";
+
 #[test]
 fn policies_say_what_their_parts_say(rt: HostRuntime) {
     let alloc = rt.alloc();
-    let policy = policy(&rt, alloc, "other");
-    let mut answer = String::new(alloc);
-    tell_tables(&rt, &mut answer, &policy);
-    assert_eq!(rt;
-        answer.as_str(),
-        "ann [Ann], gus [Gus], zoe [], parts of - [Parts], sales of /groups/staff [Sold], 2 members, 4 entries"
-    );
     let sales = text(&rt, alloc, "/books/sales");
     let root = text(&rt, alloc, "/");
-    assert_eq!(rt; policy.own_at(&sales).map(|list| list.len()), Some(2));
-    assert_eq!(rt; policy.protected_at(&root).map(|list| list.len()), Some(1));
-    assert!(rt; policy.own_at(&root).is_none());
+    let mut answer = String::new(alloc);
+    let policy = policy(&rt, alloc, "other");
+    tell_tables(&rt, &mut answer, &policy);
+    let owned = policy.own_at(&sales).map(|list| list.len());
+    let protected = policy.protected_at(&root).map(|list| list.len());
+    let without = policy.own_at(&root).is_none();
     drop(policy);
+    check_text(&rt, answer.as_str(), OTHER, "other");
+    check_fact(&rt, owned == Some(2), "an own list");
+    check_fact(&rt, protected == Some(1), "a protected list");
+    check_fact(&rt, without, "no own list");
 }

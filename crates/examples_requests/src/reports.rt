@@ -1,11 +1,12 @@
 //! Sync reports on books, and copies that they keep (RFC 6578, section 3).
 
+use crate::checks::{check_fact, check_text};
 use crate::requests::check_all;
 use crate::scripts::{Step, answer, follow, run_on, run_on_new};
 use crate::serving::{request, served};
 use crate::words::{name, word};
 use book_machine::{Content, Machine, Reply};
-use book_office::MemoryKeeper;
+use book_office::{Keeper, MemoryKeeper};
 use book_office_sync::{Replica, apply_report};
 use std::alloc::Global;
 use std::process::Abort;
@@ -271,10 +272,10 @@ fn take_over(rt: &impl Abort, alloc: Global, kept: &mut Kept, reply: &Reply) {
 
 /// Asks for the report after the token, and takes it over: for all of it by `sync`, and for a page of it by `page LIMIT`.
 /// Where the token is refused, the next report is the initial one.
-fn sync(
+fn sync<K: Keeper>(
     rt: &impl Abort,
     alloc: Global,
-    machine: &mut Machine<MemoryKeeper>,
+    machine: &mut Machine<K>,
     kept: &mut Kept,
     asked: &str,
 ) {
@@ -288,10 +289,10 @@ fn sync(
 }
 
 /// A GET answers by what the replica has, or is refused where it has nothing.
-fn check_name(
+fn check_name<K: Keeper>(
     rt: &impl Abort,
     alloc: Global,
-    machine: &mut Machine<MemoryKeeper>,
+    machine: &mut Machine<K>,
     replica: &Replica,
     named: &str,
 ) {
@@ -301,16 +302,16 @@ fn check_name(
         Some(seen) => {
             let text = seen.text.as_str();
             let wanted = format!(in alloc; "200 {text}").expect(rt, "memory");
-            assert_eq!(rt; told.as_str(), wanted.as_str(), "{named}");
+            check_text(rt, told.as_str(), wanted.as_str(), named);
         }
-        None => assert!(rt; told.as_str().starts_with('4'), "{named}"),
+        None => check_fact(rt, told.as_str().starts_with('4'), named),
     }
 }
 
-fn check_copy(
+fn check_copy<K: Keeper>(
     rt: &impl Abort,
     alloc: Global,
-    machine: &mut Machine<MemoryKeeper>,
+    machine: &mut Machine<K>,
     replica: &Replica,
 ) {
     for named in ["a.vcf", "b.vcf", "c.vcf", "d.vcf", "e.vcf"] {
@@ -318,21 +319,21 @@ fn check_copy(
     }
 }
 
-fn take(
+fn take<K: Keeper>(
     rt: &impl Abort,
     alloc: Global,
-    machine: &mut Machine<MemoryKeeper>,
+    machine: &mut Machine<K>,
     kept: &mut Kept,
     line: &str,
     wanted: &str,
 ) {
     if word(line, 0) != "sync" && word(line, 0) != "page" {
         let told = answer(rt, alloc, machine, line);
-        assert_eq!(rt; told.as_str(), wanted, "{line}");
+        check_text(rt, told.as_str(), wanted, line);
         return;
     }
     sync(rt, alloc, machine, kept, line);
-    assert_eq!(rt; kept.token.as_str(), wanted);
+    check_text(rt, kept.token.as_str(), wanted, line);
     if !kept.more {
         check_copy(rt, alloc, machine, &kept.replica);
     }
@@ -399,9 +400,10 @@ fn keep_copy(rt: &impl Abort, alloc: Global, steps: &[Step]) {
     for (line, wanted) in steps {
         take(rt, alloc, &mut machine, &mut kept, line, wanted);
     }
-    assert_eq!(rt; kept.replica.len(), 2);
-    drop(kept);
     drop(machine);
+    let count = kept.replica.len();
+    drop(kept);
+    check_fact(rt, count == 2, "two cards");
 }
 
 #[test]

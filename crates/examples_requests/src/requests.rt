@@ -1,5 +1,6 @@
 //! Requests of several callers, and their replies.
 
+use crate::checks::{check_fact, check_text};
 use crate::scripts::{Step, follow, run_on, run_on_new};
 use crate::serving::{caller, request, tell};
 use book_machine::{
@@ -7,7 +8,7 @@ use book_machine::{
     requests_act_where_granted, requests_are_full_at_limits, requests_have_one_step, runs_lead_on,
     unread_contents_stay_unseen,
 };
-use book_office::MemoryKeeper;
+use book_office::{Keeper, MemoryKeeper};
 use std::alloc::Global;
 use std::process::Abort;
 
@@ -303,24 +304,27 @@ fn calls(rt: &impl Abort, alloc: Global, steps: &[Step]) -> Vec<(Option<String>,
 }
 
 fn check_replies(rt: &impl Abort, alloc: Global, replies: &[Reply], steps: &[Step]) {
-    assert_eq!(rt; replies.len(), steps.len());
+    check_fact(rt, replies.len() == steps.len(), "as many replies");
     for (reply, (line, wanted)) in replies.iter().zip(steps) {
-        assert_eq!(rt; tell(rt, alloc, reply).as_str(), *wanted, "{line}");
+        let told = tell(rt, alloc, reply);
+        check_text(rt, told.as_str(), wanted, line);
     }
 }
 
 /// The machine under the policy of the office answers the calls of the steps in one call.
-pub(crate) fn check_all(
+pub(crate) fn check_all<K: Keeper>(
     rt: &impl Abort,
     alloc: Global,
-    machine: &mut Machine<MemoryKeeper>,
+    machine: &mut Machine<K>,
     steps: &[Step],
 ) {
     follow(rt, alloc, machine, &[("adopt office", "changed, epoch 1")]);
     let calls = calls(rt, alloc, steps);
     let replies = machine.serve_all(alloc, calls.as_slice());
+    drop(calls);
     let replies = replies.expect(rt, "memory");
     check_replies(rt, alloc, replies.as_slice(), steps);
+    drop(replies);
 }
 
 #[test]

@@ -13,6 +13,7 @@
 //!   label, the empty list or no member.
 
 use crate::asking::ask;
+use crate::checks::check_text;
 use crate::edits::make;
 use crate::offices::office;
 use crate::policies::{adopted, policy};
@@ -72,7 +73,7 @@ fn check<K: Keeper>(
     wanted: &str,
 ) {
     let told = answer(rt, alloc, machine, line);
-    assert_eq!(rt; told.as_str(), wanted, "{line}");
+    check_text(rt, told.as_str(), wanted, line);
 }
 
 /// Takes the steps in turn.
@@ -90,6 +91,7 @@ pub(crate) fn follow<K: Keeper>(
 fn run_over<K: Keeper + Drop>(rt: &impl Abort, alloc: Global, keeper: K, steps: &[Step]) {
     let mut machine = Machine::new(keeper);
     follow(rt, alloc, &mut machine, steps);
+    drop(machine);
 }
 
 /// Takes the steps on a new Office.
