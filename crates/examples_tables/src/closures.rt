@@ -2,12 +2,14 @@
 
 ghost use Rattle.std.specs.Prelude.{◌<◌};
 
+use crate::checks::check_fact;
 use crate::new_tables::principal;
+use crate::row_texts::{add, begin};
 use book_lists::{Pairs, Principal, closure};
 use book_office_values::Items;
 use book_tables::Tables;
 use book_tables_opening::open;
-use book_tables_rows::{insert_node, reach_rows};
+use book_tables_rows::reach_rows;
 use book_tables_schema::create;
 use sqlite::{Connection, MemStore, Row};
 use std::alloc::Global;
@@ -82,13 +84,6 @@ fn chosen(
     members
 }
 
-fn add(rt: &impl Abort, connection: &mut Connection<MemStore>, path: &str, parent: i64, kind: u32) {
-    assert!(rt; connection.is_autocommit());
-    let mut transaction = connection.transaction();
-    insert_node(&mut transaction, path, parent, kind, None, "", None, 0).expect(rt, path);
-    transaction.commit().expect(rt, path);
-}
-
 /// A store with the persons and the groups.
 fn new_tables(rt: &impl Abort, alloc: Global) -> Tables<MemStore> {
     let mut connection = Connection::open_in_memory(alloc).expect(rt, "memory");
@@ -107,23 +102,22 @@ fn check_row(rt: &impl Abort, alloc: Global, row: &Row, closed: &Pairs) {
     let member: String = row.get(1).expect(rt, "a text");
     let group = principal(rt, alloc, group.as_str());
     let member = principal(rt, alloc, member.as_str());
-    assert!(rt; closed.has(&group, &member));
+    check_fact(rt, closed.has(&group, &member), "a pair");
 }
 
-/// The rows of `reach` are as many as the pairs of the closure, and each is one of these.
+/// The rows of `reach` are as many as these pairs, and each is one of them.
 fn check_reach(
     rt: &impl Abort,
     alloc: Global,
     connection: &mut Connection<MemStore>,
-    pairs: &Pairs,
+    closed: &Pairs,
 ) {
-    let closed = closure(pairs).expect(rt, "memory");
-    assert!(rt; connection.is_autocommit());
-    let mut transaction = connection.transaction();
+    let mut transaction = begin(rt, connection);
     let rows = reach_rows(&mut transaction).expect(rt, "rows");
-    assert_eq!(rt; rows.len(), closed.len());
+    drop(transaction);
+    check_fact(rt, rows.len() == closed.len(), "as many rows");
     for row in &rows {
-        check_row(rt, alloc, row, &closed);
+        check_row(rt, alloc, row, closed);
     }
 }
 
@@ -142,8 +136,9 @@ fn edited(
         .set_members(alloc, &group, &members)
         .expect(rt, "members");
     let pairs = tables.pairs(alloc).expect(rt, "pairs");
+    let closed = closure(&pairs).expect(rt, "memory");
     let mut connection = tables.release();
-    check_reach(rt, alloc, &mut connection, &pairs);
+    check_reach(rt, alloc, &mut connection, &closed);
     Tables::over(connection)
 }
 
@@ -152,6 +147,100 @@ fn check_edits(rt: &impl Abort, alloc: Global, nesting: Nesting) {
     let mut chooser = Chooser { last: 1 };
     for _ in 0..EDITS {
         tables = edited(rt, alloc, tables, &mut chooser, nesting);
+    }
+    drop(tables);
+}
+
+const ANN: &str = "/people/ann";
+
+const BOB: &str = "/people/bob";
+
+const A: &str = "/groups/a";
+
+const B: &str = "/groups/b";
+
+const C: &str = "/groups/c";
+
+/// A group, the members that it gets, and the pairs of `reach` then: ann comes below c by two ways, and goes from one of
+/// them; then a and c are in a cycle, and then no more.
+const STEPS: &[(&str, &[&str], &[(&str, &str)])] = &[
+    (A, &[ANN], &[(A, ANN)]),
+    (B, &[A], &[(A, ANN), (B, A), (B, ANN)]),
+    (
+        A,
+        &[ANN, BOB],
+        &[(A, ANN), (A, BOB), (B, A), (B, ANN), (B, BOB)],
+    ),
+    (A, &[ANN], &[(A, ANN), (B, A), (B, ANN)]),
+    (
+        C,
+        &[A, B],
+        &[(A, ANN), (B, A), (B, ANN), (C, A), (C, B), (C, ANN)],
+    ),
+    (B, &[], &[(A, ANN), (C, A), (C, B), (C, ANN)]),
+    (
+        A,
+        &[ANN, C],
+        &[
+            (A, A),
+            (A, B),
+            (A, C),
+            (A, ANN),
+            (C, A),
+            (C, B),
+            (C, C),
+            (C, ANN),
+        ],
+    ),
+    (A, &[C], &[(A, A), (A, B), (A, C), (C, A), (C, B), (C, C)]),
+    (A, &[C], &[(A, A), (A, B), (A, C), (C, A), (C, B), (C, C)]),
+    (C, &[B, BOB], &[(A, B), (A, C), (A, BOB), (C, B), (C, BOB)]),
+    (C, &[C], &[(A, C), (C, C)]),
+];
+
+fn pairs_of(rt: &impl Abort, alloc: Global, wanted: &[(&str, &str)]) -> Pairs {
+    let mut pairs = Pairs::new(alloc);
+    for (group, member) in wanted {
+        let group = principal(rt, alloc, group);
+        let member = principal(rt, alloc, member);
+        pairs.add(group, member).expect(rt, "memory");
+    }
+    pairs
+}
+
+fn principals(rt: &impl Abort, alloc: Global, paths: &[&str]) -> Items<Principal> {
+    let mut all = Items::new(alloc);
+    for path in paths {
+        all.push(principal(rt, alloc, path)).expect(rt, "memory");
+    }
+    all
+}
+
+/// Gives the tables back after one step.
+fn stepped(
+    rt: &impl Abort,
+    alloc: Global,
+    mut tables: Tables<MemStore>,
+    group: &str,
+    members: &[&str],
+    wanted: &[(&str, &str)],
+) -> Tables<MemStore> {
+    let group = principal(rt, alloc, group);
+    let members = principals(rt, alloc, members);
+    let set = tables.set_members(alloc, &group, &members);
+    set.expect(rt, "members");
+    let wanted = pairs_of(rt, alloc, wanted);
+    let mut connection = tables.release();
+    check_reach(rt, alloc, &mut connection, &wanted);
+    Tables::over(connection)
+}
+
+#[test]
+fn reach_follows_members_by_two_ways_and_in_a_cycle(rt: HostRuntime) {
+    let alloc = rt.alloc();
+    let mut tables = new_tables(&rt, alloc);
+    for (group, members, wanted) in STEPS {
+        tables = stepped(&rt, alloc, tables, group, members, wanted);
     }
     drop(tables);
 }

@@ -51,6 +51,7 @@ fn shown(
             push_cell(rt, &mut all, row, at);
         }
     }
+    drop(rows);
     all
 }
 
@@ -125,6 +126,7 @@ fn edited(rt: &impl Abort, alloc: Global) -> Tables<MemStore> {
         .set_members(alloc, &staff, &members)
         .expect(rt, "members");
     drop((ann, bob, at_a, at_law, entries, members));
+    drop((law, sales, a, b, c, one, label, staff));
     tables
 }
 

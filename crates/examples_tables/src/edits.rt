@@ -1,6 +1,6 @@
 //! The edits, each as one transaction.
 
-use crate::checks::{check, check_number};
+use crate::checks::{check, check_fact, check_number};
 use crate::new_tables::{check_epoch, found, name, path, principal, tables, text};
 use crate::row_texts::entries_at;
 use book_lists::{Entry, Who};
@@ -55,6 +55,7 @@ fn cards_and_books_are_edited(rt: HostRuntime) {
     }
     check_epoch(&rt, &mut tables, 0);
     tables.remove_book(alloc, &law).expect(&rt, "removed");
+    drop((law, a, b, c, label));
     check(
         &rt,
         found(&rt, alloc, &mut tables, "/books/law/c.vcf"),
@@ -96,10 +97,9 @@ fn own_lists_are_written_in_order(rt: HostRuntime) {
         set: LeafSet::all(),
     };
     list.push(eve).expect(&rt, "memory");
-    assert_eq!(rt;
-        tables.set_list(alloc, &books, &list),
-        Err(StoreFault::Store)
-    );
+    let unknown = tables.set_list(alloc, &books, &list);
+    drop((books, list));
+    check_fact(&rt, unknown == Err(StoreFault::Store), "nobody is eve");
     check_number(&rt, tables.failures(), 1);
     check_epoch(&rt, &mut tables, 1);
     let mut connection = tables.release();
@@ -118,12 +118,13 @@ fn members_must_be_there(rt: HostRuntime) {
     let staff = principal(&rt, alloc, "/groups/staff");
     let mut members = Items::new(alloc);
     let none = tables.set_members(alloc, &staff, &members);
-    assert_eq!(rt; none, Ok(()));
+    check_fact(&rt, none == Ok(()), "no members");
     members
         .push(principal(&rt, alloc, "/people/ann"))
         .expect(&rt, "memory");
     let unknown = tables.set_members(alloc, &staff, &members);
-    assert_eq!(rt; unknown, Err(StoreFault::Store));
+    drop((staff, members));
+    check_fact(&rt, unknown == Err(StoreFault::Store), "nobody is ann");
     check_number(&rt, tables.failures(), 1);
     check_epoch(&rt, &mut tables, 1);
     drop(tables);

@@ -1,7 +1,7 @@
 //! What is found of a store that is there: its schema, its version, and its rows.
 
-use crate::checks::check;
-use crate::row_texts::{node, store, whole_rows};
+use crate::checks::{check, check_fact};
+use crate::row_texts::{begin, node, store, whole_rows};
 use book_tables_schema::{
     Generation, create, is_beside_reach, is_book_schema, reopen, says_other_version,
 };
@@ -13,32 +13,43 @@ fn run(rt: &impl Abort, connection: &mut Connection<MemStore>, sql: &str) {
     connection.execute(sql, &[]).expect(rt, sql);
 }
 
-fn is_other(rt: &impl Abort, connection: &mut Connection<MemStore>) -> bool {
-    assert!(rt; connection.is_autocommit());
-    let mut transaction = connection.transaction();
-    says_other_version(&mut transaction, 2).expect(rt, "the version")
+/// Whether the store says that it is of another version.
+fn check_other(rt: &impl Abort, connection: &mut Connection<MemStore>, wanted: bool) {
+    let mut transaction = begin(rt, connection);
+    let is = says_other_version(&mut transaction, 2).expect(rt, "the version");
+    drop(transaction);
+    check_fact(rt, is == wanted, "the version");
+}
+
+/// Whether the schema is that of a store.
+fn check_schema(rt: &impl Abort, connection: &Connection<MemStore>, wanted: bool) {
+    check_fact(
+        rt,
+        is_book_schema(connection.schema()) == wanted,
+        "the schema",
+    );
 }
 
 #[test]
 fn schemas_are_told_apart(rt: HostRuntime) {
     let alloc = rt.alloc();
     let mut connection = Connection::open_in_memory(alloc).expect(&rt, "memory");
-    assert!(rt; !is_book_schema(connection.schema()));
+    check_schema(&rt, &connection, false);
     create(&mut connection).expect(&rt, "a new store");
-    assert!(rt; is_book_schema(connection.schema()));
+    check_schema(&rt, &connection, true);
     run(&rt, &mut connection, "DROP INDEX reach_grp");
-    assert!(rt; !is_book_schema(connection.schema()));
+    check_schema(&rt, &connection, false);
     let index = "CREATE INDEX reach_grp ON reach (member)";
     run(&rt, &mut connection, index);
-    assert!(rt; !is_book_schema(connection.schema()));
+    check_schema(&rt, &connection, false);
     run(&rt, &mut connection, "DROP INDEX reach_grp");
     let index = "CREATE INDEX reach_grp ON reach (grp)";
     run(&rt, &mut connection, index);
-    assert!(rt; is_book_schema(connection.schema()));
+    check_schema(&rt, &connection, true);
     run(&rt, &mut connection, "DROP INDEX node_owner");
     let index = "CREATE INDEX node_owner ON node (owner)";
     run(&rt, &mut connection, index);
-    assert!(rt; !is_book_schema(connection.schema()));
+    check_schema(&rt, &connection, false);
     drop(connection);
 }
 
@@ -78,13 +89,16 @@ const BESIDE: &[(&str, bool)] = &[
     ("CREATE VIEW all_nodes AS SELECT path FROM node", false),
 ];
 
-fn is_beside(
+fn check_beside(
     rt: &impl Abort,
     alloc: Global,
     connection: &Connection<MemStore>,
     generation: Generation,
-) -> bool {
-    is_beside_reach(alloc, connection.schema(), generation).expect(rt, "memory")
+    wanted: bool,
+    sql: &str,
+) {
+    let is = is_beside_reach(alloc, connection.schema(), generation).expect(rt, "memory");
+    check_fact(rt, is == wanted, sql);
 }
 
 #[test]
@@ -92,16 +106,12 @@ fn tables_stand_beside_any_reach_and_indexes(rt: HostRuntime) {
     let alloc = rt.alloc();
     for (sql, wanted) in BESIDE {
         let mut connection = Connection::open_in_memory(alloc).expect(&rt, "memory");
-        assert!(rt;
-            !is_beside(&rt, alloc, &connection, Generation::Second),
-            "{sql}"
-        );
+        check_beside(&rt, alloc, &connection, Generation::Second, false, sql);
         create(&mut connection).expect(&rt, "a new store");
         connection.execute_batch(sql).expect(&rt, sql);
-        let is = is_beside(&rt, alloc, &connection, Generation::Second);
-        assert_eq!(rt; is, *wanted, "{sql}");
+        check_beside(&rt, alloc, &connection, Generation::Second, *wanted, sql);
         for other in [Generation::First, Generation::Former] {
-            assert!(rt; !is_beside(&rt, alloc, &connection, other), "{sql}");
+            check_beside(&rt, alloc, &connection, other, false, sql);
         }
         drop(connection);
     }
@@ -111,29 +121,29 @@ fn tables_stand_beside_any_reach_and_indexes(rt: HostRuntime) {
 fn versions_are_told_apart(rt: HostRuntime) {
     let alloc = rt.alloc();
     let mut connection = store(&rt, alloc);
-    assert!(rt; !is_other(&rt, &mut connection));
+    check_other(&rt, &mut connection, false);
     run(&rt, &mut connection, "UPDATE meta SET version = 3");
-    assert!(rt; is_other(&rt, &mut connection));
+    check_other(&rt, &mut connection, true);
     run(
         &rt,
         &mut connection,
         "INSERT INTO meta (version, epoch) VALUES (3, 0)",
     );
-    assert!(rt; !is_other(&rt, &mut connection));
+    check_other(&rt, &mut connection, false);
     let mut foreign = Connection::open_in_memory(alloc).expect(&rt, "memory");
-    assert!(rt; !is_other(&rt, &mut foreign));
+    check_other(&rt, &mut foreign, false);
     run(
         &rt,
         &mut foreign,
         "CREATE TABLE meta (name TEXT, version TEXT)",
     );
-    assert!(rt; !is_other(&rt, &mut foreign));
+    check_other(&rt, &mut foreign, false);
     run(
         &rt,
         &mut foreign,
         "INSERT INTO meta (version) VALUES ('new')",
     );
-    assert!(rt; is_other(&rt, &mut foreign));
+    check_other(&rt, &mut foreign, true);
     drop(connection);
     drop(foreign);
 }
@@ -143,7 +153,7 @@ fn a_store_that_is_opened_again_has_its_rows(rt: HostRuntime) {
     let alloc = rt.alloc();
     let connection = store(&rt, alloc);
     let mut connection = reopen(alloc, connection).ok().expect(&rt, "an open");
-    assert!(rt; is_book_schema(connection.schema()));
+    check_schema(&rt, &connection, true);
     check(
         &rt,
         node(&rt, alloc, &mut connection, "/groups/staff"),

@@ -1,7 +1,7 @@
 //! A new store: the root and the three homes, epoch 0.
 
-use crate::checks::{check, check_number};
-use crate::row_texts::{children, epoch, node};
+use crate::checks::{check, check_fact, check_number};
+use crate::row_texts::{begin, children, epoch, node};
 use book_tables_rows::count_children;
 use book_tables_schema::create;
 use sqlite::{Connection, Error, ErrorCode};
@@ -18,17 +18,11 @@ fn a_new_store_has_the_root_and_the_homes(rt: HostRuntime) {
         "4 /books 1 - . 0; 3 /groups 1 - . 0; 2 /people 1 - . 0",
     );
     check_number(&rt, epoch(&rt, &mut connection), 0);
-    assert!(rt; connection.is_autocommit());
-    let mut transaction = connection.transaction();
-    assert_eq!(rt;
-        count_children(&mut transaction, "/").expect(&rt, "a count"),
-        3
-    );
-    assert_eq!(rt;
-        count_children(&mut transaction, "/x").expect(&rt, "a count"),
-        0
-    );
+    let mut transaction = begin(&rt, &mut connection);
+    let homes = count_children(&mut transaction, "/").expect(&rt, "a count");
+    let none = count_children(&mut transaction, "/x").expect(&rt, "a count");
     drop(transaction);
+    check_fact(&rt, homes == 3 && none == 0, "the counts");
     drop(connection);
 }
 
@@ -38,13 +32,13 @@ fn a_store_with_tables_is_not_founded(rt: HostRuntime) {
     let mut connection = Connection::open_in_memory(alloc).expect(&rt, "memory");
     create(&mut connection).expect(&rt, "a new store");
     let taken = Err(Error::SqliteFailure(ErrorCode::NameTaken));
-    assert_eq!(rt; create(&mut connection), taken);
+    check_fact(&rt, create(&mut connection) == taken, "a store");
     check(&rt, node(&rt, alloc, &mut connection, "/"), "0 - \"\" - 0");
     let mut other = Connection::open_in_memory(alloc).expect(&rt, "memory");
     other
         .execute("CREATE TABLE other (name TEXT) STRICT", &[])
         .expect(&rt, "a table");
-    assert_eq!(rt; create(&mut other), taken);
+    check_fact(&rt, create(&mut other) == taken, "a table");
     drop(connection);
     drop(other);
 }

@@ -1,6 +1,6 @@
 //! An Office over the tables of a new store, and the connection given back.
 
-use crate::checks::{check, check_number};
+use crate::checks::{check, check_fact, check_number};
 use crate::new_tables::{check_epoch, name, path, tables};
 use crate::row_texts::{children, epoch, node};
 use book_office_values::{Kind, Text};
@@ -21,15 +21,17 @@ fn new_tables_keep_a_card(rt: HostRuntime) {
     let card = name(&rt, alloc, "a.vcf");
     let body = text(&rt, alloc, "one");
     let at = path(&rt, alloc, "/books/law/a.vcf");
-    assert!(rt; tables.find(alloc, &at).expect(&rt, "a look-up").is_none());
+    let none = tables.find(alloc, &at).expect(&rt, "a look-up");
+    check_fact(&rt, none.is_none(), "nothing yet");
+    drop(none);
     tables.add_book(alloc, &law, &None).expect(&rt, "MKCOL");
     tables
         .put_card(alloc, &law, &card, &None, &body)
         .expect(&rt, "PUT");
     let found = tables.find(alloc, &at).expect(&rt, "a look-up");
     let found = found.expect(&rt, "the card");
-    assert_eq!(rt; found.kind, Kind::Card);
-    assert!(rt; found.text.as_ref() == Some(&body));
+    check_fact(&rt, found.kind == Kind::Card, "a card");
+    check_fact(&rt, found.text.as_ref() == Some(&body), "its text");
     check_number(&rt, found.number, 1);
     drop(found);
     drop(at);
@@ -64,7 +66,8 @@ fn a_store_with_a_table_is_given_back(rt: HostRuntime) {
         .expect(&rt, "a table");
     let refused = Tables::create(other).err();
     let (fault, connection) = refused.expect(&rt, "a store that is not empty");
-    assert_eq!(rt; fault, OpenFault::Store);
-    assert_eq!(rt; connection.schema().tables.len(), 1);
+    let count = connection.schema().tables.len();
     drop(connection);
+    check_fact(&rt, fault == OpenFault::Store, "a store");
+    check_fact(&rt, count == 1, "its table");
 }

@@ -1,6 +1,6 @@
 //! Own lists and members of groups (RFC 3744, sections 8.1 and 4.3).
 
-use crate::checks::{check, check_number};
+use crate::checks::{check, check_fact, check_number};
 use crate::row_texts::{
     entries_at, entries_of_changed, entries_of_children, epoch, members, store, whole_rows,
 };
@@ -77,7 +77,8 @@ fn a_list_with_an_unknown_principal_changes_nothing(rt: HostRuntime) {
         &[entry(&rt, alloc, 1, None, false, 1)],
     );
     let unknown = [entry(&rt, alloc, 0, Some("/people/eve"), false, 1)];
-    assert!(rt; set_list(&mut connection, "/books", &unknown).is_err());
+    let refused = set_list(&mut connection, "/books", &unknown).is_err();
+    check_fact(&rt, refused, "nobody is eve");
     check(
         &rt,
         entries_at(&rt, alloc, &mut connection, "/books"),
@@ -85,8 +86,9 @@ fn a_list_with_an_unknown_principal_changes_nothing(rt: HostRuntime) {
     );
     check_number(&rt, epoch(&rt, &mut connection), 1);
     let none = Err(Error::QueryReturnedNoRows);
-    assert_eq!(rt; set_list(&mut connection, "/books/law", &[]), none);
+    let told = set_list(&mut connection, "/books/law", &[]);
     drop(connection);
+    check_fact(&rt, told == none, "no such book");
 }
 
 #[test]
@@ -247,7 +249,8 @@ fn groups_get_members(rt: HostRuntime) {
     );
     check_number(&rt, epoch(&rt, &mut connection), 2);
     let twice = texts(&rt, alloc, &["/people/ann", "/people/ann"]);
-    assert!(rt; set_members(&mut connection, "/groups/staff", &twice, &[], &[]).is_err());
+    let refused = set_members(&mut connection, "/groups/staff", &twice, &[], &[]).is_err();
+    check_fact(&rt, refused, "a member twice");
     check_number(&rt, epoch(&rt, &mut connection), 2);
     drop(connection);
 }

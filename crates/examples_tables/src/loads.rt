@@ -1,8 +1,8 @@
 //! Dumps that become stores, and copies of stores. What a store stands for is told by its dump, and by what is found in
 //! it.
 
-use crate::checks::{check, check_number};
-use crate::new_tables::{check_epoch, found, name, path, tables, text};
+use crate::checks::{check, check_fact, check_number};
+use crate::new_tables::{check_epoch, found, name, tables, text};
 use book_dumps_loading::{LoadFault, copy, dumped_of, is_dump, load, office_text};
 use book_dumps_reading::{Dumped, read_dump};
 use book_office_values::Items;
@@ -51,16 +51,24 @@ fn loaded(rt: &impl Abort, alloc: Global, dumped: &Dumped) -> Tables<MemStore> {
 }
 
 /// Whether the dump of tables is a text.
-fn dumps(rt: &impl Abort, alloc: Global, tables: &mut Tables<MemStore>, text: &str) -> bool {
-    let is = is_dump(alloc, tables, text.as_bytes());
-    is.expect(rt, "memory")
+fn check_dumps(
+    rt: &impl Abort,
+    alloc: Global,
+    tables: &mut Tables<MemStore>,
+    text: &str,
+    wanted: bool,
+) {
+    let is = is_dump(alloc, tables, text.as_bytes()).expect(rt, "memory");
+    check_fact(rt, is == wanted, text);
 }
 
 /// The fault of a load into a store with no tables.
-fn fault_of(rt: &impl Abort, alloc: Global, dumped: &Dumped) -> Option<LoadFault> {
-    let (fault, left) = load(alloc, bare(rt, alloc), dumped).err()?;
+fn check_fault(rt: &impl Abort, alloc: Global, dumped: Dumped, wanted: LoadFault) {
+    let refused = load(alloc, bare(rt, alloc), &dumped).err();
+    drop(dumped);
+    let (fault, left) = refused.expect(rt, "a dump of no Office");
     drop(left);
-    Some(fault)
+    check_fact(rt, fault == wanted, "the fault");
 }
 
 /// The dump without its line at a place.
@@ -80,13 +88,10 @@ fn without_line(rt: &impl Abort, alloc: Global, place: usize) -> Dumped {
 fn a_dump_becomes_a_store(rt: HostRuntime) {
     let alloc = rt.alloc();
     let mut tables = loaded(&rt, alloc, &dumped(&rt, alloc));
-    assert!(rt; dumps(&rt, alloc, &mut tables, DUMP), "the same dump");
-    assert_eq!(rt;
-        office_text(alloc, &mut tables)
-            .expect(&rt, "memory")
-            .as_slice(),
-        DUMP.as_bytes()
-    );
+    check_dumps(&rt, alloc, &mut tables, DUMP, true);
+    let whole = office_text(alloc, &mut tables).expect(&rt, "memory");
+    check_fact(&rt, whole.as_slice() == DUMP.as_bytes(), "the same text");
+    drop(whole);
     check_epoch(&rt, &mut tables, 7);
     let (book, card) = (name(&rt, alloc, "sales"), name(&rt, alloc, "c.vcf"));
     let put = tables.put_card(alloc, &book, &card, &None, &text(&rt, alloc, "two"));
@@ -109,11 +114,11 @@ fn a_dump_becomes_a_store(rt: HostRuntime) {
 #[test]
 fn a_text_is_the_dump_of_one_office(rt: HostRuntime) {
     let alloc = rt.alloc();
-    let mut tables = loaded(&rt, alloc, &dumped(&rt, alloc));
     let cut = DUMP.get(..DUMP.len() - 1).expect(&rt, "a beginning");
     let longer = format!(in alloc; "{DUMP}x").expect(&rt, "memory");
+    let mut tables = loaded(&rt, alloc, &dumped(&rt, alloc));
     for other in ["", cut, longer.as_str()] {
-        assert!(rt; !dumps(&rt, alloc, &mut tables, other), "another text");
+        check_dumps(&rt, alloc, &mut tables, other, false);
     }
     let removed = tables.remove_card(
         alloc,
@@ -121,8 +126,23 @@ fn a_text_is_the_dump_of_one_office(rt: HostRuntime) {
         &name(&rt, alloc, "e.vcf"),
     );
     removed.expect(&rt, "a card");
-    assert!(rt; !dumps(&rt, alloc, &mut tables, DUMP), "another Office");
+    check_dumps(&rt, alloc, &mut tables, DUMP, false);
     drop(tables);
+}
+
+/// How many tables a store has that was given back open; none where it was closed.
+fn tables_of(left: Unopened<MemStore>) -> usize {
+    match left {
+        Unopened::Connection(connection) => {
+            let count = connection.schema().tables.len();
+            drop(connection);
+            count
+        }
+        Unopened::Store(store) => {
+            drop(store);
+            0
+        }
+    }
 }
 
 #[test]
@@ -132,17 +152,8 @@ fn a_store_with_tables_stays(rt: HostRuntime) {
     let (fault, left) = load(alloc, taken, &dumped(&rt, alloc))
         .err()
         .expect(&rt, "a store with tables");
-    assert_eq!(rt; fault, LoadFault::Exists);
-    match left {
-        Unopened::Connection(connection) => {
-            assert_eq!(rt; connection.schema().tables.len(), 7);
-            drop(connection);
-        }
-        Unopened::Store(store) => {
-            drop(store);
-            assert!(rt; false, "the connection comes back");
-        }
-    }
+    check_fact(&rt, fault == LoadFault::Exists, "it exists");
+    check_fact(&rt, tables_of(left) == 7, "the connection comes back");
 }
 
 /// Lines count from that of the root, 0: without the home of the books another dump is read back; without the book
@@ -156,18 +167,18 @@ fn what_is_no_office_is_refused(rt: HostRuntime) {
         (11, LoadFault::Refused),
     ] {
         let dumped = without_line(&rt, alloc, place);
-        assert_eq!(rt; fault_of(&rt, alloc, &dumped), Some(wanted));
+        check_fault(&rt, alloc, dumped, wanted);
     }
     let mut late = dumped(&rt, alloc);
     late.epoch = 9_007_199_254_740_992;
-    assert_eq!(rt; fault_of(&rt, alloc, &late), Some(LoadFault::Refused));
+    check_fault(&rt, alloc, late, LoadFault::Refused);
     let Dumped { epoch, lines } = dumped(&rt, alloc);
     let mut lines = lines.into_vec();
     assert!(rt; lines.len() > 5, "the lines of two cards");
     lines.swap(4, 5);
     let lines = Items::from_vec(lines);
     let other = Dumped { epoch, lines };
-    assert_eq!(rt; fault_of(&rt, alloc, &other), Some(LoadFault::Unequal));
+    check_fault(&rt, alloc, other, LoadFault::Unequal);
 }
 
 #[test]
@@ -176,17 +187,17 @@ fn a_store_is_copied(rt: HostRuntime) {
     let mut source = loaded(&rt, alloc, &dumped(&rt, alloc));
     let copied = copy(alloc, &mut source, bare(&rt, alloc));
     let mut copied = copied.ok().expect(&rt, "a copy");
-    assert!(rt; dumps(&rt, alloc, &mut copied, DUMP), "the same Office");
-    assert!(rt; dumps(&rt, alloc, &mut source, DUMP), "the source stays");
+    check_dumps(&rt, alloc, &mut copied, DUMP, true);
+    check_dumps(&rt, alloc, &mut source, DUMP, true);
     let told = dumped_of(alloc, &mut copied).ok().expect(&rt, "a dump");
     check_number(&rt, told.epoch, 7);
     drop(copied);
     let taken = tables(&rt, alloc).release();
     let refused = copy(alloc, &mut source, taken).err();
     let (fault, left) = refused.expect(&rt, "a store with tables");
-    assert_eq!(rt; fault, LoadFault::Exists);
     drop(left);
-    let at = path(&rt, alloc, "/books/sales/e.vcf");
-    assert!(rt; source.find(alloc, &at).expect(&rt, "a look-up").is_some());
+    check_fact(&rt, fault == LoadFault::Exists, "it exists");
+    let there = found(&rt, alloc, &mut source, "/books/sales/e.vcf");
     drop(source);
+    check_fact(&rt, there.as_str() != "none", "the source stays");
 }

@@ -1,7 +1,7 @@
 //! Stores of version 1, and of version 2 in the former order, which are made by the texts that made them then, and what a
 //! migration makes of them.
 
-use crate::checks::check;
+use crate::checks::{check, check_fact, check_number, check_text};
 use crate::new_tables::{found, tables};
 use crate::row_texts::reach;
 use book_tables::{OpenFault, Tables};
@@ -132,6 +132,7 @@ fn numbers(
         let text = format!(in alloc; "{number} ").expect(rt, "memory");
         all.push_str(text.as_str()).expect(rt, "memory");
     }
+    drop(rows);
     all
 }
 
@@ -157,20 +158,30 @@ const MIGRATED: &[(&str, &str)] = &[
     ("SELECT number FROM gone", "2 "),
 ];
 
+/// Each of these statements shows what is wanted.
+fn check_shown(rt: &impl Abort, alloc: Global, connection: &mut Connection<MemStore>) {
+    for (sql, wanted) in MIGRATED {
+        let shown = numbers(rt, alloc, connection, sql);
+        check(rt, shown, wanted);
+    }
+}
+
 #[test]
 fn a_store_of_version_1_is_migrated(rt: HostRuntime) {
     let alloc = rt.alloc();
     let (mut tables, entries) = migrated(&rt, alloc, first(&rt, alloc));
-    assert_eq!(rt; entries, 5);
+    check_number(&rt, entries, 5);
     let at = found(&rt, alloc, &mut tables, "/books/sales/b.vcf");
     check(&rt, at, "\"\" one 3");
     let mut connection = tables.release();
-    for (sql, wanted) in MIGRATED {
-        let shown = numbers(&rt, alloc, &mut connection, sql);
-        check(&rt, shown, wanted);
-    }
+    check_shown(&rt, alloc, &mut connection);
     let opened = open(alloc, connection).ok().expect(&rt, "opened");
-    assert_eq!(rt; told_of(alloc, opened.release()), "other-version");
+    check_text(
+        &rt,
+        told_of(alloc, opened.release()),
+        "other-version",
+        "again",
+    );
 }
 
 /// Statements on a store of version 1, and what is told of its migration.
@@ -211,26 +222,25 @@ const REACHES: &[&str] = &[
     "CREATE TABLE reach (id INTEGER PRIMARY KEY, note TEXT UNIQUE); INSERT INTO reach (note) VALUES ('one'); CREATE INDEX notes ON reach (note)",
 ];
 
+/// A store is migrated: it has the schema of a store, its rows of `reach`, and what else was in it.
+fn check_migrated(rt: &impl Abort, alloc: Global, connection: Connection<MemStore>, of: &str) {
+    let (tables, entries) = migrated(rt, alloc, connection);
+    check_number(rt, entries, 5);
+    let mut connection = tables.release();
+    check_fact(rt, is_book_schema(connection.schema()), of);
+    let pairs = reach(rt, alloc, &mut connection);
+    check(rt, pairs, "/groups/staff /people/gus");
+    check_shown(rt, alloc, &mut connection);
+    drop(connection);
+}
+
 #[test]
 fn reach_of_a_store_of_version_1_is_made_anew(rt: HostRuntime) {
     let alloc = rt.alloc();
     for sql in REACHES {
         let mut connection = first(&rt, alloc);
         connection.execute_batch(sql).expect(&rt, sql);
-        let (tables, entries) = migrated(&rt, alloc, connection);
-        assert_eq!(rt; entries, 5);
-        let mut connection = tables.release();
-        assert!(rt; is_book_schema(connection.schema()), "{sql}");
-        check(
-            &rt,
-            reach(&rt, alloc, &mut connection),
-            "/groups/staff /people/gus",
-        );
-        for (sql, wanted) in MIGRATED {
-            let shown = numbers(&rt, alloc, &mut connection, sql);
-            check(&rt, shown, wanted);
-        }
-        drop(connection);
+        check_migrated(&rt, alloc, connection, sql);
     }
 }
 
@@ -239,13 +249,12 @@ fn rows_that_are_not_of_version_1_are_not_migrated(rt: HostRuntime) {
     let alloc = rt.alloc();
     for (sql, wanted) in TOLD {
         let told = told(alloc, first(&rt, alloc), sql);
-        assert_eq!(rt; told, *wanted, "{sql}");
+        check_text(&rt, told, wanted, sql);
     }
-    assert_eq!(rt; told_of(alloc, bare(&rt, alloc)), "no-store");
-    assert_eq!(rt;
-        told_of(alloc, tables(&rt, alloc).release()),
-        "other-version"
-    );
+    let told = told_of(alloc, bare(&rt, alloc));
+    check_text(&rt, told, "no-store", "no tables");
+    let told = told_of(alloc, tables(&rt, alloc).release());
+    check_text(&rt, told, "other-version", "new tables");
 }
 
 /// Statements on a store in the former order, and what is told of its migration.
@@ -269,24 +278,12 @@ const FORMER_TOLD: &[(&str, &str)] = &[
 fn a_store_in_the_former_order_is_migrated(rt: HostRuntime) {
     let alloc = rt.alloc();
     let closed = open(alloc, former(&rt, alloc)).err().expect(&rt, "a fault");
-    assert_eq!(rt; name_of(closed.0), "no-store");
-    drop(closed.1);
-    let (tables, entries) = migrated(&rt, alloc, former(&rt, alloc));
-    assert_eq!(rt; entries, 5);
-    let mut connection = tables.release();
-    assert!(rt; is_book_schema(connection.schema()));
-    check(
-        &rt,
-        reach(&rt, alloc, &mut connection),
-        "/groups/staff /people/gus",
-    );
-    for (sql, wanted) in MIGRATED {
-        let shown = numbers(&rt, alloc, &mut connection, sql);
-        check(&rt, shown, wanted);
-    }
-    drop(connection);
+    let (fault, left) = closed;
+    drop(left);
+    check_text(&rt, name_of(fault), "no-store", "the former order");
+    check_migrated(&rt, alloc, former(&rt, alloc), "the former order");
     for (sql, wanted) in FORMER_TOLD {
         let told = told(alloc, former(&rt, alloc), sql);
-        assert_eq!(rt; told, *wanted, "{sql}");
+        check_text(&rt, told, wanted, sql);
     }
 }

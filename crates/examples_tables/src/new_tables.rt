@@ -43,9 +43,14 @@ pub(crate) fn found(
     at: &str,
 ) -> String {
     let path = path(rt, alloc, at);
-    let Some(node) = tables.find(alloc, &path).expect(rt, at) else {
+    let found = tables.find(alloc, &path).expect(rt, at);
+    drop(path);
+    let Some(node) = found else {
         return String::from_str(alloc, "none").expect(rt, "memory");
     };
     let text = node.text.as_ref().map_or("-", |text| text.as_str());
-    format!(in alloc; "{:?} {text} {}", node.label.as_str(), node.number).expect(rt, "memory")
+    let (label, number) = (node.label.as_str(), node.number);
+    let told = format!(in alloc; "{label:?} {text} {number}").expect(rt, "memory");
+    drop(node);
+    told
 }

@@ -1,6 +1,6 @@
 //! Opening a store that is there: as it was left, and with rows that are changed by hand.
 
-use crate::checks::check;
+use crate::checks::{check, check_text};
 use crate::new_tables::{found, name, tables, text};
 use book_tables::{OpenFault, Tables};
 use book_tables_opening::open;
@@ -231,11 +231,11 @@ fn rows_of_no_office_are_no_store(rt: HostRuntime) {
     let alloc = rt.alloc();
     for (sql, wanted) in TOLD {
         let told = told(alloc, law(&rt, alloc), sql);
-        assert_eq!(rt; told, *wanted, "{sql}");
+        check_text(&rt, told, wanted, sql);
     }
     for (sql, wanted) in TOLD_OF_OTHERS {
         let told = told(alloc, bare(&rt, alloc), sql);
-        assert_eq!(rt; told, *wanted, "{sql}");
+        check_text(&rt, told, wanted, sql);
     }
 }
 

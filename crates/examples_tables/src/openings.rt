@@ -1,7 +1,8 @@
 //! Opening a store whose rows reach the limits, or contradict one another: each condition broken alone.
 
+use crate::checks::check_text;
 use crate::new_tables::{name, principal, text};
-use crate::row_texts::store;
+use crate::row_texts::{begin, store};
 use book_tables::{OpenFault, Tables};
 use book_tables_opening::open;
 use book_tables_rows::insert_node;
@@ -121,7 +122,7 @@ fn rows_that_contradict_others_are_no_store(rt: HostRuntime) {
     for (sql, wanted) in TOLD {
         let mut connection = law(&rt, alloc);
         run(&rt, &mut connection, sql);
-        assert_eq!(rt; told(alloc, connection), *wanted, "{sql}");
+        check_text(&rt, told(alloc, connection), wanted, sql);
     }
 }
 
@@ -135,8 +136,7 @@ fn add_many(
     kind: u32,
     count: u64,
 ) {
-    assert!(rt; connection.is_autocommit());
-    let mut transaction = connection.transaction();
+    let mut transaction = begin(rt, connection);
     for at in 0..count {
         let path = format!(in alloc; "{front}{at}").expect(rt, "memory");
         let added = insert_node(
@@ -181,7 +181,7 @@ fn add_entries(rt: &impl Abort, alloc: Global, connection: &mut Connection<MemSt
 }
 
 /// What is limited.
-#[derive(Clone, Copy, Debug)]
+#[derive(Clone, Copy)]
 enum Limit {
     /// Entries of a list: 64.
     Entries,
@@ -193,6 +193,16 @@ enum Limit {
     Members,
     /// Books: 1,000, of which one is `law`.
     Books,
+}
+
+fn name_of(limit: Limit) -> &'static str {
+    match limit {
+        Limit::Entries => "entries",
+        Limit::Label => "a label",
+        Limit::Text => "a text",
+        Limit::Members => "members",
+        Limit::Books => "books",
+    }
 }
 
 /// So many are added to reach the limit, or to pass it by one.
@@ -243,7 +253,7 @@ fn rows_beyond_a_limit_are_no_store(rt: HostRuntime) {
     ] {
         for (behind, wanted) in [(false, "opened"), (true, "no-store")] {
             let connection = limited(&rt, alloc, limit, behind);
-            assert_eq!(rt; told(alloc, connection), wanted, "{limit:?}");
+            check_text(&rt, told(alloc, connection), wanted, name_of(limit));
         }
     }
 }

@@ -1,6 +1,6 @@
 //! Adopting a policy (own profile): nodes, lists and members in one transaction.
 
-use crate::checks::{check, check_number};
+use crate::checks::{check, check_fact, check_number};
 use crate::row_texts::{children, entries_at, epoch, members, store};
 use book_tables_rows::{EntryRow, GroupRow, ListsRow, PlaceRow, adopt_rows};
 use sqlite::Error;
@@ -108,17 +108,16 @@ fn a_policy_that_names_nobody_changes_nothing(rt: HostRuntime) {
             "Law",
         ),
     ];
-    assert!(rt; adopt_rows(&mut connection, &places, &[], &[], &[], &[]).is_err());
+    let refused = adopt_rows(&mut connection, &places, &[], &[], &[], &[]).is_err();
+    check_fact(&rt, refused, "nobody is mallory");
     let lists = [ListsRow {
         path: text(&rt, alloc, "/books/law"),
         protected: Vec::new(alloc),
         own: Vec::new(alloc),
     }];
     let none = Err(Error::QueryReturnedNoRows);
-    assert_eq!(rt;
-        adopt_rows(&mut connection, &places[..1], &lists, &[], &[], &[]),
-        none
-    );
+    let told = adopt_rows(&mut connection, &places[..1], &lists, &[], &[], &[]);
+    check_fact(&rt, told == none, "no such book");
     check(
         &rt,
         children(&rt, alloc, &mut connection, "/people"),

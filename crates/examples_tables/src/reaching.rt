@@ -1,7 +1,7 @@
 //! The table `reach`: renewed with each edit of members, made where it is missing, and asked for the groups of a
 //! caller.
 
-use crate::checks::{check, check_number};
+use crate::checks::{check, check_fact, check_number};
 use crate::new_tables::principal;
 use crate::row_texts::{reach, store};
 use book_lists::{Caller, Circle, Principal};
@@ -53,7 +53,7 @@ fn check_circle(rt: &impl Abort, alloc: Global, circle: &Circle, wanted: [bool; 
         circle.has(&principal)
     };
     let told = [has("/people/ann"), has("/people/bob"), has(STAFF)];
-    assert_eq!(rt; told, wanted);
+    check_fact(rt, told == wanted, "the principals of a caller");
 }
 
 /// What is told of bob by the rows of `reach`.
@@ -136,7 +136,7 @@ fn a_store_is_opened_whatever_reach_and_indexes_it_has(rt: HostRuntime) {
         let mut connection = staffed(&rt, alloc);
         run(&rt, &mut connection, sql);
         let mut connection = opened(&rt, alloc, connection).release();
-        assert!(rt; is_book_schema(connection.schema()), "{sql}");
+        check_fact(&rt, is_book_schema(connection.schema()), sql);
         check(&rt, reach(&rt, alloc, &mut connection), ALL);
         drop(connection);
     }
@@ -156,8 +156,9 @@ fn a_store_of_no_office_gets_no_reach(rt: HostRuntime) {
         }
     }
     .expect(&rt, "the connection");
-    let is = is_beside_reach(alloc, connection.schema(), Generation::Second);
-    assert!(rt; is.expect(&rt, "memory"));
-    assert!(rt; !is_book_schema(connection.schema()));
+    let is = is_beside_reach(alloc, connection.schema(), Generation::Second).expect(&rt, "memory");
+    let whole = is_book_schema(connection.schema());
     drop(connection);
+    check_fact(&rt, is, "tables beside any reach");
+    check_fact(&rt, !whole, "no reach is made");
 }

@@ -14,7 +14,7 @@ use std::alloc::Global;
 use std::process::Abort;
 
 /// Number, name and text of each change, and how many own entries its card has; `-` of a removed name.
-fn told(rt: &impl Abort, alloc: Global, changes: &Items<Changed>) -> String {
+fn told(rt: &impl Abort, alloc: Global, changes: Items<Changed>) -> String {
     let mut all = String::new(alloc);
     for change in changes.as_slice() {
         let (number, name) = (change.number, change.name.text());
@@ -28,6 +28,7 @@ fn told(rt: &impl Abort, alloc: Global, changes: &Items<Changed>) -> String {
         let one = one.expect(rt, "memory");
         all.push_str(one.as_str()).expect(rt, "memory");
     }
+    drop(changes);
     all
 }
 
@@ -41,7 +42,7 @@ fn check_changes(
 ) {
     let changes = tables.changes_after(alloc, book, asked.0, asked.1);
     let changes = changes.expect(rt, wanted);
-    check(rt, told(rt, alloc, &changes), wanted);
+    check(rt, told(rt, alloc, changes), wanted);
 }
 
 fn check_cards(
@@ -54,7 +55,7 @@ fn check_cards(
 ) {
     let changes = tables.cards_after(alloc, book, asked.0, asked.1);
     let changes = changes.expect(rt, wanted);
-    check(rt, told(rt, alloc, &changes), wanted);
+    check(rt, told(rt, alloc, changes), wanted);
 }
 
 fn put(
@@ -166,6 +167,8 @@ fn check_members(
         let one = format!(in alloc; "{group} {member};").expect(rt, "memory");
         all.push_str(one.as_str()).expect(rt, "memory");
     }
+    drop(list);
+    drop(pairs);
     check(rt, all, wanted);
 }
 

@@ -1,11 +1,11 @@
 //! A store in memory, and its rows as texts.
 
 use book_tables_rows::{
-    changed_entry_rows, changed_rows, child_entry_rows, child_rows, entry_rows_at, gone_rows,
-    insert_node, look_up, member_rows, reach_rows, read_epoch,
+    FoundNode, changed_entry_rows, changed_rows, child_entry_rows, child_rows, entry_rows_at,
+    gone_rows, insert_node, look_up, member_rows, reach_rows, read_epoch,
 };
 use book_tables_schema::{all_entry_rows, all_gone_rows, all_meta_rows, all_node_rows, create};
-use sqlite::{Connection, MemStore, Row};
+use sqlite::{Connection, MemStore, Row, Transaction};
 use std::alloc::Global;
 use std::process::Abort;
 
@@ -59,19 +59,61 @@ pub(crate) fn store(rt: &impl Abort, alloc: Global) -> Connection<MemStore> {
     connection
 }
 
-fn add(rt: &impl Abort, connection: &mut Connection<MemStore>, path: &str, parent: i64, kind: u32) {
+/// Begins a transaction.
+pub(crate) fn begin<'c>(
+    rt: &impl Abort,
+    connection: &'c mut Connection<MemStore>,
+) -> Transaction<'c, MemStore> {
     assert!(rt; connection.is_autocommit());
-    let mut transaction = connection.transaction();
+    connection.transaction()
+}
+
+/// Adds a node of nobody, with an empty label and no text.
+pub(crate) fn add(
+    rt: &impl Abort,
+    connection: &mut Connection<MemStore>,
+    path: &str,
+    parent: i64,
+    kind: u32,
+) {
+    let mut transaction = begin(rt, connection);
     insert_node(&mut transaction, path, parent, kind, None, "", None, 0).expect(rt, path);
     transaction.commit().expect(rt, path);
 }
 
+/// The rows as one text, after their transaction is given up.
+fn ended(
+    rt: &impl Abort,
+    alloc: Global,
+    transaction: Transaction<'_, MemStore>,
+    rows: Vec<Row>,
+    letters: &str,
+) -> String {
+    drop(transaction);
+    let all = told(rt, alloc, rows.as_slice(), letters);
+    drop(rows);
+    all
+}
+
 /// The number of the row of a node.
 fn number(rt: &impl Abort, connection: &mut Connection<MemStore>, path: &str) -> i64 {
-    assert!(rt; connection.is_autocommit());
-    let mut transaction = connection.transaction();
+    let mut transaction = begin(rt, connection);
     let found = look_up(&mut transaction, path).expect(rt, path);
-    found.expect(rt, path).id
+    drop(transaction);
+    let found = found.expect(rt, path);
+    let id = found.id;
+    drop(found);
+    id
+}
+
+fn node_text(rt: &impl Abort, alloc: Global, found: &FoundNode) -> String {
+    let owner = found.owner.as_ref().map_or("-", |owner| owner.as_str());
+    let text = found.text.as_ref().map_or("-", |text| text.as_str());
+    format!(in alloc;
+        "{} {owner} {:?} {text} {}",
+        found.kind, found.label, found.number
+    )
+    .expect(rt, "memory")
 }
 
 /// Kind, owner, label, text and change number of a node.
@@ -81,18 +123,15 @@ pub(crate) fn node(
     connection: &mut Connection<MemStore>,
     path: &str,
 ) -> String {
-    assert!(rt; connection.is_autocommit());
-    let mut transaction = connection.transaction();
-    let Some(found) = look_up(&mut transaction, path).expect(rt, path) else {
-        return String::from_str(alloc, "none").expect(rt, "memory");
+    let mut transaction = begin(rt, connection);
+    let found = look_up(&mut transaction, path).expect(rt, path);
+    drop(transaction);
+    let text = match &found {
+        Some(found) => node_text(rt, alloc, found),
+        None => String::from_str(alloc, "none").expect(rt, "memory"),
     };
-    let owner = found.owner.as_ref().map_or("-", |owner| owner.as_str());
-    let text = found.text.as_ref().map_or("-", |text| text.as_str());
-    format!(in alloc;
-        "{} {owner} {:?} {text} {}",
-        found.kind, found.label, found.number
-    )
-    .expect(rt, "memory")
+    drop(found);
+    text
 }
 
 /// Number of the row, path, kind, owner, label and change number of each child.
@@ -103,10 +142,9 @@ pub(crate) fn children(
     path: &str,
 ) -> String {
     let id = number(rt, connection, path);
-    assert!(rt; connection.is_autocommit());
-    let mut transaction = connection.transaction();
+    let mut transaction = begin(rt, connection);
     let rows = child_rows(&mut transaction, id).expect(rt, path);
-    told(rt, alloc, &rows, "ntnttn")
+    ended(rt, alloc, transaction, rows, "ntnttn")
 }
 
 /// The number of the child's row, the list, form, principal, invert, deny and mask of each entry of a child.
@@ -117,10 +155,9 @@ pub(crate) fn entries_of_children(
     path: &str,
 ) -> String {
     let id = number(rt, connection, path);
-    assert!(rt; connection.is_autocommit());
-    let mut transaction = connection.transaction();
+    let mut transaction = begin(rt, connection);
     let rows = child_entry_rows(&mut transaction, id).expect(rt, path);
-    told(rt, alloc, &rows, "nnntnnn")
+    ended(rt, alloc, transaction, rows, "nnntnnn")
 }
 
 /// The same of each entry of the node at a path.
@@ -130,10 +167,9 @@ pub(crate) fn entries_at(
     connection: &mut Connection<MemStore>,
     path: &str,
 ) -> String {
-    assert!(rt; connection.is_autocommit());
-    let mut transaction = connection.transaction();
+    let mut transaction = begin(rt, connection);
     let rows = entry_rows_at(&mut transaction, path).expect(rt, path);
-    told(rt, alloc, &rows, "nnntnnn")
+    ended(rt, alloc, transaction, rows, "nnntnnn")
 }
 
 /// The same of each entry of a card of a book that is changed after a number, and no later than another.
@@ -146,11 +182,10 @@ pub(crate) fn entries_of_changed(
     last: u64,
 ) -> String {
     let id = number(rt, connection, path);
-    assert!(rt; connection.is_autocommit());
     assert!(rt; after < 1000 && last < 1000);
-    let mut transaction = connection.transaction();
+    let mut transaction = begin(rt, connection);
     let rows = changed_entry_rows(&mut transaction, id, after, last).expect(rt, path);
-    told(rt, alloc, &rows, "nnntnnn")
+    ended(rt, alloc, transaction, rows, "nnntnnn")
 }
 
 /// Path and change number of each card of a book that is changed after a number.
@@ -162,11 +197,10 @@ pub(crate) fn changed(
     after: u64,
 ) -> String {
     let id = number(rt, connection, path);
-    assert!(rt; connection.is_autocommit());
     assert!(rt; after < 1000);
-    let mut transaction = connection.transaction();
+    let mut transaction = begin(rt, connection);
     let rows = changed_rows(&mut transaction, id, after, None).expect(rt, path);
-    told(rt, alloc, &rows, "nttttn")
+    ended(rt, alloc, transaction, rows, "nttttn")
 }
 
 /// Name and change number of each removed name of a book after a number.
@@ -178,11 +212,10 @@ pub(crate) fn gone(
     after: u64,
 ) -> String {
     let id = number(rt, connection, path);
-    assert!(rt; connection.is_autocommit());
     assert!(rt; after < 1000);
-    let mut transaction = connection.transaction();
+    let mut transaction = begin(rt, connection);
     let rows = gone_rows(&mut transaction, id, after, None).expect(rt, path);
-    told(rt, alloc, &rows, "tn")
+    ended(rt, alloc, transaction, rows, "tn")
 }
 
 /// Group and member of each pair.
@@ -191,10 +224,9 @@ pub(crate) fn members(
     alloc: Global,
     connection: &mut Connection<MemStore>,
 ) -> String {
-    assert!(rt; connection.is_autocommit());
-    let mut transaction = connection.transaction();
+    let mut transaction = begin(rt, connection);
     let rows = member_rows(&mut transaction).expect(rt, "members");
-    told(rt, alloc, &rows, "tt")
+    ended(rt, alloc, transaction, rows, "tt")
 }
 
 /// Group and member of each row of `reach`.
@@ -203,17 +235,23 @@ pub(crate) fn reach(
     alloc: Global,
     connection: &mut Connection<MemStore>,
 ) -> String {
-    assert!(rt; connection.is_autocommit());
-    let mut transaction = connection.transaction();
+    let mut transaction = begin(rt, connection);
     let rows = reach_rows(&mut transaction).expect(rt, "reach");
-    told(rt, alloc, &rows, "tt")
+    ended(rt, alloc, transaction, rows, "tt")
 }
 
 /// The access epoch.
 pub(crate) fn epoch(rt: &impl Abort, connection: &mut Connection<MemStore>) -> u64 {
-    assert!(rt; connection.is_autocommit());
-    let mut transaction = connection.transaction();
-    read_epoch(&mut transaction).expect(rt, "the epoch")
+    let mut transaction = begin(rt, connection);
+    let epoch = read_epoch(&mut transaction).expect(rt, "the epoch");
+    drop(transaction);
+    epoch
+}
+
+fn count(rows: Vec<Row>) -> usize {
+    let count = rows.len();
+    drop(rows);
+    count
 }
 
 /// How many rows the tables of nodes, entries and removed names have, and the rows of `meta`.
@@ -222,18 +260,13 @@ pub(crate) fn whole_rows(
     alloc: Global,
     connection: &mut Connection<MemStore>,
 ) -> String {
-    assert!(rt; connection.is_autocommit());
-    let mut transaction = connection.transaction();
-    let nodes = all_node_rows(&mut transaction).expect(rt, "nodes");
-    let entries = all_entry_rows(&mut transaction).expect(rt, "entries");
-    let gone = all_gone_rows(&mut transaction).expect(rt, "removed names");
+    let mut transaction = begin(rt, connection);
+    let nodes = count(all_node_rows(&mut transaction).expect(rt, "nodes"));
+    let entries = count(all_entry_rows(&mut transaction).expect(rt, "entries"));
+    let gone = count(all_gone_rows(&mut transaction).expect(rt, "removed names"));
     let meta = all_meta_rows(&mut transaction).expect(rt, "meta");
-    let meta = told(rt, alloc, &meta, "nn");
-    format!(in alloc;
-        "{} nodes, {} entries, {} removed, meta {meta}",
-        nodes.len(),
-        entries.len(),
-        gone.len()
+    let meta = ended(rt, alloc, transaction, meta, "nn");
+    format!(in alloc; "{nodes} nodes, {entries} entries, {gone} removed, meta {meta}").expect(
+        rt, "memory",
     )
-    .expect(rt, "memory")
 }
