@@ -5,24 +5,23 @@ ghost use Rattle.book_wire_serving.specs.Serving.{Runs};
 
 use book_desk_administering::Administered;
 use book_desk_app::Lines;
+use book_desk_files::StoreFile;
 use book_desk_stores::{begin_backup, end_draft};
-use sqlite::{Alter, Connection};
+use sqlite::{Connection, FileStore};
+use sqlite_disk::Disk;
 use std::alloc::Global;
 
-/// Copies the Office of a service, and lays what is left of the copy's store aside; with the status. This is over stores of one
-/// kind too.
-fn copied_of<M: Administered, S: Alter + Drop, E: Lines>(
+/// Copies the Office of a service into a store of files; with the status, and what is left of the store. It is no `OverStore`, since
+/// no clause of one tells what became of the service.
+fn copy_of<M: Administered, D: Disk + Drop, E: Lines>(
     alloc: Global,
     service: &mut M,
-    fresh: Connection<S>,
-    made: &mut Option<Connection<S>>,
+    fresh: Connection<FileStore<D>>,
     errors: &mut E,
-) -> u8
+) -> (u8, Option<Connection<FileStore<D>>>)
     ensures { Runs (M.Service.serving service.old) (M.Service.serving service.new) [] }
 {
-    let (status, left) = service.backup(alloc, fresh, errors);
-    *made = left;
-    status
+    service.backup(alloc, fresh, errors)
 }
 
 /// The Office of a service, which is read, is copied to a file that is not there, as by the command `backup`.
@@ -39,7 +38,10 @@ pub fn backup_of<M: Administered, E: Lines>(
         Ok(begun) => begun,
         Err(status) => return status,
     };
-    let mut made = None;
-    let status = copied_of(rt.alloc(), service, fresh, &mut made, errors);
-    end_draft(rt, &draft, status, made, errors)
+    let (status, left) = copy_of(rt.alloc(), service, fresh.into_connection(), errors);
+    let left = match left {
+        Some(connection) => Some(StoreFile::new(connection)),
+        None => None,
+    };
+    end_draft(rt, &draft, status, left, errors)
 }

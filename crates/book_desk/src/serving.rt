@@ -4,7 +4,9 @@ use crate::controls::{Controls, Stopwatch};
 use crate::logs::{open_log, refuse_log};
 use book_desk_administering::{Administered, adopt_noted};
 use book_desk_app::{AdoptionFailure, BROKEN, Failure, Lines, StreamFailure, tell};
-use book_desk_files::{Named, Stage, close, open_store_named, read_policy_file, tell_stage};
+use book_desk_files::{
+    Named, OverAnyStore, Stage, open_store_named, read_policy_file, run_and_close_any, tell_stage,
+};
 use book_desk_logs::{LogFile, Pace, SystemClock};
 use book_desk_loop::{Limits, Polled};
 use book_desk_metrics::Counted;
@@ -570,6 +572,33 @@ fn serve_with_log<'r, S: Alter + Drop, W: Write, E: Lines>(
     }
 }
 
+/// What is served over a store, or without one.
+struct Serving<'r, 'w, 'a, W, E> {
+    rt: &'r HostRuntime,
+    policy: Option<Vec<u8>>,
+    log: Option<LogFile<'r, HostRuntime>>,
+    served: Served<'w>,
+    writer: &'a mut W,
+    errors: &'a mut E,
+}
+
+impl<W: Write, E: Lines> OverAnyStore for Serving<'_, '_, '_, W, E> {
+    fn run<S: Alter + Drop>(self, store: Option<Connection<S>>) -> (u8, Option<Connection<S>>) {
+        let Serving {
+            rt,
+            policy,
+            log,
+            served,
+            writer,
+            errors,
+        } = self;
+        match log {
+            Some(log) => serve_with_log(rt, store, policy, log, served, writer, errors),
+            None => serve_opened(rt, store, policy, None, served, writer, errors),
+        }
+    }
+}
+
 /// Opens the store, if one is named, and serves.
 fn serve_store<'r, W: Write, E: Lines>(
     rt: &'r HostRuntime,
@@ -587,12 +616,15 @@ fn serve_store<'r, W: Write, E: Lines>(
     if policy.is_some() {
         tell_stage(rt, Stage::Adopting);
     }
-    let (status, left) = match log {
-        Some(log) => serve_with_log(rt, store, policy, log, served, writer, errors),
-        None => serve_opened(rt, store, policy, None, served, writer, errors),
+    let task = Serving {
+        rt,
+        policy,
+        log,
+        served,
+        writer,
+        errors,
     };
-    close(left);
-    status
+    run_and_close_any(store, task)
 }
 
 /// The commands `serve`, and `pipe` with a log: the policy's file is read, the log and the store's file are opened,

@@ -1,8 +1,7 @@
 //! Files of stores that are made under another name, and take their own when they are whole.
 
-use crate::files::{
-    FileConnection, holds_no_commit, identity_of, length_of, log_name, open_made, remove_log,
-};
+use crate::files::{holds_no_commit, identity_of, length_of, log_name, open_made, remove_log};
+use crate::stores::StoreFile;
 use book_desk_app::{Failure, StoreFailure};
 use std::fs::{self, File, OpenOptions};
 use std::os::unix::fs::{MetadataExt, chown};
@@ -101,7 +100,7 @@ impl Draft {
     /// # Errors
     ///
     /// `Store` where the file can't be made.
-    pub fn begin(rt: &HostRuntime, name: &str) -> Result<(Draft, FileConnection), Failure> {
+    pub fn begin(rt: &HostRuntime, name: &str) -> Result<(Draft, StoreFile), Failure> {
         let alloc = rt.alloc();
         let Ok(made) = format!(in alloc; "{name}.new") else {
             return Err(NO_MEMORY);
@@ -110,7 +109,7 @@ impl Draft {
             return Err(NO_MEMORY);
         };
         remove(rt, made.as_str());
-        let connection = open_made(rt, made.as_str())?;
+        let file = open_made(rt, made.as_str())?;
         let identity = identity_of(rt, made.as_str());
         Ok((
             Draft {
@@ -118,7 +117,7 @@ impl Draft {
                 made,
                 identity,
             },
-            connection,
+            file,
         ))
     }
 
@@ -133,18 +132,14 @@ impl Draft {
     /// # Errors
     ///
     /// `Store` where that fails: the file that had the name has it still, but where the folder alone could not be synced.
-    pub fn keep(&self, rt: &HostRuntime, connection: FileConnection) -> Result<(), Failure> {
-        let files = match connection.close_files() {
-            Ok(files) => files,
-            Err((_, store)) => {
-                drop(store);
-                self.discard(rt);
-                return Err(FAILED);
-            }
+    pub fn keep(&self, rt: &HostRuntime, file: StoreFile) -> Result<(), Failure> {
+        let Some(folded) = file.fold() else {
+            self.discard(rt);
+            return Err(FAILED);
         };
         // It stays locked until it has its name.
         let kept = self.rename(rt);
-        drop(files);
+        drop(folded);
         kept
     }
 

@@ -4,10 +4,11 @@ ghost use Rattle.std.specs.Prelude.{IfOk, IsTrue};
 
 use crate::causes::{Cause, tell_cause};
 use crate::progress::{Stage, tell_stage};
+use crate::stores::{StoreCopy, StoreFile};
 use book_desk_app::{Failure, InputFault, StoreFailure, read_short_text};
 use book_limits::MAX_POLICY_BYTES;
 use book_tables_files::{log_holds_commit, open_store_files};
-use sqlite::{Connection, Error, ErrorCode, File as DiskFile, FileStore, Unknown};
+use sqlite::{Error, ErrorCode, File as DiskFile, Unknown};
 use sqlite_disk::{Disk, Files as StoreFiles, Memory};
 use sqlite_std_file::OpenError;
 use std::alloc::Global;
@@ -16,12 +17,6 @@ use std::hash::{BuildHasher, RandomState};
 use std::io::{self, BufReader, Read, Write};
 use std::os::unix::fs::{MetadataExt, OpenOptionsExt};
 use std::path::PathBuf;
-
-/// A connection to the file of a store.
-pub type FileConnection = Connection<FileStore<DiskFile>>;
-
-/// A connection to a copy of a store's files in memory.
-pub type CopyConnection = Connection<FileStore<Memory>>;
 
 /// How many bytes of a store's pages are kept in memory.
 const KEPT_IN_MEMORY: usize = 8_192_000;
@@ -72,7 +67,7 @@ pub fn viewed<'a>(store: &'a str, policy: Option<&'a str>) -> Named<'a> {
 /// What the words name, read and opened.
 pub struct Opened {
     /// The store; none is one in memory.
-    pub store: Option<FileConnection>,
+    pub store: Option<StoreFile>,
     /// The bytes of the policy's file.
     pub policy: Option<Vec<u8>>,
 }
@@ -120,7 +115,7 @@ fn read_file(rt: &(impl Files + AllocGlobal), name: &str) -> Result<Vec<u8>, Inp
 /// # Errors
 ///
 /// `Input` where it can't be read.
-fn open_policy(rt: &HostRuntime, name: &str) -> Result<Vec<u8>, Failure> {
+pub fn open_policy(rt: &HostRuntime, name: &str) -> Result<Vec<u8>, Failure> {
     tell_stage(rt, Stage::Reading(name));
     match read_file(rt, name) {
         Ok(bytes) => Ok(bytes),
@@ -231,7 +226,7 @@ fn is_no_path(name: &str) -> bool {
 
 /// Opens the database at a path and its log, which are made where they are missing. The name is looked at once more after
 /// they are locked: a file that was replaced meanwhile is not opened, since what is written in it would be lost.
-fn open_at(rt: &HostRuntime, name: &str, seed: u64) -> Result<FileConnection, Failure> {
+fn open_at(rt: &HostRuntime, name: &str, seed: u64) -> Result<StoreFile, Failure> {
     let before = identity_of(rt, name);
     let files = match sqlite_std_file::open(rt, name, Unknown) {
         Ok(files) => files,
@@ -242,7 +237,7 @@ fn open_at(rt: &HostRuntime, name: &str, seed: u64) -> Result<FileConnection, Fa
     }
     tell_mode(rt, name);
     match open_store_files(rt.alloc(), files, seed, KEPT_IN_MEMORY) {
-        Ok(connection) => Ok(connection),
+        Ok(connection) => Ok(StoreFile::new(connection)),
         Err((error, _left)) => Err(open_failure(rt, name, error)),
     }
 }
@@ -327,11 +322,7 @@ fn make_private(rt: &HostRuntime, name: &str) {
 }
 
 /// Opens the store's file. It is made where it is missing, but where the store has to be there already.
-fn open_store_file(
-    rt: &HostRuntime,
-    name: &str,
-    wanted: Wanted,
-) -> Result<FileConnection, Failure> {
+fn open_store_file(rt: &HostRuntime, name: &str, wanted: Wanted) -> Result<StoreFile, Failure> {
     if is_no_path(name) {
         return Err(failure_by(rt, Cause::NoPath));
     }
@@ -358,7 +349,7 @@ pub fn open_store_named(
     rt: &HostRuntime,
     name: Option<&str>,
     existing: bool,
-) -> Result<Option<FileConnection>, Failure> {
+) -> Result<Option<StoreFile>, Failure> {
     let wanted = if existing {
         Wanted::Existing
     } else {
@@ -386,20 +377,13 @@ pub fn open_inputs(
     Ok(Opened { store, policy })
 }
 
-/// Opens what is named for a command that looks at a store: the store's file has to be there.
+/// Opens the file of a store that is looked at: it has to be there.
 ///
 /// # Errors
 ///
-/// As `open_inputs`; and `Store` where no store is named.
-pub fn open_viewed(
-    rt: &HostRuntime,
-    named: Named<'_>,
-) -> Result<(FileConnection, Option<Vec<u8>>), Failure> {
-    let Opened { store, policy } = open_inputs(rt, named.store, named.policy, true)?;
-    match store {
-        Some(store) => Ok((store, policy)),
-        None => Err(Failure::Store(StoreFailure::NoStore)),
-    }
+/// As `open_store_named`.
+pub fn open_viewed(rt: &HostRuntime, name: &str) -> Result<StoreFile, Failure> {
+    open_store_file(rt, name, Wanted::Existing)
 }
 
 /// Opens the file of a store that is to be migrated.
@@ -407,7 +391,7 @@ pub fn open_viewed(
 /// # Errors
 ///
 /// `Store` where it can't be opened, or is missing or empty.
-pub fn open_former(rt: &HostRuntime, name: &str) -> Result<FileConnection, Failure> {
+pub fn open_former(rt: &HostRuntime, name: &str) -> Result<StoreFile, Failure> {
     open_store_file(rt, name, Wanted::Former)
 }
 
@@ -416,7 +400,7 @@ pub fn open_former(rt: &HostRuntime, name: &str) -> Result<FileConnection, Failu
 /// # Errors
 ///
 /// `Store` where it can't be opened.
-pub(crate) fn open_made(rt: &HostRuntime, name: &str) -> Result<FileConnection, Failure> {
+pub(crate) fn open_made(rt: &HostRuntime, name: &str) -> Result<StoreFile, Failure> {
     open_store_file(rt, name, Wanted::Any)
 }
 
@@ -443,7 +427,7 @@ fn in_memory(alloc: Global, bytes: &[u8]) -> Result<Memory, Failure>
 }
 
 /// Opens a copy of a store's files in memory. Where they hold none the cause is told, if it is to be.
-fn copy_now(rt: &HostRuntime, name: &str, tells: bool) -> Result<CopyConnection, Failure> {
+fn copy_now(rt: &HostRuntime, name: &str, tells: bool) -> Result<StoreCopy, Failure> {
     let alloc = rt.alloc();
     let bytes = read_bytes(rt, name)?;
     let log = read_bytes(rt, log_name(alloc, name)?.as_str())?;
@@ -452,7 +436,7 @@ fn copy_now(rt: &HostRuntime, name: &str, tells: bool) -> Result<CopyConnection,
         db: in_memory(alloc, bytes.as_slice())?,
     };
     match open_store_files(alloc, files, seed(rt)?, KEPT_IN_MEMORY) {
-        Ok(connection) => Ok(connection),
+        Ok(connection) => Ok(StoreCopy::new(connection)),
         Err((error, _left)) => {
             if tells {
                 Err(open_failure(rt, name, error))
@@ -468,7 +452,7 @@ fn copy_now(rt: &HostRuntime, name: &str, tells: bool) -> Result<CopyConnection,
 /// # Errors
 ///
 /// `Store` where they can't be read, the file is missing or empty, or memory was refused.
-fn open_copy(rt: &HostRuntime, name: &str) -> Result<CopyConnection, Failure> {
+fn open_copy(rt: &HostRuntime, name: &str) -> Result<StoreCopy, Failure> {
     if is_no_path(name) {
         return Err(failure_by(rt, Cause::NoPath));
     }
@@ -527,7 +511,7 @@ fn copy_backup_files(rt: &HostRuntime, from: &str, to: &str) -> Result<bool, Fai
 /// # Errors
 ///
 /// `Store` where they can't be read or copied, another program has them open, or the file is missing or empty.
-pub fn open_copied(rt: &HostRuntime, from: &str, to: &str) -> Result<FileConnection, Failure> {
+pub fn open_copied(rt: &HostRuntime, from: &str, to: &str) -> Result<StoreFile, Failure> {
     if is_no_path(from) {
         return Err(failure_by(rt, Cause::NoPath));
     }
@@ -597,7 +581,7 @@ fn is_read_only(error: &OpenError) -> bool {
 /// # Errors
 ///
 /// Those of `open_copy`, and `Store` where another program has the store open.
-pub fn open_locked_copy(rt: &HostRuntime, name: &str) -> Result<CopyConnection, Failure> {
+pub fn open_locked_copy(rt: &HostRuntime, name: &str) -> Result<StoreCopy, Failure> {
     if length_of(rt, name).unwrap_or(0) == 0 || is_no_path(name) {
         return open_copy(rt, name);
     }
@@ -616,7 +600,7 @@ pub fn open_locked_copy(rt: &HostRuntime, name: &str) -> Result<CopyConnection, 
 /// # Errors
 ///
 /// Those of `open_locked_copy`.
-pub fn open_backup_copy(rt: &HostRuntime, name: &str) -> Result<CopyConnection, Failure> {
+pub fn open_backup_copy(rt: &HostRuntime, name: &str) -> Result<StoreCopy, Failure> {
     if length_of(rt, name).unwrap_or(0) == 0 || is_no_path(name) {
         return open_copy(rt, name);
     }
@@ -633,7 +617,7 @@ pub fn open_backup_copy(rt: &HostRuntime, name: &str) -> Result<CopyConnection, 
 }
 
 /// Opens a copy as `open_locked_copy` does, and tells no cause; none where it can't be had.
-pub fn open_untold_copy(rt: &HostRuntime, name: &str) -> Option<CopyConnection> {
+pub fn open_untold_copy(rt: &HostRuntime, name: &str) -> Option<StoreCopy> {
     if length_of(rt, name).unwrap_or(0) == 0 || is_no_path(name) {
         return None;
     }
@@ -683,14 +667,5 @@ pub fn read_dump_bytes(rt: &HostRuntime, name: Option<&str>) -> Result<Vec<u8>, 
     match read {
         Ok(_) => Ok(bytes),
         Err(_) => Err(Failure::Input(InputFault::Read)),
-    }
-}
-
-/// Closes the store's file, if there is one; there is none where its tables could not be had. What was done stands
-/// already, in the file or in the log beside it, so that a failure here changes nothing of it. A store in which no table
-/// was made stays without one: another run may have it by then, so its files are not removed.
-pub fn close(connection: Option<FileConnection>) {
-    if let Some(connection) = connection {
-        let _ = connection.close();
     }
 }

@@ -6,7 +6,9 @@
 //! `tools/check-lost`, `tools/check-unsynced` and `tools/check-loads` try them. It is apart from the program so that it is
 //! proved beside the crates that the program waits for.
 //!
-//! Read `files` first, then `drafts`, `folders`, `causes`, and `progress`, which tells stages where a person looks.
+//! A store's file that is open is a `StoreFile`: what is done over a store is an `OverStore`, which the file is handed to.
+//!
+//! Read `files` first, then `stores`, `drafts`, `folders`, `causes`, and `progress`, which tells stages where a person looks.
 #![tactic(auto)]
 
 mod causes;
@@ -14,13 +16,18 @@ mod drafts;
 mod files;
 mod folders;
 mod progress;
+mod stores;
 
 pub use causes::{Cause, tell_cause, tell_row, wants_causes};
 pub use drafts::{Draft, empty_log, is_free, is_unused, remove};
 pub use files::{
-    CopyConnection, FileConnection, Named, Opened, close, length_of, log_name, open_backup_copy,
-    open_copied, open_former, open_inputs, open_locked_copy, open_store_named, open_untold_copy,
-    open_viewed, read_dump_bytes, read_policy_file, real_path, viewed,
+    Named, Opened, length_of, log_name, open_backup_copy, open_copied, open_former, open_inputs,
+    open_locked_copy, open_policy, open_store_named, open_untold_copy, open_viewed,
+    read_dump_bytes, read_policy_file, real_path, viewed,
 };
 pub use folders::{DiskFolder, make_folder, remove_folder};
 pub use progress::{Stage, tell_stage};
+pub use stores::{
+    FileConnection, Folded, OverAnyStore, OverStore, OverThreeStores, OverTwoStores, StoreCopy,
+    StoreFile, close, run_and_close_any, run_three, run_two,
+};

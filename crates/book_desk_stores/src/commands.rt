@@ -1,13 +1,15 @@
 //! The commands over the store of a file that are not in `keeping`: its file is opened, the work done over its tables, and the
-//! file closed.
+//! file closed. What is done is a task, in `tasks`.
 
-use book_desk_app::{Failure, InputFault, Lines, run_migration, tell, tell_line};
-use book_desk_checks::{check, check_over};
+use crate::tasks::{Answering, CheckingOver, Differing, Dumping, Migrating, Working};
+use book_desk_app::{Failure, InputFault, Lines, StoreFailure, tell, tell_line};
+use book_desk_checks::check;
 use book_desk_files::{
-    Named, Opened, Stage, close, open_former, open_inputs, open_viewed, tell_stage, viewed,
+    Named, Opened, Stage, StoreFile, open_former, open_inputs, open_policy, open_store_named,
+    open_viewed, run_and_close_any, tell_stage,
 };
-use book_desk_questions::{Words, run_differs, run_dump, run_question};
-use book_desk_serving::{Work, run};
+use book_desk_questions::Words;
+use book_desk_serving::Work;
 use book_tables_schema::Unopened;
 use sqlite::{Alter, Connection};
 use std::io::Write;
@@ -33,9 +35,33 @@ pub fn work<W: Write, E: Lines>(
         tell_stage(rt, Stage::Adopting);
     }
     let mut reader = rt.reader();
-    let (status, connection) = run(rt.alloc(), kind, store, policy, &mut reader, writer, errors);
-    close(connection);
-    status
+    let task = Working {
+        alloc: rt.alloc(),
+        kind,
+        policy,
+        reader: &mut reader,
+        writer,
+        errors,
+    };
+    run_and_close_any(store, task)
+}
+
+/// Reads the policy's file, and opens the store's file, which has to be there, where one is named.
+fn open_checked(
+    rt: &HostRuntime,
+    named: Named<'_>,
+) -> Result<(Vec<u8>, Option<StoreFile>), Failure> {
+    let Some(policy) = named.policy else {
+        return Err(Failure::Input(InputFault::Read));
+    };
+    let bytes = open_policy(rt, policy)?;
+    match open_store_named(rt, named.store, true) {
+        Ok(store) => Ok((bytes, store)),
+        Err(failure) => {
+            drop(bytes);
+            Err(failure)
+        }
+    }
 }
 
 /// The command `check`: the policy's file is read, and each fault of it is told, or what it leaves open; over a store,
@@ -47,19 +73,18 @@ pub fn check_files<W: Write, E: Lines>(
     writer: &mut W,
     errors: &mut E,
 ) -> u8 {
-    let Opened { store, policy } = match open_inputs(rt, named.store, named.policy, true) {
+    let (bytes, store) = match open_checked(rt, named) {
         Ok(opened) => opened,
         Err(failure) => return tell_line(errors, &failure),
     };
-    let Some(bytes) = policy else {
-        return tell_line(errors, &Failure::Input(InputFault::Read));
-    };
     match store {
-        Some(store) => {
-            let (status, left) = check_over(rt.alloc(), bytes, strict, store, writer, errors);
-            close(left);
-            status
-        }
+        Some(store) => store.run_and_close(CheckingOver {
+            alloc: rt.alloc(),
+            bytes,
+            strict,
+            writer,
+            errors,
+        }),
         None => check(rt.alloc(), bytes, strict, writer, errors),
     }
 }
@@ -87,9 +112,11 @@ pub fn migrate<W: Write, E: Lines>(
         Err(failure) => return tell(errors, &failure),
     };
     tell_stage(rt, Stage::Migrating);
-    let (status, left) = run_migration(rt.alloc(), opened, writer, errors);
-    close(connection_of(left));
-    status
+    opened.run_and_close(Migrating {
+        alloc: rt.alloc(),
+        writer,
+        errors,
+    })
 }
 
 /// The commands that ask, of a store: its file, which has to be there, is opened, and the question answered.
@@ -100,13 +127,15 @@ pub fn ask_store<W: Write, E: Lines>(
     writer: &mut W,
     errors: &mut E,
 ) -> u8 {
-    let store = match open_viewed(rt, viewed(store, None)) {
-        Ok((store, _)) => store,
-        Err(failure) => return tell(errors, &failure),
-    };
-    let (status, left) = run_question(rt.alloc(), words, store, writer, errors);
-    close(left);
-    status
+    match open_viewed(rt, store) {
+        Ok(store) => store.run_and_close(Answering {
+            alloc: rt.alloc(),
+            words,
+            writer,
+            errors,
+        }),
+        Err(failure) => tell(errors, &failure),
+    }
 }
 
 /// The command `dump` of a store: its file, which has to be there, is opened, and its Office written.
@@ -116,13 +145,14 @@ pub fn dump_store<W: Write, E: Lines>(
     writer: &mut W,
     errors: &mut E,
 ) -> u8 {
-    let store = match open_viewed(rt, viewed(store, None)) {
-        Ok((store, _)) => store,
-        Err(failure) => return tell(errors, &failure),
-    };
-    let (status, left) = run_dump(rt.alloc(), store, writer, errors);
-    close(left);
-    status
+    match open_viewed(rt, store) {
+        Ok(store) => store.run_and_close(Dumping {
+            alloc: rt.alloc(),
+            writer,
+            errors,
+        }),
+        Err(failure) => tell(errors, &failure),
+    }
 }
 
 /// The command `differs` of a store: the policy's file is read, the store's file, which has to be there, is opened, and what
@@ -134,14 +164,21 @@ pub fn tell_differences<W: Write, E: Lines>(
     writer: &mut W,
     errors: &mut E,
 ) -> u8 {
-    let (store, policy) = match open_viewed(rt, named) {
+    let (bytes, store) = match open_checked(rt, named) {
         Ok(opened) => opened,
         Err(failure) => return tell_line(errors, &failure),
     };
-    let Some(bytes) = policy else {
-        return tell_line(errors, &Failure::Input(InputFault::Read));
-    };
-    let (status, left) = run_differs(rt.alloc(), bytes, strict, store, writer, errors);
-    close(left);
-    status
+    match store {
+        Some(store) => store.run_and_close(Differing {
+            alloc: rt.alloc(),
+            bytes,
+            strict,
+            writer,
+            errors,
+        }),
+        None => {
+            drop(bytes);
+            tell_line(errors, &Failure::Store(StoreFailure::NoStore))
+        }
+    }
 }

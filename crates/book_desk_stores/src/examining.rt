@@ -1,8 +1,8 @@
 //! The command that examines a store: `doctor`.
 
+use crate::tasks::Examining;
 use book_desk_app::{DONE, Failure, Lines, StoreFailure, tell_line};
-use book_desk_doctor::run_doctor;
-use book_desk_files::{close, length_of, log_name, open_locked_copy, open_viewed, viewed};
+use book_desk_files::{length_of, log_name, open_locked_copy, open_viewed};
 use std::fs::{self, File};
 use std::io::{self, Read, Write};
 use std::os::unix::fs::MetadataExt;
@@ -115,13 +115,14 @@ fn examine_files<W: Write, E: Lines>(
     writer: &mut W,
     errors: &mut E,
 ) -> u8 {
-    let store = match open_viewed(rt, viewed(store, None)) {
-        Ok((store, _)) => store,
-        Err(failure) => return tell_line(errors, &failure),
-    };
-    let (status, left) = run_doctor(rt.alloc(), store, writer, errors);
-    close(left);
-    status
+    match open_viewed(rt, store) {
+        Ok(store) => store.run_and_close(Examining {
+            alloc: rt.alloc(),
+            writer,
+            errors,
+        }),
+        Err(failure) => tell_line(errors, &failure),
+    }
 }
 
 /// Examines a store over a copy of its files in memory, or over these where they don't fit there.
@@ -132,11 +133,11 @@ fn examine_store<W: Write, E: Lines>(
     errors: &mut E,
 ) -> u8 {
     match open_locked_copy(rt, store) {
-        Ok(copy) => {
-            let (status, left) = run_doctor(rt.alloc(), copy, writer, errors);
-            drop(left);
-            status
-        }
+        Ok(copy) => copy.run(Examining {
+            alloc: rt.alloc(),
+            writer,
+            errors,
+        }),
         Err(Failure::Store(StoreFailure::Memory)) => examine_files(rt, store, writer, errors),
         Err(failure) => tell_line(errors, &failure),
     }

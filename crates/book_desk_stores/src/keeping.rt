@@ -2,70 +2,26 @@
 //! `backup`. What they make gets its name when it is whole (`Draft`). The program's control makes a backup by `begin_backup`
 //! and `end_draft` too.
 
+use crate::tasks::{Comparing, Copying, Loading, Restoring};
 use book_desk_app::{Failure, Lines, StoreFailure, tell_line};
 use book_desk_files::{
-    Draft, FileConnection, close, empty_log, is_free, is_unused, length_of, open_backup_copy,
-    open_copied, open_locked_copy, open_viewed, read_dump_bytes, real_path, remove, viewed,
+    Draft, StoreFile, close, empty_log, is_free, is_unused, length_of, open_backup_copy,
+    open_copied, open_locked_copy, open_viewed, read_dump_bytes, real_path, remove, run_three,
+    run_two,
 };
-use book_desk_keeping::{
-    Change, KeepingFault, run_compare, run_copy, run_load, run_restore, tell_fault,
-};
-use sqlite::{Alter, Connection};
-use std::alloc::Global;
+use book_desk_keeping::{Change, KeepingFault, tell_fault};
 use std::io::Write;
-
-/// Copies a store by `run_copy`, and lays what is left of the copy's aside; with the status and the source. These three are
-/// over two or more stores of one kind: what the checker compares grows with each kind that is known.
-fn copied<S: Alter + Drop, E: Lines>(
-    alloc: Global,
-    source: Connection<S>,
-    fresh: Connection<S>,
-    forget_removed: bool,
-    made: &mut Option<Connection<S>>,
-    errors: &mut E,
-) -> (u8, Option<Connection<S>>) {
-    let (status, source, left) = run_copy(alloc, source, fresh, forget_removed, errors);
-    *made = left;
-    (status, source)
-}
-
-/// Compares two stores by `run_compare`, and lets them go; with the status.
-fn compared<S: Alter + Drop, E: Lines>(
-    alloc: Global,
-    store: Connection<S>,
-    copy: Connection<S>,
-    errors: &mut E,
-) -> u8 {
-    let (status, store, copy) = run_compare(alloc, store, copy, errors);
-    drop(store);
-    drop(copy);
-    status
-}
-
-/// Makes a store of another one with resources of a backup by `run_restore`, and lays it aside; with the status and the source.
-fn restored<S: Alter + Drop, W: Write, E: Lines>(
-    alloc: Global,
-    source: Connection<S>,
-    backup: Connection<S>,
-    paths: &[String],
-    fresh: Connection<S>,
-    made: &mut Option<Connection<S>>,
-    writer: &mut W,
-    errors: &mut E,
-) -> (u8, Option<Connection<S>>) {
-    run_restore(alloc, source, backup, paths, fresh, made, writer, errors)
-}
 
 /// Gives a store that was made its name where the status is 0, or takes it away; with the status.
 pub fn end_draft<E: Lines>(
     rt: &HostRuntime,
     draft: &Draft,
     status: u8,
-    left: Option<FileConnection>,
+    left: Option<StoreFile>,
     errors: &mut E,
 ) -> u8 {
     let made = match left {
-        Some(connection) if status == 0 => draft.keep(rt, connection),
+        Some(file) if status == 0 => draft.keep(rt, file),
         left => {
             close(left);
             draft.discard(rt);
@@ -96,11 +52,17 @@ pub fn load<W: Write, E: Lines>(
         Ok(bytes) => bytes,
         Err(failure) => return tell_line(errors, &failure),
     };
-    let (draft, connection) = match Draft::begin(rt, store) {
+    let (draft, fresh) = match Draft::begin(rt, store) {
         Ok(begun) => begun,
         Err(failure) => return tell_line(errors, &failure),
     };
-    let (status, left) = run_load(rt.alloc(), bytes, changes, connection, writer, errors);
+    let (status, left) = fresh.run(Loading {
+        alloc: rt.alloc(),
+        bytes,
+        changes,
+        writer,
+        errors: &mut *errors,
+    });
     end_draft(rt, &draft, status, left, errors)
 }
 
@@ -110,12 +72,12 @@ fn end_replacing<E: Lines>(
     rt: &HostRuntime,
     draft: &Draft,
     status: u8,
-    source: Option<FileConnection>,
-    left: Option<FileConnection>,
+    source: Option<StoreFile>,
+    left: Option<StoreFile>,
     errors: &mut E,
 ) -> u8 {
     let folded = match source {
-        Some(source) => source.close_files().ok(),
+        Some(source) => source.fold(),
         None => None,
     };
     if status == 0 && (folded.is_none() || !empty_log(rt, draft.name())) {
@@ -132,13 +94,17 @@ fn end_replacing<E: Lines>(
 fn replace<E: Lines>(
     rt: &HostRuntime,
     draft: &Draft,
-    source: FileConnection,
-    fresh: FileConnection,
+    source: StoreFile,
+    fresh: StoreFile,
     forget_removed: bool,
     errors: &mut E,
 ) -> u8 {
-    let mut left = None;
-    let (status, source) = copied(rt.alloc(), source, fresh, forget_removed, &mut left, errors);
+    let task = Copying {
+        alloc: rt.alloc(),
+        forget_removed,
+        errors: &mut *errors,
+    };
+    let (status, source, left) = run_two(source, fresh, task);
     end_replacing(rt, draft, status, source, left, errors)
 }
 
@@ -161,7 +127,7 @@ fn tell_sizes<W: Write, E: Lines>(
 fn compact_store<W: Write, E: Lines>(
     rt: &HostRuntime,
     path: &str,
-    source: FileConnection,
+    source: StoreFile,
     forget_removed: bool,
     writer: &mut W,
     errors: &mut E,
@@ -190,8 +156,8 @@ fn compact_at<W: Write, E: Lines>(
     writer: &mut W,
     errors: &mut E,
 ) -> u8 {
-    let source = match open_viewed(rt, viewed(store, None)) {
-        Ok((source, _)) => source,
+    let source = match open_viewed(rt, store) {
+        Ok(source) => source,
         Err(failure) => return tell_line(errors, &failure),
     };
     compact_store(rt, path, source, forget_removed, writer, errors)
@@ -216,8 +182,8 @@ pub fn compact<W: Write, E: Lines>(
 fn restore_into<W: Write, E: Lines>(
     rt: &HostRuntime,
     path: &str,
-    source: FileConnection,
-    backup: FileConnection,
+    source: StoreFile,
+    backup: StoreFile,
     paths: &[String],
     writer: &mut W,
     errors: &mut E,
@@ -226,20 +192,17 @@ fn restore_into<W: Write, E: Lines>(
         Ok(begun) => begun,
         Err(failure) => {
             close(Some(source));
+            backup.let_go();
             return tell_line(errors, &failure);
         }
     };
-    let mut made = None;
-    let (status, source) = restored(
-        rt.alloc(),
-        source,
-        backup,
+    let task = Restoring {
+        alloc: rt.alloc(),
         paths,
-        fresh,
-        &mut made,
         writer,
-        errors,
-    );
+        errors: &mut *errors,
+    };
+    let (status, source, made) = run_three(source, backup, fresh, task);
     end_replacing(rt, &draft, status, source, made, errors)
 }
 
@@ -247,7 +210,7 @@ fn restore_into<W: Write, E: Lines>(
 fn restore_by<W: Write, E: Lines>(
     rt: &HostRuntime,
     path: &str,
-    source: FileConnection,
+    source: StoreFile,
     from: &str,
     copy: &str,
     paths: &[String],
@@ -274,8 +237,8 @@ fn restore_at<W: Write, E: Lines>(
     writer: &mut W,
     errors: &mut E,
 ) -> u8 {
-    let source = match open_viewed(rt, viewed(store, None)) {
-        Ok((source, _)) => source,
+    let source = match open_viewed(rt, store) {
+        Ok(source) => source,
         Err(failure) => return tell_line(errors, &failure),
     };
     let Ok(copy) = format!(in rt.alloc(); "{path}.from") else {
@@ -306,7 +269,7 @@ pub fn restore<W: Write, E: Lines>(
 }
 
 /// Copies a store under another name, and gives the copy its own.
-fn copy_to<E: Lines>(rt: &HostRuntime, source: FileConnection, to: &str, errors: &mut E) -> u8 {
+fn copy_to<E: Lines>(rt: &HostRuntime, source: StoreFile, to: &str, errors: &mut E) -> u8 {
     let (draft, fresh) = match Draft::begin(rt, to) {
         Ok(begun) => begun,
         Err(failure) => {
@@ -314,8 +277,12 @@ fn copy_to<E: Lines>(rt: &HostRuntime, source: FileConnection, to: &str, errors:
             return tell_line(errors, &failure);
         }
     };
-    let mut left = None;
-    let (status, source) = copied(rt.alloc(), source, fresh, false, &mut left, errors);
+    let task = Copying {
+        alloc: rt.alloc(),
+        forget_removed: false,
+        errors: &mut *errors,
+    };
+    let (status, source, left) = run_two(source, fresh, task);
     let status = end_draft(rt, &draft, status, left, errors);
     close(source);
     status
@@ -323,8 +290,8 @@ fn copy_to<E: Lines>(rt: &HostRuntime, source: FileConnection, to: &str, errors:
 
 /// Opens a store, and copies it.
 fn backup_to<E: Lines>(rt: &HostRuntime, store: &str, to: &str, errors: &mut E) -> u8 {
-    let source = match open_viewed(rt, viewed(store, None)) {
-        Ok((source, _)) => source,
+    let source = match open_viewed(rt, store) {
+        Ok(source) => source,
         Err(failure) => return tell_line(errors, &failure),
     };
     copy_to(rt, source, to, errors)
@@ -348,7 +315,7 @@ pub fn begin_backup<E: Lines>(
     rt: &HostRuntime,
     to: &str,
     errors: &mut E,
-) -> Result<(Draft, FileConnection), u8> {
+) -> Result<(Draft, StoreFile), u8> {
     match is_unused(rt, to) {
         Ok(true) => {}
         Ok(false) => return Err(tell_fault(errors, &KeepingFault::BackupExists)),
@@ -368,7 +335,16 @@ pub fn check_backup<E: Lines>(rt: &HostRuntime, store: &str, copy: &str, errors:
         Err(failure) => return tell_line(errors, &failure),
     };
     match open_backup_copy(rt, copy) {
-        Ok(copy) => compared(rt.alloc(), store, copy, errors),
-        Err(failure) => tell_line(errors, &failure),
+        Ok(copy) => store.run_two(
+            copy,
+            Comparing {
+                alloc: rt.alloc(),
+                errors,
+            },
+        ),
+        Err(failure) => {
+            store.let_go();
+            tell_line(errors, &failure)
+        }
     }
 }

@@ -5,13 +5,15 @@
 //! over any store, whose contracts say what is written, to the files of `book_desk_files`, of which no contract says anything.
 //! It is apart from the program so that it is proved beside what serves.
 //!
-//! Read `commands` first, then `keeping` and `examining`; `refusals` tells why the tables of a store were refused.
+//! Read `commands` first, then `keeping` and `examining`; `tasks` is what they do over a store of any kind, and `refusals`
+//! tells why the tables of a store were refused.
 #![tactic(auto)]
 
 mod commands;
 mod examining;
 mod keeping;
 mod refusals;
+mod tasks;
 
 pub use commands::{
     ask_store, check_files, connection_of, dump_store, migrate, tell_differences, work,

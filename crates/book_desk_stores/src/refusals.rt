@@ -1,6 +1,7 @@
 //! Why the tables of a store were refused, told as a cause where that is wanted: another version, or the first row that breaks
 //! a rule.
 
+use crate::tasks::TellingRefusal;
 use book_desk_files::{Cause, open_untold_copy, tell_cause, tell_row, wants_causes};
 use book_tables_findings::{examine, fault_line};
 use sqlite::types::ValueRef;
@@ -60,6 +61,6 @@ pub fn tell_refusal_of(rt: &HostRuntime, name: &str, migrates: bool) {
         return;
     }
     if let Some(copy) = open_untold_copy(rt, name) {
-        tell_refusal(rt, copy, migrates);
+        let _ = copy.run(TellingRefusal { rt, migrates });
     }
 }
