@@ -41,7 +41,7 @@ enum Shape {
 fn may_have(shape: Shape, group: usize, member: usize) -> bool {
     match shape {
         Shape::Flat => false,
-        Shape::Chain => member == group + 1,
+        Shape::Chain => member == group.saturating_add(1),
         Shape::Layers => group < 3 && member >= 3,
         Shape::Cycles => true,
     }
