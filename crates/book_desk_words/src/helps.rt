@@ -634,7 +634,7 @@ that moves no byte for so many seconds is closed, and one whose request is not w
 Who can reach the port can name any caller: it is for a gateway on the same machine, which sets the field
 x-office-caller to the person that it knows, and takes it out of what strangers send. Nothing else may reach the port. At
 the socket it is the mode of its file that says who may: 0600 without --mode.
-A store is copied while no server has it: stop the server, run audit, which folds the log in, and then copy FILE.
+A copy of the store that is served is made at its control (POST /backup), and else by backup.
 With --control, which wants --at-once, whoever may open the socket of mode 0600 at PATH asks the server what the commands
 tell of a store, has it adopt a policy, and ends it (the manual page, CONTROL):
   curl --unix-socket office.control http://localhost/health
@@ -677,4 +677,4 @@ pub(crate) const IDLE: &str =
     "After how many seconds an idle connection is closed, 1 to 3600; wants --at-once";
 
 pub(crate) const CONTROL: &str =
-    "The path of a Unix socket that tells how the server does, and ends it; wants --at-once";
+    "The path of a Unix socket at which the server is asked, and administered; wants --at-once";
