@@ -5,6 +5,7 @@ pub mod Escapes
 pub mod Names
 pub mod LineEnds
 pub mod Scans
+pub mod PlacesSeen
 pub mod Grammar
 pub mod ValidLaws
 pub mod Unfolding

@@ -28,7 +28,7 @@ is_colon : (a : ℕ) → eqb (to_ascii_lowercase a) (to_ascii_lowercase 58) ≡ 
 is_colon a e = grind arith
 
 -- a text that is a word and a colon, but for the case
-word_and_colon : (text word more : List ℕ) → AllNames word → str_eq_ignore_ascii_case text (word ++ 58 ∷ more) ≡ true
+pub word_and_colon : (text word more : List ℕ) → AllNames word → str_eq_ignore_ascii_case text (word ++ 58 ∷ more) ≡ true
     → (name rest : List ℕ) × AllNames name × (length name ≡ length word) × (text ≡ name ++ 58 ∷ rest)
 word_and_colon [] [] more all e = cc
 word_and_colon [] (w ∷ word) more all e = cc
@@ -97,7 +97,7 @@ lower_length : (a : List ℕ) → length (str_to_ascii_lowercase a) ≡ length a
 lower_length [] = refl
 lower_length (x ∷ a) = ap (λ (n : ℕ). suc n) (lower_length a)
 
-same_length : (a b : List ℕ) → str_eq_ignore_ascii_case a b ≡ true → length a ≡ length b
+pub same_length : (a b : List ℕ) → str_eq_ignore_ascii_case a b ≡ true → length a ≡ length b
 same_length a b e = sym (lower_length a) ∙ same_bytes_length (str_to_ascii_lowercase a) (str_to_ascii_lowercase b) e ∙ lower_length b
 
 not_end : (line : List ℕ) → length line ≡ 11 → is_end line ≡ false

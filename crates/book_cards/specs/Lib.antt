@@ -9,4 +9,5 @@ pub mod CardText
 pub mod FaultTexts
 pub mod Escaping
 pub mod Scanning
+pub mod Places
 pub mod Views

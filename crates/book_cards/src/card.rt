@@ -15,6 +15,7 @@ ghost use Rattle.book_cards.specs.Valid.{IsCard};
 use crate::check::check_lines;
 use crate::fault::{CardFault, CardFaultKind};
 use crate::line::Line;
+use crate::places::{Places, text_from};
 use crate::property::{Property, is_word, property_named};
 use crate::text::{split_line, unfold};
 use book_limits::MAX_CARD_BYTES;
@@ -24,12 +25,13 @@ use std::marker::Model;
 /// A vCard of version 4.0 (RFC 6350). A contract sees its unfolded text, whose lines have no fault.
 ///
 /// No call on a card takes memory: what it answers are pieces of the text. `lines` and `members` themselves are
-/// constant; each of `uid`, `kind`, `formatted`, `line` and `line_count`, and each whole turn over `lines` or
-/// `members`, is one pass over at most 65,536 bytes. `uid`, `kind`, `formatted` and `line` stop at the line that
-/// they answer.
+/// constant; each of `kind`, `line` and `line_count`, and each whole turn over `lines`, is one pass over at most 65,536
+/// bytes, and `kind` and `line` stop at the line that they answer. `uid` and `formatted` read that line alone, and a
+/// turn over `members` begins at the first of them: where these stand was seen when the card was read.
 #[derive(Debug, Drop)]
 pub struct Card {
     text: String,
+    places: Places,
 }
 
 impl Model for Card {
@@ -37,12 +39,14 @@ impl Model for Card {
     ghost use Rattle.std.specs.String.{string_bytes};
     ghost use Rattle.std.specs.Str.Lines.{lines};
     ghost use Rattle.book_cards.specs.CardText.{lines_fault};
+    ghost use Rattle.book_cards.specs.Places.{ArePlaces};
 
     ghost Value = { List ℕ };
 
     ghost view = { λ card. string_bytes card.text };
 
-    ghost invariant = { λ card. lines_fault (lines (string_bytes card.text)) ≡ None };
+    ghost invariant = { λ card. (lines_fault (lines (string_bytes card.text)) ≡ None)
+        × ArePlaces (string_bytes card.text) card.places };
 }
 
 /// Reads a card (RFC 6350, sections 3.2, 3.3 and 6, and this project's profile).
@@ -66,8 +70,11 @@ pub fn read_card(alloc: Global, text: &str) -> Result<Card, CardFault>
         });
     }
     let unfolded = unfold(alloc, text)?;
-    check_lines(unfolded.as_str())?;
-    Ok(Card { text: unfolded })
+    let places = check_lines(unfolded.as_str())?;
+    Ok(Card {
+        text: unfolded,
+        places,
+    })
 }
 
 /// The value of the first line that has the property.
@@ -149,7 +156,8 @@ impl Card {
     pub fn uid(&self) -> Option<&str>
         ensures { option_copied result ≡ uid_in self.now }
     {
-        find_value(self.text.as_str(), Property::Uid)
+        let rest = text_from(self.text.as_str(), self.places.uid);
+        find_value(rest, Property::Uid)
     }
 
     /// The value of KIND as written, and `individual` where there is none (RFC 6350, section 6.1.4).
@@ -163,14 +171,15 @@ impl Card {
     pub fn formatted(&self) -> &str
         ensures { result.now ≡ formatted_in self.now }
     {
-        find_value(self.text.as_str(), Property::FormattedName).unwrap_or("")
+        let rest = text_from(self.text.as_str(), self.places.formatted_name);
+        find_value(rest, Property::FormattedName).unwrap_or("")
     }
 
     /// The values of the MEMBER lines as written, in order (RFC 6350, section 6.6.5); a group alone has any.
     pub fn members(&self) -> MemberValues<'_>
         ensures { members_left result ≡ members_in self.now }
     {
-        let rest = self.text.as_str();
+        let rest = text_from(self.text.as_str(), self.places.member);
         MemberValues { rest }
     }
 }

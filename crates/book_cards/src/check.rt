@@ -1,6 +1,6 @@
 //! What is wrong with a text that is no card: one pass over its lines.
 
-ghost use Rattle.std.specs.Prelude.{◌≡◌, ◌<◌, ◌+◌, ◌^◌, [], length};
+ghost use Rattle.std.specs.Prelude.{◌≡◌, ◌<◌, ◌+◌, ◌^◌, [], length, Ok, Err, IfOk, IfErr, IfSome};
 ghost use Rattle.std.specs.Option.{option_map};
 ghost use Rattle.std.specs.Result.{result_err};
 ghost use Rattle.std.specs.List.{list_any, list_all};
@@ -9,11 +9,14 @@ ghost use Rattle.book_cards.specs.Folding.{is_blank};
 ghost use Rattle.book_cards.specs.ContentLine.{is_name_byte};
 ghost use Rattle.book_cards.specs.Content.{is_control, is_kind_value, is_scheme_byte, is_scheme, is_uri, may_have, content_of};
 ghost use Rattle.book_cards.specs.CardText.{after_end_fault, version_fault, lines_fault};
+ghost use Rattle.book_cards.specs.Places.{ArePlaces, Follows};
+ghost use Rattle.book_cards.specs.Properties.{property_at, property_of};
 ghost use Rattle.book_cards.specs.Views.{view};
 ghost use Rattle.book_cards.specs.Scanning.{seen_in, seen_with, seen_fault, pass_content, scan};
 
 use crate::fault::{CardFault, CardFaultKind};
 use crate::line::{Line, is_name_byte};
+use crate::places::{Places, PlacesSeen};
 use crate::property::{Property, is_word, property_named};
 use crate::text::split_line;
 
@@ -91,16 +94,19 @@ fn may_have(property: Property, value: &str) -> bool
     }
 }
 
-/// A line that may stand between the version and the end.
-fn read_content(text: &str) -> Option<Line<'_>>
-    ensures { option_map view result ≡ content_of text.now }
+/// A line that may stand between the version and the end, and its property.
+fn read_content(text: &str) -> Option<(Property, Line<'_>)>
+    ensures line { option_map (λ read. view read.1) result ≡ content_of text.now }
+    ensures named { IfSome result (λ read. read.0 ≡ property_of read.1.name.now) }
+    ensures property { IfSome result (λ read. read.0 ≡ property_at text.now) }
 {
     if has_control(text) {
         return None;
     }
     let line = Line::read(text)?;
-    if may_have(property_named(line.name), line.value) {
-        Some(line)
+    let property = property_named(line.name);
+    if may_have(property, line.value) {
+        Some((property, line))
     } else {
         None
     }
@@ -170,7 +176,7 @@ impl Seen {
 }
 
 /// This fault at this line.
-fn fault(kind: CardFaultKind, line: usize) -> Result<(), CardFault>
+fn fault<T>(kind: CardFaultKind, line: usize) -> Result<T, CardFault>
     ensures { result ≡ Err (record { kind = kind; line = line }) }
 {
     Err(CardFault { kind, line })
@@ -211,45 +217,61 @@ fn check_version(line: &str) -> Result<(), CardFaultKind>
     Ok(())
 }
 
-/// What has been seen after one more content line, or the fault of that line.
-fn pass(seen: Seen, number: usize, line: &str) -> Result<Seen, CardFaultKind>
-    ensures { result ≡ pass_content seen number (content_of line.now) }
+/// What has been seen after one more content line, and its property; or the fault of that line.
+fn pass(seen: Seen, number: usize, line: &str) -> Result<(Seen, Property), CardFaultKind>
+    ensures ok { IfOk result (λ passed. (pass_content seen number
+        (content_of line.now) ≡ Ok passed.0) × (passed.1 ≡ property_at line.now)) }
+    ensures err { IfErr result (λ kind. pass_content seen number
+        (content_of line.now) ≡ Err kind) }
 {
-    let Some(content) = read_content(line) else {
+    let Some((property, content)) = read_content(line) else {
         return Err(CardFaultKind::BadLine);
     };
-    seen.with(property_named(content.name), content.value, number)
-        .ok_or(CardFaultKind::Twice)
+    match seen.with(property, content.value, number) {
+        Some(seen) => Ok((seen, property)),
+        None => Err(CardFaultKind::Twice),
+    }
 }
 
-/// The first fault of the lines after the version.
-fn check_content(text: &str) -> Result<(), CardFault>
-    requires { length text.now + 3 < 2 ^ 64 }
-    ensures { result_err result ≡ scan (seen_in []) 3 (lines text.now) }
+/// Where the lines stand that a card is asked for, or the first fault of the content lines, which are what follows the
+/// version in the text.
+fn check_content(text: &str, content: &str) -> Result<Places, CardFault>
+    requires short { length text.now + 3 < 2 ^ 64 }
+    requires follows { Follows text.now content.now }
+    ensures fault { result_err result ≡ scan (seen_in []) 3 (lines content.now) }
+    ensures places { IfOk result (ArePlaces text.now) }
 {
-    let mut rest = text;
+    let mut rest = content;
     let mut number = 3;
     let mut seen = Seen::new();
+    let mut places = PlacesSeen::new();
     while let Some((line, after)) = split_line(rest) {
+        let at = text.len() - rest.len();
         if is_word(line, "END:VCARD") {
             check_after_end(after, number + 1)?;
-            return seen.finish(number);
+            seen.finish(number)?;
+            return Ok(places.finish(at));
         }
-        seen = match pass(seen, number, line) {
-            Ok(next) => next,
+        let property = match pass(seen, number, line) {
+            Ok((next, property)) => {
+                seen = next;
+                property
+            }
             Err(kind) => return fault(kind, number),
         };
+        places = places.with(property, at);
         rest = after;
         number += 1;
     }
     fault(CardFaultKind::NoEnd, number)
 }
 
-/// The first fault of the lines of an unfolded text.
+/// Where the lines stand that a card is asked for, or the first fault of the lines of an unfolded text.
 #[tactic(auto, using(crate::proofs::Scans::scan_is_content_fault))]
-pub(crate) fn check_lines(text: &str) -> Result<(), CardFault>
+pub(crate) fn check_lines(text: &str) -> Result<Places, CardFault>
     requires { length text.now + 3 < 2 ^ 64 }
-    ensures { result_err result ≡ lines_fault (lines text.now) }
+    ensures fault { result_err result ≡ lines_fault (lines text.now) }
+    ensures places { IfOk result (ArePlaces text.now) }
 {
     let Some((begin, rest)) = split_line(text) else {
         return fault(CardFaultKind::NoBegin, 1);
@@ -263,5 +285,5 @@ pub(crate) fn check_lines(text: &str) -> Result<(), CardFault>
     if let Err(kind) = check_version(version) {
         return fault(kind, 2);
     }
-    check_content(rest)
+    check_content(text, rest)
 }

@@ -4,6 +4,7 @@ ghost use Rattle.std.specs.Prelude.{◌≡◌, ◌<◌, [], ◌∷◌, length, I
 ghost use Rattle.std.specs.Str.Lines.{lines};
 ghost use Rattle.std.specs.String.{string_bytes};
 ghost use Rattle.book_cards.specs.Folding.{is_blank, unfolded};
+ghost use Rattle.book_cards.specs.Places.{Ends};
 ghost use Rattle.book_cards.specs.Escaping.{escaped, unescaped};
 
 use std::alloc::{AllocError, Global};
@@ -51,7 +52,7 @@ pub fn unfold(alloc: Global, text: &str) -> Result<String, AllocError>
 pub(crate) fn split_line(text: &str) -> Option<(&str, &str)>
     ensures { MatchOption result (text.now ≡ [])
         (λ parts. (lines text.now ≡ parts.0.now ∷ lines parts.1.now)
-        × (length parts.1.now < length text.now)) }
+        × (length parts.1.now < length text.now) × Ends text.now parts.1.now) }
 {
     if text.is_empty() {
         return None;
