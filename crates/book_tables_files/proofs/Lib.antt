@@ -1,3 +1,4 @@
 mod Making
 mod Seeing
 mod Commits
+mod Rising

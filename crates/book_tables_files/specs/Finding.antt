@@ -8,11 +8,16 @@ use Rattle.sqlite_wal.specs.Reads.{AreClean}
 use Rattle.sqlite_wal.specs.Files.{outcomes}
 use Rattle.sqlite_pool.specs.Opening.{IsBlankFile}
 use Rattle.sqlite_trees.specs.Tree.{Trees}
+use Rattle.sqlite_trees.specs.View.{IsShaped}
+use Rattle.sqlite_trees.specs.declared.store.Shape.TheVariants.{Table as TableShape}
+use Rattle.sqlite_rules.specs.Lists.{Has}
 use Rattle.sqlite_store.specs.declared.store.FileStore.{FileStore}
 use Rattle.sqlite_store.specs.FileStore.{view, recovers}
 use Rattle.sqlite_store.specs.Unopened.{state_of}
 use Rattle.sqlite.specs.Steps.{IsFresh}
+use Rattle.sqlite.specs.Effect.{Database}
 use Rattle.sqlite.specs.Held.{Held}
+use Rattle.sqlite.specs.Table.{Table}
 use Rattle.sqlite.specs.declared.file.Leftover.{Leftover}
 use Rattle.sqlite.specs.declared.file.Leftover.TheVariants as left
 use Rattle.sqlite.specs.Files.{file_state, image_of, HoldsDatabase, IsEmpty, LeavesFiles}
@@ -42,6 +47,10 @@ HasNoRow image = ∥ ((db : Trees) × HoldsDatabase image db × IsEmpty db) ∥�
 -- what a stop may leave once the first open has begun: what it could leave before, a store still to be made, or one without a row
 abbrev pub IsBegun : {D : Type 0} → Ghosts D → Files D → Image → Type 0
 IsBegun g files image = outcomes g files.log files.db image ⊎ (IsUnmade image ⊎ HasNoRow image)
+
+-- the rows of each table rise by their numbers
+abbrev pub TablesRise : Database → Type 0
+TablesRise db = (t : Table) → Has db.schema.tables t → IsShaped TableShape (db.trees t.tree)
 
 module _ {D : Type 0} {g : Ghosts D} where
   -- a store without a row was made in the files

@@ -3,8 +3,8 @@
 //! A store that is not there yet is made with pages of 512 bytes, where `sqlite` by itself makes pages of 4,096: an edit
 //! writes few rows, each in another page, and what it costs is the bytes of those pages, which are summed, logged and
 //! synced. A store that is there keeps its pages. No store is made beside a log that holds a commit: the store is both
-//! files, and one of them was lost. It stands on `sqlite` and its parts alone; the layer above uses `FindsStore` and
-//! `HoldsCommit`, and what a stop leaves of the first open is `LeavesFirstOpen`.
+//! files, and one of them was lost. It stands on `sqlite` and its parts alone; the layer above uses `FindsStore`,
+//! `HoldsCommit` and `TablesRise`, and what a stop leaves of the first open is `LeavesFirstOpen`.
 #![tactic(auto)]
 
 ghost use Rattle.std.specs.Prelude.{◌≡◌, ◌↔◌, [], IsTrue, IfOk, IfErr};
@@ -16,7 +16,7 @@ ghost use Rattle.sqlite.specs.State.{HasCleanDisk};
 ghost use Rattle.sqlite.specs.Held.{IsNew};
 ghost use Rattle.sqlite.specs.Opening.{is_open_error};
 ghost use Rattle.sqlite.specs.Files.{file_state, image_of, IsCleanLeft, IsEmpty, IsOpened, Finds, LeavesFiles};
-ghost use Rattle.book_tables_files.specs.Finding.{FindsStore, HoldsCommit, IsMadeIn, IsUnmade, KeepsFiles, LeavesFirstOpen, TellsFrame, TellsNew};
+ghost use Rattle.book_tables_files.specs.Finding.{FindsStore, HoldsCommit, IsMadeIn, IsUnmade, KeepsFiles, LeavesFirstOpen, TablesRise, TellsFrame, TellsNew};
 
 use sqlite::{Connection, Error, ErrorCode, FileStore, Leftover, Options};
 use sqlite_disk::{Disk, Files, Memory};
@@ -219,6 +219,7 @@ fn create<D: Disk + Drop>(
     requires size { bytes_of size ≡ 512 }
     requires unmade { AreClean D.Disk files.log files.db → IsUnmade (image_of D.Disk files) }
     ensures opened { IfOk result (λ c. HasCleanDisk (file_state c) → IsOpened c) }
+    ensures rising { IfOk result (λ c. HasCleanDisk (file_state c) → TablesRise (file_state c).now) }
     ensures made { IfOk result (λ c. HasCleanDisk (file_state c)
         → AreClean D.Disk files.log files.db × IsEmpty (file_state c).committed.trees) }
     ensures fresh { IfOk result IsNew }
@@ -243,6 +244,7 @@ fn reopen<D: Disk + Drop>(
     requires log { IsTrue (D.Disk.is_usable files.log) }
     requires db { IsTrue (D.Disk.is_usable files.db) }
     ensures opened { IfOk result (λ c. HasCleanDisk (file_state c) → IsOpened c) }
+    ensures rising { IfOk result (λ c. HasCleanDisk (file_state c) → TablesRise (file_state c).now) }
     ensures found { IfOk result (λ c. HasCleanDisk (file_state c) → Finds files c) }
     ensures fresh { IfOk result IsNew }
     ensures guarded { IfOk result (λ c. HasCleanDisk (file_state c) → (file_state c).IsShielded) }
@@ -277,6 +279,7 @@ pub fn open_store_files<D: Disk + Drop>(
     requires log { IsTrue (D.Disk.is_usable files.log) }
     requires db { IsTrue (D.Disk.is_usable files.db) }
     ensures opened { IfOk result (λ c. HasCleanDisk (file_state c) → IsOpened c) }
+    ensures rising { IfOk result (λ c. HasCleanDisk (file_state c) → TablesRise (file_state c).now) }
     ensures found { IfOk result (λ c. HasCleanDisk (file_state c) → FindsStore files c) }
     ensures fresh { IfOk result IsNew }
     ensures guarded { IfOk result (λ c. HasCleanDisk (file_state c) → (file_state c).IsShielded) }
