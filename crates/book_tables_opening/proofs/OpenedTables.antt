@@ -3,12 +3,13 @@ use Rattle.book_tables_opening.proofs.Common.{◌≡◌, inl, inr, Bool, true, f
 use Rattle.std.proofs.Common.{◌↔◌, ◌⊎◌}
 use Rattle.std.proofs.lemmas.Bool.{true≢false}
 use Rattle.std.proofs.lemmas.List.Sorted.{IsPermutation-sym}
-use Rattle.sqlite.specs.Held.{Held}
+use Rattle.sqlite.specs.Held.{Held, state}
 use Rattle.sqlite.specs.State.{Opens, Survives}
 use Rattle.sqlite.specs.Tree.{Trees}
 use Rattle.sqlite.proofs.StateLemmas.{survives_then}
 use Rattle.sqlite_catalog.proofs.ReadLemmas.{lists_once}
 use Rattle.sqlite_trees.specs.Objects.{catalog_tree}
+use Rattle.sqlite_trees.specs.declared.store.Store.{Ghosts}
 use Rattle.book_office_values.specs.declared.offices.Office.{Office}
 use Rattle.book_tables_rows.specs.Rows.{Rows, in_store}
 use Rattle.book_tables_rows.specs.Schema.{ace_tree}
@@ -25,7 +26,7 @@ use Rattle.book_tables.specs.Stands.{Gives, IsKept, LeftBy, Stands}
 use Rattle.book_tables.proofs.OneOffice.{base_of, kept_stands, only_left}
 use Rattle.book_tables.proofs.RenewedReach.{gives_with_reach}
 use Rattle.book_tables_opening.specs.Opening.{AreTextlessRows, HasTextIn}
-use Rattle.book_tables_opening.specs.Reading.{Commits, IsOpened, IsUnopened, LeavesReach, MaySettle, RowsRise, SameRows, Settled, ShowsTables, StandForNone, StandsForOne, TellsOffice, TellsSettled, TellsStanding, WritesReach}
+use Rattle.book_tables_opening.specs.Reading.{Commits, IsOpened, IsUnopened, LeavesReach, MaySettle, IsReopened, RowsRise, SameRows, Settled, ShowsTables, StandForNone, StandsForOne, TellsOffice, TellsSettled, TellsStanding, WritesReach}
 use Rattle.book_tables_opening.proofs.AnyOrder.{any_order}
 use Rattle.book_tables_opening.proofs.GivenRows.{given_rows}
 use Rattle.book_tables_opening.proofs.NodeTexts.{texts_own, texts_there}
@@ -217,3 +218,8 @@ refused old new (stays, none) rise schema o st =
 pub connected_weaker : {S : Type 0} (P Q : Held S → Type 0) (left : Unopened S) → ((c : Held S) → P c → Q c) → IsConnectionAnd left P → IsConnectionAnd left Q
 connected_weaker P Q (Connection c) f h = f c h
 connected_weaker P Q (Store s) f h = absurd h
+
+-- a connection that was just opened shows what was committed
+pub shows_committed : {S : Type 0} (g : Ghosts S) (found given : Held S) → given ≡ found → IsReopened (state g given) → HasCleanDisk (state g given) → (state g given).now.trees ≡ (state g found).committed.trees
+shows_committed g found given same reopened clean =
+    ap (λ (d : Database). d.trees) (reopened clean).0.clean ∙ ap (λ h. (state g h).committed.trees) same

@@ -4,7 +4,7 @@ use Rattle.sqlite.specs.Effect.{Database, IsDatabase, Reads}
 use Rattle.sqlite.specs.Listing.{IsSourceOf, reads_listing, understood}
 use Rattle.sqlite.specs.Order.{Row}
 use Rattle.sqlite.specs.Schema.{Schema}
-use Rattle.sqlite.specs.State.{State, HasCleanDisk, Opens}
+use Rattle.sqlite.specs.State.{State}
 use Rattle.sqlite.specs.Tree.{Trees}
 use Rattle.sqlite_catalog.specs.Change.{KeepsRows}
 use Rattle.sqlite_resolve.specs.declared.compiled.Compiled.{Compiled}
@@ -18,13 +18,14 @@ use Rattle.book_tables_rows.specs.Steps.{Stays}
 use Rattle.book_tables_schema.specs.Layout.{tables_of}
 use Rattle.book_tables_schema.specs.declared.layout.Generation.TheVariants.{Second}
 use Rattle.book_tables_schema.specs.OtherReach.{IsBeside}
-use Rattle.book_tables_schema.specs.Tabled.{HasTables, IsTabled}
+use Rattle.book_tables_schema.specs.Tabled.{IsTabled}
 use Rattle.book_tables_schema.specs.Versions.{is_other, read_version}
 use Rattle.book_tables_schema.specs.Whole.{entries_shown, gone_shown, meta_shown}
 use Rattle.book_tables.specs.Opened.{StandsAlone}
 use Rattle.book_tables.specs.Stands.{IsKept, LeftBy, Stands}
 use Rattle.book_tables.specs.declared.opening.OpenFault.{OpenFault}
 use Rattle.book_tables.specs.declared.opening.OpenFault.TheVariants.{OtherVersion, NoStore, Memory, Store}
+pub use Rattle.book_tables_opening.specs.Found.{IsReopened, RowsRise}
 use Rattle.book_tables_opening.specs.WholeNodes.{ShowsTextlessNodes}
 use Rattle.book_tables_opening.specs.declared.opening.Standing.{Standing}
 use Rattle.book_tables_opening.specs.declared.opening.Standing.TheVariants.{Whole, Other, Broken}
@@ -55,10 +56,6 @@ TellsStanding s is = IsTrue s.is_open × (IsBook s.now → IsTrue is ↔ StandsF
 -- the rows of all tables but `reach` are the same
 abbrev pub SameRows : Trees → Trees → Type 0
 SameRows old new = rows_of new ≡ record (rows_of old) { reach = (rows_of new).reach }
-
--- the rows of its tables rise by their numbers
-abbrev pub RowsRise : Database → Type 0
-RowsRise db = HasTables db.schema db
 
 -- tables stand for an Office, and are then kept as its tables: `reach` holds what chains of its direct members lead to
 pub record Settled (old new : Database) : Type 0 where
@@ -141,10 +138,6 @@ StandingSays db Other = TellsOther 2 db true
 StandingSays db Broken = TellsOther 2 db false
 
 -- ---- a store is opened
-
--- a connection that was opened again: it shows what is committed, and the rows of its tables rise
-abbrev pub IsReopened : State → Type 0
-IsReopened s = HasCleanDisk s → Opens s × RowsRise s.now
 
 -- the trees that were committed stood for an Office; an open connection stands for that one, which a stop leaves alone
 pub record StandsAsBefore (trees : Trees) (new : State) : Type 0 where

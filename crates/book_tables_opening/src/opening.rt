@@ -11,6 +11,7 @@ ghost use Rattle.book_tables.specs.Opened.{open_fault};
 ghost use Rattle.book_tables_opening.specs.Reading.{MakesAnew, MaySettle, SameRows, TellsOffice, TellsOther, TellsSettled, TellsStanding, IsStanding, StandingSays, FaultSaysOf, IsReopened, IsOpened, IsRefused, IsUnopened, StandsAsBefore, StandForNone};
 
 use crate::directories::Directory;
+use crate::found::Found;
 use crate::office_tests::are_textless_rows;
 use crate::reading::read_tables;
 use crate::text_tests::have_own_texts;
@@ -221,7 +222,7 @@ pub fn open_fault_of(error: Error) -> OpenFault
     }
 }
 
-/// The tables of a connection that was opened again.
+/// The tables of a connection that was just opened.
 fn open_again<S: Alter>(
     alloc: Global,
     mut connection: Connection<S>,
@@ -293,4 +294,33 @@ pub fn open<S: Alter + Drop>(
         Ok(opened) => open_again(alloc, opened),
         Err((error, store)) => Err((open_fault_of(error), Unopened::Store(store))),
     }
+}
+
+/// The same of a connection that was just opened, whose store is not opened once more.
+///
+/// # Errors
+///
+/// Those of `open`; the connection comes back.
+pub fn open_found<S: Alter + Drop>(
+    alloc: Global,
+    found: Found<S>,
+) -> Result<Tables<S>, (OpenFault, Unopened<S>)>
+    ensures stands { IfOk result (λ t. HasCleanDisk (state S.Store t.connection)
+        → StandsAsBefore (state S.Store found).committed.trees (state S.Store t.connection)) }
+    ensures same { IfOk result (λ t. HasCleanDisk (state S.Store t.connection)
+        → SameRows (state S.Store found).committed.trees
+        (state S.Store t.connection).now.trees) }
+    ensures counted { IfOk result (λ t. t.failures ≡ 0) }
+    ensures refused { IfErr result (λ e. IsRefused e.0
+        → IsConnectionAnd e.1 (λ c. HasCleanDisk (state S.Store c)
+        → StandForNone (state S.Store found).committed.trees)) }
+    ensures other { IfErr result (λ e. IsRefused e.0
+        → IsConnectionAnd e.1 (λ c. HasCleanDisk (state S.Store c)
+        → FaultSaysOf 2 (state S.Store found).committed.trees e.0)) }
+    ensures kept { IfErr result (λ e. IfConnection e.1 (λ c. HasCleanDisk (state S.Store c)
+        → IsUnopened (state S.Store found).committed.trees (state S.Store c))) }
+    ensures connected { IfErr result (λ e. IfStore e.1 (λ _. ⊥)) }
+{
+    let connection = found.into_connection();
+    open_again(alloc, connection)
 }
