@@ -5,7 +5,7 @@ ghost use Rattle.book_wire_serving.specs.Serving.{Runs};
 
 use book_desk_administering::Administered;
 use book_desk_app::Lines;
-use book_desk_files::StoreFile;
+use book_desk_files::LeftFile;
 use book_desk_stores::{begin_backup, end_draft};
 use sqlite::{Connection, FileStore};
 use sqlite_disk::Disk;
@@ -40,7 +40,7 @@ pub fn backup_of<M: Administered, E: Lines>(
     };
     let (status, left) = copy_of(rt.alloc(), service, fresh.into_connection(), errors);
     let left = match left {
-        Some(connection) => Some(StoreFile::new(connection)),
+        Some(connection) => Some(LeftFile::new(connection)),
         None => None,
     };
     end_draft(rt, &draft, status, left, errors)

@@ -3,7 +3,9 @@
 use crate::controls::{Controls, Stopwatch};
 use crate::logs::{open_log, refuse_log};
 use book_desk_administering::{Administered, adopt_noted};
-use book_desk_app::{AdoptionFailure, BROKEN, Failure, Lines, StreamFailure, tell};
+use book_desk_app::{
+    AdoptionFailure, BROKEN, Failure, Lines, StreamFailure, kept_connection, tell,
+};
 use book_desk_files::{
     Named, OverAnyStore, Stage, open_store_named, read_policy_file, run_and_close_any, tell_stage,
 };
@@ -18,6 +20,7 @@ use book_machine::Machine;
 use book_office::{Keeper, MemoryKeeper, Policy};
 use book_office_cache::Cached;
 use book_tables::Tables;
+use book_tables_opening::Found;
 use book_tables_schema::Unopened;
 use book_wire_serving::{Service, StreamFault};
 use book_wire_steps::{Control, Traffic, Wish};
@@ -534,7 +537,7 @@ fn left_of<S: Alter + Drop>(
 /// Prepares an Office, serves it, and gives its store back, if there is one.
 fn serve_opened<'r, S: Alter + Drop, W: Write, E: Lines>(
     rt: &'r HostRuntime,
-    store: Option<Connection<S>>,
+    store: Option<Found<S>>,
     policy: Option<Vec<u8>>,
     logging: Option<Logging<'r>>,
     served: Served<'_>,
@@ -553,7 +556,7 @@ fn serve_opened<'r, S: Alter + Drop, W: Write, E: Lines>(
 /// The same with a log: the policy is adopted by the machine that keeps it.
 fn serve_with_log<'r, S: Alter + Drop, W: Write, E: Lines>(
     rt: &'r HostRuntime,
-    store: Option<Connection<S>>,
+    store: Option<Found<S>>,
     policy: Option<Vec<u8>>,
     log: LogFile<'r, HostRuntime>,
     served: Served<'_>,
@@ -567,7 +570,7 @@ fn serve_with_log<'r, S: Alter + Drop, W: Write, E: Lines>(
         }
         Err(failure) => {
             drop(log);
-            (tell(errors, &failure), store)
+            (tell(errors, &failure), kept_connection(store))
         }
     }
 }
@@ -583,7 +586,7 @@ struct Serving<'r, 'w, 'a, W, E> {
 }
 
 impl<W: Write, E: Lines> OverAnyStore for Serving<'_, '_, '_, W, E> {
-    fn run<S: Alter + Drop>(self, store: Option<Connection<S>>) -> (u8, Option<Connection<S>>) {
+    fn run<S: Alter + Drop>(self, store: Option<Found<S>>) -> (u8, Option<Connection<S>>) {
         let Serving {
             rt,
             policy,

@@ -47,7 +47,7 @@ pub use migrations::run_migration;
 pub use policies::policy_of;
 pub use serving_failures::{AdoptionFailure, StreamFailure};
 pub use short_texts::read_short_text;
-pub use stores::open_store;
+pub use stores::{kept_connection, open_store};
 pub use telling::tell_line;
 pub use text_commands::TextCommand;
 pub use text_failures::{BROKEN, DONE, InputFault, REFUSED, TextFailure};

@@ -13,6 +13,7 @@ use book_office::Keeper;
 use book_office_copies::copy_without_cards;
 use book_policy_warnings::{ToldOver, tell_policy_over};
 use book_tables::Tables;
+use book_tables_opening::Found;
 use sqlite::{Alter, Connection};
 use std::alloc::Global;
 use std::io::Write;
@@ -85,7 +86,7 @@ pub fn check_over<S: Alter + Drop, W: Write, E: Lines>(
     alloc: Global,
     bytes: Vec<u8>,
     strict: bool,
-    store: Connection<S>,
+    store: Found<S>,
     writer: &mut W,
     errors: &mut E,
 ) -> (u8, Option<Connection<S>>)

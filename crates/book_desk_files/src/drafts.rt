@@ -1,7 +1,7 @@
 //! Files of stores that are made under another name, and take their own when they are whole.
 
 use crate::files::{holds_no_commit, identity_of, length_of, log_name, open_made, remove_log};
-use crate::stores::StoreFile;
+use crate::stores::{LeftFile, StoreFile};
 use book_desk_app::{Failure, StoreFailure};
 use std::fs::{self, File, OpenOptions};
 use std::os::unix::fs::{MetadataExt, chown};
@@ -132,7 +132,7 @@ impl Draft {
     /// # Errors
     ///
     /// `Store` where that fails: the file that had the name has it still, but where the folder alone could not be synced.
-    pub fn keep(&self, rt: &HostRuntime, file: StoreFile) -> Result<(), Failure> {
+    pub fn keep(&self, rt: &HostRuntime, file: LeftFile) -> Result<(), Failure> {
         let Some(folded) = file.fold() else {
             self.discard(rt);
             return Err(FAILED);

@@ -7,7 +7,8 @@ use crate::progress::{Stage, tell_stage};
 use crate::stores::{StoreCopy, StoreFile};
 use book_desk_app::{Failure, InputFault, StoreFailure, read_short_text};
 use book_limits::MAX_POLICY_BYTES;
-use book_tables_files::{log_holds_commit, open_store_files};
+use book_tables_files::log_holds_commit;
+use book_tables_opening::find_store;
 use sqlite::{Error, ErrorCode, File as DiskFile, Unknown};
 use sqlite_disk::{Disk, Files as StoreFiles, Memory};
 use sqlite_std_file::OpenError;
@@ -236,8 +237,8 @@ fn open_at(rt: &HostRuntime, name: &str, seed: u64) -> Result<StoreFile, Failure
         return Err(failure_by(rt, Cause::Replaced));
     }
     tell_mode(rt, name);
-    match open_store_files(rt.alloc(), files, seed, KEPT_IN_MEMORY) {
-        Ok(connection) => Ok(StoreFile::new(connection)),
+    match find_store(rt.alloc(), files, seed, KEPT_IN_MEMORY) {
+        Ok(found) => Ok(StoreFile::new(found)),
         Err((error, _left)) => Err(open_failure(rt, name, error)),
     }
 }
@@ -435,8 +436,8 @@ fn copy_now(rt: &HostRuntime, name: &str, tells: bool) -> Result<StoreCopy, Fail
         log: in_memory(alloc, log.as_slice())?,
         db: in_memory(alloc, bytes.as_slice())?,
     };
-    match open_store_files(alloc, files, seed(rt)?, KEPT_IN_MEMORY) {
-        Ok(connection) => Ok(StoreCopy::new(connection)),
+    match find_store(alloc, files, seed(rt)?, KEPT_IN_MEMORY) {
+        Ok(found) => Ok(StoreCopy::new(found)),
         Err((error, _left)) => {
             if tells {
                 Err(open_failure(rt, name, error))

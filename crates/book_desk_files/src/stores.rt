@@ -3,19 +3,20 @@
 //! A call of a function over any store at one kind has to be proved of each method that stores have, and so has what is let
 //! go. So each such call is one here, over the files of any disk, and a store that is open is never let go: it is closed.
 
+use book_tables_opening::Found;
 use sqlite::{Alter, Connection, File as DiskFile, FileStore};
 use sqlite_disk::{Disk, Files, Memory};
 
 /// What is done over a store.
 pub trait OverStore {
     /// Does it; with the status, and what is left of the store.
-    fn run<S: Alter + Drop>(self, store: Connection<S>) -> (u8, Option<Connection<S>>);
+    fn run<S: Alter + Drop>(self, store: Found<S>) -> (u8, Option<Connection<S>>);
 }
 
 /// What is done over a store, or without one.
 pub trait OverAnyStore {
     /// Does it; with the status, and what is left of the store.
-    fn run<S: Alter + Drop>(self, store: Option<Connection<S>>) -> (u8, Option<Connection<S>>);
+    fn run<S: Alter + Drop>(self, store: Option<Found<S>>) -> (u8, Option<Connection<S>>);
 }
 
 /// What is done over two stores.
@@ -23,8 +24,8 @@ pub trait OverTwoStores {
     /// Does it; with the status, and what is left of each.
     fn run<S: Alter + Drop>(
         self,
-        store: Connection<S>,
-        other: Connection<S>,
+        store: Found<S>,
+        other: Found<S>,
     ) -> (u8, Option<Connection<S>>, Option<Connection<S>>);
 }
 
@@ -33,9 +34,9 @@ pub trait OverThreeStores {
     /// Does it; with the status, and what is left of the first and the third.
     fn run<S: Alter + Drop>(
         self,
-        store: Connection<S>,
-        backup: Connection<S>,
-        fresh: Connection<S>,
+        store: Found<S>,
+        backup: Found<S>,
+        fresh: Found<S>,
     ) -> (u8, Option<Connection<S>>, Option<Connection<S>>);
 }
 
@@ -45,7 +46,7 @@ struct LettingGo<T> {
 }
 
 impl<T: OverStore> OverStore for LettingGo<T> {
-    fn run<S: Alter + Drop>(self, store: Connection<S>) -> (u8, Option<Connection<S>>) {
+    fn run<S: Alter + Drop>(self, store: Found<S>) -> (u8, Option<Connection<S>>) {
         let LettingGo { task } = self;
         let (status, left) = task.run(store);
         drop(left);
@@ -57,7 +58,7 @@ impl<T: OverStore> OverStore for LettingGo<T> {
 struct Nothing;
 
 impl OverStore for Nothing {
-    fn run<S: Alter + Drop>(self, store: Connection<S>) -> (u8, Option<Connection<S>>) {
+    fn run<S: Alter + Drop>(self, store: Found<S>) -> (u8, Option<Connection<S>>) {
         let Nothing = self;
         drop(store);
         (0, None)
@@ -66,7 +67,7 @@ impl OverStore for Nothing {
 
 /// Does a task over a store.
 fn run_over<D: Disk + Drop, T: OverStore>(
-    store: Connection<FileStore<D>>,
+    store: Found<FileStore<D>>,
     task: T,
 ) -> (u8, Option<Connection<FileStore<D>>>) {
     task.run(store)
@@ -74,7 +75,7 @@ fn run_over<D: Disk + Drop, T: OverStore>(
 
 /// Does a task over a store, or without one.
 fn run_over_any<D: Disk + Drop, T: OverAnyStore>(
-    store: Option<Connection<FileStore<D>>>,
+    store: Option<Found<FileStore<D>>>,
     task: T,
 ) -> (u8, Option<Connection<FileStore<D>>>) {
     task.run(store)
@@ -82,8 +83,8 @@ fn run_over_any<D: Disk + Drop, T: OverAnyStore>(
 
 /// Does a task over two stores.
 fn run_over_two<D: Disk + Drop, T: OverTwoStores>(
-    store: Connection<FileStore<D>>,
-    other: Connection<FileStore<D>>,
+    store: Found<FileStore<D>>,
+    other: Found<FileStore<D>>,
     task: T,
 ) -> (
     u8,
@@ -95,9 +96,9 @@ fn run_over_two<D: Disk + Drop, T: OverTwoStores>(
 
 /// Does a task over three stores.
 fn run_over_three<D: Disk + Drop, T: OverThreeStores>(
-    store: Connection<FileStore<D>>,
-    backup: Connection<FileStore<D>>,
-    fresh: Connection<FileStore<D>>,
+    store: Found<FileStore<D>>,
+    backup: Found<FileStore<D>>,
+    fresh: Found<FileStore<D>>,
     task: T,
 ) -> (
     u8,
@@ -126,11 +127,23 @@ fn fold_in<D: Disk + Drop>(connection: Connection<FileStore<D>>) -> Option<Files
     }
 }
 
+/// The connection to the files of a store that was just opened.
+fn connection_of<D: Disk + Drop>(store: Found<FileStore<D>>) -> Connection<FileStore<D>> {
+    store.into_connection()
+}
+
 /// A connection to the file of a store.
 pub type FileConnection = Connection<FileStore<DiskFile>>;
 
-/// A store's files that are open. No value of it is let go by the way: it is closed, or its log folded in, or `let_go` called.
+/// A store's files that were just opened. No value of it is let go by the way: a task is done over it, or it is closed, or
+/// `let_go` called.
 pub struct StoreFile {
+    found: Found<FileStore<DiskFile>>,
+}
+
+/// A store's files that are open, and are left of what was done. No value of it is let go by the way: it is closed, or its log
+/// folded in.
+pub struct LeftFile {
     connection: FileConnection,
 }
 
@@ -140,46 +153,58 @@ pub struct Folded {
     files: Files<DiskFile>,
 }
 
-/// A copy of a store's files in memory, which is open.
+/// A copy of a store's files in memory, which was just opened.
 pub struct StoreCopy {
-    connection: Connection<FileStore<Memory>>,
+    found: Found<FileStore<Memory>>,
 }
 
 impl StoreFile {
-    /// The files of a connection.
-    pub fn new(connection: FileConnection) -> StoreFile {
-        StoreFile { connection }
+    /// The files that were found.
+    pub(crate) fn new(found: Found<FileStore<DiskFile>>) -> StoreFile {
+        StoreFile { found }
     }
 
     /// The connection to them.
     pub fn into_connection(self) -> FileConnection {
-        let StoreFile { connection } = self;
-        connection
+        let StoreFile { found } = self;
+        connection_of(found)
     }
 
     /// Does a task over the store; with the status, and what is left of it.
-    pub fn run<T: OverStore>(self, task: T) -> (u8, Option<StoreFile>) {
-        let StoreFile { connection } = self;
-        let (status, left) = run_over(connection, task);
+    pub fn run<T: OverStore>(self, task: T) -> (u8, Option<LeftFile>) {
+        let StoreFile { found } = self;
+        let (status, left) = run_over(found, task);
         (status, file_of(left))
     }
 
     /// Does a task over the store, and closes it; with the status.
     pub fn run_and_close<T: OverStore>(self, task: T) -> u8 {
-        let StoreFile { connection } = self;
-        let (status, left) = run_over(connection, task);
+        let StoreFile { found } = self;
+        let (status, left) = run_over(found, task);
         close_left(left);
         status
+    }
+
+    /// Closes the store, over which nothing was done.
+    pub fn close(self) {
+        close_left(Some(self.into_connection()));
     }
 
     /// Lets the store go as it is: its log is not folded in.
     pub fn let_go(self) {
         let _ = self.run_and_close(Nothing);
     }
+}
+
+impl LeftFile {
+    /// The files of a connection.
+    pub fn new(connection: FileConnection) -> LeftFile {
+        LeftFile { connection }
+    }
 
     /// Folds the log in; none where that fails.
     pub fn fold(self) -> Option<Folded> {
-        let StoreFile { connection } = self;
+        let LeftFile { connection } = self;
         match fold_in(connection) {
             Some(files) => Some(Folded { files }),
             None => None,
@@ -188,29 +213,29 @@ impl StoreFile {
 }
 
 /// The store's files of which a connection is left.
-fn file_of(left: Option<FileConnection>) -> Option<StoreFile> {
+fn file_of(left: Option<FileConnection>) -> Option<LeftFile> {
     match left {
-        Some(connection) => Some(StoreFile { connection }),
+        Some(connection) => Some(LeftFile { connection }),
         None => None,
     }
 }
 
-/// Closes the store's file, if there is one; there is none where its tables could not be had. What was done stands
+/// Closes the store's file, if it is left; it is not where its tables could not be had. What was done stands
 /// already, in the file or in the log beside it, so that a failure here changes nothing of it. A store in which no table
 /// was made stays without one: another run may have it by then, so its files are not removed.
-pub fn close(file: Option<StoreFile>) {
-    if let Some(StoreFile { connection }) = file {
+pub fn close(file: Option<LeftFile>) {
+    if let Some(LeftFile { connection }) = file {
         close_left(Some(connection));
     }
 }
 
 /// Does a task over a store, or without one, and closes it; with the status.
 pub fn run_and_close_any<T: OverAnyStore>(file: Option<StoreFile>, task: T) -> u8 {
-    let connection = match file {
-        Some(StoreFile { connection }) => Some(connection),
+    let found = match file {
+        Some(StoreFile { found }) => Some(found),
         None => None,
     };
-    let (status, left) = run_over_any(connection, task);
+    let (status, left) = run_over_any(found, task);
     close_left(left);
     status
 }
@@ -220,10 +245,10 @@ pub fn run_two<T: OverTwoStores>(
     file: StoreFile,
     other: StoreFile,
     task: T,
-) -> (u8, Option<StoreFile>, Option<StoreFile>) {
-    let StoreFile { connection } = file;
-    let StoreFile { connection: other } = other;
-    let (status, left, other) = run_over_two(connection, other, task);
+) -> (u8, Option<LeftFile>, Option<LeftFile>) {
+    let StoreFile { found } = file;
+    let StoreFile { found: other } = other;
+    let (status, left, other) = run_over_two(found, other, task);
     (status, file_of(left), file_of(other))
 }
 
@@ -233,24 +258,24 @@ pub fn run_three<T: OverThreeStores>(
     backup: StoreFile,
     fresh: StoreFile,
     task: T,
-) -> (u8, Option<StoreFile>, Option<StoreFile>) {
-    let StoreFile { connection } = file;
-    let StoreFile { connection: backup } = backup;
-    let StoreFile { connection: fresh } = fresh;
-    let (status, left, made) = run_over_three(connection, backup, fresh, task);
+) -> (u8, Option<LeftFile>, Option<LeftFile>) {
+    let StoreFile { found } = file;
+    let StoreFile { found: backup } = backup;
+    let StoreFile { found: fresh } = fresh;
+    let (status, left, made) = run_over_three(found, backup, fresh, task);
     (status, file_of(left), file_of(made))
 }
 
 impl StoreCopy {
-    /// The copy of a connection.
-    pub(crate) fn new(connection: Connection<FileStore<Memory>>) -> StoreCopy {
-        StoreCopy { connection }
+    /// The copy that was found.
+    pub(crate) fn new(found: Found<FileStore<Memory>>) -> StoreCopy {
+        StoreCopy { found }
     }
 
     /// Does a task over the copy, and lets it go; with the status.
     pub fn run<T: OverStore>(self, task: T) -> u8 {
-        let StoreCopy { connection } = self;
-        let (status, left) = run_over(connection, LettingGo { task });
+        let StoreCopy { found } = self;
+        let (status, left) = run_over(found, LettingGo { task });
         close_left(left);
         status
     }
@@ -262,9 +287,9 @@ impl StoreCopy {
 
     /// Does a task over two copies, and closes what is left of them; with the status.
     pub fn run_two<T: OverTwoStores>(self, other: StoreCopy, task: T) -> u8 {
-        let StoreCopy { connection } = self;
-        let StoreCopy { connection: other } = other;
-        let (status, left, other) = run_over_two(connection, other, task);
+        let StoreCopy { found } = self;
+        let StoreCopy { found: other } = other;
+        let (status, left, other) = run_over_two(found, other, task);
         close_left(left);
         close_left(other);
         status

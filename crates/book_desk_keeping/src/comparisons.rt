@@ -15,6 +15,7 @@ use book_dumps::dumps_are_exact;
 use book_dumps_loading::{is_dump, office_text};
 use book_office::{Keeper, StoreFault};
 use book_tables::Tables;
+use book_tables_opening::Found;
 use sqlite::{Alter, Connection};
 use std::alloc::Global;
 
@@ -60,7 +61,7 @@ fn compare<K: Keeper, L: Keeper, E: Lines>(
 fn compare_in<K: Keeper, T: Alter + Drop, E: Lines>(
     alloc: Global,
     first: &mut K,
-    other: Connection<T>,
+    other: Found<T>,
     errors: &mut E,
 ) -> (u8, Option<Connection<T>>)
     ensures rests { Rests (K.standing first.old) (K.standing first.new) }
@@ -89,8 +90,8 @@ fn compare_in<K: Keeper, T: Alter + Drop, E: Lines>(
 /// Offices stay. The connections come back, but where tables could not be opened. The dump of the first is in memory.
 pub fn run_compare<S: Alter + Drop, T: Alter + Drop, E: Lines>(
     alloc: Global,
-    store: Connection<S>,
-    other: Connection<T>,
+    store: Found<S>,
+    other: Found<T>,
     errors: &mut E,
 ) -> (u8, Option<Connection<S>>, Option<Connection<T>>)
     ensures runs { DoesOver {K = Tables S} (state S.Store) (λ t. t.connection) (λ t. t.failures)
@@ -114,7 +115,7 @@ pub fn run_compare<S: Alter + Drop, T: Alter + Drop, E: Lines>(
             (
                 tell_line(errors, &Failure::Store(failure)),
                 None,
-                Some(other),
+                Some(other.into_connection()),
             )
         }
     }

@@ -21,6 +21,7 @@ use book_dumps_loading::{copy, dumped_of, load};
 use book_dumps_reading::Dumped;
 use book_office::Keeper;
 use book_tables::Tables;
+use book_tables_opening::Found;
 use sqlite::{Alter, Connection};
 use std::alloc::Global;
 
@@ -183,7 +184,7 @@ fn copy_over<S: Alter + Drop, T: Alter + Drop, E: Lines>(
 /// made under another name.
 pub fn run_copy<S: Alter + Drop, T: Alter + Drop, E: Lines>(
     alloc: Global,
-    source: Connection<S>,
+    source: Found<S>,
     fresh: Connection<T>,
     forget: bool,
     errors: &mut E,

@@ -23,6 +23,7 @@ use book_dumps_restoring::{RestoreFault, restore};
 use book_office::Keeper;
 use book_office_values::{Items, Path, PathFault};
 use book_tables::Tables;
+use book_tables_opening::Found;
 use sqlite::{Alter, Connection};
 use std::alloc::Global;
 use std::io::Write;
@@ -191,7 +192,7 @@ fn restore_told<K: Keeper, L: Keeper, U: Alter + Drop, W: Write, E: Lines>(
 fn restore_from<K: Keeper, T: Alter + Drop, U: Alter + Drop, W: Write, E: Lines>(
     alloc: Global,
     store: &mut K,
-    backup: Connection<T>,
+    backup: Found<T>,
     texts: &[String],
     fresh: Connection<U>,
     made: &mut Option<Connection<U>>,
@@ -245,8 +246,8 @@ fn restore_from<K: Keeper, T: Alter + Drop, U: Alter + Drop, W: Write, E: Lines>
 /// part of its rows may be written, so it is made under another name.
 pub fn run_restore<S: Alter + Drop, T: Alter + Drop, U: Alter + Drop, W: Write, E: Lines>(
     alloc: Global,
-    store: Connection<S>,
-    backup: Connection<T>,
+    store: Found<S>,
+    backup: Found<T>,
     paths: &[String],
     fresh: Connection<U>,
     made: &mut Option<Connection<U>>,

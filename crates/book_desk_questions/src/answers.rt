@@ -21,6 +21,7 @@ use book_office_values::{Path, Text};
 use book_questions_asked::ask;
 use book_questions_audit::audit_part;
 use book_tables::Tables;
+use book_tables_opening::Found;
 use sqlite::{Alter, Connection};
 use std::alloc::Global;
 use std::io::Write;
@@ -174,7 +175,7 @@ fn answer_in<S: Alter + Drop, W: Write, E: Lines>(
     alloc: Global,
     asking: Asking,
     asked: &Asked,
-    store: Connection<S>,
+    store: Found<S>,
     writer: &mut W,
     errors: &mut E,
 ) -> (u8, Option<Connection<S>>)
@@ -205,7 +206,7 @@ fn answer_in<S: Alter + Drop, W: Write, E: Lines>(
 pub fn run_question<S: Alter + Drop, W: Write, E: Lines>(
     alloc: Global,
     words: &Words<'_>,
-    store: Connection<S>,
+    store: Found<S>,
     writer: &mut W,
     errors: &mut E,
 ) -> (u8, Option<Connection<S>>)
@@ -219,6 +220,9 @@ pub fn run_question<S: Alter + Drop, W: Write, E: Lines>(
     let asking = asking_of(words);
     match asked_of(alloc, words) {
         Ok(asked) => answer_in(alloc, asking, &asked, store, writer, errors),
-        Err(failure) => (tell_unanswered(errors, asking, &failure), Some(store)),
+        Err(failure) => (
+            tell_unanswered(errors, asking, &failure),
+            Some(store.into_connection()),
+        ),
     }
 }

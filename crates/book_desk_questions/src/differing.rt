@@ -17,6 +17,7 @@ use book_office::Keeper;
 use book_policy_values::Policy;
 use book_questions_plans::{PlanFault, plan};
 use book_tables::Tables;
+use book_tables_opening::Found;
 use sqlite::{Alter, Connection};
 use std::alloc::Global;
 use std::io::Write;
@@ -171,7 +172,7 @@ fn differs_in<S: Alter + Drop, W: Write, E: Lines>(
     alloc: Global,
     policy: &Policy,
     strict: bool,
-    store: Connection<S>,
+    store: Found<S>,
     writer: &mut W,
     errors: &mut E,
 ) -> (u8, Option<Connection<S>>)
@@ -204,7 +205,7 @@ pub fn run_differs<S: Alter + Drop, W: Write, E: Lines>(
     alloc: Global,
     bytes: Vec<u8>,
     strict: bool,
-    store: Connection<S>,
+    store: Found<S>,
     writer: &mut W,
     errors: &mut E,
 ) -> (u8, Option<Connection<S>>)
@@ -216,6 +217,6 @@ pub fn run_differs<S: Alter + Drop, W: Write, E: Lines>(
 {
     match policy_of(alloc, bytes) {
         Ok(policy) => differs_in(alloc, &policy, strict, store, writer, errors),
-        Err(failure) => (tell_line(errors, &failure), Some(store)),
+        Err(failure) => (tell_line(errors, &failure), Some(store.into_connection())),
     }
 }

@@ -12,6 +12,7 @@ use book_desk_app::{DONE, Failure, Lines, StoreFailure, open_store, tell_line};
 use book_dumps::{DumpFault, dump};
 use book_office::Keeper;
 use book_tables::Tables;
+use book_tables_opening::Found;
 use sqlite::{Alter, Connection};
 use std::alloc::Global;
 use std::io::Write;
@@ -71,7 +72,7 @@ fn dump_over<S: Alter + Drop, W: Write, E: Lines>(
 /// opened.
 pub fn run_dump<S: Alter + Drop, W: Write, E: Lines>(
     alloc: Global,
-    store: Connection<S>,
+    store: Found<S>,
     writer: &mut W,
     errors: &mut E,
 ) -> (u8, Option<Connection<S>>)

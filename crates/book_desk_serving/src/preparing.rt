@@ -12,6 +12,7 @@ use book_machine::Machine;
 use book_office::{MemoryKeeper, Policy};
 use book_office_cache::Cached;
 use book_tables::Tables;
+use book_tables_opening::Found;
 use book_tables_schema::Unopened;
 use sqlite::{Alter, Connection};
 use std::alloc::Global;
@@ -61,7 +62,7 @@ fn prepare_in_memory(
 /// Adopts the policy, if one is given, over the tables of a store. Of these nothing is remembered yet.
 fn prepare_over<S: Alter + Drop>(
     alloc: Global,
-    store: Connection<S>,
+    store: Found<S>,
     policy: &Option<Policy>,
 ) -> Result<Machine<Cached<Tables<S>>>, (Failure, Unopened<S>)>
     ensures ready { IfOk result (λ machine. IsReadyOver (state S.Store) (λ t. t.connection)
@@ -83,7 +84,7 @@ fn prepare_over<S: Alter + Drop>(
 /// The same over a store, or where there is none over an empty Office in memory.
 fn prepare_given<S: Alter + Drop>(
     alloc: Global,
-    store: Option<Connection<S>>,
+    store: Option<Found<S>>,
     policy: &Option<Policy>,
 ) -> Result<Prepared<S>, (Failure, Option<Unopened<S>>)>
     ensures ready { IfOk result (IsPrepared (state S.Store) (λ t. t.connection)
@@ -104,11 +105,11 @@ fn prepare_given<S: Alter + Drop>(
 }
 
 /// A connection over which nothing was done, if there is one, as what is left of it.
-fn as_left<S: Alter>(store: Option<Connection<S>>) -> Option<Unopened<S>>
+fn as_left<S: Alter>(store: Option<Found<S>>) -> Option<Unopened<S>>
     ensures { result ≡ option_map Unopened.Connection store }
 {
     match store {
-        Some(store) => Some(Unopened::Connection(store)),
+        Some(store) => Some(Unopened::Connection(store.into_connection())),
         None => None,
     }
 }
@@ -123,7 +124,7 @@ fn as_left<S: Alter>(store: Option<Connection<S>>) -> Option<Unopened<S>>
 /// it was, and the connection comes back.
 pub fn prepare<S: Alter + Drop>(
     alloc: Global,
-    store: Option<Connection<S>>,
+    store: Option<Found<S>>,
     policy: Option<Vec<u8>>,
 ) -> Result<Prepared<S>, (Failure, Option<Unopened<S>>)>
     ensures ready { IfOk result (Prepares (state S.Store) (λ t. t.connection) (λ t. t.failures)

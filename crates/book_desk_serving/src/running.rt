@@ -14,11 +14,12 @@ use crate::memory::perform_in_memory;
 use crate::piping::pipe;
 use crate::tasks::{Task, perform};
 use crate::works::{Work, task_of};
-use book_desk_app::{Failure, Lines, adopt_given, open_store, tell_line};
+use book_desk_app::{Failure, Lines, adopt_given, kept_connection, open_store, tell_line};
 use book_machine::Machine;
 use book_office_cache::Cached;
 use book_policy_values::Policy;
 use book_tables::Tables;
+use book_tables_opening::Found;
 use sqlite::{Alter, Connection};
 use std::alloc::Global;
 use std::io::{Read, Write};
@@ -99,7 +100,7 @@ fn perform_over<S: Alter + Drop, R: Read, W: Write, E: Lines>(
 fn perform_in<S: Alter + Drop, R: Read, W: Write, E: Lines>(
     alloc: Global,
     task: &Task,
-    store: Connection<S>,
+    store: Found<S>,
     reader: &mut R,
     writer: &mut W,
     errors: &mut E,
@@ -127,7 +128,7 @@ fn perform_in<S: Alter + Drop, R: Read, W: Write, E: Lines>(
 fn perform_given<S: Alter + Drop, R: Read, W: Write, E: Lines>(
     alloc: Global,
     task: &Task,
-    store: Option<Connection<S>>,
+    store: Option<Found<S>>,
     reader: &mut R,
     writer: &mut W,
     errors: &mut E,
@@ -157,7 +158,7 @@ fn perform_given<S: Alter + Drop, R: Read, W: Write, E: Lines>(
 pub fn run<S: Alter + Drop, R: Read, W: Write, E: Lines>(
     alloc: Global,
     work: Work,
-    store: Option<Connection<S>>,
+    store: Option<Found<S>>,
     policy: Option<Vec<u8>>,
     reader: &mut R,
     writer: &mut W,
@@ -173,6 +174,6 @@ pub fn run<S: Alter + Drop, R: Read, W: Write, E: Lines>(
 {
     match task_of(alloc, work, policy) {
         Ok(task) => perform_given(alloc, &task, store, reader, writer, errors),
-        Err(failure) => (tell_line(errors, &failure), store),
+        Err(failure) => (tell_line(errors, &failure), kept_connection(store)),
     }
 }

@@ -5,7 +5,7 @@
 use crate::tasks::{Comparing, Copying, Loading, Restoring};
 use book_desk_app::{Failure, Lines, StoreFailure, tell_line};
 use book_desk_files::{
-    Draft, StoreFile, close, empty_log, is_free, is_unused, length_of, open_backup_copy,
+    Draft, LeftFile, StoreFile, close, empty_log, is_free, is_unused, length_of, open_backup_copy,
     open_copied, open_locked_copy, open_viewed, read_dump_bytes, real_path, remove, run_three,
     run_two,
 };
@@ -17,7 +17,7 @@ pub fn end_draft<E: Lines>(
     rt: &HostRuntime,
     draft: &Draft,
     status: u8,
-    left: Option<StoreFile>,
+    left: Option<LeftFile>,
     errors: &mut E,
 ) -> u8 {
     let made = match left {
@@ -72,8 +72,8 @@ fn end_replacing<E: Lines>(
     rt: &HostRuntime,
     draft: &Draft,
     status: u8,
-    source: Option<StoreFile>,
-    left: Option<StoreFile>,
+    source: Option<LeftFile>,
+    left: Option<LeftFile>,
     errors: &mut E,
 ) -> u8 {
     let folded = match source {
@@ -136,7 +136,7 @@ fn compact_store<W: Write, E: Lines>(
     let (draft, fresh) = match Draft::begin(rt, path) {
         Ok(begun) => begun,
         Err(failure) => {
-            close(Some(source));
+            source.close();
             return tell_line(errors, &failure);
         }
     };
@@ -191,7 +191,7 @@ fn restore_into<W: Write, E: Lines>(
     let (draft, fresh) = match Draft::begin(rt, path) {
         Ok(begun) => begun,
         Err(failure) => {
-            close(Some(source));
+            source.close();
             backup.let_go();
             return tell_line(errors, &failure);
         }
@@ -220,7 +220,7 @@ fn restore_by<W: Write, E: Lines>(
     match open_copied(rt, from, copy) {
         Ok(backup) => restore_into(rt, path, source, backup, paths, writer, errors),
         Err(failure) => {
-            close(Some(source));
+            source.close();
             tell_line(errors, &failure)
         }
     }
@@ -242,7 +242,7 @@ fn restore_at<W: Write, E: Lines>(
         Err(failure) => return tell_line(errors, &failure),
     };
     let Ok(copy) = format!(in rt.alloc(); "{path}.from") else {
-        close(Some(source));
+        source.close();
         return tell_line(errors, &Failure::Store(StoreFailure::Memory));
     };
     remove(rt, copy.as_str());
@@ -273,7 +273,7 @@ fn copy_to<E: Lines>(rt: &HostRuntime, source: StoreFile, to: &str, errors: &mut
     let (draft, fresh) = match Draft::begin(rt, to) {
         Ok(begun) => begun,
         Err(failure) => {
-            close(Some(source));
+            source.close();
             return tell_line(errors, &failure);
         }
     };

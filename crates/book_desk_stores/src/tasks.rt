@@ -10,6 +10,7 @@ use book_desk_files::{OverAnyStore, OverStore, OverThreeStores, OverTwoStores};
 use book_desk_keeping::{Change, run_compare, run_copy, run_load, run_restore};
 use book_desk_questions::{Words, run_differs, run_dump, run_question};
 use book_desk_serving::{Work, run};
+use book_tables_opening::Found;
 use sqlite::{Alter, Connection};
 use std::alloc::Global;
 use std::io::{Read, Write};
@@ -25,7 +26,7 @@ pub struct Working<'a, R, W, E> {
 }
 
 impl<R: Read, W: Write, E: Lines> OverAnyStore for Working<'_, R, W, E> {
-    fn run<S: Alter + Drop>(self, store: Option<Connection<S>>) -> (u8, Option<Connection<S>>) {
+    fn run<S: Alter + Drop>(self, store: Option<Found<S>>) -> (u8, Option<Connection<S>>) {
         let Working {
             alloc,
             kind,
@@ -48,7 +49,7 @@ pub struct CheckingOver<'a, W, E> {
 }
 
 impl<W: Write, E: Lines> OverStore for CheckingOver<'_, W, E> {
-    fn run<S: Alter + Drop>(self, store: Connection<S>) -> (u8, Option<Connection<S>>) {
+    fn run<S: Alter + Drop>(self, store: Found<S>) -> (u8, Option<Connection<S>>) {
         let CheckingOver {
             alloc,
             bytes,
@@ -68,13 +69,13 @@ pub struct Migrating<'a, W, E> {
 }
 
 impl<W: Write, E: Lines> OverStore for Migrating<'_, W, E> {
-    fn run<S: Alter + Drop>(self, store: Connection<S>) -> (u8, Option<Connection<S>>) {
+    fn run<S: Alter + Drop>(self, store: Found<S>) -> (u8, Option<Connection<S>>) {
         let Migrating {
             alloc,
             writer,
             errors,
         } = self;
-        let (status, left) = run_migration(alloc, store, writer, errors);
+        let (status, left) = run_migration(alloc, store.into_connection(), writer, errors);
         (status, connection_of(left))
     }
 }
@@ -88,7 +89,7 @@ pub struct Answering<'a, 'w, W, E> {
 }
 
 impl<W: Write, E: Lines> OverStore for Answering<'_, '_, W, E> {
-    fn run<S: Alter + Drop>(self, store: Connection<S>) -> (u8, Option<Connection<S>>) {
+    fn run<S: Alter + Drop>(self, store: Found<S>) -> (u8, Option<Connection<S>>) {
         let Answering {
             alloc,
             words,
@@ -107,7 +108,7 @@ pub struct Dumping<'a, W, E> {
 }
 
 impl<W: Write, E: Lines> OverStore for Dumping<'_, W, E> {
-    fn run<S: Alter + Drop>(self, store: Connection<S>) -> (u8, Option<Connection<S>>) {
+    fn run<S: Alter + Drop>(self, store: Found<S>) -> (u8, Option<Connection<S>>) {
         let Dumping {
             alloc,
             writer,
@@ -127,7 +128,7 @@ pub struct Differing<'a, W, E> {
 }
 
 impl<W: Write, E: Lines> OverStore for Differing<'_, W, E> {
-    fn run<S: Alter + Drop>(self, store: Connection<S>) -> (u8, Option<Connection<S>>) {
+    fn run<S: Alter + Drop>(self, store: Found<S>) -> (u8, Option<Connection<S>>) {
         let Differing {
             alloc,
             bytes,
@@ -149,7 +150,7 @@ pub struct Loading<'a, W, E> {
 }
 
 impl<W: Write, E: Lines> OverStore for Loading<'_, W, E> {
-    fn run<S: Alter + Drop>(self, store: Connection<S>) -> (u8, Option<Connection<S>>) {
+    fn run<S: Alter + Drop>(self, store: Found<S>) -> (u8, Option<Connection<S>>) {
         let Loading {
             alloc,
             bytes,
@@ -157,7 +158,14 @@ impl<W: Write, E: Lines> OverStore for Loading<'_, W, E> {
             writer,
             errors,
         } = self;
-        run_load(alloc, bytes, changes, store, writer, errors)
+        run_load(
+            alloc,
+            bytes,
+            changes,
+            store.into_connection(),
+            writer,
+            errors,
+        )
     }
 }
 
@@ -171,15 +179,21 @@ pub struct Copying<'a, E> {
 impl<E: Lines> OverTwoStores for Copying<'_, E> {
     fn run<S: Alter + Drop>(
         self,
-        store: Connection<S>,
-        other: Connection<S>,
+        store: Found<S>,
+        other: Found<S>,
     ) -> (u8, Option<Connection<S>>, Option<Connection<S>>) {
         let Copying {
             alloc,
             forget_removed,
             errors,
         } = self;
-        run_copy(alloc, store, other, forget_removed, errors)
+        run_copy(
+            alloc,
+            store,
+            other.into_connection(),
+            forget_removed,
+            errors,
+        )
     }
 }
 
@@ -192,8 +206,8 @@ pub struct Comparing<'a, E> {
 impl<E: Lines> OverTwoStores for Comparing<'_, E> {
     fn run<S: Alter + Drop>(
         self,
-        store: Connection<S>,
-        other: Connection<S>,
+        store: Found<S>,
+        other: Found<S>,
     ) -> (u8, Option<Connection<S>>, Option<Connection<S>>) {
         let Comparing { alloc, errors } = self;
         let (status, store, other) = run_compare(alloc, store, other, errors);
@@ -214,9 +228,9 @@ pub struct Restoring<'a, W, E> {
 impl<W: Write, E: Lines> OverThreeStores for Restoring<'_, W, E> {
     fn run<S: Alter + Drop>(
         self,
-        store: Connection<S>,
-        backup: Connection<S>,
-        fresh: Connection<S>,
+        store: Found<S>,
+        backup: Found<S>,
+        fresh: Found<S>,
     ) -> (u8, Option<Connection<S>>, Option<Connection<S>>) {
         let Restoring {
             alloc,
@@ -226,7 +240,14 @@ impl<W: Write, E: Lines> OverThreeStores for Restoring<'_, W, E> {
         } = self;
         let mut made = None;
         let (status, store) = run_restore(
-            alloc, store, backup, paths, fresh, &mut made, writer, errors,
+            alloc,
+            store,
+            backup,
+            paths,
+            fresh.into_connection(),
+            &mut made,
+            writer,
+            errors,
         );
         (status, store, made)
     }
@@ -240,13 +261,13 @@ pub struct Examining<'a, W, E> {
 }
 
 impl<W: Write, E: Lines> OverStore for Examining<'_, W, E> {
-    fn run<S: Alter + Drop>(self, store: Connection<S>) -> (u8, Option<Connection<S>>) {
+    fn run<S: Alter + Drop>(self, store: Found<S>) -> (u8, Option<Connection<S>>) {
         let Examining {
             alloc,
             writer,
             errors,
         } = self;
-        run_doctor(alloc, store, writer, errors)
+        run_doctor(alloc, store.into_connection(), writer, errors)
     }
 }
 
@@ -257,9 +278,9 @@ pub struct TellingRefusal<'a> {
 }
 
 impl OverStore for TellingRefusal<'_> {
-    fn run<S: Alter + Drop>(self, store: Connection<S>) -> (u8, Option<Connection<S>>) {
+    fn run<S: Alter + Drop>(self, store: Found<S>) -> (u8, Option<Connection<S>>) {
         let TellingRefusal { rt, migrates } = self;
-        tell_refusal(rt, store, migrates);
+        tell_refusal(rt, store.into_connection(), migrates);
         (0, None)
     }
 }

@@ -5,9 +5,10 @@ use crate::logs::logged;
 use crate::machines::{DUMP, Errand, MORE, compare, machine};
 use book_desk_administering::Administered;
 use book_desk_answering::Copying;
-use book_desk_app::{Lines, Noting, StoreFailure, open_store};
+use book_desk_app::{Lines, Noting, StoreFailure};
 use book_desk_keeping::{KeepingFault, tell_fault};
 use book_machine::Machine;
+use book_tables_opening::open;
 use sqlite::{Connection, MemStore};
 use std::alloc::Global;
 use std::process::Abort;
@@ -61,7 +62,7 @@ impl<M: Administered> Copying<M> for Copier {
 
 /// The text of the Office for which a store stands.
 fn dump_in(rt: &impl Abort, alloc: Global, made: Option<Connection<MemStore>>) -> Vec<u8> {
-    let tables = open_store(alloc, made.expect(rt, "a copy"));
+    let tables = open(alloc, made.expect(rt, "a copy"));
     let mut machine = Machine::new(tables.ok().expect(rt, "an Office"));
     let mut text = Vec::new(alloc);
     let mut errors = Noting::new(Vec::new(alloc));

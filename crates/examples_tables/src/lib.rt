@@ -22,6 +22,8 @@ mod findings;
 #[cfg(test)]
 mod found;
 #[cfg(test)]
+mod found_files;
+#[cfg(test)]
 mod founded;
 #[cfg(test)]
 mod kept;

@@ -16,7 +16,7 @@ returns-in-Err-clause-runs g c =
       c.tell_line.ensures.status,
       refl,
       record { front = c.tell_line.ensures.told.front; line = c.tell_line.ensures.told.line },
-      refl,
+      ap Some c.into_connection.ensures.same,
     )
 
 pub returns-in-Err-clause-silent : goal.returns-in-Err-clause-silent

@@ -1,4 +1,4 @@
-use Rattle.book_desk_questions.proofs.Common.{inl, inr, refl, Keeps-refl}
+use Rattle.book_desk_questions.proofs.Common.{Some, ap, inl, inr, Keeps-refl}
 use Rattle.book_desk_questions.proofs.differing.run_differs.Goals as goal
 
 pub returns-in-Ok : goal.returns-in-Ok
@@ -10,7 +10,7 @@ returns-in-Err g c =
       c.in-Err.failure,
       c.in-Err.ensures.refused,
       c.tell_line.ensures.status,
-      refl,
+      ap Some c.into_connection.ensures.same,
       Keeps-refl _,
       record { front = c.tell_line.ensures.told.front; line = c.tell_line.ensures.told.line },
     )
