@@ -19,7 +19,8 @@
 #                of requests at two sizes of what they should not rest on
 #   make figures builds the program, and prints what its requests over a store in a file take, what check of a policy of 1 MB
 #                takes, and what load, backup, compact, restore and doctor take beside sqlite3; asks for what takes most memory
-#                under an address space of 512 MB; and what clients wait for while an administrator asks the control
+#                under an address space of 512 MB; what clients wait for while an administrator asks the control; and what edits
+#                of many clients take, also where syncs take longer
 #   make many    builds the program, and serves 10,000 connections, 100 at once, and each worked stream cut at each byte, four
 #                at once; looks for one order of the replies to requests that overlap; ends it by TERM at 100 moments; loses the
 #                file of a store beside its log; makes syncs fail; asks it through nginx, at a Unix socket, and at its control;
@@ -91,6 +92,7 @@ figures: build
 	@tools/measure-loads build/book_desk
 	@tools/check-memory build/book_desk
 	@tools/measure-control build/book_desk
+	@tools/measure-commits build/book_desk
 
 many: build
 	@tools/check-many build/book_desk
