@@ -6,13 +6,29 @@ use crate::places::{lists_of, places_of};
 use book_dumps::Line;
 use book_dumps_reading::Dumped;
 use book_limits::LAST_NUMBER;
-use book_tables_rows::adopt_rows;
+use book_tables_rows::{GroupRow, ListsRow, PlaceRow, adopt_rows};
 use book_tables_schema::create;
 use sqlite::{Alter, Connection, Transaction, params};
 use std::alloc::Global;
 
 /// How many lines are written in one transaction.
 const PIECE: usize = 1_000;
+
+/// Writes nodes, lists and members of groups, in a transaction of its own.
+fn write_adopted<S: Alter>(
+    connection: &mut Connection<S>,
+    places: &[PlaceRow],
+    lists: &[ListsRow],
+    groups: &[GroupRow],
+) -> Result<(), RowFault> {
+    if !connection.is_autocommit() {
+        return Err(RowFault::Store);
+    }
+    let mut transaction = connection.transaction();
+    adopt_rows(&mut transaction, places, lists, groups, &[], &[])?;
+    transaction.commit()?;
+    Ok(())
+}
 
 /// Writes the resources that are no cards, with their lists and the members of groups.
 fn write_places<S: Alter>(
@@ -21,15 +37,12 @@ fn write_places<S: Alter>(
     lines: &[Line],
 ) -> Result<(), RowFault> {
     let rows = places_of(alloc, lines)?;
-    adopt_rows(
+    write_adopted(
         connection,
         rows.places.as_slice(),
         rows.lists.as_slice(),
         rows.groups.as_slice(),
-        &[],
-        &[],
-    )?;
-    Ok(())
+    )
 }
 
 /// Writes the cards among lines, and what books have beside their rows, one after another.
@@ -69,7 +82,7 @@ fn write_lists<S: Alter>(
 ) -> Result<(), RowFault> {
     let lists = lists_of(alloc, lines, true)?;
     if !lists.is_empty() {
-        adopt_rows(connection, &[], lists.as_slice(), &[], &[], &[])?;
+        write_adopted(connection, &[], lists.as_slice(), &[])?;
     }
     Ok(())
 }

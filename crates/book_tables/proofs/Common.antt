@@ -80,16 +80,18 @@ pub use Rattle.book_tables_rows.specs.Lists.{by_path}
 pub use Rattle.book_tables_rows.specs.Nodes.{number_in, text_in, said}
 pub use Rattle.book_tables_rows.specs.Rows.{Rows, has, rows_of, IsBook, in_store}
 pub use Rattle.book_tables_rows.specs.Schema.{book_schema}
-pub use Rattle.book_tables_rows.specs.Steps.{Commits, MayLeave, Stays, Looks}
+pub use Rattle.book_tables_rows.specs.Plans.{Makes}
+pub use Rattle.book_tables_rows.specs.Steps.{Stays, Looks, Keeps}
 pub use Rattle.book_tables_rows.specs.Writes.{is_at, is_gone, is_under, flag, is_entry, by_place, with_epoch, with_number, node_row}
 pub use Rattle.book_tables.specs.Adopting.{Compared, AddsLists, AddsPlaces, compared_in, AreDifferences, HasLists, HasPlace, compared_books, lists_said, members_in, place_said}
 pub use Rattle.book_tables.specs.BareOffice.{place_told, book_told}
 pub use Rattle.book_tables.specs.Children.{ShowsListing, text_above, child_shown}
-pub use Rattle.book_tables.specs.Keeps.{standing_of}
+pub use Rattle.book_tables.specs.Inside.{Inside, inside_by, inside_of, ReadsInside, EditsInside}
+pub use Rattle.book_tables.specs.Keeps.{standing_of, standing_within}
 pub use Rattle.book_tables.specs.LastChanges.{card_shown, ShowsChanges, removed_shown}
 pub use Rattle.book_tables.specs.Levels.{level_told}
 pub use Rattle.book_tables.specs.Listing.{entry_shown}
 pub use Rattle.book_tables.specs.Rows.{row_at, resource_of, list_in, resource_in, removed_from, entry_of, removed_in, is_member, entry_values}
 pub use Rattle.book_tables.specs.Settings.{entry_said}
 pub use Rattle.book_tables.specs.Shares.{DoNotFall, card_among, child_among, list_among}
-pub use Rattle.book_tables.specs.Stands.{Gives, IsRemoved, IsNode, IsEntry, StandsFor, IsParent, Stands, IsNodeAt, LeftOf}
+pub use Rattle.book_tables.specs.Stands.{IsKept, Gives, IsRemoved, IsNode, IsEntry, StandsFor, IsParent, Stands, IsNodeAt, LeftOf}

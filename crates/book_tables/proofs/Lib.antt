@@ -22,6 +22,8 @@ pub mod MovedCards
 pub mod Told
 pub mod OneValue
 pub mod Readings
+pub mod Alone
+pub mod Spoiled
 pub mod Listings
 pub mod SpelledEntries
 pub mod SaidEntries

@@ -1,8 +1,7 @@
 -- What is written where an Office takes over a policy: of its places, lists and groups those that differ.
-use Rattle.std.specs.Prelude.{◌≡◌, ◌⊎◌, ℕ, List, [], ◌∷◌, ◌++◌, map, filter, Option, Some, None, option_map, IsTrue}
+use Rattle.std.specs.Prelude.{◌≡◌, ◌⊎◌, ℕ, List, [], ◌∷◌, ◌++◌, map, filter, Option, Some, None, option_map}
 use Rattle.std.specs.FinMap.{get, entries}
 use Rattle.std.specs.Str.{bytes_eq}
-use Rattle.sqlite.specs.State.{State}
 use Rattle.book_lists.specs.Memberships.{set_of}
 use Rattle.book_lists.specs.Principals.{group_path}
 use Rattle.book_lists.specs.declared.memberships.Membership.{Membership}
@@ -107,10 +106,3 @@ pub record AreDifferences (old new : Office) (places : List Place) (lists : List
   pub after : List Membership
   pub after_is : set_of after ≡ new.pairs
   pub groups_are : AddsGroups before after (map (λ e. e.0) (entries new.groups)) [] groups
-
--- ---- where nothing differs
-
--- an open connection shows what was committed
-pub record Rests (s : State) : Type 0 where
-  pub is_open : IsTrue s.is_open
-  pub committed : s.now ≡ s.committed

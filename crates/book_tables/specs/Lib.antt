@@ -1,6 +1,7 @@
 pub mod Rows
 pub mod Stands
 pub mod Reach
+pub mod Inside
 pub mod Keeps
 pub mod Reading
 pub mod Opened

@@ -5,11 +5,10 @@ ghost use Rattle.book_limits.specs.declared.TheConstants.{LAST_NUMBER};
 ghost use Rattle.sqlite.specs.Held.{state};
 ghost use Rattle.sqlite.specs.State.{HasCleanDisk, Survives};
 ghost use Rattle.sqlite.specs.declared.types.Value.TheVariants.{Int};
-ghost use Rattle.book_office.specs.Keeping.{Reads};
 ghost use Rattle.book_office_values.specs.Changes.{first_of};
 ghost use Rattle.book_office.specs.Resources.{changed_after};
-ghost use Rattle.book_tables_rows.specs.Steps.{Keeps, Spares, Stays};
-ghost use Rattle.book_tables.specs.Keeps.{standing_of};
+ghost use Rattle.book_tables_rows.specs.Steps.{Keeps, Spares};
+ghost use Rattle.book_tables.specs.Inside.{ReadsInside, inside_of};
 ghost use Rattle.book_tables.specs.LastChanges.{ShowsCards, ShowsChanges, changed_shown, last_number, removed_shown, DoRise};
 ghost use Rattle.book_tables.specs.Shares.{DoNotFall, card_among};
 
@@ -17,13 +16,13 @@ use crate::faults::fault_of;
 use crate::reading::owner_of;
 use crate::shares::{entries_of_node, list_told};
 use crate::spans::have_no_entries;
-use crate::tables::{Tables, book_text};
+use crate::texts::book_text;
 use book_limits::LAST_NUMBER;
 use book_lists::{Entry, Name};
 use book_office::{Changed, StoreFault};
 use book_office_values::{Items, StoredCard, Text};
 use book_tables_rows::{changed_entry_rows, changed_rows, gone_rows, look_up};
-use sqlite::{Alter, Connection, Error, ErrorCode, Row, Transaction};
+use sqlite::{Alter, Error, ErrorCode, Row, Transaction};
 use std::alloc::Global;
 
 /// The name that a text is; an error where it is none.
@@ -228,30 +227,6 @@ fn changes_at<S: Alter>(
     Ok(changes)
 }
 
-/// The same, in a transaction of its own.
-fn rows_changed<S: Alter>(
-    alloc: Global,
-    connection: &mut Connection<S>,
-    path: &str,
-    number: u64,
-    at_most: Option<u32>,
-) -> Result<Vec<Changed>, Error>
-    requires { number < 2 ^ 53 }
-    ensures stays { HasCleanDisk (state S.Store connection.new)
-        → Stays (state S.Store connection.old) (state S.Store connection.new) }
-    ensures survives { Survives (state S.Store connection.old)
-        (state S.Store connection.new) (λ _. ⊥) }
-    ensures found { HasCleanDisk (state S.Store connection.new)
-        → IfOk result (λ changes. ShowsChanges
-        (state S.Store connection.old) path.now number at_most changes.items) }
-{
-    if !connection.is_autocommit() {
-        return Err(Error::SqliteFailure(ErrorCode::TransactionState));
-    }
-    let mut transaction = connection.transaction();
-    changes_at(alloc, &mut transaction, path, number, at_most)
-}
-
 /// The changes in order of their numbers; an error where two have one number.
 pub(crate) fn in_order(changes: Vec<Changed>) -> Result<Items<Changed>, Error>
     ensures kept { IfOk result (λ ordered. IsPermutation changes.items ordered) }
@@ -279,22 +254,25 @@ pub(crate) fn first_of(changes: Items<Changed>, at_most: Option<u32>) -> Items<C
 /// The changes of `changes_at`, in order of number.
 fn shown_changes<S: Alter>(
     alloc: Global,
-    connection: &mut Connection<S>,
+    transaction: &mut Transaction<'_, S>,
     path: &str,
     number: u64,
     at_most: Option<u32>,
 ) -> Result<Items<Changed>, Error>
     requires { number < 2 ^ 53 }
-    ensures stays { HasCleanDisk (state S.Store connection.new)
-        → Stays (state S.Store connection.old) (state S.Store connection.new) }
-    ensures survives { Survives (state S.Store connection.old)
-        (state S.Store connection.new) (λ _. ⊥) }
-    ensures found { HasCleanDisk (state S.Store connection.new)
+    ensures same_reference { transaction.new.conn.ghost_name ≡ transaction.old.conn.ghost_name }
+    ensures survives { Survives (state S.Store transaction.old.conn.now)
+        (state S.Store transaction.new.conn.now) (λ _. ⊥) }
+    ensures kept { Keeps (state S.Store transaction.old.conn.now)
+        (state S.Store transaction.new.conn.now) }
+    ensures stays { Spares (state S.Store transaction.old.conn.now)
+        (state S.Store transaction.new.conn.now) result }
+    ensures found { HasCleanDisk (state S.Store transaction.new.conn.now)
         → IfOk result (λ changes. ShowsChanges
-        (state S.Store connection.old) path.now number at_most changes) }
+        (state S.Store transaction.old.conn.now) path.now number at_most changes) }
     ensures rise { IfOk result (λ changes. DoRise changes) }
 {
-    let changes = rows_changed(alloc, connection, path, number, at_most)?;
+    let changes = changes_at(alloc, transaction, path, number, at_most)?;
     in_order(changes)
 }
 
@@ -305,29 +283,29 @@ pub(crate) fn up_to_last(number: u64) -> u64
     number.min(LAST_NUMBER)
 }
 
-impl<S: Alter> Tables<S> {
-    /// The last changes of a book above a number, in order of number, each with the card that has the name; none where
-    /// there is no such book. `Memory` is want of memory, `Store` any other failure of the store.
-    ///
-    /// Where a most is given, these are the first so many changes. It reads up to so many cards and so many removed names
-    /// in order of their numbers, and the lists of those cards by one look-up, whatever else stands in the book.
-    pub fn changes_after(
-        &mut self,
-        alloc: Global,
-        book: &Name,
-        number: u64,
-        at_most: Option<u32>,
-    ) -> Result<Items<Changed>, StoreFault>
-        ensures { Reads (standing_of (state S.Store self.old.connection) self.old.failures)
-            (standing_of (state S.Store self.new.connection) self.new.failures) result
-            (λ o changes. changes ≡ first_of at_most (changed_after o book.now number)) }
-    {
-        book.known();
-        let path = book_text(alloc, book)?;
-        let after = up_to_last(number);
-        match shown_changes(alloc, &mut self.connection, path.as_str(), after, at_most) {
-            Ok(changes) => Ok(first_of(changes, at_most)),
-            Err(error) => Err(fault_of(error, &mut self.failures)),
-        }
+/// The last changes of a book above a number, in order of number, each with the card that has the name; none where
+/// there is no such book. `Memory` is want of memory, `Store` any other failure of the store.
+///
+/// Where a most is given, these are the first so many changes. It reads up to so many cards and so many removed names
+/// in order of their numbers, and the lists of those cards by one look-up, whatever else stands in the book.
+pub(crate) fn changes_after<S: Alter>(
+    alloc: Global,
+    transaction: &mut Transaction<'_, S>,
+    failures: &mut u64,
+    book: &Name,
+    number: u64,
+    at_most: Option<u32>,
+) -> Result<Items<Changed>, StoreFault>
+    ensures same_reference { transaction.new.conn.ghost_name ≡ transaction.old.conn.ghost_name }
+    ensures reads { ReadsInside (inside_of (state S.Store transaction.old.conn.now) failures.old)
+        (inside_of (state S.Store transaction.new.conn.now) failures.new) result
+        (λ o changes. changes ≡ first_of at_most (changed_after o book.now number)) }
+{
+    book.known();
+    let path = book_text(alloc, book)?;
+    let after = up_to_last(number);
+    match shown_changes(alloc, transaction, path.as_str(), after, at_most) {
+        Ok(changes) => Ok(first_of(changes, at_most)),
+        Err(error) => Err(fault_of(error, failures)),
     }
 }

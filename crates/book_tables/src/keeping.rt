@@ -1,5 +1,15 @@
-//! The keeper of an Office over tables.
+//! The keeper of an Office over tables: each call is a transaction of its own.
 
+use crate::bare_office::adoption;
+use crate::card_changes::cards_after;
+use crate::changes::changes_after;
+use crate::edits::act;
+use crate::faults::{counted, fault_of};
+use crate::group_members::members;
+use crate::levels::{level, lists};
+use crate::listing_rows::{children, count};
+use crate::members::{circle, pairs};
+use crate::reading::{epoch, find};
 use crate::tables::Tables;
 use book_lists::{Caller, Circle, Name, Pairs, Principal};
 use book_office::{Changed, Edit, Keeper, Level, Listed, Lists, Node, StoreFault};
@@ -16,23 +26,43 @@ impl<S: Alter> Keeper for Tables<S> {
     ghost standing = { λ k. standing_of (state S.Store k.connection) k.failures };
 
     fn find(&mut self, alloc: Global, path: &Path) -> Result<Option<Node>, StoreFault> {
-        Tables::find(self, alloc, path)
+        if !self.connection.is_autocommit() {
+            return Err(counted(StoreFault::Store, &mut self.failures));
+        }
+        let mut transaction = self.connection.transaction();
+        find(alloc, &mut transaction, &mut self.failures, path)
     }
 
     fn children(&mut self, alloc: Global, path: &Path) -> Result<Items<Listed>, StoreFault> {
-        Tables::children(self, alloc, path)
+        if !self.connection.is_autocommit() {
+            return Err(counted(StoreFault::Store, &mut self.failures));
+        }
+        let mut transaction = self.connection.transaction();
+        children(alloc, &mut transaction, &mut self.failures, path)
     }
 
     fn count(&mut self, alloc: Global, path: &Path) -> Result<usize, StoreFault> {
-        Tables::count(self, alloc, path)
+        if !self.connection.is_autocommit() {
+            return Err(counted(StoreFault::Store, &mut self.failures));
+        }
+        let mut transaction = self.connection.transaction();
+        count(alloc, &mut transaction, &mut self.failures, path)
     }
 
     fn lists(&mut self, alloc: Global, path: &Path) -> Result<Lists, StoreFault> {
-        Tables::lists(self, alloc, path)
+        if !self.connection.is_autocommit() {
+            return Err(counted(StoreFault::Store, &mut self.failures));
+        }
+        let mut transaction = self.connection.transaction();
+        lists(alloc, &mut transaction, &mut self.failures, path)
     }
 
     fn level(&mut self, alloc: Global, path: &Path) -> Result<Level, StoreFault> {
-        Tables::level(self, alloc, path)
+        if !self.connection.is_autocommit() {
+            return Err(counted(StoreFault::Store, &mut self.failures));
+        }
+        let mut transaction = self.connection.transaction();
+        level(alloc, &mut transaction, &mut self.failures, path)
     }
 
     fn changes_after(
@@ -42,7 +72,18 @@ impl<S: Alter> Keeper for Tables<S> {
         number: u64,
         at_most: Option<u32>,
     ) -> Result<Items<Changed>, StoreFault> {
-        Tables::changes_after(self, alloc, book, number, at_most)
+        if !self.connection.is_autocommit() {
+            return Err(counted(StoreFault::Store, &mut self.failures));
+        }
+        let mut transaction = self.connection.transaction();
+        changes_after(
+            alloc,
+            &mut transaction,
+            &mut self.failures,
+            book,
+            number,
+            at_most,
+        )
     }
 
     fn cards_after(
@@ -52,61 +93,73 @@ impl<S: Alter> Keeper for Tables<S> {
         number: u64,
         at_most: Option<u32>,
     ) -> Result<Items<Changed>, StoreFault> {
-        Tables::cards_after(self, alloc, book, number, at_most)
+        if !self.connection.is_autocommit() {
+            return Err(counted(StoreFault::Store, &mut self.failures));
+        }
+        let mut transaction = self.connection.transaction();
+        cards_after(
+            alloc,
+            &mut transaction,
+            &mut self.failures,
+            book,
+            number,
+            at_most,
+        )
     }
 
     fn members(&mut self, alloc: Global, group: &Principal) -> Result<Pairs, StoreFault> {
-        Tables::members(self, alloc, group)
+        if !self.connection.is_autocommit() {
+            return Err(counted(StoreFault::Store, &mut self.failures));
+        }
+        let mut transaction = self.connection.transaction();
+        members(alloc, &mut transaction, &mut self.failures, group)
     }
 
     fn pairs(&mut self, alloc: Global) -> Result<Pairs, StoreFault> {
-        Tables::pairs(self, alloc)
+        if !self.connection.is_autocommit() {
+            return Err(counted(StoreFault::Store, &mut self.failures));
+        }
+        let mut transaction = self.connection.transaction();
+        pairs(alloc, &mut transaction, &mut self.failures)
     }
 
     fn circle(&mut self, alloc: Global, caller: &Caller) -> Result<Circle, StoreFault> {
-        Tables::circle(self, alloc, caller)
+        if !self.connection.is_autocommit() {
+            return Err(counted(StoreFault::Store, &mut self.failures));
+        }
+        let mut transaction = self.connection.transaction();
+        circle(alloc, &mut transaction, &mut self.failures, caller)
     }
 
     fn epoch(&mut self) -> Result<u64, StoreFault> {
-        Tables::epoch(self)
+        if !self.connection.is_autocommit() {
+            return Err(counted(StoreFault::Store, &mut self.failures));
+        }
+        let mut transaction = self.connection.transaction();
+        epoch(&mut transaction, &mut self.failures)
     }
 
     fn adoption(&mut self, alloc: Global, policy: &Policy) -> Result<Adoption, StoreFault> {
-        Tables::adoption(self, alloc, policy)
+        if !self.connection.is_autocommit() {
+            return Err(counted(StoreFault::Store, &mut self.failures));
+        }
+        let mut transaction = self.connection.transaction();
+        adoption(alloc, &mut transaction, &mut self.failures, policy)
     }
 
     fn failures(&self) -> u64 {
-        Tables::failures(self)
+        self.failures
     }
 
     fn act(&mut self, alloc: Global, edit: &Edit) -> Result<(), StoreFault> {
-        match edit {
-            Edit::PutCard {
-                book,
-                card,
-                owner,
-                text,
-            } => self.put_card(alloc, book, card, owner, text),
-            Edit::RemoveCard { book, card } => self.remove_card(alloc, book, card),
-            Edit::CopyCard {
-                from_book,
-                from_card,
-                to_book,
-                to_card,
-                owner,
-            } => self.copy_card(alloc, from_book, from_card, to_book, to_card, owner),
-            Edit::MoveCard {
-                from_book,
-                from_card,
-                to_book,
-                to_card,
-            } => self.move_card(alloc, from_book, from_card, to_book, to_card),
-            Edit::AddBook { book, owner } => self.add_book(alloc, book, owner),
-            Edit::RemoveBook { book } => self.remove_book(alloc, book),
-            Edit::SetLabel { path, label } => self.set_label(alloc, path, label),
-            Edit::SetList { path, entries } => self.set_list(alloc, path, entries),
-            Edit::SetMembers { group, members } => self.set_members(alloc, group, members),
-            Edit::Adopt { policy } => self.adopt(alloc, policy),
+        if !self.connection.is_autocommit() {
+            return Err(counted(StoreFault::Store, &mut self.failures));
+        }
+        let mut transaction = self.connection.transaction();
+        act(alloc, &mut transaction, &mut self.failures, edit)?;
+        match transaction.commit() {
+            Ok(()) => Ok(()),
+            Err(error) => Err(fault_of(error, &mut self.failures)),
         }
     }
 }

@@ -3,21 +3,19 @@
 ghost use Rattle.std.specs.Prelude.{◌≡◌, ◌++◌, [], ◌∷◌, IfOk, OnOk};
 ghost use Rattle.sqlite.specs.Held.{state};
 ghost use Rattle.sqlite.specs.State.{HasCleanDisk, Survives};
-ghost use Rattle.book_office.specs.Keeping.{Reads};
 ghost use Rattle.book_office.specs.Levels.{level_at, lists_at};
 ghost use Rattle.book_office.specs.declared.nodes.Level.{Level as LevelTold};
-ghost use Rattle.book_tables_rows.specs.Steps.{Keeps, Spares, Stays};
-ghost use Rattle.book_tables.specs.Keeps.{standing_of};
+ghost use Rattle.book_tables_rows.specs.Steps.{Keeps, Spares};
+ghost use Rattle.book_tables.specs.Inside.{ReadsInside, inside_of};
 ghost use Rattle.book_tables.specs.Levels.{ShowsLevel, ShowsLists};
 
 use crate::faults::fault_of;
 use crate::shares::list_told;
-use crate::tables::Tables;
 use book_lists::Entry;
 use book_office::{Level, Lists, StoreFault};
 use book_office_values::{Items, Path};
 use book_tables_rows::entry_rows_at;
-use sqlite::{Alter, Connection, Error, ErrorCode, Transaction};
+use sqlite::{Alter, Error, Transaction};
 use std::alloc::{AllocError, Global};
 
 /// The protected and the own list at a path, empty where no row has it.
@@ -127,73 +125,43 @@ fn copy_of(path: &Path) -> Result<Path, AllocError>
     path.clone()
 }
 
-/// Both lists at a path, in a transaction of its own.
-fn shown_level<S: Alter>(
+/// The lists that stand at a path itself; those of a path that is not mapped are empty. One statement. `Memory` is want
+/// of memory, `Store` any other failure of the store.
+pub(crate) fn level<S: Alter>(
     alloc: Global,
-    connection: &mut Connection<S>,
+    transaction: &mut Transaction<'_, S>,
+    failures: &mut u64,
     path: &Path,
-) -> Result<Level, Error>
-    ensures stays { HasCleanDisk (state S.Store connection.new)
-        → Stays (state S.Store connection.old) (state S.Store connection.new) }
-    ensures survives { Survives (state S.Store connection.old)
-        (state S.Store connection.new) (λ _. ⊥) }
-    ensures found { HasCleanDisk (state S.Store connection.new)
-        → IfOk result (λ level. ShowsLevel (state S.Store connection.old) path.now level) }
+) -> Result<Level, StoreFault>
+    ensures same_reference { transaction.new.conn.ghost_name ≡ transaction.old.conn.ghost_name }
+    ensures reads { ReadsInside (inside_of (state S.Store transaction.old.conn.now) failures.old)
+        (inside_of (state S.Store transaction.new.conn.now) failures.new) result
+        (λ o level. level ≡ level_at o path.now) }
 {
-    if !connection.is_autocommit() {
-        return Err(Error::SqliteFailure(ErrorCode::TransactionState));
+    path.known();
+    let copy = copy_of(path)?;
+    match level_of(alloc, transaction, copy) {
+        Ok(level) => Ok(level),
+        Err(error) => Err(fault_of(error, failures)),
     }
-    let path = copy_of(path)?;
-    let mut transaction = connection.transaction();
-    level_of(alloc, &mut transaction, path)
 }
 
-/// The lists at a path and at each path above it, in a transaction of their own.
-fn shown_lists<S: Alter>(
+/// The lists of the resource at a path and of each ancestor; the lists of a path that is not mapped are empty. One
+/// statement for each. `Memory` is want of memory, `Store` any other failure of the store.
+pub(crate) fn lists<S: Alter>(
     alloc: Global,
-    connection: &mut Connection<S>,
+    transaction: &mut Transaction<'_, S>,
+    failures: &mut u64,
     path: &Path,
-) -> Result<Lists, Error>
-    ensures stays { HasCleanDisk (state S.Store connection.new)
-        → Stays (state S.Store connection.old) (state S.Store connection.new) }
-    ensures survives { Survives (state S.Store connection.old)
-        (state S.Store connection.new) (λ _. ⊥) }
-    ensures found { HasCleanDisk (state S.Store connection.new)
-        → IfOk result (λ lists. ShowsLists (state S.Store connection.old) path.now lists) }
+) -> Result<Lists, StoreFault>
+    ensures same_reference { transaction.new.conn.ghost_name ≡ transaction.old.conn.ghost_name }
+    ensures reads { ReadsInside (inside_of (state S.Store transaction.old.conn.now) failures.old)
+        (inside_of (state S.Store transaction.new.conn.now) failures.new) result
+        (λ o lists. lists ≡ lists_at o path.now) }
 {
-    if !connection.is_autocommit() {
-        return Err(Error::SqliteFailure(ErrorCode::TransactionState));
-    }
-    let mut transaction = connection.transaction();
-    levels_of(alloc, &mut transaction, path)
-}
-
-impl<S: Alter> Tables<S> {
-    /// The lists that stand at a path itself; those of a path that is not mapped are empty. One statement. `Memory` is want
-    /// of memory, `Store` any other failure of the store.
-    pub fn level(&mut self, alloc: Global, path: &Path) -> Result<Level, StoreFault>
-        ensures { Reads (standing_of (state S.Store self.old.connection) self.old.failures)
-            (standing_of (state S.Store self.new.connection) self.new.failures) result
-            (λ o level. level ≡ level_at o path.now) }
-    {
-        path.known();
-        match shown_level(alloc, &mut self.connection, path) {
-            Ok(level) => Ok(level),
-            Err(error) => Err(fault_of(error, &mut self.failures)),
-        }
-    }
-
-    /// The lists of the resource at a path and of each ancestor; the lists of a path that is not mapped are empty. One
-    /// statement for each. `Memory` is want of memory, `Store` any other failure of the store.
-    pub fn lists(&mut self, alloc: Global, path: &Path) -> Result<Lists, StoreFault>
-        ensures { Reads (standing_of (state S.Store self.old.connection) self.old.failures)
-            (standing_of (state S.Store self.new.connection) self.new.failures) result
-            (λ o lists. lists ≡ lists_at o path.now) }
-    {
-        path.known();
-        match shown_lists(alloc, &mut self.connection, path) {
-            Ok(lists) => Ok(lists),
-            Err(error) => Err(fault_of(error, &mut self.failures)),
-        }
+    path.known();
+    match levels_of(alloc, transaction, path) {
+        Ok(lists) => Ok(lists),
+        Err(error) => Err(fault_of(error, failures)),
     }
 }

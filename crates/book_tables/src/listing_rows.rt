@@ -4,12 +4,10 @@ ghost use Rattle.std.specs.Prelude.{◌≡◌, List, IfOk, map};
 ghost use Rattle.sqlite.specs.Held.{state};
 ghost use Rattle.sqlite.specs.State.{HasCleanDisk, Survives};
 ghost use Rattle.book_lists.specs.declared.entries.Entry.{Entry as EntryTold};
-ghost use Rattle.book_office.specs.Keeping.{Reads};
 ghost use Rattle.book_office.specs.Resources.{children_at, count_at};
 ghost use Rattle.book_office_values.specs.Paths.{path_text};
-ghost use Rattle.book_tables_rows.specs.Lists.{ShowsCount};
-ghost use Rattle.book_tables_rows.specs.Steps.{Keeps, Spares, Stays};
-ghost use Rattle.book_tables.specs.Keeps.{standing_of};
+ghost use Rattle.book_tables_rows.specs.Steps.{Keeps, Spares};
+ghost use Rattle.book_tables.specs.Inside.{ReadsInside, inside_of};
 ghost use Rattle.book_tables.specs.Children.{ShowsChildCount, ShowsChildrenOf, ShowsListing, listed_shown, text_above};
 ghost use Rattle.book_tables.specs.Shares.{DoNotFall, child_among};
 
@@ -18,48 +16,16 @@ use crate::faults::fault_of;
 use crate::reading::{kind_of, owner_of};
 use crate::shares::{entries_of_node, list_told};
 use crate::spans::have_no_entries;
-use crate::tables::{Tables, text_of};
+use crate::texts::text_of;
 use book_lists::{Entry, Name, Principal};
 use book_office::{Listed, StoreFault};
 use book_office_values::{Items, Kind, Path, Text};
 use book_tables_rows::{child_entry_rows, child_rows, count_children, look_up};
-use sqlite::{Alter, Connection, Error, ErrorCode, Row, Transaction};
+use sqlite::{Alter, Error, ErrorCode, Row, Transaction};
 use std::alloc::{AllocError, Global};
 
 /// The count at which SQL stops.
 const COUNT_END: u64 = 9_223_372_036_854_775_807;
-
-/// How many children the node at a path has, counted in a transaction of its own.
-fn rows_counted<S: Alter>(connection: &mut Connection<S>, path: &str) -> Result<u64, Error>
-    ensures stays { HasCleanDisk (state S.Store connection.new)
-        → Stays (state S.Store connection.old) (state S.Store connection.new) }
-    ensures survives { Survives (state S.Store connection.old)
-        (state S.Store connection.new) (λ _. ⊥) }
-    ensures counted { HasCleanDisk (state S.Store connection.new)
-        → IfOk result (λ count. ShowsCount (state S.Store connection.old) path.now count) }
-{
-    if !connection.is_autocommit() {
-        return Err(Error::SqliteFailure(ErrorCode::TransactionState));
-    }
-    let mut transaction = connection.transaction();
-    count_children(&mut transaction, path)
-}
-
-/// How many children the resource at a path has; an error where there are more than SQL counts.
-fn shown_count<S: Alter>(connection: &mut Connection<S>, path: &str) -> Result<usize, Error>
-    ensures stays { HasCleanDisk (state S.Store connection.new)
-        → Stays (state S.Store connection.old) (state S.Store connection.new) }
-    ensures survives { Survives (state S.Store connection.old)
-        (state S.Store connection.new) (λ _. ⊥) }
-    ensures counted { HasCleanDisk (state S.Store connection.new)
-        → IfOk result (λ count. ShowsChildCount (state S.Store connection.old) path.now count) }
-{
-    let count = rows_counted(connection, path)?;
-    if count >= COUNT_END {
-        return Err(Error::SqliteFailure(ErrorCode::IntegerOverflow));
-    }
-    Ok(count as usize)
-}
 
 /// What the texts of the paths right below a path begin with: its text and a slash, for the root a slash alone.
 fn text_before(alloc: Global, path: &Path) -> Result<Text, AllocError>
@@ -242,58 +208,65 @@ fn listing_at<S: Alter>(
     children_told(alloc, transaction, id, front, &rows)
 }
 
-/// The same, in a transaction of its own.
-fn shown_listing<S: Alter>(
-    alloc: Global,
-    connection: &mut Connection<S>,
-    path: &str,
-    front: &str,
-) -> Result<Vec<Listed>, Error>
-    ensures stays { HasCleanDisk (state S.Store connection.new)
-        → Stays (state S.Store connection.old) (state S.Store connection.new) }
-    ensures survives { Survives (state S.Store connection.old)
-        (state S.Store connection.new) (λ _. ⊥) }
-    ensures found { HasCleanDisk (state S.Store connection.new)
-        → IfOk result (λ children. ShowsListing
-        (state S.Store connection.old) path.now front.now children.items) }
+/// How many children the resource at a path has; an error where there are more than SQL counts.
+fn shown_count<S: Alter>(transaction: &mut Transaction<'_, S>, path: &str) -> Result<usize, Error>
+    ensures same_reference { transaction.new.conn.ghost_name ≡ transaction.old.conn.ghost_name }
+    ensures survives { Survives (state S.Store transaction.old.conn.now)
+        (state S.Store transaction.new.conn.now) (λ _. ⊥) }
+    ensures kept { Keeps (state S.Store transaction.old.conn.now)
+        (state S.Store transaction.new.conn.now) }
+    ensures stays { Spares (state S.Store transaction.old.conn.now)
+        (state S.Store transaction.new.conn.now) result }
+    ensures counted { HasCleanDisk (state S.Store transaction.new.conn.now)
+        → IfOk result (λ count. ShowsChildCount (state S.Store transaction.old.conn.now) path.now count) }
 {
-    if !connection.is_autocommit() {
-        return Err(Error::SqliteFailure(ErrorCode::TransactionState));
+    let count = count_children(transaction, path)?;
+    if count >= COUNT_END {
+        return Err(Error::SqliteFailure(ErrorCode::IntegerOverflow));
     }
-    let mut transaction = connection.transaction();
-    listing_at(alloc, &mut transaction, path, front)
+    Ok(count as usize)
 }
 
-impl<S: Alter> Tables<S> {
-    /// The children of a resource, in byte order of their names; none where none is mapped. At most four
-    /// statements, however many there are: their entries are not looked up where more than eight have none. `Memory` is
-    /// want of memory, `Store` any other failure of the store.
-    pub fn children(&mut self, alloc: Global, path: &Path) -> Result<Items<Listed>, StoreFault>
-        ensures { Reads (standing_of (state S.Store self.old.connection) self.old.failures)
-            (standing_of (state S.Store self.new.connection) self.new.failures) result
-            (λ o children. children ≡ children_at o path.now) }
-    {
-        path.known();
-        let text = text_of(alloc, path)?;
-        let front = text_before(alloc, path)?;
-        match shown_listing(alloc, &mut self.connection, text.as_str(), front.as_str()) {
-            Ok(children) => Ok(Items::from_vec(children)),
-            Err(error) => Err(fault_of(error, &mut self.failures)),
-        }
+/// The children of a resource, in byte order of their names; none where none is mapped. At most four
+/// statements, however many there are: their entries are not looked up where more than eight have none. `Memory` is
+/// want of memory, `Store` any other failure of the store.
+pub(crate) fn children<S: Alter>(
+    alloc: Global,
+    transaction: &mut Transaction<'_, S>,
+    failures: &mut u64,
+    path: &Path,
+) -> Result<Items<Listed>, StoreFault>
+    ensures same_reference { transaction.new.conn.ghost_name ≡ transaction.old.conn.ghost_name }
+    ensures reads { ReadsInside (inside_of (state S.Store transaction.old.conn.now) failures.old)
+        (inside_of (state S.Store transaction.new.conn.now) failures.new) result
+        (λ o children. children ≡ children_at o path.now) }
+{
+    path.known();
+    let text = text_of(alloc, path)?;
+    let front = text_before(alloc, path)?;
+    match listing_at(alloc, transaction, text.as_str(), front.as_str()) {
+        Ok(children) => Ok(Items::from_vec(children)),
+        Err(error) => Err(fault_of(error, failures)),
     }
+}
 
-    /// How many children a path has; 0 where none is mapped there. It walks the index of the children. `Memory` is want
-    /// of memory, `Store` any other failure of the store.
-    pub fn count(&mut self, alloc: Global, path: &Path) -> Result<usize, StoreFault>
-        ensures { Reads (standing_of (state S.Store self.old.connection) self.old.failures)
-            (standing_of (state S.Store self.new.connection) self.new.failures) result
-            (λ o count. count ≡ count_at o path.now) }
-    {
-        path.known();
-        let text = text_of(alloc, path)?;
-        match shown_count(&mut self.connection, text.as_str()) {
-            Ok(count) => Ok(count),
-            Err(error) => Err(fault_of(error, &mut self.failures)),
-        }
+/// How many children a path has; 0 where none is mapped there. It walks the index of the children. `Memory` is want
+/// of memory, `Store` any other failure of the store.
+pub(crate) fn count<S: Alter>(
+    alloc: Global,
+    transaction: &mut Transaction<'_, S>,
+    failures: &mut u64,
+    path: &Path,
+) -> Result<usize, StoreFault>
+    ensures same_reference { transaction.new.conn.ghost_name ≡ transaction.old.conn.ghost_name }
+    ensures reads { ReadsInside (inside_of (state S.Store transaction.old.conn.now) failures.old)
+        (inside_of (state S.Store transaction.new.conn.now) failures.new) result
+        (λ o count. count ≡ count_at o path.now) }
+{
+    path.known();
+    let text = text_of(alloc, path)?;
+    match shown_count(transaction, text.as_str()) {
+        Ok(count) => Ok(count),
+        Err(error) => Err(fault_of(error, failures)),
     }
 }

@@ -4,7 +4,7 @@ ghost use Rattle.std.specs.Prelude.{◌≡◌, ◌&&◌, ◌++◌, ℕ, List, []
 ghost use Rattle.std.specs.FinSet as set;
 ghost use Rattle.book_lists.specs.Circles.{has_path};
 ghost use Rattle.book_office.specs.Edits.{members_set};
-ghost use Rattle.book_office.specs.Keeping.{Reads, Standing};
+ghost use Rattle.book_tables.specs.Inside.{Inside, ReadsInside};
 ghost use Rattle.book_tables.specs.Nearby.{AreChanged, GoesOn, HasNearby, IsBelow, PushesChanged};
 ghost use Rattle.book_tables.specs.Searching.{ArePairsAt, HasSearched};
 ghost use Rattle.book_tables.specs.declared.searching.Way.TheVariants.{Up};
@@ -19,16 +19,16 @@ const MOST_STEPS: u32 = 4_000;
 
 /// What tells direct members.
 pub(crate) trait Directs {
-    ghost standing: { Self → Standing };
+    ghost inside: { Self → Inside };
 
     /// The pairs of one group, or of one member: one look-up.
     fn look(&mut self, alloc: Global, way: Way, at: &Principal) -> Result<Pairs, StoreFault>
-        ensures { Reads (standing self.old) (standing self.new) result
+        ensures { ReadsInside (inside self.old) (inside self.new) result
             (λ o pairs. ArePairsAt o.pairs way at.now pairs) };
 
     /// All pairs.
     fn all(&mut self, alloc: Global) -> Result<Pairs, StoreFault>
-        ensures { Reads (standing self.old) (standing self.new) result
+        ensures { ReadsInside (inside self.old) (inside self.new) result
             (λ o pairs. pairs ≡ o.pairs) };
 }
 
@@ -102,7 +102,7 @@ fn step<D: Directs>(
     way: Way,
     search: &mut Search,
 ) -> Result<bool, StoreFault>
-    ensures { Reads (D.standing directs.old) (D.standing directs.new) result
+    ensures { ReadsInside (D.inside directs.old) (D.inside directs.new) result
         (λ o more. GoesOn o.pairs way search.old search.new more) }
 {
     let Some(next) = search.work.pop() else {
@@ -123,7 +123,7 @@ fn search<D: Directs>(
     way: Way,
     starts: Vec<Principal>,
 ) -> Result<Option<Search>, StoreFault>
-    ensures { Reads (D.standing directs.old) (D.standing directs.new) result
+    ensures { ReadsInside (D.inside directs.old) (D.inside directs.new) result
         (λ o found. IfSome found (HasSearched o.pairs way starts.items)) }
 {
     let mut search = Search::new(alloc, starts);
@@ -143,7 +143,7 @@ fn starts<D: Directs>(
     group: &Principal,
     members: &[Principal],
 ) -> Result<Vec<Principal>, StoreFault>
-    ensures { Reads (D.standing directs.old) (D.standing directs.new) result
+    ensures { ReadsInside (D.inside directs.old) (D.inside directs.new) result
         (λ o starts. AreChanged o.pairs (members_set o.pairs group.now members.now)
         (has_path starts.items)) }
 {
@@ -158,7 +158,7 @@ fn below<D: Directs>(
     group: &Principal,
     members: &[Principal],
 ) -> Result<Option<Vec<Principal>>, StoreFault>
-    ensures { Reads (D.standing directs.old) (D.standing directs.new) result
+    ensures { ReadsInside (D.inside directs.old) (D.inside directs.new) result
         (λ o below. IfSome below (λ b. IsBelow o.pairs
         (members_set o.pairs group.now members.now) (has_path b.items))) }
 {
@@ -177,7 +177,7 @@ fn search_up<D: Directs>(
     below: Vec<Principal>,
     group: &Principal,
 ) -> Result<Option<Search>, StoreFault>
-    ensures { Reads (D.standing directs.old) (D.standing directs.new) result
+    ensures { ReadsInside (D.inside directs.old) (D.inside directs.new) result
         (λ o found. IfSome found (HasSearched o.pairs Up (below.items ++ group.now ∷ []))) }
 {
     let starts = and_one(below, group)?;
@@ -191,7 +191,7 @@ pub(crate) fn near<D: Directs>(
     group: &Principal,
     members: &[Principal],
 ) -> Result<Option<Search>, StoreFault>
-    ensures { Reads (D.standing directs.old) (D.standing directs.new) result
+    ensures { ReadsInside (D.inside directs.old) (D.inside directs.new) result
         (λ o near. IfSome near (HasNearby o.pairs group.now members.now)) }
 {
     let found = below(alloc, directs, group, members)?;

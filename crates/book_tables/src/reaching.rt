@@ -6,15 +6,13 @@ ghost use Rattle.sqlite.specs.Held.{state};
 ghost use Rattle.sqlite.specs.State.{HasCleanDisk, Survives};
 ghost use Rattle.book_lists.specs.Principals.{IsGroup};
 ghost use Rattle.book_lists.specs.declared.circles.Caller.TheVariants.{Known};
-ghost use Rattle.book_tables_rows.specs.Lists.{ShowsRows};
-ghost use Rattle.book_tables_rows.specs.Reach.{reached_of};
-ghost use Rattle.book_tables_rows.specs.Steps.{Stays};
+ghost use Rattle.book_tables_rows.specs.Steps.{Keeps, Spares, Stays};
 ghost use Rattle.book_tables.specs.Reach.{AddsTold, AreGroupsTold, ShowsCircle, reached_group, tells_group};
 
 use book_lists::{Caller, Circle, Name, Principal};
 use book_office::StoreFault;
 use book_tables_rows::reached_rows;
-use sqlite::{Alter, Connection, Error, ErrorCode, Row};
+use sqlite::{Alter, Connection, Error, ErrorCode, Row, Transaction};
 use std::alloc::Global;
 
 /// What follows the home of the groups, if the text begins with it.
@@ -74,59 +72,48 @@ fn groups_of(alloc: Global, rows: &[Row]) -> Result<Vec<Principal>, Error>
     Ok(groups)
 }
 
-/// The rows of `reach` with a member, read in a transaction of its own.
-fn shown_reached<S: Alter>(connection: &mut Connection<S>, member: &str) -> Result<Vec<Row>, Error>
-    ensures stays { HasCleanDisk (state S.Store connection.new)
-        → Stays (state S.Store connection.old) (state S.Store connection.new) }
-    ensures survives { Survives (state S.Store connection.old)
-        (state S.Store connection.new) (λ _. ⊥) }
-    ensures found { HasCleanDisk (state S.Store connection.new)
-        → IfOk result (λ rows. ShowsRows (state S.Store connection.old)
-        (reached_of member.now) rows.items) }
-{
-    if !connection.is_autocommit() {
-        return Err(Error::SqliteFailure(ErrorCode::TransactionState));
-    }
-    let mut transaction = connection.transaction();
-    reached_rows(&mut transaction, member)
-}
-
 /// The circle of a person: the person and the groups that rows of `reach` pair with it.
 fn circle_of<S: Alter>(
     alloc: Global,
-    connection: &mut Connection<S>,
+    transaction: &mut Transaction<'_, S>,
     caller: &Caller,
     person: &Principal,
 ) -> Result<Circle, Error>
     requires { caller.now ≡ Known person.now }
-    ensures stays { HasCleanDisk (state S.Store connection.new)
-        → Stays (state S.Store connection.old) (state S.Store connection.new) }
-    ensures survives { Survives (state S.Store connection.old)
-        (state S.Store connection.new) (λ _. ⊥) }
-    ensures shown { HasCleanDisk (state S.Store connection.new)
-        → IfOk result (λ circle. ShowsCircle (state S.Store connection.old) caller.now circle) }
+    ensures same_reference { transaction.new.conn.ghost_name ≡ transaction.old.conn.ghost_name }
+    ensures survives { Survives (state S.Store transaction.old.conn.now)
+        (state S.Store transaction.new.conn.now) (λ _. ⊥) }
+    ensures kept { Keeps (state S.Store transaction.old.conn.now)
+        (state S.Store transaction.new.conn.now) }
+    ensures stays { Spares (state S.Store transaction.old.conn.now)
+        (state S.Store transaction.new.conn.now) result }
+    ensures shown { HasCleanDisk (state S.Store transaction.new.conn.now)
+        → IfOk result (λ circle. ShowsCircle (state S.Store transaction.old.conn.now) caller.now circle) }
 {
-    let rows = shown_reached(connection, person.text())?;
+    let rows = reached_rows(transaction, person.text())?;
     let groups = groups_of(alloc, &rows)?;
     Ok(Circle::of(alloc, caller, groups)?)
 }
 
 /// The circle of a caller.
-fn shown_circle<S: Alter>(
+pub(crate) fn shown_circle<S: Alter>(
     alloc: Global,
-    connection: &mut Connection<S>,
+    transaction: &mut Transaction<'_, S>,
     caller: &Caller,
 ) -> Result<Circle, Error>
-    ensures stays { HasCleanDisk (state S.Store connection.new)
-        → Stays (state S.Store connection.old) (state S.Store connection.new) }
-    ensures survives { Survives (state S.Store connection.old)
-        (state S.Store connection.new) (λ _. ⊥) }
-    ensures shown { HasCleanDisk (state S.Store connection.new)
-        → IfOk result (λ circle. ShowsCircle (state S.Store connection.old) caller.now circle) }
+    ensures same_reference { transaction.new.conn.ghost_name ≡ transaction.old.conn.ghost_name }
+    ensures survives { Survives (state S.Store transaction.old.conn.now)
+        (state S.Store transaction.new.conn.now) (λ _. ⊥) }
+    ensures kept { Keeps (state S.Store transaction.old.conn.now)
+        (state S.Store transaction.new.conn.now) }
+    ensures stays { Spares (state S.Store transaction.old.conn.now)
+        (state S.Store transaction.new.conn.now) result }
+    ensures shown { HasCleanDisk (state S.Store transaction.new.conn.now)
+        → IfOk result (λ circle. ShowsCircle (state S.Store transaction.old.conn.now) caller.now circle) }
 {
     match caller {
         Caller::Nobody => Ok(Circle::of(alloc, caller, Vec::new(alloc))?),
-        Caller::Known(person) => circle_of(alloc, connection, caller, person),
+        Caller::Known(person) => circle_of(alloc, transaction, caller, person),
     }
 }
 
@@ -156,7 +143,11 @@ pub fn reached<S: Alter>(
     ensures shown { HasCleanDisk (state S.Store connection.new)
         → IfOk result (λ circle. ShowsCircle (state S.Store connection.old) caller.now circle) }
 {
-    match shown_circle(alloc, connection, caller) {
+    if !connection.is_autocommit() {
+        return Err(StoreFault::Store);
+    }
+    let mut transaction = connection.transaction();
+    match shown_circle(alloc, &mut transaction, caller) {
         Ok(circle) => Ok(circle),
         Err(error) => Err(store_fault_of(error)),
     }

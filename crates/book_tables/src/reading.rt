@@ -3,16 +3,20 @@
 ghost use Rattle.std.specs.Prelude.{◌≡◌, IfOk, option_map, string_bytes};
 ghost use Rattle.sqlite.specs.Held.{state};
 ghost use Rattle.sqlite.specs.State.{HasCleanDisk, Survives};
-ghost use Rattle.book_tables_rows.specs.Nodes.{Finds, ShowsEpoch, told};
-ghost use Rattle.book_tables_rows.specs.Steps.{Stays};
+ghost use Rattle.book_office.specs.Resources.{node_at};
+ghost use Rattle.book_tables_rows.specs.Nodes.{told};
+ghost use Rattle.book_tables_rows.specs.Steps.{Keeps, Spares};
+ghost use Rattle.book_tables.specs.Inside.{ReadsInside, inside_of};
 ghost use Rattle.book_tables.specs.Reading.{ShowsNode, node_told};
 ghost use Rattle.book_tables.specs.Rows.{kind_numbered};
 
+use crate::faults::fault_of;
+use crate::texts::text_of;
 use book_lists::Principal;
-use book_office::Node;
-use book_office_values::{Kind, Text};
+use book_office::{Node, StoreFault};
+use book_office_values::{Kind, Path, Text};
 use book_tables_rows::{FoundNode, look_up, read_epoch};
-use sqlite::{Alter, Connection, Error, ErrorCode};
+use sqlite::{Alter, Error, ErrorCode, Transaction};
 use std::alloc::Global;
 
 /// The kind with a code; an error for a code that no kind has.
@@ -68,57 +72,61 @@ fn node_of(alloc: Global, found: FoundNode) -> Result<Node, Error>
     })
 }
 
-/// The row at a path, looked up in a transaction of its own.
-fn shown_row<S: Alter>(
-    connection: &mut Connection<S>,
-    path: &str,
-) -> Result<Option<FoundNode>, Error>
-    ensures stays { HasCleanDisk (state S.Store connection.new)
-        → Stays (state S.Store connection.old) (state S.Store connection.new) }
-    ensures survives { Survives (state S.Store connection.old)
-        (state S.Store connection.new) (λ _. ⊥) }
-    ensures found { HasCleanDisk (state S.Store connection.new)
-        → IfOk result (λ found. Finds (state S.Store connection.old) path.now
-        (option_map told found)) }
-{
-    if !connection.is_autocommit() {
-        return Err(Error::SqliteFailure(ErrorCode::TransactionState));
-    }
-    let mut transaction = connection.transaction();
-    look_up(&mut transaction, path)
-}
-
 /// The resource at a path, without its lists; none where no row has the path.
-pub(crate) fn shown_node<S: Alter>(
+fn shown_node<S: Alter>(
     alloc: Global,
-    connection: &mut Connection<S>,
+    transaction: &mut Transaction<'_, S>,
     path: &str,
 ) -> Result<Option<Node>, Error>
-    ensures stays { HasCleanDisk (state S.Store connection.new)
-        → Stays (state S.Store connection.old) (state S.Store connection.new) }
-    ensures survives { Survives (state S.Store connection.old)
-        (state S.Store connection.new) (λ _. ⊥) }
-    ensures found { HasCleanDisk (state S.Store connection.new)
-        → IfOk result (λ node. ShowsNode (state S.Store connection.old) path.now node) }
+    ensures same_reference { transaction.new.conn.ghost_name ≡ transaction.old.conn.ghost_name }
+    ensures survives { Survives (state S.Store transaction.old.conn.now)
+        (state S.Store transaction.new.conn.now) (λ _. ⊥) }
+    ensures kept { Keeps (state S.Store transaction.old.conn.now)
+        (state S.Store transaction.new.conn.now) }
+    ensures stays { Spares (state S.Store transaction.old.conn.now)
+        (state S.Store transaction.new.conn.now) result }
+    ensures found { HasCleanDisk (state S.Store transaction.new.conn.now)
+        → IfOk result (λ node. ShowsNode (state S.Store transaction.old.conn.now) path.now node) }
 {
-    let Some(found) = shown_row(connection, path)? else {
+    let Some(found) = look_up(transaction, path)? else {
         return Ok(None);
     };
     Ok(Some(node_of(alloc, found)?))
 }
 
-/// The access epoch.
-pub(crate) fn shown_epoch<S: Alter>(connection: &mut Connection<S>) -> Result<u64, Error>
-    ensures stays { HasCleanDisk (state S.Store connection.new)
-        → Stays (state S.Store connection.old) (state S.Store connection.new) }
-    ensures survives { Survives (state S.Store connection.old)
-        (state S.Store connection.new) (λ _. ⊥) }
-    ensures found { HasCleanDisk (state S.Store connection.new)
-        → IfOk result (λ epoch. ShowsEpoch (state S.Store connection.old) epoch) }
+/// The resource at a path, without its lists; none where none is mapped. One look-up by path. `Memory` is want of
+/// memory, `Store` any other failure of the store.
+pub(crate) fn find<S: Alter>(
+    alloc: Global,
+    transaction: &mut Transaction<'_, S>,
+    failures: &mut u64,
+    path: &Path,
+) -> Result<Option<Node>, StoreFault>
+    ensures same_reference { transaction.new.conn.ghost_name ≡ transaction.old.conn.ghost_name }
+    ensures reads { ReadsInside (inside_of (state S.Store transaction.old.conn.now) failures.old)
+        (inside_of (state S.Store transaction.new.conn.now) failures.new) result
+        (λ o node. node ≡ node_at o path.now) }
 {
-    if !connection.is_autocommit() {
-        return Err(Error::SqliteFailure(ErrorCode::TransactionState));
+    path.known();
+    let text = text_of(alloc, path)?;
+    match shown_node(alloc, transaction, text.as_str()) {
+        Ok(node) => Ok(node),
+        Err(error) => Err(fault_of(error, failures)),
     }
-    let mut transaction = connection.transaction();
-    read_epoch(&mut transaction)
+}
+
+/// The access epoch. `Memory` is want of memory, `Store` any other failure of the store.
+pub(crate) fn epoch<S: Alter>(
+    transaction: &mut Transaction<'_, S>,
+    failures: &mut u64,
+) -> Result<u64, StoreFault>
+    ensures same_reference { transaction.new.conn.ghost_name ≡ transaction.old.conn.ghost_name }
+    ensures reads { ReadsInside (inside_of (state S.Store transaction.old.conn.now) failures.old)
+        (inside_of (state S.Store transaction.new.conn.now) failures.new) result
+        (λ o epoch. epoch ≡ o.epoch) }
+{
+    match read_epoch(transaction) {
+        Ok(epoch) => Ok(epoch),
+        Err(error) => Err(fault_of(error, failures)),
+    }
 }

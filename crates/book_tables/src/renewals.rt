@@ -7,7 +7,7 @@ ghost use Rattle.std.specs.Ordering.{eq_by_cmp};
 ghost use Rattle.book_lists.specs.Memberships.{membership_cmp};
 ghost use Rattle.book_lists.specs.declared.memberships.Membership.{Membership as MembershipOf};
 ghost use Rattle.book_office.specs.Edits.{members_set};
-ghost use Rattle.book_office.specs.Keeping.{Reads};
+ghost use Rattle.book_tables.specs.Inside.{ReadsInside};
 ghost use Rattle.book_tables_rows.specs.Reach.{pair_said};
 ghost use Rattle.book_tables.specs.Reach.{Renews, RenewsNearby, is_among, pair_of};
 
@@ -133,7 +133,7 @@ fn whole_renewal<D: Directs>(
     group: &Principal,
     members: &[Principal],
 ) -> Result<Renewal, StoreFault>
-    ensures { Reads (D.standing directs.old) (D.standing directs.new) result
+    ensures { ReadsInside (D.inside directs.old) (D.inside directs.new) result
         (λ o r. Renews o.pairs (members_set o.pairs group.now members.now)
         (map pair_said r.gone.items) (map pair_said r.come.items)) }
 {
@@ -150,7 +150,7 @@ pub(crate) fn renewal_at<D: Directs>(
     group: &Principal,
     members: &[Principal],
 ) -> Result<Renewal, StoreFault>
-    ensures { Reads (D.standing directs.old) (D.standing directs.new) result
+    ensures { ReadsInside (D.inside directs.old) (D.inside directs.new) result
         (λ o r. Renews o.pairs (members_set o.pairs group.now members.now)
         (map pair_said r.gone.items) (map pair_said r.come.items)) }
 {

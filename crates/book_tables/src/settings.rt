@@ -1,25 +1,27 @@
 //! ACL and a group's members: own lists and pairs as their rows say them, and the edits that write them anew.
 
-ghost use Rattle.std.specs.Prelude.{◌≡◌, map, option_map, string_bytes, IfOk, OnErr, OnOk};
+ghost use Rattle.std.specs.Prelude.{◌≡◌, map, option_map, string_bytes, IfOk, IsTrue, OnOk};
 ghost use Rattle.sqlite.specs.Held.{state};
 ghost use Rattle.sqlite.specs.State.{HasCleanDisk, Survives};
-ghost use Rattle.book_office.specs.Keeping.{Edits, failures_after};
+ghost use Rattle.book_office.specs.Keeping.{failures_after};
 ghost use Rattle.book_office.specs.declared.edits.Edit.TheVariants.{SetList, SetMembers};
 ghost use Rattle.book_tables_rows.specs.Nodes.{said, setting_members};
 ghost use Rattle.book_tables_rows.specs.Reach.{pair_said};
-ghost use Rattle.book_tables_rows.specs.Steps.{Commits, MayLeave, Stays};
-ghost use Rattle.book_tables.specs.Keeps.{standing_of};
+ghost use Rattle.book_tables_rows.specs.Plans.{Makes};
+ghost use Rattle.book_tables_rows.specs.Steps.{Keeps};
+ghost use Rattle.book_tables.specs.Inside.{EditsInside, inside_of};
 ghost use Rattle.book_tables.specs.Rows.{form_code};
 ghost use Rattle.book_tables.specs.Settings.{entry_said, principal_said};
 
 use crate::faults::fault_of;
-use crate::renewals::{Renewal, renewal_at};
-use crate::tables::{Tables, text_of};
+use crate::group_members::renewal_in;
+use crate::renewals::Renewal;
+use crate::texts::text_of;
 use book_lists::{Entry, Principal, Who};
 use book_office::StoreFault;
 use book_office_values::{Items, Path};
-use book_tables_rows::{EntryRow, set_list, set_members};
-use sqlite::Alter;
+use book_tables_rows::EntryRow;
+use sqlite::{Alter, Transaction};
 use std::alloc::{AllocError, Global};
 
 /// The code of a form (RFC 3744, section 5.5.1): 0 a path, 1 all, 2 authenticated, 3 unauthenticated, 4 the owner and
@@ -84,77 +86,78 @@ fn paths_of(alloc: Global, principals: &[Principal]) -> Result<Vec<String>, Allo
     Ok(paths)
 }
 
-impl<S: Alter> Tables<S> {
-    /// ACL (RFC 3744, section 8.1): the resource gets this own list, in this order, and keeps its protected one; the
-    /// epoch rises. `Memory` is want of memory, `Store` any other failure.
-    pub fn set_list(
-        &mut self,
-        alloc: Global,
-        path: &Path,
-        entries: &Items<Entry>,
-    ) -> Result<(), StoreFault>
-        ensures { Edits (standing_of (state S.Store self.old.connection) self.old.failures)
-            (standing_of (state S.Store self.new.connection) self.new.failures) result
-            (SetList path.now entries.now) }
-    {
-        let text = text_of(alloc, path)?;
-        let rows = rows_of(alloc, entries.as_slice())?;
-        match set_list(&mut self.connection, text.as_str(), rows.as_slice()) {
-            Ok(()) => Ok(()),
-            Err(error) => Err(fault_of(error, &mut self.failures)),
-        }
+/// ACL (RFC 3744, section 8.1): the resource gets this own list, in this order, and keeps its protected one; the
+/// epoch rises. `Memory` is want of memory, `Store` any other failure.
+pub(crate) fn set_list<S: Alter>(
+    alloc: Global,
+    transaction: &mut Transaction<'_, S>,
+    failures: &mut u64,
+    path: &Path,
+    entries: &Items<Entry>,
+) -> Result<(), StoreFault>
+    ensures same_reference { transaction.new.conn.ghost_name ≡ transaction.old.conn.ghost_name }
+    ensures edits { EditsInside (inside_of (state S.Store transaction.old.conn.now) failures.old)
+        (inside_of (state S.Store transaction.new.conn.now) failures.new) result
+        (SetList path.now entries.now) }
+{
+    let text = text_of(alloc, path)?;
+    let rows = rows_of(alloc, entries.as_slice())?;
+    match book_tables_rows::set_list(transaction, text.as_str(), rows.as_slice()) {
+        Ok(()) => Ok(()),
+        Err(error) => Err(fault_of(error, failures)),
     }
+}
 
-    /// Writes the direct members of a group, and renews `reach`.
-    fn write_members(
-        &mut self,
-        group: &Principal,
-        paths: &[String],
-        renewal: &Renewal,
-    ) -> Result<(), StoreFault>
-        ensures made { HasCleanDisk (state S.Store self.new.connection)
-            → OnOk result (Commits (state S.Store self.old.connection)
-            (state S.Store self.new.connection)
-            (setting_members group.now (map string_bytes paths.now)
-            (map pair_said renewal.now.gone.items) (map pair_said renewal.now.come.items))) }
-        ensures kept { HasCleanDisk (state S.Store self.new.connection)
-            → OnErr result (Stays (state S.Store self.old.connection)
-            (state S.Store self.new.connection)) }
-        ensures left { Survives (state S.Store self.old.connection)
-            (state S.Store self.new.connection)
-            (MayLeave (state S.Store self.old.connection)
-            (setting_members group.now (map string_bytes paths.now)
-            (map pair_said renewal.now.gone.items) (map pair_said renewal.now.come.items))) }
-        ensures counted { self.new.failures ≡ failures_after result self.old.failures }
-    {
-        match set_members(
-            &mut self.connection,
-            group.text(),
-            paths,
-            renewal.gone.as_slice(),
-            renewal.come.as_slice(),
-        ) {
-            Ok(()) => Ok(()),
-            Err(error) => Err(fault_of(error, &mut self.failures)),
-        }
+/// Writes the direct members of a group, and renews `reach`.
+fn write_members<S: Alter>(
+    transaction: &mut Transaction<'_, S>,
+    failures: &mut u64,
+    group: &Principal,
+    paths: &[String],
+    renewal: &Renewal,
+) -> Result<(), StoreFault>
+    ensures same_reference { transaction.new.conn.ghost_name ≡ transaction.old.conn.ghost_name }
+    ensures survives { Survives (state S.Store transaction.old.conn.now)
+        (state S.Store transaction.new.conn.now) (λ _. ⊥) }
+    ensures kept { Keeps (state S.Store transaction.old.conn.now)
+        (state S.Store transaction.new.conn.now) }
+    ensures done { HasCleanDisk (state S.Store transaction.new.conn.now)
+        → IsTrue (state S.Store transaction.old.conn.now).in_transaction
+        → OnOk result (Makes (state S.Store transaction.old.conn.now)
+        (state S.Store transaction.new.conn.now)
+        (setting_members group.now (map string_bytes paths.now)
+        (map pair_said renewal.now.gone.items) (map pair_said renewal.now.come.items))) }
+    ensures counted { failures.new ≡ failures_after result failures.old }
+{
+    match book_tables_rows::set_members(
+        transaction,
+        group.text(),
+        paths,
+        renewal.gone.as_slice(),
+        renewal.come.as_slice(),
+    ) {
+        Ok(()) => Ok(()),
+        Err(error) => Err(fault_of(error, failures)),
     }
+}
 
-    /// PROPPATCH of a group-member-set (RFC 3744, section 4.3): the group gets these direct members, and `reach` is
-    /// renewed in the same transaction; the epoch rises. Before, the pairs near those that come or go are read, and all
-    /// where these are many. `Memory` is want of memory, `Store` any other failure, among them a member that is named
-    /// twice.
-    pub fn set_members(
-        &mut self,
-        alloc: Global,
-        group: &Principal,
-        members: &Items<Principal>,
-    ) -> Result<(), StoreFault>
-        ensures { Edits (standing_of (state S.Store self.old.connection) self.old.failures)
-            (standing_of (state S.Store self.new.connection) self.new.failures) result
-            (SetMembers group.now members.now) }
-    {
-        let paths = paths_of(alloc, members.as_slice())?;
-        let renewal = renewal_at(alloc, self, group, members.as_slice())?;
-        self.write_members(group, paths.as_slice(), &renewal)
-    }
+/// PROPPATCH of a group-member-set (RFC 3744, section 4.3): the group gets these direct members, and `reach` is
+/// renewed in the same transaction; the epoch rises. Before, the pairs near those that come or go are read, and all
+/// where these are many. `Memory` is want of memory, `Store` any other failure, among them a member that is named
+/// twice.
+pub(crate) fn set_members<S: Alter>(
+    alloc: Global,
+    transaction: &mut Transaction<'_, S>,
+    failures: &mut u64,
+    group: &Principal,
+    members: &Items<Principal>,
+) -> Result<(), StoreFault>
+    ensures same_reference { transaction.new.conn.ghost_name ≡ transaction.old.conn.ghost_name }
+    ensures edits { EditsInside (inside_of (state S.Store transaction.old.conn.now) failures.old)
+        (inside_of (state S.Store transaction.new.conn.now) failures.new) result
+        (SetMembers group.now members.now) }
+{
+    let paths = paths_of(alloc, members.as_slice())?;
+    let renewal = renewal_in(alloc, transaction, failures, group, members.as_slice())?;
+    write_members(transaction, failures, group, paths.as_slice(), &renewal)
 }

@@ -1,19 +1,15 @@
 -- What a policy changes is written, step by step.
-use Rattle.book_tables_rows.proofs.Common.{◌≡◌, inl, inr, ℕ, ◌+◌, List, [], ◌∷◌, find, Option, Some, None, refl, sym, ap, subst, ◌∙◌, false, true, drop, map, arith, IsTrue, Int, Row, State, HasCleanDisk, Survives, FoundNode, CanPlace, CanList, Rows, rows_of, IsBook, is_at, IsMeta, HasMeta, Told}
+use Rattle.book_tables_rows.proofs.Common.{◌≡◌, inl, inr, ℕ, ◌+◌, List, [], ◌∷◌, find, Option, Some, None, refl, sym, ap, subst, ◌∙◌, false, true, drop, map, Int, Row, State, FoundNode, CanPlace, CanList, Rows, is_at, IsMeta, HasMeta, Told}
 use Rattle.std.proofs.Common.{is_none, ◌≤◌}
 use Rattle.std.proofs.lemmas.List.{drop_all}
-use Rattle.sqlite.proofs.StateLemmas.{survives_then}
 use Rattle.book_tables_rows.specs.Adopting.{Place, Listed, Joined, AdoptsPolicy, CanAdopt, add_under, write_found, write_place, list_found, write_lists, write_group, in_turn, InTurn, written_rows, adopted_rows}
 use Rattle.book_tables_rows.specs.Parts.{part_count, part_from, turns}
 use Rattle.book_tables_rows.specs.Nodes.{FitEpoch}
-use Rattle.book_tables_rows.specs.Rows.{in_store}
 use Rattle.book_tables_rows.specs.Writes as writes
 use Rattle.book_tables_rows.specs.Writes.{Pair}
-use Rattle.book_tables_rows.specs.Plans.{Awaits, Makes, nothing}
-use Rattle.book_tables_rows.specs.Steps.{Change, MayLeave}
+use Rattle.book_tables_rows.specs.Plans.{Awaits, nothing}
 use Rattle.book_tables_rows.specs.declared.adopting.Part.{Part}
 use Rattle.book_tables_rows.specs.declared.adopting.Part.TheVariants.{Places, Lists, Groups}
-use Rattle.book_tables_rows.proofs.Becoming.{as_book}
 use Rattle.book_tables_rows.proofs.InScript.{IsThere}
 use Rattle.book_tables_rows.proofs.ListSettings.{meta_of_list, meta_of_members, meta_of_reach}
 
@@ -96,23 +92,3 @@ adopts rows places lists groups gone come epoch fits epoch_is =
       (fits.meta.0, subst (λ m. IsMeta m fits.meta.0) (sym same) fits.meta.1),
       λ can. record { there = can; epoch = fits.meta.0; meta = fits.meta.1; rows_are = ap (λ n. adopted_rows places lists groups gone come (n + 1) rows) epoch_is },
     )
-
--- ---- the whole transaction
-
--- a stop may leave what was made and then committed
-pub leaves_made : (old begun inner new : State) (change : Change) → begun ≡ record old { in_transaction = true } → Survives begun inner (λ _. ⊥) → (HasCleanDisk inner → IsTrue begun.in_transaction → Makes begun inner change)
-    → Survives inner new (λ db. db ≡ inner.now.trees) → Survives old new (MayLeave old change)
-leaves_made old begun inner new change is first made second =
-    let h : Survives (record old { in_transaction = true }) inner (λ _. ⊥) = subst (λ (s : State). Survives s inner (λ _. ⊥)) is first in
-    let from_old : Survives old inner (λ _. ⊥) = record { clean = h.clean; shield = h.shield; counts = h.counts; limit = h.limit; closes = h.closes; crash = h.crash } in
-    survives_then old inner new (λ _. ⊥) (λ db. db ≡ inner.now.trees) (MayLeave old change) (λ _ db none. absurd none)
-    (λ clean db here.
-    let clean_inner : HasCleanDisk inner = omega (arith, second.clean, clean) in
-    let inside : IsTrue begun.in_transaction = subst (λ (s : State). IsTrue s.in_transaction) (sym is) refl in
-    let it : Makes (record old { in_transaction = true }) inner change = subst (λ (s : State). Makes s inner change) is (made clean_inner inside) in (
-      it.was_open,
-      λ book fits.
-          let x = it.made book fits in
-          (subst (λ t. IsBook (in_store t)) (sym here) (as_book inner.now x.0), subst (λ t. change.Makes (rows_of old.now.trees) (rows_of t)) (sym here) x.1),
-    ))
-    from_old second

@@ -3,8 +3,7 @@ use Rattle.std.specs.Prelude.{◌≡◌, ℕ, Bool, List, IsTrue, OnOk, IfOk, Re
 use Rattle.sqlite.specs.declared.error.Error.{Error}
 use Rattle.sqlite.specs.Effect.{Database}
 use Rattle.sqlite.specs.State.{State, HasCleanDisk, KeepsCommit}
-use Rattle.sqlite.specs.Tree.{Trees}
-use Rattle.book_tables_rows.specs.Rows.{Rows, rows_of, IsBook, in_store}
+use Rattle.book_tables_rows.specs.Rows.{Rows, rows_of, IsBook}
 use Rattle.book_tables_rows.specs.Writes.{is_mapped}
 
 -- ---- a step inside a transaction
@@ -78,17 +77,6 @@ Changed change old new =
     IsBook old → change.Fits (rows_of old.trees) → IsBook new × change.Makes (rows_of old.trees) (rows_of new.trees)
 
 -- ---- a whole transaction
-
--- a connection before and after a transaction that made the change
-pub record Commits (old new : State) (change : Change) : Type 0 where
-  pub was_open : IsTrue old.is_open
-  pub is_open : IsTrue new.is_open
-  pub committed : new.committed ≡ new.now
-  pub made : Changed change old.now new.now
-
--- what a stop may leave of it
-abbrev pub MayLeave : State → Change → Trees → Type 0
-MayLeave old change trees = IsTrue old.is_open × Changed change old.now (in_store trees)
 
 -- what an open connection shows is as it was
 abbrev pub Stays : State → State → Type 0

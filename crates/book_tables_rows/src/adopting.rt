@@ -1,8 +1,7 @@
-//! Adopting a policy: nodes, lists and members, in one transaction.
+//! Adopting a policy: nodes, lists and members.
 
-ghost use Rattle.std.specs.Prelude.{◌≡◌, ⊤, ◌+◌, ◌<◌, [], ◌∷◌, map, OnOk, OnErr};
+ghost use Rattle.std.specs.Prelude.{◌≡◌, ⊤, ◌+◌, ◌<◌, [], ◌∷◌, map};
 ghost use Rattle.sqlite.specs.Held.{state};
-ghost use Rattle.sqlite.specs.State.{HasCleanDisk, Survives};
 ghost use Rattle.book_tables_rows.specs.Adopting as policy;
 ghost use Rattle.book_tables_rows.specs.Adopting.{CanList, CanPlace, adopting, joined, listed_row, placed_row};
 ghost use Rattle.book_tables_rows.specs.Lists.{BothListsAreRead, ListsOfOthersStay};
@@ -10,7 +9,7 @@ ghost use Rattle.book_tables_rows.specs.Reach.{pair_said};
 ghost use Rattle.book_tables_rows.specs.Parts.{part_count, part_from, turns};
 ghost use Rattle.book_tables_rows.specs.Plans.{Goes, Performs, Unseen, nothing};
 ghost use Rattle.book_tables_rows.specs.Scripts.{plan_of};
-ghost use Rattle.book_tables_rows.specs.Steps.{Commits, Keeps, MayLeave, Stays};
+ghost use Rattle.book_tables_rows.specs.Steps.{Keeps};
 ghost use Rattle.book_tables_rows.specs.declared.script.Statement.TheVariants.{SetPlace};
 
 use crate::epochs::read_epoch;
@@ -19,7 +18,7 @@ use crate::nodes::{LAST_NUMBER, insert_node, look_up};
 use crate::reach::ReachRow;
 use crate::script::{Statement, run, run_all};
 use crate::setting::EntryRow;
-use sqlite::{Alter, Connection, Error, ErrorCode, Transaction};
+use sqlite::{Alter, Error, Transaction};
 
 /// A node with an owner and a label.
 #[derive(Debug, Drop)]
@@ -232,8 +231,15 @@ fn write_part<S: Alter>(transaction: &mut Transaction<'_, S>, part: &Part<'_>) -
     Ok(())
 }
 
-/// Writes what a policy changes: the nodes, then the lists, then the members. Then `reach` is renewed, and the epoch rises.
-fn write_policy<'x, S: Alter>(
+/// Adopting a policy (own profile): each place gets its owner and its label, and a row of its own under its parent's
+/// where none has its path; then each node gets both its lists, in their order, and each group its direct members, and
+/// `reach` is renewed: the rows of some pairs are taken out of it, and those of others are added; the epoch rises. A
+/// node that is added has no text and the number 0; one that is there keeps both. So a parent or an owner that is added
+/// comes before what names it. Where no row has the path of a parent of a node that is added, or of a node whose lists
+/// are written, or the epoch is at its last value, it answers `QueryReturnedNoRows`; each other error is that of the
+/// store, among them the path of an owner, principal, group or member that no row has and a member or a pair that is
+/// named twice.
+pub fn adopt_rows<'x, S: Alter>(
     transaction: &mut Transaction<'_, S>,
     places: &[PlaceRow],
     lists: &[ListsRow],
@@ -266,41 +272,6 @@ fn write_policy<'x, S: Alter>(
             Statement::SetEpoch(epoch + 1),
         ],
     )
-}
-
-/// Adopting a policy (own profile): each place gets its owner and its label, and a row of its own under its parent's
-/// where none has its path; then each node gets both its lists, in their order, and each group its direct members, and
-/// `reach` is renewed: the rows of some pairs are taken out of it, and those of others are added; the epoch rises. A
-/// node that is added has no text and the number 0; one that is there keeps both. So a parent or an owner that is added
-/// comes before what names it. Where no row has the path of a parent of a node that is added, or of a node whose lists
-/// are written, or the epoch is at its last value, nothing is changed and it answers `QueryReturnedNoRows`; each other
-/// error is that of the store, among them the path of an owner, principal, group or member that no row has and a member
-/// or a pair that is named twice, and leaves the tables as they were.
-pub fn adopt_rows<S: Alter>(
-    connection: &mut Connection<S>,
-    places: &[PlaceRow],
-    lists: &[ListsRow],
-    groups: &[GroupRow],
-    old: &[ReachRow],
-    new: &[ReachRow],
-) -> Result<(), Error>
-    ensures made { HasCleanDisk (state S.Store connection.new)
-        → OnOk result (Commits (state S.Store connection.old) (state S.Store connection.new)
-        (adopting (map placed_row places.now) (map listed_row lists.now) (map joined groups.now)
-        (map pair_said old.now) (map pair_said new.now))) }
-    ensures kept { HasCleanDisk (state S.Store connection.new)
-        → OnErr result (Stays (state S.Store connection.old) (state S.Store connection.new)) }
-    ensures left { Survives (state S.Store connection.old) (state S.Store connection.new)
-        (MayLeave (state S.Store connection.old)
-        (adopting (map placed_row places.now) (map listed_row lists.now) (map joined groups.now)
-        (map pair_said old.now) (map pair_said new.now))) }
-{
-    if !connection.is_autocommit() {
-        return Err(Error::SqliteFailure(ErrorCode::TransactionState));
-    }
-    let mut transaction = connection.transaction();
-    write_policy(&mut transaction, places, lists, groups, old, new)?;
-    transaction.commit()
 }
 
 /// Laws of both lists of a node: those that were written are read as they were given, and no other node's list changes.

@@ -1,19 +1,20 @@
-//! COPY of a card, in one transaction.
+//! COPY of a card.
 
-ghost use Rattle.std.specs.Prelude.{◌≡◌, OnOk, OnErr};
+ghost use Rattle.std.specs.Prelude.{◌≡◌};
 ghost use Rattle.std.specs.Option.{option_copied};
 ghost use Rattle.sqlite.specs.Held.{state};
-ghost use Rattle.sqlite.specs.State.{HasCleanDisk, Survives};
 ghost use Rattle.book_tables_rows.specs.Nodes.{copying_card};
 ghost use Rattle.book_tables_rows.specs.Plans.{Performs, Unseen};
-ghost use Rattle.book_tables_rows.specs.Steps.{Commits, Keeps, MayLeave, Stays};
+ghost use Rattle.book_tables_rows.specs.Steps.{Keeps};
 
 use crate::nodes::{LAST_NUMBER, look_up};
 use crate::script::{Statement, run_all};
-use sqlite::{Alter, Connection, Error, ErrorCode, Transaction};
+use sqlite::{Alter, Error, Transaction};
 
-/// Finds the source and the book, and writes the copy with the next change number.
-fn find_and_copy<'x, S: Alter>(
+/// COPY of the text and the label of the card at a path. A new card gets the owner and no entries; a card that is
+/// there keeps them. Where no row has the path of the source or of the book, the source has no text, or the book is
+/// at its last change number, it answers `QueryReturnedNoRows`; each other error is that of the store.
+pub fn copy_card<'x, S: Alter>(
     transaction: &mut Transaction<'_, S>,
     source_path: &str,
     book_path: &'x str,
@@ -61,42 +62,4 @@ fn find_and_copy<'x, S: Alter>(
             Statement::SetNumber(book_path, number),
         ],
     )
-}
-
-/// COPY of the text and the label of the card at a path. A new card gets the owner and no entries; a card that is
-/// there keeps them. Where no row has the path of the source or of the book, the source has no text, or the book is
-/// at its last change number, nothing is changed and it answers `QueryReturnedNoRows`; each other error is that of
-/// the store, and leaves the tables as they were.
-pub fn copy_card<'x, S: Alter>(
-    connection: &mut Connection<S>,
-    source_path: &str,
-    book_path: &str,
-    card_path: &'x str,
-    name: &str,
-    owner: Option<&'x str>,
-) -> Result<(), Error>
-    ensures made { HasCleanDisk (state S.Store connection.new)
-        → OnOk result (Commits (state S.Store connection.old) (state S.Store connection.new)
-        (copying_card source_path.now book_path.now card_path.now name.now
-        (option_copied owner.entry))) }
-    ensures kept { HasCleanDisk (state S.Store connection.new)
-        → OnErr result (Stays (state S.Store connection.old) (state S.Store connection.new)) }
-    ensures left { Survives (state S.Store connection.old) (state S.Store connection.new)
-        (MayLeave (state S.Store connection.old)
-        (copying_card source_path.now book_path.now card_path.now name.now
-        (option_copied owner.entry))) }
-{
-    if !connection.is_autocommit() {
-        return Err(Error::SqliteFailure(ErrorCode::TransactionState));
-    }
-    let mut transaction = connection.transaction();
-    find_and_copy(
-        &mut transaction,
-        source_path,
-        book_path,
-        card_path,
-        name,
-        owner,
-    )?;
-    transaction.commit()
 }

@@ -1,18 +1,18 @@
-//! PROPPATCH of a displayname, in one transaction.
+//! PROPPATCH of a displayname.
 
-ghost use Rattle.std.specs.Prelude.{◌≡◌, OnOk, OnErr};
+ghost use Rattle.std.specs.Prelude.{◌≡◌};
 ghost use Rattle.sqlite.specs.Held.{state};
-ghost use Rattle.sqlite.specs.State.{HasCleanDisk, Survives};
 ghost use Rattle.book_tables_rows.specs.Nodes.{labelling_card, labelling_node};
 ghost use Rattle.book_tables_rows.specs.Plans.{Performs, Unseen};
-ghost use Rattle.book_tables_rows.specs.Steps.{Commits, Keeps, MayLeave, Stays};
+ghost use Rattle.book_tables_rows.specs.Steps.{Keeps};
 
 use crate::nodes::{LAST_NUMBER, look_up};
 use crate::script::{Statement, run_all};
-use sqlite::{Alter, Connection, Error, ErrorCode, Transaction};
+use sqlite::{Alter, Error, Transaction};
 
-/// Finds the book, and labels the card with the next change number.
-fn find_and_label_card<'x, S: Alter>(
+/// The label of a card of a book: a change of the card. Where no row has the path of the book, or it is at its last
+/// change number, it answers `QueryReturnedNoRows`; each other error is that of the store.
+pub fn label_card<'x, S: Alter>(
     transaction: &mut Transaction<'_, S>,
     book_path: &'x str,
     card_path: &'x str,
@@ -45,34 +45,9 @@ fn find_and_label_card<'x, S: Alter>(
     )
 }
 
-/// The label of a card of a book: a change of the card. Where no row has the path of the book, or it is at its last
-/// change number, nothing is changed and it answers `QueryReturnedNoRows`; each other error is that of the store,
-/// and leaves the tables as they were.
-pub fn label_card<'x, S: Alter>(
-    connection: &mut Connection<S>,
-    book_path: &str,
-    card_path: &'x str,
-    label: &'x str,
-) -> Result<(), Error>
-    ensures made { HasCleanDisk (state S.Store connection.new)
-        → OnOk result (Commits (state S.Store connection.old) (state S.Store connection.new)
-        (labelling_card book_path.now card_path.now label.now)) }
-    ensures kept { HasCleanDisk (state S.Store connection.new)
-        → OnErr result (Stays (state S.Store connection.old) (state S.Store connection.new)) }
-    ensures left { Survives (state S.Store connection.old) (state S.Store connection.new)
-        (MayLeave (state S.Store connection.old)
-        (labelling_card book_path.now card_path.now label.now)) }
-{
-    if !connection.is_autocommit() {
-        return Err(Error::SqliteFailure(ErrorCode::TransactionState));
-    }
-    let mut transaction = connection.transaction();
-    find_and_label_card(&mut transaction, book_path, card_path, label)?;
-    transaction.commit()
-}
-
-/// Finds the node, and labels it.
-fn find_and_label_node<'x, S: Alter>(
+/// The label of a node that is no card: its change number stays. Where no row has the path, it answers
+/// `QueryReturnedNoRows`; each other error is that of the store.
+pub fn label_node<'x, S: Alter>(
     transaction: &mut Transaction<'_, S>,
     path: &'x str,
     label: &'x str,
@@ -94,27 +69,4 @@ fn find_and_label_node<'x, S: Alter>(
         return Err(Error::QueryReturnedNoRows);
     }
     run_all(transaction, &[Statement::SetLabel(path, label, number)])
-}
-
-/// The label of a node that is no card: its change number stays. Where no row has the path, nothing is changed and
-/// it answers `QueryReturnedNoRows`; each other error is that of the store, and leaves the tables as they were.
-pub fn label_node<'x, S: Alter>(
-    connection: &mut Connection<S>,
-    path: &'x str,
-    label: &'x str,
-) -> Result<(), Error>
-    ensures made { HasCleanDisk (state S.Store connection.new)
-        → OnOk result (Commits (state S.Store connection.old) (state S.Store connection.new)
-        (labelling_node path.now label.now)) }
-    ensures kept { HasCleanDisk (state S.Store connection.new)
-        → OnErr result (Stays (state S.Store connection.old) (state S.Store connection.new)) }
-    ensures left { Survives (state S.Store connection.old) (state S.Store connection.new)
-        (MayLeave (state S.Store connection.old) (labelling_node path.now label.now)) }
-{
-    if !connection.is_autocommit() {
-        return Err(Error::SqliteFailure(ErrorCode::TransactionState));
-    }
-    let mut transaction = connection.transaction();
-    find_and_label_node(&mut transaction, path, label)?;
-    transaction.commit()
 }

@@ -1,9 +1,10 @@
 //! The tables of a store as lists of rows, and the fixed SQL texts that read and write them.
 //!
-//! It stands on `sqlite`, knows of tables alone, and nothing of an Office. The crate above uses two promises. A read
-//! inside a transaction leaves the tables as they were and tells rows of them. An edit is one whole
-//! transaction: at `Ok` it is committed and has made of the lists of rows what its change says; at an error an
-//! open connection shows what it showed; and a stop may leave the tables as before or as after it, and no third.
+//! It stands on `sqlite`, knows of tables alone, and nothing of an Office. The crate above uses two promises, of calls
+//! inside a transaction that it has begun. A read leaves the tables as they were and tells rows of them. An edit has made
+//! of the lists of rows at `Ok` what its change says. Neither commits: whatever they answer, what was committed stays,
+//! and a stop leaves nothing of them. After an error of an edit nothing is told of the rows, so its transaction has to
+//! be given up.
 //!
 //! Read `specs/Schema` first, the tables with their columns and rules; `specs/Writes`, what each statement and each
 //! edit makes of the rows; `specs/Steps` and `specs/Plans`, what a call does to a connection and how far it has come;

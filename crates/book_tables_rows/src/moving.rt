@@ -1,15 +1,14 @@
-//! MOVE of a card, in one transaction.
+//! MOVE of a card.
 
-ghost use Rattle.std.specs.Prelude.{◌≡◌, OnOk, OnErr};
+ghost use Rattle.std.specs.Prelude.{◌≡◌};
 ghost use Rattle.sqlite.specs.Held.{state};
-ghost use Rattle.sqlite.specs.State.{HasCleanDisk, Survives};
 ghost use Rattle.book_tables_rows.specs.Nodes.{leaving_book, arriving_in, moving_card};
 ghost use Rattle.book_tables_rows.specs.Plans.{Performs, Unseen};
-ghost use Rattle.book_tables_rows.specs.Steps.{Commits, Keeps, MayLeave, Stays};
+ghost use Rattle.book_tables_rows.specs.Steps.{Keeps};
 
 use crate::nodes::{LAST_NUMBER, look_up};
 use crate::script::{Statement, run_all};
-use sqlite::{Alter, Connection, Error, ErrorCode, Transaction};
+use sqlite::{Alter, Error, Transaction};
 
 /// Takes out a card at the destination, and lets a name leave its book with the book's next change number.
 fn leave_book<'x, S: Alter>(
@@ -97,8 +96,10 @@ fn arrive_in<'x, S: Alter>(
     )
 }
 
-/// The card leaves the one book, and then arrives in the other or in the same.
-fn find_and_move<'x, S: Alter>(
+/// MOVE of the card at a path to another path, in place of a card that is there: the card's row keeps its number, so
+/// its entries go with it. Where no row has the path of one of the books, or one is at its last change number,
+/// it answers `QueryReturnedNoRows`; each other error is that of the store.
+pub fn move_card<'x, S: Alter>(
     transaction: &mut Transaction<'_, S>,
     source_book: &str,
     card_path: &'x str,
@@ -125,44 +126,4 @@ fn find_and_move<'x, S: Alter>(
         destination,
         target_name,
     )
-}
-
-/// MOVE of the card at a path to another path, in place of a card that is there: the card's row keeps its number, so
-/// its entries go with it. Where no row has the path of one of the books, or one is at its last change number,
-/// nothing is changed and it answers `QueryReturnedNoRows`; each other error is that of the store, and leaves the
-/// tables as they were.
-pub fn move_card<'x, S: Alter>(
-    connection: &mut Connection<S>,
-    source_book: &str,
-    card_path: &'x str,
-    source_name: &str,
-    target_book: &str,
-    destination: &'x str,
-    target_name: &str,
-) -> Result<(), Error>
-    ensures made { HasCleanDisk (state S.Store connection.new)
-        → OnOk result (Commits (state S.Store connection.old) (state S.Store connection.new)
-        (moving_card source_book.now card_path.now source_name.now target_book.now destination.now
-        target_name.now)) }
-    ensures kept { HasCleanDisk (state S.Store connection.new)
-        → OnErr result (Stays (state S.Store connection.old) (state S.Store connection.new)) }
-    ensures left { Survives (state S.Store connection.old) (state S.Store connection.new)
-        (MayLeave (state S.Store connection.old)
-        (moving_card source_book.now card_path.now source_name.now target_book.now destination.now
-        target_name.now)) }
-{
-    if !connection.is_autocommit() {
-        return Err(Error::SqliteFailure(ErrorCode::TransactionState));
-    }
-    let mut transaction = connection.transaction();
-    find_and_move(
-        &mut transaction,
-        source_book,
-        card_path,
-        source_name,
-        target_book,
-        destination,
-        target_name,
-    )?;
-    transaction.commit()
 }

@@ -1,22 +1,22 @@
-//! DELETE of a book, in one transaction.
+//! DELETE of a book.
 
-ghost use Rattle.std.specs.Prelude.{◌≡◌, OnOk, OnErr};
+ghost use Rattle.std.specs.Prelude.{◌≡◌};
 ghost use Rattle.sqlite.specs.Held.{state};
-ghost use Rattle.sqlite.specs.State.{HasCleanDisk, Survives};
 ghost use Rattle.book_tables_rows.specs.Nodes.{removing_book};
 ghost use Rattle.book_tables_rows.specs.Plans.{Performs, Unseen};
-ghost use Rattle.book_tables_rows.specs.Steps.{Commits, Keeps, MayLeave, Stays};
+ghost use Rattle.book_tables_rows.specs.Steps.{Keeps};
 
 use crate::epochs::read_epoch;
 use crate::items::Items;
 use crate::lists::child_entry_rows;
 use crate::nodes::{LAST_NUMBER, look_up};
 use crate::script::{Statement, run_all};
-use sqlite::{Alter, Connection, Error, ErrorCode, Transaction};
+use sqlite::{Alter, Error, Transaction};
 
-/// Finds the book, and takes it out; the epoch rises. The entries of its cards are read, so that no other entry of the
-/// store is looked at.
-fn find_and_remove<S: Alter>(transaction: &mut Transaction<'_, S>, path: &str) -> Result<(), Error>
+/// DELETE of the book at a path, with its cards and removed names; the epoch rises. The entries of its cards are read,
+/// so that no other entry of the store is looked at. Where no row has the path, or the epoch is at its last value, it
+/// answers `QueryReturnedNoRows`; each other error is that of the store.
+pub fn remove_book<S: Alter>(transaction: &mut Transaction<'_, S>, path: &str) -> Result<(), Error>
     ensures same_reference { transaction.new.conn.ghost_name ≡ transaction.old.conn.ghost_name }
     ensures survives { Unseen (state S.Store transaction.old.conn.now)
         (state S.Store transaction.new.conn.now) }
@@ -46,24 +46,4 @@ fn find_and_remove<S: Alter>(transaction: &mut Transaction<'_, S>, path: &str) -
             Statement::SetEpoch(epoch + 1),
         ],
     )
-}
-
-/// DELETE of the book at a path, with its cards and removed names; the epoch rises. Where no row has the path, or
-/// the epoch is at its last value, nothing is changed and it answers `QueryReturnedNoRows`; each other error is that
-/// of the store, and leaves the tables as they were.
-pub fn remove_book<S: Alter>(connection: &mut Connection<S>, path: &str) -> Result<(), Error>
-    ensures made { HasCleanDisk (state S.Store connection.new)
-        → OnOk result (Commits (state S.Store connection.old) (state S.Store connection.new)
-        (removing_book path.now)) }
-    ensures kept { HasCleanDisk (state S.Store connection.new)
-        → OnErr result (Stays (state S.Store connection.old) (state S.Store connection.new)) }
-    ensures left { Survives (state S.Store connection.old) (state S.Store connection.new)
-        (MayLeave (state S.Store connection.old) (removing_book path.now)) }
-{
-    if !connection.is_autocommit() {
-        return Err(Error::SqliteFailure(ErrorCode::TransactionState));
-    }
-    let mut transaction = connection.transaction();
-    find_and_remove(&mut transaction, path)?;
-    transaction.commit()
 }

@@ -1,20 +1,19 @@
-//! ACL and a group's members: a list that is written anew, in one transaction.
+//! ACL and a group's members: a list that is written anew.
 
-ghost use Rattle.std.specs.Prelude.{◌≡◌, map, string_bytes, OnOk, OnErr};
+ghost use Rattle.std.specs.Prelude.{◌≡◌, map, string_bytes};
 ghost use Rattle.sqlite.specs.Held.{state};
-ghost use Rattle.sqlite.specs.State.{HasCleanDisk, Survives};
 ghost use Rattle.book_tables_rows.specs.Lists.{OtherListsStay, WrittenListsAreRead};
 ghost use Rattle.book_tables_rows.specs.Nodes.{said, setting_list, setting_members};
 ghost use Rattle.book_tables_rows.specs.Reach.{pair_said};
 ghost use Rattle.book_tables_rows.specs.Plans.{Performs, Unseen};
-ghost use Rattle.book_tables_rows.specs.Steps.{Commits, Keeps, MayLeave, Stays};
+ghost use Rattle.book_tables_rows.specs.Steps.{Keeps};
 
 use crate::epochs::read_epoch;
 use crate::items::Items;
 use crate::nodes::{LAST_NUMBER, look_up};
 use crate::reach::ReachRow;
 use crate::script::{Statement, run_all};
-use sqlite::{Alter, Connection, Error, ErrorCode, Transaction};
+use sqlite::{Alter, Error, Transaction};
 
 /// An entry of a list as its row tells it, but for the node, the list and the place. The forms are 0 a path, 1 all,
 /// 2 authenticated, 3 unauthenticated, 4 the owner and 5 self (RFC 3744, 5.5.1).
@@ -32,8 +31,10 @@ pub struct EntryRow {
     pub mask: u32,
 }
 
-/// Finds the node, and writes its own list; the epoch rises.
-fn find_and_set_list<S: Alter>(
+/// ACL (RFC 3744, 8.1): the node at a path gets this own list, in this order, and keeps its protected one; the epoch
+/// rises. Where no row has the path, or the epoch is at its last value, it answers
+/// `QueryReturnedNoRows`; each other error is that of the store, among them a principal's path that no row has.
+pub fn set_list<S: Alter>(
     transaction: &mut Transaction<'_, S>,
     path: &str,
     list: &[EntryRow],
@@ -70,39 +71,17 @@ fn find_and_set_list<S: Alter>(
     )
 }
 
-/// ACL (RFC 3744, 8.1): the node at a path gets this own list, in this order, and keeps its protected one; the epoch
-/// rises. Where no row has the path, or the epoch is at its last value, nothing is changed and it answers
-/// `QueryReturnedNoRows`; each other error is that of the store, among them a principal's path that no row has, and
-/// leaves the tables as they were.
-pub fn set_list<S: Alter>(
-    connection: &mut Connection<S>,
-    path: &str,
-    list: &[EntryRow],
-) -> Result<(), Error>
-    ensures made { HasCleanDisk (state S.Store connection.new)
-        → OnOk result (Commits (state S.Store connection.old) (state S.Store connection.new)
-        (setting_list path.now (map said list.now))) }
-    ensures kept { HasCleanDisk (state S.Store connection.new)
-        → OnErr result (Stays (state S.Store connection.old) (state S.Store connection.new)) }
-    ensures left { Survives (state S.Store connection.old) (state S.Store connection.new)
-        (MayLeave (state S.Store connection.old) (setting_list path.now (map said list.now))) }
-{
-    if !connection.is_autocommit() {
-        return Err(Error::SqliteFailure(ErrorCode::TransactionState));
-    }
-    let mut transaction = connection.transaction();
-    find_and_set_list(&mut transaction, path, list)?;
-    transaction.commit()
-}
-
 /// Laws of own lists: one that was written is read as it was given, and no other list changes.
 pub fn written_lists_are_read()
     ensures read { WrittenListsAreRead }
     ensures stay { OtherListsStay }
 {}
 
-/// Writes the members, and renews `reach`; the epoch rises.
-fn write_members_and_epoch<'x, S: Alter>(
+/// The group at a path gets these direct members, each named once (RFC 3744, 4.3), and `reach` is renewed: the rows of
+/// some pairs are taken out of it, and those of others are added; the epoch rises. Where the epoch
+/// is at its last value, it answers `QueryReturnedNoRows`; each other error is that of the store, among them a path that
+/// no row has and a member that is named twice.
+pub fn set_members<'x, S: Alter>(
     transaction: &mut Transaction<'_, S>,
     group: &'x str,
     members: &'x [String],
@@ -133,34 +112,4 @@ fn write_members_and_epoch<'x, S: Alter>(
             Statement::SetEpoch(epoch + 1),
         ],
     )
-}
-
-/// The group at a path gets these direct members, each named once (RFC 3744, 4.3), and `reach` is renewed: the rows of
-/// some pairs are taken out of it, and those of others are added; the epoch rises. Where the epoch
-/// is at its last value, nothing is changed and it answers `QueryReturnedNoRows`; each other error is that of the
-/// store, among them a path that no row has and a member that is named twice, and leaves the tables as they were.
-pub fn set_members<S: Alter>(
-    connection: &mut Connection<S>,
-    group: &str,
-    members: &[String],
-    old: &[ReachRow],
-    new: &[ReachRow],
-) -> Result<(), Error>
-    ensures made { HasCleanDisk (state S.Store connection.new)
-        → OnOk result (Commits (state S.Store connection.old) (state S.Store connection.new)
-        (setting_members group.now (map string_bytes members.now) (map pair_said old.now)
-        (map pair_said new.now))) }
-    ensures kept { HasCleanDisk (state S.Store connection.new)
-        → OnErr result (Stays (state S.Store connection.old) (state S.Store connection.new)) }
-    ensures left { Survives (state S.Store connection.old) (state S.Store connection.new)
-        (MayLeave (state S.Store connection.old)
-        (setting_members group.now (map string_bytes members.now) (map pair_said old.now)
-        (map pair_said new.now))) }
-{
-    if !connection.is_autocommit() {
-        return Err(Error::SqliteFailure(ErrorCode::TransactionState));
-    }
-    let mut transaction = connection.transaction();
-    write_members_and_epoch(&mut transaction, group, members, old, new)?;
-    transaction.commit()
 }

@@ -1,10 +1,10 @@
 //! Books and cards: MKCOL, PUT, DELETE, PROPPATCH, COPY and MOVE (RFC 4918, section 9; RFC 6578, section 3).
 
 use crate::checks::{check, check_number};
-use crate::row_texts::{changed, children, epoch, gone, node, store};
-use book_tables_rows::{
+use crate::committed::{
     add_book, copy_card, label_card, label_node, move_card, put_card, remove_book, remove_card,
 };
+use crate::row_texts::{changed, children, epoch, gone, node, store};
 use sqlite::{Connection, MemStore};
 use std::alloc::Global;
 use std::process::Abort;

@@ -2,10 +2,12 @@
 
 ghost use Rattle.std.specs.Prelude.{◌<◌};
 
+use crate::acts::Acts;
 use crate::checks::check_fact;
 use crate::new_tables::principal;
 use crate::row_texts::{add, begin};
 use book_lists::{Pairs, Principal, closure};
+use book_office::Keeper;
 use book_office_values::Items;
 use book_tables::Tables;
 use book_tables_opening::open;

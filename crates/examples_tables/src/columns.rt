@@ -1,10 +1,11 @@
 //! What each column of each table has after edits, and what reads tell of columns.
 
+use crate::acts::Acts;
 use crate::checks::check;
 use crate::new_tables::{name, path, principal, text};
 use crate::row_texts::store;
 use book_lists::{Entry, Principal, Who};
-use book_office::Changed;
+use book_office::{Changed, Keeper};
 use book_office_values::Items;
 use book_rights::{Leaf, LeafSet};
 use book_tables::Tables;

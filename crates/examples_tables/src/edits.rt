@@ -1,10 +1,11 @@
 //! The edits, each as one transaction.
 
+use crate::acts::Acts;
 use crate::checks::{check, check_fact, check_number};
 use crate::new_tables::{check_epoch, found, name, path, principal, tables, text};
 use crate::row_texts::entries_at;
 use book_lists::{Entry, Who};
-use book_office::StoreFault;
+use book_office::{Keeper, StoreFault};
 use book_office_values::Items;
 use book_rights::{Leaf, LeafSet};
 use std::process::Abort;

@@ -1,5 +1,6 @@
 //! What is at fault in a store whose rows are changed by hand, and what is counted of a sound one.
 
+use crate::acts::Acts;
 use crate::checks::check;
 use crate::new_tables::{name, tables, text};
 use book_desk_app::Noting;

@@ -1,8 +1,10 @@
 //! An Office over the tables of a new store, and the connection given back.
 
+use crate::acts::Acts;
 use crate::checks::{check, check_fact, check_number};
 use crate::new_tables::{check_epoch, name, path, tables};
 use crate::row_texts::{children, epoch, node};
+use book_office::Keeper;
 use book_office_values::{Kind, Text};
 use book_tables::{OpenFault, Tables};
 use sqlite::Connection;

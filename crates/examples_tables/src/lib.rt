@@ -8,6 +8,8 @@
 #![tactic(auto)]
 
 #[cfg(test)]
+mod acts;
+#[cfg(test)]
 mod cards;
 #[cfg(test)]
 mod checks;
@@ -15,6 +17,8 @@ mod checks;
 mod closures;
 #[cfg(test)]
 mod columns;
+#[cfg(test)]
+mod committed;
 #[cfg(test)]
 mod edits;
 #[cfg(test)]
@@ -51,3 +55,5 @@ mod reaching;
 mod reads;
 #[cfg(test)]
 mod row_texts;
+#[cfg(test)]
+mod within;

@@ -1,10 +1,11 @@
 //! Own lists and members of groups (RFC 3744, sections 8.1 and 4.3).
 
 use crate::checks::{check, check_fact, check_number};
+use crate::committed::{add_book, put_card, remove_book, set_list, set_members};
 use crate::row_texts::{
     entries_at, entries_of_changed, entries_of_children, epoch, members, store, whole_rows,
 };
-use book_tables_rows::{EntryRow, add_book, put_card, remove_book, set_list, set_members};
+use book_tables_rows::EntryRow;
 use sqlite::{Connection, Error, MemStore};
 use std::alloc::Global;
 use std::process::Abort;

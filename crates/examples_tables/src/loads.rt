@@ -1,10 +1,12 @@
 //! Dumps that become stores, and copies of stores. What a store stands for is told by its dump, and by what is found in
 //! it.
 
+use crate::acts::Acts;
 use crate::checks::{check, check_fact, check_number};
 use crate::new_tables::{check_epoch, found, name, tables, text};
 use book_dumps_loading::{LoadFault, copy, dumped_of, is_dump, load, office_text};
 use book_dumps_reading::{Dumped, read_dump};
+use book_office::Keeper;
 use book_office_values::Items;
 use book_tables::Tables;
 use book_tables_schema::Unopened;

@@ -1,8 +1,10 @@
 //! Lists of the cards of a book of more than eight, which are looked up only where one has an entry.
 
+use crate::acts::Acts;
 use crate::checks::check;
 use crate::new_tables::{name, path, tables, text};
 use book_lists::{Entry, Name, Who};
+use book_office::Keeper;
 use book_office_values::Items;
 use book_rights::LeafSet;
 use book_tables::Tables;

@@ -1,6 +1,7 @@
 //! New tables in memory, and what they have at a path.
 
 use book_lists::{Name, Principal};
+use book_office::Keeper;
 use book_office_values::{Path, Text};
 use book_tables::Tables;
 use sqlite::{Connection, MemStore};

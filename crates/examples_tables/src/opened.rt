@@ -1,5 +1,6 @@
 //! Opening a store that is there: as it was left, and with rows that are changed by hand.
 
+use crate::acts::Acts;
 use crate::checks::{check, check_text};
 use crate::new_tables::{found, name, tables, text};
 use book_tables::{OpenFault, Tables};

@@ -1,5 +1,6 @@
 //! Opening a store whose rows reach the limits, or contradict one another: each condition broken alone.
 
+use crate::acts::Acts;
 use crate::checks::check_text;
 use crate::new_tables::{name, principal, text};
 use crate::row_texts::{begin, store};

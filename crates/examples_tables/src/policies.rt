@@ -1,8 +1,9 @@
 //! Adopting a policy (own profile): nodes, lists and members in one transaction.
 
 use crate::checks::{check, check_fact, check_number};
+use crate::committed::adopt_rows;
 use crate::row_texts::{children, entries_at, epoch, members, store};
-use book_tables_rows::{EntryRow, GroupRow, ListsRow, PlaceRow, adopt_rows};
+use book_tables_rows::{EntryRow, GroupRow, ListsRow, PlaceRow};
 use sqlite::Error;
 use std::alloc::Global;
 use std::process::Abort;

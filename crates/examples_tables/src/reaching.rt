@@ -1,10 +1,12 @@
 //! The table `reach`: renewed with each edit of members, made where it is missing, and asked for the groups of a
 //! caller.
 
+use crate::acts::Acts;
 use crate::checks::{check, check_fact, check_number};
 use crate::new_tables::principal;
 use crate::row_texts::{reach, store};
 use book_lists::{Caller, Circle, Principal};
+use book_office::Keeper;
 use book_office_values::Items;
 use book_tables::{Tables, reached};
 use book_tables_opening::open;

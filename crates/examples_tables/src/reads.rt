@@ -1,10 +1,11 @@
 //! Reads of an Office over tables: the changes of a book, those of its cards alone, and the members of one group.
 
+use crate::acts::Acts;
 use crate::checks::check;
 use crate::new_tables::{name, path, principal, tables, text};
 use crate::row_texts::store;
 use book_lists::{Entry, Name, Who};
-use book_office::Changed;
+use book_office::{Changed, Keeper};
 use book_office_values::Items;
 use book_rights::LeafSet;
 use book_tables::Tables;

@@ -1,5 +1,5 @@
 use Rattle.std.proofs.Common.{List, ℕ, Option, None, Some, IfSome, Err, sym, subst, Vec, Global}
-use Rattle.book_office.specs.Keeping.{Reads, Standing}
+use Rattle.book_tables.specs.Inside.{Inside, ReadsInside}
 use Rattle.book_office_values.specs.declared.offices.Office.{Office}
 use Rattle.book_lists.specs.Circles.{has_path}
 use Rattle.book_lists.specs.declared.principals.Principal.{Principal}
@@ -23,19 +23,19 @@ Found starts o found = IfSome found (HasSearched o.pairs Down starts)
 
 pub returns-in_err-found : goal.returns-in_err-found
 returns-in_err-found g c =
-    let S0 : Standing = g.D.Directs.standing c.args.directs.now in
-    let S1 : Standing = g.D.Directs.standing c.starts.new.directs in
-    let S2 : Standing = g.D.Directs.standing c.search.new.directs in
+    let S0 : Inside = g.D.Directs.inside c.args.directs.now in
+    let S1 : Inside = g.D.Directs.inside c.starts.new.directs in
+    let S2 : Inside = g.D.Directs.inside c.search.new.directs in
     let V = Below c.args.members.now c.args.group.now in
     let fault = c.in_err-found.field-0.0 in
-    let fails : Reads {A = Option (Vec Principal Global)} S0 S2 (Err fault) V = then_fails S0 S1 c.in_ok-starts.starts (Starts c.args.members.now c.args.group.now) c.in_ok-starts.ensures S2 fault (Found c.in_ok-starts.starts.items) V c.in_err-found.ensures in
+    let fails : ReadsInside {A = Option (Vec Principal Global)} S0 S2 (Err fault) V = then_fails S0 S1 c.in_ok-starts.starts (Starts c.args.members.now c.args.group.now) c.in_ok-starts.ensures S2 fault (Found c.in_ok-starts.starts.items) V c.in_err-found.ensures in
     passed_on S0 S2 fault c.from_residual-in_err-found.result V V c.from_residual-in_err-found.ensures.1 fails
 
 pub returns-in-Some : goal.returns-in-Some
 returns-in-Some g c =
-    let S0 : Standing = g.D.Directs.standing c.args.directs.now in
-    let S1 : Standing = g.D.Directs.standing c.starts.new.directs in
-    let S2 : Standing = g.D.Directs.standing c.search.new.directs in
+    let S0 : Inside = g.D.Directs.inside c.args.directs.now in
+    let S1 : Inside = g.D.Directs.inside c.starts.new.directs in
+    let S2 : Inside = g.D.Directs.inside c.search.new.directs in
     let group = c.args.group.now in
     let members = c.args.members.now in
     let starts = c.in_ok-starts.starts in
@@ -47,9 +47,9 @@ returns-in-Some g c =
 
 pub returns-in-None : goal.returns-in-None
 returns-in-None g c =
-    let S0 : Standing = g.D.Directs.standing c.args.directs.now in
-    let S1 : Standing = g.D.Directs.standing c.starts.new.directs in
-    let S2 : Standing = g.D.Directs.standing c.search.new.directs in
+    let S0 : Inside = g.D.Directs.inside c.args.directs.now in
+    let S1 : Inside = g.D.Directs.inside c.starts.new.directs in
+    let S2 : Inside = g.D.Directs.inside c.search.new.directs in
     let group = c.args.group.now in
     let members = c.args.members.now in
     let starts = c.in_ok-starts.starts in

@@ -1,5 +1,5 @@
 use Rattle.std.proofs.Common.{◌++◌, ◌∷◌, [], List, ℕ, Option, None, IfSome, refl, subst, Vec, Global}
-use Rattle.book_office.specs.Keeping.{Standing}
+use Rattle.book_tables.specs.Inside.{Inside}
 use Rattle.book_office_values.specs.declared.offices.Office.{Office}
 use Rattle.book_lists.specs.Circles.{has_path}
 use Rattle.book_lists.specs.declared.principals.Principal.{Principal}
@@ -20,9 +20,9 @@ Near members group o near = IfSome near (HasNearby o.pairs group members)
 
 pub returns-in-Some : goal.returns-in-Some
 returns-in-Some g c =
-    let S0 : Standing = g.D.Directs.standing c.args.directs.now in
-    let S1 : Standing = g.D.Directs.standing c.below.new.directs in
-    let S2 : Standing = g.D.Directs.standing c.search_up.new.directs in
+    let S0 : Inside = g.D.Directs.inside c.args.directs.now in
+    let S1 : Inside = g.D.Directs.inside c.below.new.directs in
+    let S2 : Inside = g.D.Directs.inside c.search_up.new.directs in
     let group = c.args.group.now in
     let members = c.args.members.now in
     let below = c.in-Some.below.items in
@@ -32,5 +32,5 @@ returns-in-Some g c =
 
 pub returns-in-None : goal.returns-in-None
 returns-in-None g c =
-    then_tells (g.D.Directs.standing c.args.directs.now) (g.D.Directs.standing c.below.new.directs) c.in_ok-found.found (Below c.args.members.now c.args.group.now) c.in_ok-found.ensures
+    then_tells (g.D.Directs.inside c.args.directs.now) (g.D.Directs.inside c.below.new.directs) c.in_ok-found.found (Below c.args.members.now c.args.group.now) c.in_ok-found.ensures
     None (Near c.args.members.now c.args.group.now) (λ o below. tt)

@@ -1,0 +1,10 @@
+use Rattle.book_tables.proofs.Common.{◌≡◌, rules, false, state}
+use Rattle.std.specs.Prelude.{is_err}
+use Rattle.book_tables.proofs.Spoiled.{read_within}
+use Rattle.book_tables.proofs.within.WithinKeeper.lists.Goals as goal
+
+pub returns : goal.returns
+returns g c =
+    let fresh : c.args.self.now.spoiled ≡ false = search rules in
+    let is : c.is_err-self.result ≡ is_err c.lists-told.result = search rules in
+    rw (fresh, is) (read_within (state g.S.Store c.args.self.now.transaction.now.conn.now) (state g.S.Store c.lists-told.new.transaction.conn.now) c.args.self.now.failures c.lists-told.new.failures c.args.self.now.written _ c.lists-told.result c.lists-told.ensures.reads)
