@@ -13,13 +13,15 @@ use Rattle.book_policy_values.specs.declared.parts.PolicyTables.{PolicyTables}
 use Rattle.book_wire_serving.specs.Logs.{Gains, Log, no_log}
 use Rattle.book_wire_serving.specs.Serving.{Serving, StandsStill}
 use Rattle.book_wire_steps.specs.Steps.{AdoptsNow, IsEpochTold, IsLineOfAdoption, KeepsOffice, told_as}
+use Rattle.book_office.proofs.Fallbacks.{still_falls, then_falls}
 
 pub keeps_same : (s : Standing) → KeepsOffice s s
-keeps_same s = record { was_honest = λ h. h; kept = λ h o stands. stands; left = λ h x left. left }
+keeps_same s = record { was_honest = λ h. h; falls = still_falls; kept = λ h o stands. stands; left = λ h x left. left }
 
 pub keeps_still : (old mid new : Standing) → KeepsOffice old mid → StandsStill mid new → KeepsOffice old new
 keeps_still old mid new k s = record {
   was_honest = λ h. k.was_honest (s.was_honest h);
+  falls = then_falls k.falls s.falls;
   kept = λ h o stands. s.kept h o (k.kept (s.was_honest h) o stands);
   left = λ h x left. k.left (s.was_honest h) x (s.left h x left);
 }

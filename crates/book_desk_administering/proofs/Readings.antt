@@ -36,21 +36,22 @@ pub beside_log : (old new : Serving) (before after : Log) → after ≡ before �
 beside_log old new before after same r = record {
   well_formed = r.well_formed;
   was_honest = r.was_honest;
+  falls = r.falls;
   run = r.run;
   noted = gains_none before after (AreLinesOf []) same refl;
 }
 
 still_reads : (old new : Standing) → StandsStill old new → Runs (bare old) (bare new) []
-still_reads old new s = runs_unread (bare old) (bare new) s.was_honest s.kept s.left refl
+still_reads old new s = runs_unread (bare old) (bare new) s.was_honest s.falls s.kept s.left refl
 
 asks_reads : {A : Type 0} (old new : Standing) (result : Result A Refusal) (T : Office → Result A Refusal → Type 0) → Asks old new result T → Runs (bare old) (bare new) []
-asks_reads old new result T a = runs_unread (bare old) (bare new) a.was_honest a.kept a.left refl
+asks_reads old new result T a = runs_unread (bare old) (bare new) a.was_honest a.falls a.kept a.left refl
 
 pub read_reads : {A : Type 0} (old new : Standing) (result : Result A StoreFault) (T : Office → A → Type 0) → Reads old new result T → Runs (bare old) (bare new) []
-read_reads old new result T r = runs_unread (bare old) (bare new) r.was_honest r.kept r.left refl
+read_reads old new result T r = runs_unread (bare old) (bare new) r.was_honest r.falls r.kept r.left refl
 
 plan_reads : {A : Type 0} (old new : Standing) (t : PolicyTables) (result : Result A PlanFault) (T : Office → A → Type 0) → Plans old new t result T → Runs (bare old) (bare new) []
-plan_reads old new t result T p = runs_unread (bare old) (bare new) p.was_honest p.kept p.left refl
+plan_reads old new t result T p = runs_unread (bare old) (bare new) p.was_honest p.falls p.kept p.left refl
 
 -- ---- a question
 unanswered_reads : (old : Standing) (a : Asked) (held holds : Option (List ℕ)) (new : Standing) (failure : Unanswered)
@@ -82,14 +83,14 @@ pub dump_reads : (Told : List ℕ → Type 0) (old : Standing) (held holds : Opt
     → EndsDump Told old held holds status new → Runs (bare old) (bare new) []
 dump_reads Told old held holds status new (inl done) =
     let d = done.1 in
-    runs_unread (bare old) (bare new) d.was_honest d.kept d.left refl
+    runs_unread (bare old) (bare new) d.was_honest d.falls d.kept d.left refl
 dump_reads Told old held holds status new (inr failed) =
     let d = failed.2 in
-    runs_unread (bare old) (bare new) d.was_honest d.kept d.left refl
+    runs_unread (bare old) (bare new) d.was_honest d.falls d.kept d.left refl
 
 -- ---- a copy
 pub copy_reads : (old new : Standing) → Rests old new → Runs (bare old) (bare new) []
-copy_reads old new r = runs_unread (bare old) (bare new) r.was_honest r.kept r.left refl
+copy_reads old new r = runs_unread (bare old) (bare new) r.was_honest r.falls r.kept r.left refl
 
 -- ---- a policy that is not adopted
 pub check_reads : (bytes : List ℕ) (strict is_whole : Bool) (old : Standing) (held holds errors_held errors_hold : Option (List ℕ)) (status : ℕ) (new : Standing)

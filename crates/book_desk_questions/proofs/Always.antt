@@ -21,6 +21,7 @@ pub asked_always : (old new : Standing) (a : Asked) (told : Result (List ℕ) Re
 asked_always old new a told result Tells is asks texts refusals =
     subst (λ (x : Result (Option (List ℕ)) Refusal). Asks old new x (λ o r. TellsAsked o a r)) (sym is) (record {
       was_honest = asks.was_honest;
+      falls = asks.falls;
       tells = λ honest o stands. tells o told (asks.tells honest o stands);
       kept = asks.kept;
       left = asks.left;

@@ -23,6 +23,7 @@ module _ (old new : Standing) (log logs : Log) (was is : Remembered) (nothing : 
   runs_behind answered runs = record {
     well_formed = runs.well_formed;
     was_honest = runs.was_honest;
+    falls = runs.falls;
     run = λ h o stands. let x = runs.run h o (stands, nothing o) in (x.0, x.1.0, x.2, x.3);
     noted = runs.noted;
   }
@@ -30,6 +31,7 @@ module _ (old new : Standing) (log logs : Log) (was is : Remembered) (nothing : 
   pub still_behind : StandsStill (remembering old was) (remembering new is) → StandsStill old new
   still_behind still = record {
     was_honest = still.was_honest;
+    falls = still.falls;
     kept = λ h o stands. (still.kept h o (stands, nothing o)).0;
     left = still.left;
     counted = still.counted;

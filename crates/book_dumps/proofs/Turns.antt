@@ -13,6 +13,7 @@ use Rattle.book_dumps.specs.Dumps.{counted, dump_text, last_line, lines_of}
 use Rattle.book_dumps.specs.Writing.{Dumps, IsCut, IsFront, IsTold, Puts, Writes, failures_after_write}
 use Rattle.book_dumps.specs.declared.faults.DumpFault.{DumpFault}
 use Rattle.book_dumps.specs.declared.faults.DumpFault.TheVariants.{Store, Write}
+use Rattle.book_office.proofs.Fallbacks.{still_falls, then_falls}
 
 ok_map : {A E : Type 0} (r : Result A E) (P Q : Type 0) → (P → Q) → OnOk r P → OnOk r Q
 ok_map (Ok x) P Q f p = f p
@@ -56,6 +57,7 @@ pub writes_then : (S0 S1 S2 : Standing) (h0 h1 h2 : Option (List ℕ)) (c0 c1 c2
     → Writes S0 S2 h0 h2 c0 c2 r M
 writes_then S0 S1 S2 h0 h1 h2 c0 c1 c2 x r L1 L2 M first second both = record {
   was_honest = λ h. first.was_honest (second.was_honest h);
+  falls = then_falls first.falls second.falls;
   told = λ h. let was = second.was_honest h in
       ok_map r ((o : Office) → S1.stands o → IsTold h1 h2 c1 c2 (L2 o)) ((o : Office) → S0.stands o → IsTold h0 h2 c0 c2 (M o))
       (λ told o stands. told_then h0 h1 h2 c0 c1 c2 (L1 o) (L2 o) (M o) (both o stands) (first.told was o stands) (told o (first.kept was o stands))) (second.told h);
@@ -72,6 +74,7 @@ pub writes_failed : (S0 S1 : Standing) (h0 h1 : Option (List ℕ)) (c0 c1 : ℕ)
     → Writes S0 S1 h0 h1 c0 c1 (Err f) L1 → ((o : Office) → S0.stands o → L1 o ++ L2 o ≡ M o) → Writes S0 S1 h0 h1 c0 c1 (Err f) M
 writes_failed S0 S1 h0 h1 c0 c1 f L1 L2 M first both = record {
   was_honest = first.was_honest;
+  falls = first.falls;
   told = λ h. tt;
   front = λ h o stands. front_more h0 h1 (L1 o) (L2 o) (M o) (both o stands) (first.front h o stands);
   kept = first.kept;
@@ -91,6 +94,7 @@ puts_nothing h c x lines none = record {
 pub writes_nothing : (S : Standing) (h : Option (List ℕ)) (c : ℕ) (x : Unit {0}) (L : Office → List (List ℕ)) → ((o : Office) → S.stands o → L o ≡ []) → Writes S S h h c c (Ok x) L
 writes_nothing S h c x L none = record {
   was_honest = λ h. h;
+  falls = still_falls;
   told = λ _ o stands. subst (IsTold h h c c) (sym (none o stands)) (record { text = Appends-nil h; count = λ few. few ∙ ap counted (omega arith) });
   front = λ h. tt;
   kept = λ h o stands. stands;
@@ -103,6 +107,7 @@ pub writes_same : (S0 S1 : Standing) (h0 h1 : Option (List ℕ)) (c0 c1 : ℕ) (
     → Writes S0 S1 h0 h1 c0 c1 r L → ((o : Office) → S0.stands o → L o ≡ M o) → Writes S0 S1 h0 h1 c0 c1 r M
 writes_same S0 S1 h0 h1 c0 c1 r L M first both = record {
   was_honest = first.was_honest;
+  falls = first.falls;
   told = λ h. ok_map r ((o : Office) → S0.stands o → IsTold h0 h1 c0 c1 (L o)) ((o : Office) → S0.stands o → IsTold h0 h1 c0 c1 (M o))
       (λ told o stands. subst (IsTold h0 h1 c0 c1) (both o stands) (told o stands)) (first.told h);
   front = λ h. err_map r ((o : Office) → S0.stands o → IsFront h0 h1 (concat (L o))) ((o : Office) → S0.stands o → IsFront h0 h1 (concat (M o)))
@@ -117,6 +122,7 @@ pub reads_writes : {A : Type 0} (S0 S1 S2 : Standing) (h0 h1 : Option (List ℕ)
     → Reads S0 S1 (Ok x) T → Writes S1 S2 h0 h1 c0 c1 r L → ((o : Office) → S0.stands o → T o x → L o ≡ M o) → Writes S0 S2 h0 h1 c0 c1 r M
 reads_writes S0 S1 S2 h0 h1 c0 c1 x r T L M first second both = record {
   was_honest = λ h. first.was_honest (second.was_honest h);
+  falls = then_falls first.falls second.falls;
   told = λ h. let was = second.was_honest h in
       ok_map r ((o : Office) → S1.stands o → IsTold h0 h1 c0 c1 (L o)) ((o : Office) → S0.stands o → IsTold h0 h1 c0 c1 (M o))
       (λ told o stands. subst (IsTold h0 h1 c0 c1) (both o stands (first.value was o stands)) (told o (first.kept was o stands))) (second.told h);
@@ -142,6 +148,7 @@ pub reads_puts : {A : Type 0} (S0 S1 : Standing) (h0 h1 : Option (List ℕ)) (c0
     → Reads S0 S1 (Ok x) T → Puts h0 h1 c0 c1 r lines → ((o : Office) → S0.stands o → T o x → lines ≡ L o) → Writes S0 S1 h0 h1 c0 c1 r L
 reads_puts S0 S1 h0 h1 c0 c1 x r T lines L first puts both = record {
   was_honest = first.was_honest;
+  falls = first.falls;
   told = λ h. ok_map r (IsTold h0 h1 c0 c1 lines) ((o : Office) → S0.stands o → IsTold h0 h1 c0 c1 (L o))
       (λ told o stands. subst (IsTold h0 h1 c0 c1) (both o stands (first.value h o stands)) told) puts.told;
   front = λ h. err_map r (IsFront h0 h1 (concat lines)) ((o : Office) → S0.stands o → IsFront h0 h1 (concat (L o)))
@@ -156,6 +163,7 @@ pub reads_failed : {A : Type 0} (S0 S1 : Standing) (h : Option (List ℕ)) (c : 
     → Reads {A = A} S0 S1 (Err f) T → Writes S0 S1 h h c c (Err (Store f)) L
 reads_failed S0 S1 h c f T L first = record {
   was_honest = first.was_honest;
+  falls = first.falls;
   told = λ h. tt;
   front = λ _ o stands. ([], concat (L o), refl, Appends-nil h);
   kept = first.kept;
@@ -168,6 +176,7 @@ pub reads_refused : {A : Type 0} (S0 S1 : Standing) (h : Option (List ℕ)) (c :
     → Reads S0 S1 (Ok x) T → Writes S0 S1 h h c c (Err (Store store.Memory)) L
 reads_refused S0 S1 h c x T L first = record {
   was_honest = first.was_honest;
+  falls = first.falls;
   told = λ h. tt;
   front = λ _ o stands. ([], concat (L o), refl, Appends-nil h);
   kept = first.kept;
@@ -190,6 +199,7 @@ pub dumps_then : (S0 S1 : Standing) (h0 h1 h2 : Option (List ℕ)) (n : ℕ) (x 
     → Dumps S0 S1 h0 h2 r
 dumps_then S0 S1 h0 h1 h2 n x r first whole cut cause = record {
   was_honest = first.was_honest;
+  falls = first.falls;
   whole = λ h. ok_map r (Appends h1 h2 (last_line n)) ((o : Office) → S0.stands o → Appends h0 h2 (dump_text o))
       (λ appends o stands. let told = first.told h o stands in
       Appends-trans h0 h1 h2 (concat (lines_of o)) (last_line (counted (length (lines_of o)))) told.text (subst (Appends h1 h2) (last_now n (length (lines_of o)) told.count) appends)) whole;
@@ -210,6 +220,7 @@ dumps_then S0 S1 h0 h1 h2 n x r first whole cut cause = record {
 pub dumps_failed : (S0 S1 : Standing) (h0 h1 : Option (List ℕ)) (n : ℕ) (f : DumpFault) → Writes S0 S1 h0 h1 0 n (Err f) lines_of → Dumps S0 S1 h0 h1 (Err f)
 dumps_failed S0 S1 h0 h1 n f first = record {
   was_honest = first.was_honest;
+  falls = first.falls;
   whole = λ h. tt;
   cut = λ h o stands. let front = first.front h o stands in
       let last = last_line (counted (length (lines_of o))) in (

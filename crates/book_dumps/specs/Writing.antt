@@ -2,7 +2,7 @@
 use Rattle.std.specs.Prelude.{◌≡◌, ◌≢◌, ◌+◌, ℕ, List, [], ◌++◌, length, Option, Result, Ok, Err, IfErr, OnOk, OnErr}
 use Rattle.std.specs.Io.KnownBytes.{Appends}
 use Rattle.std.specs.List.{concat}
-use Rattle.book_office.specs.Keeping.{Standing, Leftover, failures_after_fault}
+use Rattle.book_office.specs.Keeping.{FallsBack, Standing, Leftover, failures_after_fault}
 use Rattle.book_office.specs.declared.keepers.StoreFault.TheVariants as store
 use Rattle.book_office_values.specs.declared.offices.Office.{Office}
 use Rattle.book_dumps.specs.Dumps.{counted, dump_text}
@@ -36,6 +36,7 @@ failures_after_write (Err Write) n = n
 -- a keeper is read, and the lines of its Office are written, or a beginning of them; the Office stays
 pub record Writes (old new : Standing) (held holds : Option (List ℕ)) (before after : ℕ) (result : Result (Unit {0}) DumpFault) (lines : Office → List (List ℕ)) : Type 0 where
   pub was_honest : new.honest → old.honest
+  pub falls : FallsBack old.fallback new.fallback
   pub told : new.honest → OnOk result ((o : Office) → old.stands o → IsTold held holds before after (lines o))
   pub front : new.honest → OnErr result ((o : Office) → old.stands o → IsFront held holds (concat (lines o)))
   pub kept : new.honest → (o : Office) → old.stands o → new.stands o
@@ -46,6 +47,7 @@ pub record Writes (old new : Standing) (held holds : Option (List ℕ)) (before 
 -- line.
 pub record Dumps (old new : Standing) (held holds : Option (List ℕ)) (result : Result (Unit {0}) DumpFault) : Type 0 where
   pub was_honest : new.honest → old.honest
+  pub falls : FallsBack old.fallback new.fallback
   pub whole : new.honest → OnOk result ((o : Office) → old.stands o → Appends held holds (dump_text o))
   pub cut : new.honest → OnErr result ((o : Office) → old.stands o → IsCut held holds (dump_text o))
   pub kept : new.honest → (o : Office) → old.stands o → new.stands o

@@ -27,6 +27,7 @@ module _ (old new : Standing) (held given : List ℕ) (none : held ≡ []) where
       → Reads old new (Ok is) (λ o is. IsTrue is ↔ (dump_text o ≡ text))
   told_whole text is tells d = record {
     was_honest = d.was_honest;
+    falls = d.falls;
     value = λ honest o stands. (let whole : given ≡ dump_text o = given_whole o (d.whole honest o stands) in
         ((λ yes. sym whole ∙ tells.0 yes), (λ same. tells.1 (whole ∙ same))));
     kept = d.kept;

@@ -5,7 +5,7 @@ use Rattle.book_dumps.specs.Dumps.{dump_text}
 use Rattle.book_dumps_loading.specs.declared.faults.LoadFault.{LoadFault}
 use Rattle.book_dumps_reading.specs.Dumped.{dumped_text}
 use Rattle.book_dumps_reading.specs.declared.dumped.Dumped.{Dumped}
-use Rattle.book_office.specs.Keeping.{Standing, Leftover}
+use Rattle.book_office.specs.Keeping.{FallsBack, Standing, Leftover}
 use Rattle.book_office_values.specs.declared.offices.Office.{Office}
 use Rattle.book_tables.specs.Opened.{StandsAlone}
 
@@ -30,6 +30,7 @@ pub record Compares (old new : State) (IsSuch : Office → Type 0) : Type 0 wher
 -- a keeper's Office is read, and stays
 pub record Rests (old new : Standing) : Type 0 where
   pub was_honest : new.honest → old.honest
+  pub falls : FallsBack old.fallback new.fallback
   pub kept : new.honest → (o : Office) → old.stands o → new.stands o
   pub left : new.honest → (x : Leftover) → new.left x → old.left x
 

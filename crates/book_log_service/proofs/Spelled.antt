@@ -35,6 +35,7 @@ use Rattle.book_wire_serving.proofs.Servings.{promise_still, still}
 use Rattle.book_wire_serving.proofs.Unavailable.{no_edit}
 use Rattle.book_wire_serving.specs.Logs.{IsLineBy}
 use Rattle.book_wire_serving.specs.Serving.{IsTextOf, Owes, Serving, StandsStill}
+use Rattle.book_office.proofs.Fallbacks.{still_falls, then_falls}
 
 -- ---- no denial
 no_denial : (denial : Denial) → None ≡ Some denial → ⊥
@@ -53,6 +54,7 @@ unavailable_tells empty = absurd cc
 pub not_asked : (old new : Standing) (name : Option (List ℕ)) (request : Request) → StandsStill old new → ServePromise old new name request (refused Unavailable)
 not_asked old new name request s = record {
   was_honest = s.was_honest;
+  falls = s.falls;
   served = λ h o stands. (o, s.kept h o stands, inr (refl, refl));
   left = λ h o stands x left. (inl (s.left h x left), λ served. absurd (served refl));
   counted = inl s.counted;
@@ -63,6 +65,7 @@ pub unread : {A : Type 0} (old new : Standing) (name : Option (List ℕ)) (reque
     → Reads old new (Err fault) T → ServePromise old new name request (refused Unavailable)
 unread {A} old new name request fault T r = record {
   was_honest = r.was_honest;
+  falls = r.falls;
   served = λ h o stands. (o, r.kept h o stands, inr (refl, refl));
   left = λ h o stands x left. (inl (r.left h x left), λ served. absurd (served refl));
   counted = by_fault fault r.counted;
@@ -81,6 +84,7 @@ promise_read : {A : Type 0} (old mid new : Standing) (x : A) (T : Office → A �
     → Reads old mid (Ok x) T → ServePromise mid new name request reply → ServePromise old new name request reply
 promise_read {A} old mid new x T name request reply r p = record {
   was_honest = λ h. r.was_honest (p.was_honest h);
+  falls = then_falls r.falls p.falls;
   served = λ h o stands. p.served h o (r.kept (p.was_honest h) o stands);
   left = λ h o stands x left. may_before mid.left old.left o (name, request) reply x (r.left (p.was_honest h) x) (p.left h o (r.kept (p.was_honest h) o stands) x left);
   counted = elim p.counted [ inl same ↦ inl (same ∙ r.counted) | inr rose ↦ inr (rose.0, rose.1 ∙ ap one_more r.counted) ];
@@ -196,6 +200,7 @@ withdrawn : TellingRepliesChangeNothing → (old mid new : Standing) (name : Opt
     → ServePromise old mid name request reply → Withdraws mid new reply sent made → ServePromise old new name request (refused Unavailable)
 withdrawn law old mid new name request reply sent made p w = record {
   was_honest = λ h. p.was_honest (w.was_honest h);
+  falls = then_falls p.falls w.falls;
   served = λ h o stands.
       let s = p.served (w.was_honest h) o stands in
       (s.0, w.kept h s.0 s.1, inr (refl, no_edit law o s.0 name request reply s.2 w.telling));
@@ -274,7 +279,7 @@ pub settles_spelled : (old new : Standing) (name : Option (List ℕ)) (request :
     → reply.content ≢ content.Empty → Spells old new name request reply (Ok text) → Settles old new name request drafts reply reply failed (Some text)
 settles_spelled old new name request drafts reply failed text telling s = inl (record {
   same = refl;
-  still = record { was_honest = s.was_honest; kept = s.kept; left = s.left; counted = s.counted };
+  still = record { was_honest = s.was_honest; falls = s.falls; kept = s.kept; left = s.left; counted = s.counted };
   told = λ sound. (text, refl, inl (telling, s.told));
 })
 
@@ -286,6 +291,7 @@ settles_withdrawn old new name request drafts reply sent failed made fault s is_
   unavailable = is_sent;
   telling = telling;
   was_honest = s.was_honest;
+  falls = s.falls;
   kept = s.kept;
   left = s.left;
   failed = s.failed;
@@ -299,6 +305,7 @@ pub spells_read : (old new : Standing) (name : Option (List ℕ)) (request : Req
     → IsTextBy name request reply no_effect lists.levels text → Spells old new name request reply (Ok text)
 spells_read old new name request reply denial lists text denied r t = record {
   was_honest = r.was_honest;
+  falls = r.falls;
   kept = r.kept;
   left = r.left;
   told = record {
@@ -321,6 +328,7 @@ pub spells_refused : (old new : Standing) (name : Option (List ℕ)) (request : 
     → Reads old new (Ok lists) (λ o told. told ≡ lists_at o denial.resource) → Spells old new name request reply (Err Memory)
 spells_refused old new name request reply denial lists r = record {
   was_honest = r.was_honest;
+  falls = r.falls;
   kept = r.kept;
   left = r.left;
   told = tt;
@@ -334,6 +342,7 @@ pub spells_unread : (old new : Standing) (name : Option (List ℕ)) (request : R
     → Spells old new name request reply (Err fault)
 spells_unread old new name request reply denial Memory denied r = record {
   was_honest = r.was_honest;
+  falls = r.falls;
   kept = r.kept;
   left = r.left;
   told = tt;
@@ -342,6 +351,7 @@ spells_unread old new name request reply denial Memory denied r = record {
 }
 spells_unread old new name request reply denial Store denied r = record {
   was_honest = r.was_honest;
+  falls = r.falls;
   kept = r.kept;
   left = r.left;
   told = tt;
@@ -364,6 +374,7 @@ pub spells_plain : (s : Standing) (name : Option (List ℕ)) (request : Request)
     → denial_in reply.content ≡ None → reply.content ≢ content.Empty → IsTextBy name request reply no_effect [] text → Spells s s name request reply (Ok text)
 spells_plain s name request reply text none telling t = record {
   was_honest = λ h. h;
+  falls = still_falls;
   kept = λ h o stands. stands;
   left = λ h x left. left;
   told = told_plain s s name request reply text none telling t;
@@ -374,6 +385,7 @@ spells_plain s name request reply text none telling t = record {
 pub spells_nothing : (s : Standing) (name : Option (List ℕ)) (request : Request) (reply : Reply) → Spells s s name request reply (Err Memory)
 spells_nothing s name request reply = record {
   was_honest = λ h. h;
+  falls = still_falls;
   kept = λ h o stands. stands;
   left = λ h x left. left;
   told = tt;

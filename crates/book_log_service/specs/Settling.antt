@@ -5,7 +5,7 @@ use Rattle.book_machine.specs.declared.messages.Content.TheVariants as content
 use Rattle.book_machine.specs.declared.messages.Reply.{Reply}
 use Rattle.book_machine.specs.declared.messages.Request.{Request}
 use Rattle.book_machine.specs.declared.refusals.Refusal.TheVariants.{Unavailable}
-use Rattle.book_office.specs.Keeping.{Leftover, Standing, one_more}
+use Rattle.book_office.specs.Keeping.{FallsBack, Leftover, Standing, one_more}
 use Rattle.book_office_values.specs.declared.offices.Office.{Office}
 use Rattle.book_wire_serving.specs.Serving.{IsTextOf, StandsStill}
 use Rattle.book_log_service.specs.Drafts.{IsOfDrafts}
@@ -28,6 +28,7 @@ pub record Withdraws (old new : Standing) (reply sent : Reply) (made : Option (L
   pub unavailable : sent ≡ refused Unavailable
   pub telling : reply.content ≢ content.Empty
   pub was_honest : new.honest → old.honest
+  pub falls : FallsBack old.fallback new.fallback
   pub kept : new.honest → (o : Office) → old.stands o → new.stands o
   pub left : new.honest → (x : Leftover) → new.left x → old.left x
   pub failed : (new.failures ≡ old.failures) ⊎ (IsDenial reply × (new.failures ≡ one_more old.failures))

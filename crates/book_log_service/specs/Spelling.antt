@@ -3,7 +3,7 @@ use Rattle.std.specs.Prelude.{◌≡◌, ◌⊎◌, ℕ, List, Option, Some, Res
 use Rattle.book_log_replies.specs.Replies.{denial_in}
 use Rattle.book_machine.specs.declared.messages.Reply.{Reply}
 use Rattle.book_machine.specs.declared.messages.Request.{Request}
-use Rattle.book_office.specs.Keeping.{Leftover, Standing, one_more}
+use Rattle.book_office.specs.Keeping.{FallsBack, Leftover, Standing, one_more}
 use Rattle.book_office.specs.declared.keepers.StoreFault.{StoreFault}
 use Rattle.book_office_listings.specs.declared.messages.Denial.{Denial}
 use Rattle.book_office_values.specs.declared.offices.Office.{Office}
@@ -16,6 +16,7 @@ IsDenial reply = (denial : Denial) × (denial_in reply.content ≡ Some denial)
 -- The text is a line of the request and its reply, and the Office stays as it was. The store may fail once, where the reply is a denial.
 pub record Spells (old new : Standing) (name : Option (List ℕ)) (request : Request) (reply : Reply) (result : Result (List ℕ) StoreFault) : Type 0 where
   pub was_honest : new.honest → old.honest
+  pub falls : FallsBack old.fallback new.fallback
   pub kept : new.honest → (o : Office) → old.stands o → new.stands o
   pub left : new.honest → (x : Leftover) → new.left x → old.left x
   pub told : IfOk result (λ text. IsTextOf old new name request reply text)

@@ -6,6 +6,7 @@ use Rattle.book_office.specs.Keeping.{Edits, whole, failures_after_fault}
 use Rattle.book_machine.proofs.FittingPlans.{plan_fits}
 use Rattle.book_machine.proofs.OnePlan.{one_plan}
 use Rattle.book_machine.specs.Asking.{IsPlanned}
+use Rattle.book_office.proofs.Fallbacks.{then_falls}
 
 -- an edit that the keeper gave up failed once, or not at all
 pub failed_once : (fault : StoreFault) (before after : ℕ) → after ≡ failures_after_fault fault before → (after ≡ before) ⊎ (after ≡ one_more before)
@@ -17,6 +18,7 @@ module _ (old new : Standing) (name : Option (List ℕ)) (request : Request) whe
   pub answers_refusal : (refusal : Refusal) → Asks old new (Err refusal) (λ o r. MeetsPlan o name request r) → ServePromise old new name request (refused refusal)
   answers_refusal refusal asked = record {
     was_honest = asked.was_honest;
+    falls = asked.falls;
     served = λ h o stands. (
       o,
       asked.kept h o stands,
@@ -39,6 +41,7 @@ module _ (old new : Standing) (name : Option (List ℕ)) (request : Request) whe
   pub answers_read : (p : Plan) → Asks old new (Ok p) (λ o r. MeetsPlan o name request r) → p.edit ≡ None → ServePromise old new name request p.reply
   answers_read p asked no_edit = record {
     was_honest = asked.was_honest;
+    falls = asked.falls;
     served = λ h o stands. (o, asked.kept h o stands, inl (Ok p, asked.tells h o stands, ap (λ e. (p.reply, apply_any o e)) (sym no_edit)));
     left = λ h o stands x left. (
       inl (asked.left h x left),
@@ -65,6 +68,7 @@ module _ (old new : Standing) (name : Option (List ℕ)) (request : Request) whe
     pub answers_edit : (u : Unit {0}) → Edits mid new (Ok u) edit → ServePromise old new name request p.reply
     answers_edit u edits = record {
       was_honest = λ h. asked.was_honest (edits.was_honest h);
+      falls = then_falls asked.falls edits.falls;
       served = λ h o stands.
           let was = edits.was_honest h in
           (apply o edit, edits.made h o (asked.kept was o stands) (fits was o stands), inl (Ok p, asked.tells was o stands, stepped o));
@@ -85,6 +89,7 @@ module _ (old new : Standing) (name : Option (List ℕ)) (request : Request) whe
     pub answers_fault : (fault : StoreFault) → Edits mid new (Err fault) edit → ServePromise old new name request (refused Unavailable)
     answers_fault fault edits = record {
       was_honest = λ h. asked.was_honest (edits.was_honest h);
+      falls = then_falls asked.falls edits.falls;
       served = λ h o stands. (o, edits.kept h o (asked.kept (edits.was_honest h) o stands), inr (refl, refl));
       left = λ h o stands x left.
           let was = edits.was_honest h in (

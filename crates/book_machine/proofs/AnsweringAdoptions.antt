@@ -17,6 +17,7 @@ use Rattle.book_machine.specs.Promises.{AdoptPromise}
 use Rattle.book_machine.specs.declared.adoptions.AdoptFault.{AdoptFault}
 use Rattle.book_machine.specs.declared.adoptions.AdoptFault.TheVariants.{Full, Unavailable}
 use Rattle.book_machine.specs.declared.adoptions.Adopted.{Adopted}
+use Rattle.book_office.proofs.Fallbacks.{then_falls}
 
 module _ (t : PolicyTables) (o : Office) where
   abbrev after_all : Bool → Office
@@ -101,6 +102,7 @@ module _ (old new : Standing) (t : PolicyTables) where
   pub answers_asked : (r : Result (Option Adopted) StoreFault) → Reads old new r Tells → AdoptPromise old new t (Err Unavailable)
   answers_asked r reads = record {
     was_honest = reads.was_honest;
+    falls = reads.falls;
     adopted = λ h o stands. (o, reads.kept h o stands, refl);
     left = λ h o stands x left. inl (reads.left h x left);
     left_made = λ h. tt;
@@ -111,6 +113,7 @@ module _ (old new : Standing) (t : PolicyTables) where
   pub answers_full : (answer : Option Adopted) → answer ≡ None → Reads old new (Ok answer) Tells → AdoptPromise old new t (Err Full)
   answers_full answer is reads = record {
     was_honest = reads.was_honest;
+    falls = reads.falls;
     adopted = λ h o stands. (o, reads.kept h o stands, (no_room t o (sym is ∙ reads.value h o stands), refl));
     left = λ h o stands x left. inl (reads.left h x left);
     left_made = λ h. tt;
@@ -126,6 +129,7 @@ module _ (old new : Standing) (t : PolicyTables) where
     answers_made u made =
         let edits : Edits mid new (Ok u) (Adopt t) = subst (λ q. Edits mid new (Ok u) (Adopt q)) copied made in record {
           was_honest = λ h. reads.was_honest (edits.was_honest h);
+          falls = then_falls reads.falls edits.falls;
           adopted = λ h o stands.
               let was = edits.was_honest h in
               let has = has_room was o stands in
@@ -145,6 +149,7 @@ module _ (old new : Standing) (t : PolicyTables) where
     answers_fault fault made =
         let edits : Edits mid new (Err fault) (Adopt t) = subst (λ q. Edits mid new (Err fault) (Adopt q)) copied made in record {
           was_honest = λ h. reads.was_honest (edits.was_honest h);
+          falls = then_falls reads.falls edits.falls;
           adopted = λ h o stands. (o, edits.kept h o (reads.kept (edits.was_honest h) o stands), refl);
           left = λ h o stands x left.
               let was = edits.was_honest h in

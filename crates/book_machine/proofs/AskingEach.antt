@@ -2,6 +2,7 @@
 use Rattle.book_machine.proofs.Common.{◌≡◌, ℕ, Result, Ok, Err, IsErrAnd, sym, subst, Standing, Office, Asks, Counted, Refusal}
 use Rattle.book_office.specs.Keeping.{Reads}
 use Rattle.book_machine.proofs.StagesInTurn.{asks_nothing}
+use Rattle.book_office.proofs.Fallbacks.{then_falls}
 
 -- the questions so far have been answered, and the answers tell this
 abbrev pub HasAsked : Standing → Standing → (Office → Type 0) → Type 0
@@ -14,6 +15,7 @@ pub one_more_asked : {B : Type 0} (old mid new : Standing) (x : B) (Told More : 
     → HasAsked old mid Told → Asks mid new (Ok x) T → ((o : Office) → Told o → T o (Ok x) → More o) → HasAsked old new More
 one_more_asked old mid new x Told More T first second both = record {
   was_honest = λ h. first.was_honest (second.was_honest h);
+  falls = then_falls first.falls second.falls;
   tells = λ h o stands.
       let was = second.was_honest h in
       both o (first.tells was o stands) (second.tells h o (first.kept was o stands));
@@ -27,6 +29,7 @@ pub asks_standing_read : {A B : Type 0} (old new : Standing) (x : A) (y : B) (T 
     → Reads old new (Ok x) T → ((o : Office) → old.stands o → T o x → U o (Ok y)) → Asks old new (Ok y) U
 asks_standing_read old new x y T U read both = record {
   was_honest = read.was_honest;
+  falls = read.falls;
   tells = λ h o stands. both o stands (read.value h o stands);
   kept = read.kept;
   left = read.left;
@@ -43,6 +46,7 @@ pub asked_then : {B : Type 0} (old new : Standing) (r : Result B Refusal) (Told 
     → HasAsked old new Told → ((n : ℕ) → Counted r n n) → ((o : Office) → Told o → U o r) → Asks old new r U
 asked_then old new r Told U asked same both = record {
   was_honest = asked.was_honest;
+  falls = asked.falls;
   tells = λ h o stands. both o (asked.tells h o stands);
   kept = asked.kept;
   left = asked.left;
@@ -52,6 +56,7 @@ asked_then old new r Told U asked same both = record {
 pub asked_first : {A : Type 0} (old new : Standing) (x : A) (T : Office → Result A Refusal → Type 0) → Asks old new (Ok x) T → HasAsked old new (λ o. T o (Ok x))
 asked_first old new x T asked = record {
   was_honest = asked.was_honest;
+  falls = asked.falls;
   tells = asked.tells;
   kept = asked.kept;
   left = asked.left;
@@ -63,6 +68,7 @@ pub asked_refused : {A B : Type 0} (old mid new : Standing) (e : Refusal) (r : R
 asked_refused {A} {B} old mid new e (Ok x) Told T U first second is both = absurd is
 asked_refused {A} {B} old mid new e (Err x) Told T U first second is both = record {
   was_honest = λ h. first.was_honest (second.was_honest h);
+  falls = then_falls first.falls second.falls;
   tells = λ h o stands.
       let was = second.was_honest h in
       subst (λ y. U o (Err y)) (sym is) (both o (first.tells was o stands) (second.tells h o (first.kept was o stands)));

@@ -4,6 +4,7 @@ use Rattle.book_office.specs.Keeping.{Leftover}
 use Rattle.book_machine.proofs.UnseenRuns.{runs_alike}
 use Rattle.book_machine.specs.Promises.{ServeAllPromise}
 use Rattle.book_machine.specs.Runs.{Run, MayLeave, MayLeaveAfter}
+use Rattle.book_office.proofs.Fallbacks.{still_falls, then_falls}
 
 run_more : (o after : Office) (calls : List Call) (replies : List Reply) (offices : List Office) (call : Call) (reply : Reply)
     → Run o calls replies offices → Serves (last_office o offices) call.0 call.1 reply after → Run o (calls ++ call ∷ []) (replies ++ reply ∷ []) (offices ++ after ∷ [])
@@ -34,6 +35,7 @@ leave_more before new o after (c ∷ calls) (r ∷ replies) (y ∷ offices) call
 pub no_calls : (old : Standing) → ServeAllPromise old old [] []
 no_calls old = record {
   was_honest = λ h. h;
+  falls = still_falls;
   run = λ h o stands. ([], stands, tt, λ x left. left, runs_alike o [] [] [] tt);
 }
 
@@ -41,6 +43,7 @@ pub one_more_call : (old mid new : Standing) (calls : List Call) (replies : List
     → ServeAllPromise old mid calls replies → ServePromise mid new call.0 call.1 reply → ServeAllPromise old new (calls ++ call ∷ []) (replies ++ reply ∷ [])
 one_more_call old mid new calls replies call reply runs serve = record {
   was_honest = λ h. runs.was_honest (serve.was_honest h);
+  falls = then_falls runs.falls serve.falls;
   run = λ h o stands.
       let so_far = runs.run (serve.was_honest h) o stands in
       let offices = so_far.0 in

@@ -1,5 +1,6 @@
 -- Stages one after the other.
 use Rattle.book_machine.proofs.Common.{◌≡◌, ℕ, Result, Ok, Err, IsErrAnd, inl, inr, refl, sym, subst, Standing, Office, Asks, Meets, Counted, ◌>>=◌, Refusal}
+use Rattle.book_office.proofs.Fallbacks.{still_falls, then_falls}
 
 -- a result that is the stage's
 pub meets_same : {A : Type 0} (r stage : Result A Refusal) → r ≡ stage → Meets r stage
@@ -33,6 +34,7 @@ pub asks_nothing : {A : Type 0} (standing : Standing) (r : Result A Refusal) (T 
     → (standing.honest → (o : Office) → standing.stands o → T o r) → Asks standing standing r T
 asks_nothing standing r T tells = record {
   was_honest = λ h. h;
+  falls = still_falls;
   tells = tells;
   kept = λ h o stands. stands;
   left = λ h x left. left;
@@ -45,6 +47,7 @@ pub asks_refused : {A B : Type 0} (old new : Standing) (e : Refusal) (r : Result
 asks_refused {A} {B} old new e (Ok x) T U asked is both = absurd is
 asks_refused {A} {B} old new e (Err x) T U asked is both = record {
   was_honest = asked.was_honest;
+  falls = asked.falls;
   tells = λ h o stands. subst (λ y. U o (Err y)) (sym is) (both o stands (asked.tells h o stands));
   kept = asked.kept;
   left = asked.left;
@@ -58,6 +61,7 @@ pub asks_then : {A B : Type 0} (old mid new : Standing) (x : A) (r : Result B Re
     → ((o : Office) → old.stands o → T o (Ok x) → U o r → V o r) → Asks old new r V
 asks_then old mid new x r T U V first second both = record {
   was_honest = λ h. first.was_honest (second.was_honest h);
+  falls = then_falls first.falls second.falls;
   tells = λ h o stands.
       let was = second.was_honest h in
       both o stands (first.tells was o stands) (second.tells h o (first.kept was o stands));

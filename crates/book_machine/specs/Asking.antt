@@ -5,7 +5,7 @@ use Rattle.std.specs.Prelude.{Vec}
 use Rattle.std.specs.Str.{IsUtf8}
 use Rattle.std.specs.declared.alloc.Global.{Global}
 use Rattle.book_lists.specs.declared.submitted.Submitted.{Submitted}
-use Rattle.book_office.specs.Keeping.{Leftover, Standing, one_more}
+use Rattle.book_office.specs.Keeping.{FallsBack, Leftover, Standing, one_more}
 use Rattle.book_office.specs.declared.edits.Edit.{Edit}
 use Rattle.book_office_values.specs.declared.offices.Office.{Office}
 use Rattle.book_office_values.specs.declared.paths.Path.{Path}
@@ -40,6 +40,7 @@ Counted (Err e) before after = (after ≡ before) ⊎ ((e ≡ Unavailable) × (a
 -- a stage asks the keeper, tells something of the Office by its result, and leaves the Office as it was
 pub record Asks {A : Type 0} (old new : Standing) (result : Result A Refusal) (Tells : Office → Result A Refusal → Type 0) : Type 0 where
   pub was_honest : new.honest → old.honest
+  pub falls : FallsBack old.fallback new.fallback
   pub tells : new.honest → (o : Office) → old.stands o → Tells o result
   pub kept : new.honest → (o : Office) → old.stands o → new.stands o
   pub left : new.honest → (x : Leftover) → new.left x → old.left x

@@ -2,7 +2,7 @@
 use Rattle.std.specs.Prelude.{◌≡◌, ◌≢◌, ◌⊎◌, ℕ, List, Option, Result, Err, OnOk}
 use Rattle.book_policy_values.specs.declared.parts.PolicyTables.{PolicyTables}
 use Rattle.book_office_adopting.specs.Adopting.{adopt}
-use Rattle.book_office.specs.Keeping.{Leftover, whole, Standing, one_more}
+use Rattle.book_office.specs.Keeping.{FallsBack, Leftover, whole, Standing, one_more}
 use Rattle.book_office_values.specs.declared.offices.Office.{Office}
 use Rattle.book_machine.specs.Adoptions.{Adopts, HasRoomFor}
 use Rattle.book_machine.specs.Agreement.{named, Agree}
@@ -21,6 +21,7 @@ use Rattle.book_machine.specs.declared.refusals.Refusal.TheVariants.{Unavailable
 -- is as it was; what a stop may leave; and the store failed once where the reply is unavailable, or not at all
 pub record ServePromise (old new : Standing) (name : Option (List ℕ)) (request : Request) (reply : Reply) : Type 0 where
   pub was_honest : new.honest → old.honest
+  pub falls : FallsBack old.fallback new.fallback
   pub served : new.honest → (o : Office) → old.stands o → (after : Office) × new.stands after × Serves o name request reply after
   pub left : new.honest → (o : Office) → old.stands o → (x : Leftover) → new.left x → MayLeave old.left o (name, request) reply x
   pub counted : (new.failures ≡ old.failures) ⊎ ((reply ≡ refused Unavailable) × (new.failures ≡ one_more old.failures))
@@ -34,6 +35,7 @@ pub record ServeHidesUnread (old new : Standing) (name : Option (List ℕ)) (req
 -- MOVE and the epoch did not rise, the replies are also those of a run from each Office that agrees
 pub record ServeAllPromise (old new : Standing) (calls : List Call) (replies : List Reply) : Type 0 where
   pub was_honest : new.honest → old.honest
+  pub falls : FallsBack old.fallback new.fallback
   pub run : new.honest → (o : Office) → old.stands o
       → (offices : List Office) × new.stands (last_office o offices) × Run o calls replies offices
       × ((x : Leftover) → new.left x → MayLeaveAfter old.left o calls replies offices x)
@@ -43,6 +45,7 @@ pub record ServeAllPromise (old new : Standing) (calls : List Call) (replies : L
 -- unavailable, or not at all
 pub record AdoptPromise (old new : Standing) (t : PolicyTables) (result : Result Adopted AdoptFault) : Type 0 where
   pub was_honest : new.honest → old.honest
+  pub falls : FallsBack old.fallback new.fallback
   pub adopted : new.honest → (o : Office) → old.stands o → (after : Office) × new.stands after × Adopts o t result after
   pub left : new.honest → (o : Office) → old.stands o → (x : Leftover) → new.left x
       → old.left x ⊎ (HasRoomFor t o × (x ≡ whole (adopt t o)))

@@ -1,5 +1,6 @@
 pub mod Common
 pub mod FirstOf
+pub mod Fallbacks
 pub mod Epochs
 pub mod FittingEdits
 pub mod FittingSettings

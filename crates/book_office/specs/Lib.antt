@@ -7,6 +7,7 @@ pub mod InForce
 pub mod OwnLists
 pub mod ResourceTree
 pub mod Resources
+pub mod Rounds
 pub mod Sound
 pub mod Touches
 pub mod Moving

@@ -5,8 +5,9 @@
 //! Office has (`Reads`), and `act` leaves the edited Office or, on an error, the Office as it was (`Edits`); and that
 //! edits within the limits fit.
 //!
-//! Read `nodes`, `edits` and `keepers` first; then `reads`, `granting`, `changing`, `moving`, `setting` and
-//! `memory_keepers`, which keep an Office in memory; then `views` and `laws`.
+//! Read `nodes`, `edits` and `keepers` first, `lent_keepers`, by which a keeper is asked that is lent, and `rounds`, by which
+//! several edits are kept by one commit; then `reads`,
+//! `granting`, `changing`, `moving`, `setting` and `memory_keepers`, which keep an Office in memory; then `views` and `laws`.
 #![tactic(auto)]
 
 mod changing;
@@ -14,10 +15,12 @@ mod edits;
 mod granting;
 mod keepers;
 mod laws;
+mod lent_keepers;
 mod memory_keepers;
 mod moving;
 mod nodes;
 mod reads;
+mod rounds;
 mod setting;
 mod views;
 
@@ -37,5 +40,6 @@ pub use laws::{
 };
 pub use memory_keepers::MemoryKeeper;
 pub use nodes::{Changed, EffectiveEntry, Level, Listed, Lists, Node};
+pub use rounds::{Rounds, Work};
 pub use setting::with_members;
 pub use views::effective;

@@ -13,6 +13,7 @@ use crate::nodes::{Changed, Level, Listed, Lists, Node};
 use crate::reads::{
     changed, changed_cards, children, count, find, find_unnumbered, has, level, lists,
 };
+use crate::rounds::{Rounds, Work};
 use book_lists::{Caller, Circle, Here, Name, Pairs, Principal, closure, reached_in};
 use book_office_adopting::{Adoption, adoption_of};
 use book_office_values::{Items, NameMap, Office, Path, Properties};
@@ -182,6 +183,20 @@ impl Keeper for MemoryKeeper {
         if edit.changes_members() {
             self.reach = None;
         }
+        Ok(())
+    }
+}
+
+/// What is edited in memory is kept at once.
+impl Rounds for MemoryKeeper {
+    ghost use Rattle.book_office_values.specs.declared.offices.Office.{Office};
+
+    ghost Inside = { Office };
+
+    ghost inside = { λ k. in_memory k };
+
+    fn round<W: Work>(&mut self, alloc: Global, work: &mut W) -> Result<(), StoreFault> {
+        work.run(alloc, self);
         Ok(())
     }
 }

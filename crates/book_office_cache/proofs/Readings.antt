@@ -8,12 +8,14 @@ use Rattle.book_office.specs.Keeping.{Edits, failures_after}
 use Rattle.book_office.specs.declared.edits.Edit.{Edit}
 use Rattle.book_office.specs.declared.keepers.StoreFault.{StoreFault}
 use Rattle.book_office.specs.declared.keepers.StoreFault.TheVariants.{Memory}
+use Rattle.book_office.proofs.Fallbacks.{still_falls, then_falls}
 
 -- what is remembered was true before, and is what is told
 pub read_remembered : {A : Type 0} (kept : Standing) (r : Remembered) (x : A) (T : Office → A → Type 0) → ((o : Office) → Remembers r o → T o x)
     → Reads (remembering kept r) (remembering kept r) (Ok x) T
 read_remembered kept r x T tells = record {
   was_honest = λ h. h;
+  falls = still_falls;
   value = λ h o stands. tells o stands.1;
   kept = λ h o stands. stands;
   left = λ h x left. left;
@@ -24,6 +26,7 @@ read_remembered kept r x T tells = record {
 pub refused : {A : Type 0} (kept : Standing) (T : Office → A → Type 0) → Reads kept kept (Err Memory) T
 refused kept T = record {
   was_honest = λ h. h;
+  falls = still_falls;
   value = λ h. tt;
   kept = λ h o stands. stands;
   left = λ h x left. left;
@@ -35,6 +38,7 @@ pub read_behind : {A : Type 0} (old new : Standing) (r : Remembered) (result : R
     → Reads old new result T → Reads (remembering old r) (remembering new r) result T
 read_behind old new r result T read = record {
   was_honest = read.was_honest;
+  falls = read.falls;
   value = λ h. IfOk-weaker result (λ x. (o : Office) → old.stands o → T o x) (λ x. (o : Office) → old.stands o × Remembers r o → T o x) (λ x tells o stands. tells o stands.0) (read.value h);
   kept = λ h o stands. (read.kept h o stands.0, stands.1);
   left = read.left;
@@ -46,6 +50,7 @@ pub read_kept : {A : Type 0} (old new : Standing) (r more : Remembered) (x : A) 
     → Reads old new (Ok x) T → ((o : Office) → Remembers r o → T o x → Remembers more o) → Reads (remembering old r) (remembering new more) (Ok x) T
 read_kept old new r more x T read remembers = record {
   was_honest = read.was_honest;
+  falls = read.falls;
   value = λ h o stands. read.value h o stands.0;
   kept = λ h o stands. (read.kept h o stands.0, remembers o stands.1 (read.value h o stands.0));
   left = read.left;
@@ -58,6 +63,7 @@ pub reads_then : {A B : Type 0} (old mid new : Standing) (x : A) (r : Result B S
     → ((o : Office) → T o x → (y : B) → U o y → V o y) → Reads old new r V
 reads_then old mid new x r T U V first second both = record {
   was_honest = λ h. first.was_honest (second.was_honest h);
+  falls = then_falls first.falls second.falls;
   value = λ h. let was = second.was_honest h in
       IfOk-weaker r (λ y. (o : Office) → mid.stands o → U o y) (λ y. (o : Office) → old.stands o → V o y)
       (λ y tells o stands. both o (first.value was o stands) y (tells o (first.kept was o stands))) (second.value h);
@@ -71,6 +77,7 @@ pub reads_weaker : {A B : Type 0} (old new : Standing) (x : A) (y : B) (T : Offi
     → Reads old new (Ok x) T → ((o : Office) → T o x → V o y) → Reads old new (Ok y) V
 reads_weaker old new x y T V first both = record {
   was_honest = first.was_honest;
+  falls = first.falls;
   value = λ h o stands. both o (first.value h o stands);
   kept = first.kept;
   left = first.left;
@@ -82,6 +89,7 @@ pub reads_refused : {A B : Type 0} (old new : Standing) (x : A) (T : Office → 
     → Reads old new (Ok x) T → Reads old new (Err Memory) V
 reads_refused old new x T V first = record {
   was_honest = first.was_honest;
+  falls = first.falls;
   value = λ h. tt;
   kept = first.kept;
   left = first.left;
@@ -93,6 +101,7 @@ pub reads_failed : {A B : Type 0} (old new : Standing) (f : StoreFault) (T : Off
     → Reads {A = A} old new (Err f) T → Reads {A = B} old new (Err f) V
 reads_failed old new f T V read = record {
   was_honest = read.was_honest;
+  falls = read.falls;
   value = λ h. tt;
   kept = read.kept;
   left = read.left;
@@ -104,6 +113,7 @@ pub edit_made : (old new : Standing) (before r : Remembered) (edit : Edit) → (
     → Edits old new (Ok tt) edit → Edits (remembering old before) (remembering new r) (Ok tt) edit
 edit_made old new before r edit stays made = record {
   was_honest = made.was_honest;
+  falls = made.falls;
   made = λ h o stands fits. (made.made h o stands.0 fits, stays o stands.1);
   kept = λ h. tt;
   left_made = λ h o stands. made.left_made h o stands.0;
@@ -116,6 +126,7 @@ pub edit_failed : (old new : Standing) (before r : Remembered) (e : StoreFault) 
     → Edits old new (Err e) edit → Edits (remembering old before) (remembering new r) (Err e) edit
 edit_failed old new before r e edit nothing made = record {
   was_honest = made.was_honest;
+  falls = made.falls;
   made = λ h. tt;
   kept = λ h o stands. (made.kept h o stands.0, nothing o);
   left_made = λ h. tt;

@@ -63,6 +63,7 @@ remembering kept remembered = record {
   sound = λ o stands. kept.sound o stands.0;
   left = kept.left;
   failures = kept.failures;
+  fallback = kept.fallback;
 }
 
 -- a read and an edit, by what stands behind what is remembered

@@ -3,9 +3,11 @@ use Rattle.std.specs.Prelude.{◌≡◌, ◌≢◌, ℕ, ◌+◌, min, Result, E
 use Rattle.book_office.specs.declared.edits.Edit.{Edit}
 use Rattle.book_office.specs.declared.keepers.StoreFault.{StoreFault}
 use Rattle.book_office.specs.declared.keepers.StoreFault.TheVariants.{Store}
-use Rattle.book_office.specs.Keeping.{Edits, Reads, Standing, one_more}
+use Rattle.std.specs.Borrow.{GName}
+use Rattle.book_office.specs.Keeping.{Edits, Reads, Standing, lent, one_more}
 use Rattle.book_office_values.specs.declared.offices.Office.{Office}
 use Rattle.book_office_faults.specs.declared.fused.Fused.{Fused}
+use Rattle.book_office_faults.specs.declared.rounds.FusedWork.{FusedWork}
 
 -- the failures of the keeper and those of the fuse are counted together, up to the last value
 abbrev pub together : ℕ → ℕ → ℕ
@@ -19,6 +21,7 @@ behind kept failures = record {
   sound = kept.sound;
   left = kept.left;
   failures = together kept.failures failures;
+  fallback = kept.fallback;
 }
 
 -- a read and an edit, by what stands behind the fuse
@@ -44,3 +47,14 @@ pub record IsFailed {K A : Type 0} (old new : Fused K) (result : Result A StoreF
 pub record IsFused {K A : Type 0} (old new : Fused K) (result : Result A StoreFault) : Type 0 where
   pub passed : old.calls ≢ 0 → IsPassed old new
   pub failed : old.calls ≡ 0 → IsFailed old new result
+
+-- ---- rounds
+-- what stands behind the fuse of a round, of a keeper that is lent
+abbrev pub behind_in : {I : Type 0} → (I → Standing) → I × GName × ℕ → Standing
+behind_in inside i = behind (lent i.1 (inside i.0)) i.2
+
+-- what work does before a keeper that is lent, it does behind a fuse
+pub record IsWorkBehind {W : Type 0} (does : Standing → Standing → W → W → Type 0) (first last : Standing) (before after : FusedWork W) : Type 0 where
+  pub name : GName
+  pub same_reference : after.work.ghost_name ≡ before.work.ghost_name
+  pub done : does (behind (lent name first) before.failures) (behind (lent name last) after.failures) before.work.now after.work.now

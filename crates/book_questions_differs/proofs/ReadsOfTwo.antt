@@ -6,20 +6,22 @@ use Rattle.std.proofs.lemmas.Result.{IfOk-weaker}
 use Rattle.book_office.specs.Keeping.{failures_after}
 use Rattle.book_office.specs.declared.keepers.StoreFault.{StoreFault}
 use Rattle.book_office.specs.declared.keepers.StoreFault.TheVariants.{Memory}
+use Rattle.book_office.proofs.Fallbacks.{still_falls, then_falls}
 
 -- ---- one keeper
 as_it_is : (s : Standing) → IsKept s s
-as_it_is s = record { was_honest = λ h. h; kept = λ h o stands. stands; left = λ h x left. left }
+as_it_is s = record { was_honest = λ h. h; falls = still_falls; kept = λ h o stands. stands; left = λ h x left. left }
 
 kept_then : (a b c : Standing) → IsKept a b → IsKept b c → IsKept a c
 kept_then a b c first second = record {
   was_honest = λ h. first.was_honest (second.was_honest h);
+  falls = then_falls first.falls second.falls;
   kept = λ h o stands. second.kept h o (first.kept (second.was_honest h) o stands);
   left = λ h x left. first.left (second.was_honest h) x (second.left h x left);
 }
 
 kept_by : {A : Type 0} (a b : Standing) (r : Result A StoreFault) (T : Office → A → Type 0) → Reads a b r T → IsKept a b
-kept_by a b r T read = record { was_honest = read.was_honest; kept = read.kept; left = read.left }
+kept_by a b r T read = record { was_honest = read.was_honest; falls = read.falls; kept = read.kept; left = read.left }
 
 -- ---- a reading of one of the two
 pub of_first : {A : Type 0} (s s2 t : Standing) (r : Result A StoreFault) (T : Office → A → Type 0) → Reads s s2 r T → Compares s s2 t t r (λ o p x. T o x)

@@ -1,12 +1,13 @@
 -- What a call does that reads two keepers and tells how their Offices differ.
 use Rattle.std.specs.Prelude.{◌≡◌, ◌⊎◌, Result, IfOk}
-use Rattle.book_office.specs.Keeping.{Leftover, Standing, failures_after}
+use Rattle.book_office.specs.Keeping.{FallsBack, Leftover, Standing, failures_after}
 use Rattle.book_office.specs.declared.keepers.StoreFault.{StoreFault}
 use Rattle.book_office_values.specs.declared.offices.Office.{Office}
 
 -- a keeper that was read: its Office is as it was, and a stop leaves no other
 pub record IsKept (old new : Standing) : Type 0 where
   pub was_honest : new.honest → old.honest
+  pub falls : FallsBack old.fallback new.fallback
   pub kept : new.honest → (o : Office) → old.stands o → new.stands o
   pub left : new.honest → (x : Leftover) → new.left x → old.left x
 

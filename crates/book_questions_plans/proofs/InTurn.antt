@@ -15,6 +15,7 @@ use Rattle.book_questions_differs.specs.Comparing.{Compares, IsCounted}
 use Rattle.book_questions_plans.specs.Planning.{IsPlan, IsPlanTo, Plans}
 use Rattle.book_questions_plans.specs.declared.faults.PlanFault.TheVariants.{Full}
 use Rattle.book_questions_plans.specs.declared.planning.Planned.{Planned}
+use Rattle.book_office.proofs.Fallbacks.{then_falls}
 
 module _ (old new : Standing) (t : PolicyTables) where
   module _ (copied before after : Office) (same : before ≡ copied) (reads : Reads old new (Ok copied) (λ o x. x ≡ o)) where
@@ -30,6 +31,7 @@ module _ (old new : Standing) (t : PolicyTables) where
         → Plans old new t (Ok after) (λ o x. (x ≡ adopt t o) × IsSound x)
     adopted_it a promise = record {
       was_honest = reads.was_honest;
+      falls = reads.falls;
       told = λ honest o stands.
           let made = promise.adopted tt o (stands_in_memory honest o stands) in
           let is : after ≡ adopt t o = sym made.1.0 ∙ made.2.1 in
@@ -44,6 +46,7 @@ module _ (old new : Standing) (t : PolicyTables) where
         → Plans {A = A} old new t (Err Full) Tells
     found_full Tells promise = record {
       was_honest = reads.was_honest;
+      falls = reads.falls;
       told = λ honest o stands. (promise.adopted tt o (stands_in_memory honest o stands)).2.0;
       kept = reads.kept;
       left = reads.left;
@@ -63,6 +66,7 @@ pub compared_with : {A : Type 0} (old new : Standing) (before after : Office) (r
     → Compares old new (in_memory before) (in_memory after) result Tells → Reads old new result (λ o x. IsSound before → Tells o before x)
 compared_with {A} old new before after result Tells compares = record {
   was_honest = compares.first_kept.was_honest;
+  falls = compares.first_kept.falls;
   value = λ honest. told result (compares.value honest tt);
   kept = compares.first_kept.kept;
   left = compares.first_kept.left;
@@ -80,6 +84,7 @@ module _ (old mid new : Standing) (t : PolicyTables) where
       → Reads mid new (Ok x) (λ o told. IsSound after → IsPlanTo o t after told) → Plans old new t (Ok x) (λ o told. IsPlan o t told)
   planned after x plans reads = record {
     was_honest = λ honest. plans.was_honest (reads.was_honest honest);
+    falls = then_falls plans.falls reads.falls;
     told = λ honest o stands.
         let before = plans.told (reads.was_honest honest) o stands in
         let now = reads.value honest o (plans.kept (reads.was_honest honest) o stands) before.1.1 in

@@ -1,7 +1,7 @@
 -- What adopting a policy would leave and change (own profile), and what a call does that tells it.
 use Rattle.std.specs.Prelude.{◌≡◌, ℕ, Result, Ok, Err}
 use Rattle.book_machine.specs.Adoptions.{HasRoomFor}
-use Rattle.book_office.specs.Keeping.{Leftover, Standing, failures_after_fault}
+use Rattle.book_office.specs.Keeping.{FallsBack, Leftover, Standing, failures_after_fault}
 use Rattle.book_office_adopting.specs.Adopting.{adopt}
 use Rattle.book_office_values.specs.declared.offices.Office.{Office}
 use Rattle.book_policy_values.specs.declared.parts.PolicyTables.{PolicyTables}
@@ -33,6 +33,7 @@ failures_after_plan (Err (Store fault)) n = failures_after_fault fault n
 -- a reading tells something of an Office that adopts a policy, and leaves it as it was
 pub record Plans {A : Type 0} (old new : Standing) (t : PolicyTables) (result : Result A PlanFault) (Tells : Office → A → Type 0) : Type 0 where
   pub was_honest : new.honest → old.honest
+  pub falls : FallsBack old.fallback new.fallback
   pub told : new.honest → (o : Office) → old.stands o → TellsPlan t o Tells result
   pub kept : new.honest → (o : Office) → old.stands o → new.stands o
   pub left : new.honest → (x : Leftover) → new.left x → old.left x

@@ -14,19 +14,21 @@ use Rattle.book_machine.specs.declared.messages.Content.TheVariants as content
 use Rattle.book_machine.specs.declared.messages.Reply.{Reply}
 use Rattle.book_machine.specs.declared.messages.Request.{Request}
 use Rattle.book_machine.specs.declared.refusals.Refusal.TheVariants.{Unavailable}
-use Rattle.book_office.specs.Keeping.{Leftover, Standing}
+use Rattle.book_office.specs.Keeping.{FallsBack, Leftover, Standing}
 use Rattle.book_office_values.specs.declared.offices.Office.{Office}
 use Rattle.book_wire_serving.specs.Logs.{Log, Appended, Gains, IsBare, IsLineOf, lines_text}
 use Rattle.book_wire_serving.proofs.Unavailable.{unspelled}
 use Rattle.book_wire_serving.specs.Serving.{Serving, StandsStill, Stays, NotesRefusal, NotesOwed, Owes, ServesAny, Answered, Runs, AreLinesOf, IsLineOfAny, StreamsAreSynced, calls_in, calls_answered, replies_in, replies_of}
+use Rattle.book_office.proofs.Fallbacks.{still_falls, then_falls}
 
 -- ---- what stands still
 pub still : (s : Standing) → StandsStill s s
-still s = record { was_honest = λ h. h; kept = λ h o stands. stands; left = λ h x left. left; counted = refl }
+still s = record { was_honest = λ h. h; falls = still_falls; kept = λ h o stands. stands; left = λ h x left. left; counted = refl }
 
 pub still_then : (old mid new : Standing) → StandsStill old mid → StandsStill mid new → StandsStill old new
 still_then old mid new a b = record {
   was_honest = λ h. a.was_honest (b.was_honest h);
+  falls = then_falls a.falls b.falls;
   kept = λ h o stands. b.kept h o (a.kept (b.was_honest h) o stands);
   left = λ h x left. a.left (b.was_honest h) x (b.left h x left);
   counted = b.counted ∙ a.counted;
@@ -40,6 +42,7 @@ pub promise_still : (old mid new : Standing) (name : Option (List ℕ)) (request
     → ServePromise old mid name request reply → StandsStill mid new → ServePromise old new name request reply
 promise_still old mid new name request reply p s = record {
   was_honest = λ h. p.was_honest (s.was_honest h);
+  falls = then_falls p.falls s.falls;
   served = λ h o stands. let a = p.served (s.was_honest h) o stands in (a.0, s.kept h a.0 a.1, a.2);
   left = λ h o stands x left. p.left (s.was_honest h) o stands x (s.left h x left);
   counted = elim p.counted [ inl same ↦ inl (s.counted ∙ same) | inr more ↦ inr (more.0, s.counted ∙ more.1) ];
@@ -91,6 +94,7 @@ pub runs_none : (old new : Serving) → Stays old new → Runs old new []
 runs_none old new s = record {
   well_formed = tt;
   was_honest = s.still.was_honest;
+  falls = s.still.falls;
   run = λ h o stands. ([], s.still.kept h o stands, tt, λ x left. s.still.left h x left);
   noted = gains_none old.log new.log (AreLinesOf []) s.log refl;
 }
@@ -100,6 +104,7 @@ run_still : (old mid new : Serving) (answered : List Answered) → Runs old mid 
 run_still old mid new answered r s noted = record {
   well_formed = r.well_formed;
   was_honest = λ h. r.was_honest (s.was_honest h);
+  falls = then_falls r.falls s.falls;
   run = λ h o stands.
       let so = r.run (s.was_honest h) o stands in
       (so.0, s.kept h (last_office o so.0) so.1, so.2, λ x left. so.3 x (s.left h x left));
@@ -177,6 +182,7 @@ unfolding IsRun
 runs_then old mid new answered more r s = record {
   well_formed = subst AreWellFormed (sym (flat_map-append calls_in answered more)) (both_have (calls_answered answered) (calls_answered more) r.well_formed s.well_formed);
   was_honest = λ h. r.was_honest (s.was_honest h);
+  falls = then_falls r.falls s.falls;
   run = λ h.
       let P : List Call → Type 0 = λ calls. IsRun old.standing new.standing calls (replies_of (answered ++ more)) in
       let Q : List Reply → Type 0 = λ replies. IsRun old.standing new.standing (calls_answered answered ++ calls_answered more) replies in
@@ -213,12 +219,14 @@ pub runs_one : (old new : Serving) (name : Option (List ℕ)) (request : Option 
 runs_one old new name None reply s = record {
   well_formed = tt;
   was_honest = s.still.was_honest;
+  falls = s.still.falls;
   run = λ h o stands. ([], s.still.kept h o stands, tt, λ x left. s.still.left h x left);
   noted = one_line old.log new.log name None reply _ (λ l is. is) s.noted;
 }
 runs_one old new name (Some request) reply s = record {
   well_formed = (s.1, tt);
   was_honest = s.0.was_honest;
+  falls = s.0.falls;
   run = λ h o stands.
       let next = s.0.served h o stands in
       (next.0 ∷ [], next.1, (next.2, tt), λ x left. s.0.left h o stands x left);
@@ -266,12 +274,13 @@ owed_unavailable law old mid new owed name request reply o telling n = (
 )
 
 -- a reading that tells nothing
-pub runs_unread : (old new : Serving) → (new.standing.honest → old.standing.honest)
+pub runs_unread : (old new : Serving) → (new.standing.honest → old.standing.honest) → FallsBack old.standing.fallback new.standing.fallback
     → (new.standing.honest → (o : Office) → old.standing.stands o → new.standing.stands o)
     → (new.standing.honest → (x : Leftover) → new.standing.left x → old.standing.left x) → new.log ≡ old.log → Runs old new []
-runs_unread old new was_honest kept left log = record {
+runs_unread old new was_honest falls kept left log = record {
   well_formed = tt;
   was_honest = was_honest;
+  falls = falls;
   run = λ h o stands. ([], kept h o stands, tt, λ x may. left h x may);
   noted = gains_none old.log new.log (AreLinesOf []) log refl;
 }

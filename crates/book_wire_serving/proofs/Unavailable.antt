@@ -20,6 +20,7 @@ pub unspelled : TellingRepliesChangeNothing → (old new : Standing) (name : Opt
     → ServePromise old new name request reply → reply.content ≢ content.Empty → ServePromise old new name request (refused Unavailable)
 unspelled law old new name request reply p telling = record {
   was_honest = p.was_honest;
+  falls = p.falls;
   served = λ h o stands.
       let s = p.served h o stands in
       (s.0, s.1, inr (refl, no_edit law o s.0 name request reply s.2 telling));

@@ -3,7 +3,7 @@ use Rattle.std.specs.Prelude.{◌≡◌, ◌⊎◌, ℕ, Bool, true, false, List
 use Rattle.std.specs.List.{flat_map}
 use Rattle.book_log_lines.specs.Lines.{line_text}
 use Rattle.book_log_lines.specs.declared.lines.Line.{Line}
-use Rattle.book_office.specs.Keeping.{Leftover, Standing}
+use Rattle.book_office.specs.Keeping.{FallsBack, Leftover, Standing}
 use Rattle.book_office.specs.Levels.{lists_at}
 use Rattle.book_office_values.specs.declared.offices.Office.{Office}
 use Rattle.book_log_replies.specs.Effects.{effect_of, no_effect}
@@ -31,6 +31,7 @@ pub record Serving : Type 1 where
 -- nothing was done
 pub record StandsStill (old new : Standing) : Type 0 where
   pub was_honest : new.honest → old.honest
+  pub falls : FallsBack old.fallback new.fallback
   pub kept : new.honest → (o : Office) → old.stands o → new.stands o
   pub left : new.honest → (x : Leftover) → new.left x → old.left x
   pub counted : new.failures ≡ old.failures
@@ -134,6 +135,7 @@ pub record Runs (old new : Serving) (answered : List Answered) : Type 0 where
   -- all calls are well formed
   pub well_formed : AreWellFormed (calls_answered answered)
   pub was_honest : new.standing.honest → old.standing.honest
+  pub falls : FallsBack old.standing.fallback new.standing.fallback
   pub run : new.standing.honest → (o : Office) → old.standing.stands o
       → (offices : List Office) × new.standing.stands (last_office o offices) × Run o (calls_answered answered) (replies_of answered) offices
       × ((x : Leftover) → new.standing.left x → MayLeaveAfter old.standing.left o (calls_answered answered) (replies_of answered) offices x)

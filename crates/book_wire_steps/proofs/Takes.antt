@@ -4,6 +4,7 @@ use Rattle.std.proofs.lemmas.Bool.{false≢true}
 use Rattle.std.proofs.lemmas.List.Concat.{flat_map-append}
 use Rattle.std.specs.List.{AllByRecursion}
 use Rattle.book_policy_values.specs.declared.parts.PolicyTables.{PolicyTables}
+use Rattle.book_office.specs.Keeping.{FallsBack}
 use Rattle.book_machine.specs.Promises.{AdoptPromise}
 use Rattle.book_machine.specs.Runs.{last_office}
 use Rattle.book_machine.specs.declared.adoptions.AdoptFault.{AdoptFault}
@@ -13,8 +14,9 @@ use Rattle.book_log_lines.specs.declared.lines.Line.TheVariants as line
 use Rattle.book_wire_serving.specs.Logs.{Log, Gains, no_log}
 use Rattle.book_wire_serving.specs.Serving.{Answered, Runs, Serving}
 use Rattle.book_wire_serving.proofs.Servings.{gains_none, gains_then, runs_none, runs_then, stays}
-use Rattle.book_wire_steps.specs.Steps.{Step, answered_by, all_answered, IsNoAdoption, IsEpochTold, IsLineOfAdoption, KeepsOffice, told_as, AdoptsNow, Does, TakesSteps, OnlyAdopts, ServesInSteps, AreRunsBetweenAdoptions, AreLinesOfStep, AreLinesOfSteps, LogsTellSteps, StepsLeadOffices}
+use Rattle.book_wire_steps.specs.Steps.{Step, answered_by, all_answered, IsNoAdoption, IsEpochTold, IsLineOfAdoption, KeepsOffice, told_as, AdoptsNow, Does, TakesSteps, OnlyAdopts, ServesInSteps, AreRunsBetweenAdoptions, AreLinesOfStep, AreLinesOfSteps, LogsTellSteps, StepsFallBack, StepsLeadOffices}
 use Rattle.book_wire_steps.specs.Steps.Step.{serves, adopts}
+use Rattle.book_office.proofs.Fallbacks.{still_falls, then_falls}
 
 pub all_then : (xs ys : List Step) → all_answered (xs ++ ys) ≡ all_answered xs ++ all_answered ys
 all_then xs ys = flat_map-append answered_by xs ys
@@ -67,6 +69,14 @@ module _ {M : Type 0} (serving : M → Serving) where
       let next = lead_offices x.0 new steps x.2 honest a.0 (x.1.keeps.kept then_honest a.0 a.1) in
       (next.0, next.1, (a.0, a.2, next.2))
 
+  -- ---- what is left where a transaction is not kept
+  pub fall_back : StepsFallBack serving
+  fall_back old new [] x =
+      let P : M → Type 0 = λ t. FallsBack (serving old).standing.fallback (serving t).standing.fallback in
+      subst P (sym x) still_falls
+  fall_back old new (serves answered ∷ steps) x = then_falls x.1.falls (fall_back x.0 new steps x.2)
+  fall_back old new (adopts tables outcome ∷ steps) x = then_falls x.1.promise.falls (then_falls x.1.keeps.falls (fall_back x.0 new steps x.2))
+
   -- ---- the log
   lines_of : (a b : M) (s : Step) → Does serving a s b → Gains (serving a).log (serving b).log (AreLinesOfStep serving s)
   lines_of a b (serves answered) x = x.noted
@@ -103,7 +113,7 @@ module _ {M : Type 0} (serving : M → Serving) where
   adopts_unlogged a b tables outcome promise none none_then = record {
     between = b;
     promise = promise;
-    keeps = record { was_honest = λ h. h; kept = λ h o stands. stands; left = λ h x left. left };
+    keeps = record { was_honest = λ h. h; falls = still_falls; kept = λ h o stands. stands; left = λ h x left. left };
     noted =
         let Notes : Log → Log → Type 0 = λ old new.
         Gains old new (λ lines. (l : Line) × (lines ≡ l ∷ []) × IsLineOfAdoption (serving b).standing (serving b).standing outcome l) in

@@ -3,7 +3,7 @@
 use Rattle.std.specs.Prelude.{◌≡◌, ◌⊎◌, ℕ, Bool, false, if◌then◌else◌, List, [], ◌∷◌, ◌++◌, Result, Ok, Err}
 use Rattle.std.specs.List.{flat_map, AllByRecursion}
 use Rattle.book_policy_values.specs.declared.parts.PolicyTables.{PolicyTables}
-use Rattle.book_office.specs.Keeping.{Leftover, Standing}
+use Rattle.book_office.specs.Keeping.{FallsBack, Leftover, Standing}
 use Rattle.book_office_values.specs.declared.offices.Office.{Office}
 use Rattle.book_machine.specs.Adoptions.{Adopts}
 use Rattle.book_machine.specs.Promises.{AdoptPromise}
@@ -45,6 +45,7 @@ IsLineOfAdoption between new outcome l =
 -- the Office is as it was; it may have been read
 pub record KeepsOffice (old new : Standing) : Type 0 where
   pub was_honest : new.honest → old.honest
+  pub falls : FallsBack old.fallback new.fallback
   pub kept : new.honest → (o : Office) → old.stands o → new.stands o
   pub left : new.honest → (x : Leftover) → new.left x → old.left x
 
@@ -113,6 +114,11 @@ module _ {M : Type 0} (serving : M → Serving) where
   StepsLeadOffices = (old new : M) (steps : List Step) → TakesSteps old steps new → (serving new).standing.honest
       → (o : Office) → (serving old).standing.stands o
       → (last : Office) × (serving new).standing.stands last × LeadFrom o steps last
+
+  -- steps lose nothing of what there is where a transaction in which the service is open is not kept
+  abbrev pub StepsFallBack : Type 0
+  StepsFallBack = (old new : M) (steps : List Step) → TakesSteps old steps new
+      → FallsBack (serving old).standing.fallback (serving new).standing.fallback
 
   -- the lines of a step: those of what was answered, or that of the adoption, which tells what came of it
   abbrev pub AreLinesOfStep : Step → List Line → Type 0

@@ -1,6 +1,6 @@
 //! What the definitions imply.
 
-ghost use Rattle.book_wire_steps.specs.Steps.{AreRunsBetweenAdoptions, LogsTellSteps, StepsLeadOffices};
+ghost use Rattle.book_wire_steps.specs.Steps.{AreRunsBetweenAdoptions, LogsTellSteps, StepsFallBack, StepsLeadOffices};
 
 use book_wire_serving::Service;
 
@@ -14,6 +14,11 @@ pub fn adoptions_part_runs<M: Service>()
 /// and each policy as it is adopted or refused, from the Office that all before it left.
 pub fn steps_lead_offices<M: Service>()
     ensures { StepsLeadOffices M.serving }
+{}
+
+/// Whatever a server did over a store that is in a transaction, where that is not kept all is left that was left before.
+pub fn steps_fall_back<M: Service>()
+    ensures { StepsFallBack M.serving }
 {}
 
 /// The log gains the lines of the steps in their order, as long as each could be written: those of what was answered, and for

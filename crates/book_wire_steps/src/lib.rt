@@ -11,4 +11,4 @@ mod control;
 mod laws;
 
 pub use control::{Control, Traffic, Wish};
-pub use laws::{adoptions_part_runs, logs_tell_steps, steps_lead_offices};
+pub use laws::{adoptions_part_runs, logs_tell_steps, steps_fall_back, steps_lead_offices};

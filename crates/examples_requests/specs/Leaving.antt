@@ -1,6 +1,6 @@
 -- A keeper in memory beside a disk: what it stands for, and what a stop leaves, which is what the disk has.
 use Rattle.std.specs.Prelude.{◌≡◌, ℕ, Bool, false}
-use Rattle.book_office.specs.Keeping.{Standing, whole}
+use Rattle.book_office.specs.Keeping.{Standing, no_fallback, whole}
 use Rattle.book_office.specs.Sound.{IsSound}
 use Rattle.book_office_values.specs.declared.offices.Office.{Office}
 
@@ -11,4 +11,4 @@ pub record IsBeside (kept disk : Office) (torn : Bool) (o : Office) : Type 0 whe
   pub sound : IsSound o
 
 abbrev pub leaving : Office → Office → Bool → ℕ → Standing
-leaving kept disk torn n = record { honest = Unit {0}; stands = IsBeside kept disk torn; sound = λ o beside. beside.sound; left = λ x. x ≡ whole disk; failures = n }
+leaving kept disk torn n = record { honest = Unit {0}; stands = IsBeside kept disk torn; sound = λ o beside. beside.sound; left = λ x. x ≡ whole disk; failures = n; fallback = no_fallback }

@@ -1,6 +1,7 @@
 use Rattle.book_office_listings.proofs.Common.{◌∙◌, subst}
 use Rattle.book_office_listings.specs.Reading.{AreRead, IsWholeRead}
 use Rattle.book_office_listings.proofs.OneGroup.{listing_is}
+use Rattle.book_office.proofs.Fallbacks.{then_falls}
 use Rattle.book_office_listings.proofs.listings.listing.Goals as goal
 
 pub returns : goal.returns
@@ -12,6 +13,7 @@ returns g c =
     let whole = c.in_ok-whole.whole in
     record {
       was_honest = λ h. first.was_honest (second.was_honest (third.was_honest h));
+      falls = then_falls first.falls (then_falls second.falls third.falls);
       value = λ h o stands there.
           let h2 = third.was_honest h in
           let h1 = second.was_honest h2 in

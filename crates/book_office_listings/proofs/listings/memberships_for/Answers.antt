@@ -8,6 +8,7 @@ returns g c =
     let list = c.in_ok-from_pairs.ensures in
     record {
       was_honest = first.was_honest;
+      falls = first.falls;
       value = λ h o stands. (
         λ asked. list.pairs ∙ first.value h o stands ∙ ap (pairs_about o.pairs) c.in_ok-groups.ensures,
         λ asked. list.in_order,

@@ -1,4 +1,5 @@
 use Rattle.book_office_listings.proofs.Common.{◌∙◌}
+use Rattle.book_office.proofs.Fallbacks.{then_falls}
 use Rattle.book_office_listings.proofs.listings.whole_for.Goals as goal
 
 pub returns : goal.returns
@@ -7,6 +8,7 @@ returns g c =
     let second = c.in_ok-epoch.ensures in
     record {
       was_honest = λ h. first.was_honest (second.was_honest h);
+      falls = then_falls first.falls second.falls;
       value = λ h o stands.
           let told = first.value (second.was_honest h) o stands in
           record {

@@ -1,5 +1,6 @@
 use Rattle.book_office_listings.proofs.Common.{◌∙◌}
 use Rattle.book_office_listings.proofs.ReadRulings.{rulings_read}
+use Rattle.book_office.proofs.Fallbacks.{then_falls}
 use Rattle.book_office_listings.proofs.reporting.effective_rulings.Goals as goal
 
 pub returns : goal.returns
@@ -8,6 +9,7 @@ returns g c =
     let second = c.in_ok-lists.ensures in
     record {
       was_honest = λ h. first.was_honest (second.was_honest h);
+      falls = then_falls first.falls second.falls;
       value = λ h o stands.
           rulings_read o c.args.circle.now c.args.path.now c.in-Some.node c.in_ok-node.field-0 c.in_ok-lists.lists c.as_slice.result.now c.in_ok-principal.principal c.in_ok-rulings.field-0
           (first.value (second.was_honest h) o stands) c.in-Some.is (second.value h o (first.kept (second.was_honest h) o stands))

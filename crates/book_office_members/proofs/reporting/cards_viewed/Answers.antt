@@ -2,11 +2,13 @@ use Rattle.book_office_members.proofs.Common.{◌∙◌, ◌++◌, [], ap, arith
 use Rattle.book_office_sync.specs.Views.{viewed, IsViewPage}
 use Rattle.book_office_sync.proofs.ViewCopies.{patched_parts}
 use Rattle.book_office_members.proofs.Views.{no_cards, parts_joined}
+use Rattle.book_office.proofs.Fallbacks.{still_falls, then_falls}
 use Rattle.book_office_members.proofs.reporting.cards_viewed.Goals as goal
 
 pub pages-init : goal.pages-init
 pages-init g c = record {
   was_honest = λ h. h;
+  falls = still_falls;
   value = λ h o stands. (omega arith, omega arith, ([], refl, subst (AreCardsOf empty) (sym c.new-cards.ensures) no_cards));
   kept = λ h o stands. stands;
   left = λ h y l. l;
@@ -22,6 +24,7 @@ returns-in_default g c =
     let items = c.in_ok-items.field-0.items in
     record {
       was_honest = λ h. so_far.was_honest (page.was_honest h);
+      falls = then_falls so_far.falls page.falls;
       value = λ h o stands.
           let known = (so_far.value (page.was_honest h) o stands).2 in
           let told = subst (IsViewPage o circle b c.pages.after items) c.in_default.is (page.value h o (so_far.kept (page.was_honest h) o stands)) in
@@ -41,6 +44,7 @@ pages-preserved g c =
     let items = c.in_ok-items.field-0.items in
     record {
       was_honest = λ h. so_far.was_honest (page.was_honest h);
+      falls = then_falls so_far.falls page.falls;
       value = λ h o stands.
           let before = so_far.value (page.was_honest h) o stands in
           let known = before.2 in
@@ -67,6 +71,7 @@ returns g c =
     let so_far = c.pages.invariant in
     record {
       was_honest = so_far.was_honest;
+      falls = so_far.falls;
       value = λ h o stands.
           let last = (so_far.value h o stands).1 in
           absurd (omega (arith, last, c.pages-test.false));

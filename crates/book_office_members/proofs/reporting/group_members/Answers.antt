@@ -8,6 +8,7 @@ returns g c =
     let read = c.in_ok-cards.ensures in
     record {
       was_honest = read.was_honest;
+      falls = read.falls;
       value = λ h o stands. (
         patch empty (viewed o c.args.circle.now c.args.book.now 0),
         view_copied o c.args.circle.now c.args.book.now ((g.K.Keeper.standing c.args.keeper.now).sound o stands),

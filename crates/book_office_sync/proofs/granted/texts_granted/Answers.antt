@@ -2,6 +2,7 @@ use Rattle.book_office_sync.proofs.Common.{◌∙◌, None, ap, arith, subst, sy
 use Rattle.book_office_sync.specs.Granted.{put_texts}
 use Rattle.book_office_sync.specs.Pages.{IsPage, changes_told}
 use Rattle.book_office_sync.proofs.GrantedTexts.{put_parts, texts_read}
+use Rattle.book_office.proofs.Fallbacks.{then_falls}
 use Rattle.book_office_sync.proofs.granted.texts_granted.Goals as goal
 
 pub returns-in_default : goal.returns-in_default
@@ -15,6 +16,7 @@ returns-in_default g c =
     let changes = c.in_ok-changes.field-0.changes in
     record {
       was_honest = λ h. so_far.was_honest (page.was_honest h);
+      falls = then_falls so_far.falls page.falls;
       value = λ h o stands.
           let known = so_far.value (page.was_honest h) o stands in
           let told = subst (IsPage o b None c.pages.after changes) c.in_default.is (page.value h o (so_far.kept (page.was_honest h) o stands)) in
@@ -36,6 +38,7 @@ pages-preserved g c =
     let changes = c.in_ok-changes.field-0.changes in
     record {
       was_honest = λ h. so_far.was_honest (page.was_honest h);
+      falls = then_falls so_far.falls page.falls;
       value = λ h o stands.
           let known = so_far.value (page.was_honest h) o stands in
           let told = subst (IsPage o b None c.pages.after changes) c.in-Some.is (page.value h o (so_far.kept (page.was_honest h) o stands)) in
@@ -60,6 +63,7 @@ returns g c =
     let so_far = c.pages.invariant in
     record {
       was_honest = so_far.was_honest;
+      falls = so_far.falls;
       value = λ h o stands q.
           let last = (so_far.value h o stands).2 in
           absurd (omega (arith, last, c.pages-test.false));

@@ -10,6 +10,7 @@ returns g c =
     let next : c.last_of_page-next.result ≡ last_of_page c.args.size c.args.after changes = search rules in
     record {
       was_honest = read.was_honest;
+      falls = read.falls;
       value = λ h o stands.
           subst (IsPage o c.args.book.now (option_copied c.args.token) c.args.after changes) (sym next)
           (is_page o c.args.book.now ((g.K.Keeper.standing c.args.keeper.now).sound o stands) (option_copied c.args.token) c.args.size c.args.after c.requires changes (read.value h o stands));

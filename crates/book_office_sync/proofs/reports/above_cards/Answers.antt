@@ -10,6 +10,7 @@ returns g c =
     let same : c.in_ok-clone.field-0 ≡ c.args.book.now = search rules in
     record {
       was_honest = read.was_honest;
+      falls = read.falls;
       value = λ h o stands.
           let lists = read.value h o stands ∙ ap (λ b. lists_at o (path.Book b)) same in
           subst (λ l. IsAboveOf c.args.circle.now l c.in_ok-join_levels.field-0) (λ i. (lists i).levels) c.in_ok-join_levels.ensures;

@@ -1,6 +1,7 @@
 use Rattle.book_office_sync.proofs.Common.{◌≡◌, ◌∙◌, sym, ap, Some, option_copied}
 use Rattle.book_office_sync.specs.Limits.{told_report}
 use Rattle.book_office_sync.proofs.ReadReports.{report_read}
+use Rattle.book_office.proofs.Fallbacks.{then_falls}
 use Rattle.book_office_sync.proofs.reports.read_report.Goals as goal
 
 pub returns : goal.returns
@@ -11,6 +12,7 @@ returns g c =
     let same : c.in_ok-name.name ≡ c.args.book.now = c.in_ok-name.ensures.cases in
     record {
       was_honest = λ h. first.was_honest (second.was_honest (third.was_honest h));
+      falls = then_falls first.falls (then_falls second.falls third.falls);
       value = λ h o stands.
           let h2 = third.was_honest h in
           let h1 = second.was_honest h2 in

@@ -3,6 +3,7 @@ use Rattle.book_office_sync.specs.Copies.{is_cut, reported}
 use Rattle.book_office_sync.specs.Limits.{told_items}
 use Rattle.book_office_sync.specs.Pages.{IsPage, changes_told}
 use Rattle.book_office_sync.proofs.PagedReports.{enough_last, enough_more, items_told, page_added}
+use Rattle.book_office.proofs.Fallbacks.{then_falls}
 use Rattle.book_office_sync.proofs.reports.report_items.Goals as goal
 
 pub returns-in_err-push_told : goal.returns-in_err-push_told
@@ -11,6 +12,7 @@ returns-in_err-push_told g c =
     let page = c.in_ok-changes.ensures in
     record {
       was_honest = λ h. so_far.was_honest (page.was_honest h);
+      falls = then_falls so_far.falls page.falls;
       value = λ h. search rules;
       kept = λ h o stands. page.kept h o (so_far.kept (page.was_honest h) o stands);
       left = λ h y l. so_far.left (page.was_honest h) y (page.left h y l);
@@ -29,6 +31,7 @@ returns-in_default g c =
     let items = c.push_told.new.items.items in
     record {
       was_honest = λ h. so_far.was_honest (page.was_honest h);
+      falls = then_falls so_far.falls page.falls;
       value = λ h o stands x at.
           let known = so_far.value (page.was_honest h) o stands in
           let told = subst (IsPage o b token c.pages.after changes) c.in_default.is (page.value h o (so_far.kept (page.was_honest h) o stands)) in
@@ -52,6 +55,7 @@ returns-then-is_cut g c =
     let items = c.push_told.new.items.items in
     record {
       was_honest = λ h. so_far.was_honest (page.was_honest h);
+      falls = then_falls so_far.falls page.falls;
       value = λ h o stands x at.
           let known = so_far.value (page.was_honest h) o stands in
           let told = subst (IsPage o b token c.pages.after changes) c.in-Some.is (page.value h o (so_far.kept (page.was_honest h) o stands)) in
@@ -77,6 +81,7 @@ pages-preserved g c =
     let items = c.push_told.new.items.items in
     record {
       was_honest = λ h. so_far.was_honest (page.was_honest h);
+      falls = then_falls so_far.falls page.falls;
       value = λ h o stands.
           let known = so_far.value (page.was_honest h) o stands in
           let told = subst (IsPage o b token c.pages.after changes) c.in-Some.is (page.value h o (so_far.kept (page.was_honest h) o stands)) in
@@ -100,6 +105,7 @@ returns g c =
     let so_far = c.pages.invariant in
     record {
       was_honest = so_far.was_honest;
+      falls = so_far.falls;
       value = λ h o stands x at.
           let last = (so_far.value h o stands).2 in
           absurd (omega (arith, last, c.pages-test.false));

@@ -1,5 +1,6 @@
 use Rattle.book_questions.proofs.Common.{◌∙◌, Ok, string_bytes, subst, sym}
 use Rattle.book_questions.specs.Who.{IsWhoText, TellsWho}
+use Rattle.book_office.proofs.Fallbacks.{then_falls}
 use Rattle.book_questions.proofs.answers.who.Goals as goal
 
 pub returns : goal.returns
@@ -8,6 +9,7 @@ returns g c =
     let second = c.in_ok-text.ensures in
     record {
       was_honest = λ h. first.was_honest (second.was_honest h);
+      falls = then_falls first.falls second.falls;
       tells = λ h o stands.
           let was = second.was_honest h in
           subst (λ text. TellsWho o c.args.denied c.args.privilege c.args.path.now (Ok text)) (sym c.from_string.ensures) (

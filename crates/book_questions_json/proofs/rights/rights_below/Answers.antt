@@ -4,6 +4,7 @@ use Rattle.book_office_audit.specs.Audits.{in_order}
 use Rattle.book_questions_rights.specs.Askers.{AreAskers}
 use Rattle.book_questions_json.specs.HeldBlocks.{place_objects}
 use Rattle.book_questions_rights.specs.Places.{place_of}
+use Rattle.book_office.proofs.Fallbacks.{then_falls}
 use Rattle.book_questions_json.proofs.rights.rights_below.Goals as goal
 
 pub returns : goal.returns
@@ -13,6 +14,7 @@ returns g c =
     let third = c.in_ok-places.ensures in
     record {
       was_honest = λ h. first.was_honest (second.was_honest (third.was_honest h));
+      falls = then_falls first.falls (then_falls second.falls third.falls);
       value = λ h o stands.
           let mid = third.was_honest h in
           let was = second.was_honest mid in

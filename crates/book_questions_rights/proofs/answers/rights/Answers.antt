@@ -1,5 +1,6 @@
 use Rattle.book_questions_rights.proofs.Common.{◌∙◌, List, ℕ, subst, sym}
 use Rattle.book_questions_rights.specs.Rights.{IsRightsText}
+use Rattle.book_office.proofs.Fallbacks.{then_falls}
 use Rattle.book_questions_rights.proofs.answers.rights.Goals as goal
 
 pub returns : goal.returns
@@ -8,6 +9,7 @@ returns g c =
     let second = c.in_ok-text.ensures in
     record {
       was_honest = λ h. first.was_honest (second.was_honest h);
+      falls = then_falls first.falls second.falls;
       tells = λ h o stands.
           let was = second.was_honest h in (
             c.in_ok-asked.asked,

@@ -1,6 +1,7 @@
 use Rattle.book_questions_stays.proofs.Common.{◌∙◌, ap, flat_map, gathered, Block}
 use Rattle.std.specs.FinMap.{entries}
 use Rattle.book_questions_stays.specs.Stays.{blocks_at}
+use Rattle.book_office.proofs.Fallbacks.{then_falls}
 use Rattle.book_questions_stays.proofs.answers.read_places.Goals as goal
 
 pub returns : goal.returns
@@ -9,6 +10,7 @@ returns g c =
     let second = c.in_ok-add_each.ensures in
     record {
       was_honest = λ h. first.was_honest (second.was_honest h);
+      falls = then_falls first.falls second.falls;
       value = λ h o stands.
           let was = second.was_honest h in
           let paths = first.value was o stands in

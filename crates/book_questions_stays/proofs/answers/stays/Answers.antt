@@ -1,4 +1,5 @@
 use Rattle.book_questions_stays.proofs.Common.{◌∙◌, ◌++◌}
+use Rattle.book_office.proofs.Fallbacks.{then_falls}
 use Rattle.book_questions_stays.proofs.answers.stays.Goals as goal
 
 pub returns : goal.returns
@@ -7,6 +8,7 @@ returns g c =
     let second = c.in_ok-places.ensures in
     record {
       was_honest = λ h. first.was_honest (second.was_honest h);
+      falls = then_falls first.falls second.falls;
       value = λ h o stands.
           let was = second.was_honest h in
           let places = second.value h o (first.kept was o stands) in (

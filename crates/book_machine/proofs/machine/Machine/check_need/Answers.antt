@@ -11,6 +11,7 @@ returns-then-eq g c =
     let is : need.place ≡ at.Target = search rules in
     record {
       was_honest = asked.was_honest;
+      falls = asked.falls;
       tells = λ h o stands here. subst (λ p. JudgesNeed o c.args.circle.now p need.set c.check_here.result)
           (ap (place_path (destination_in ready.asked) path) (sym is))
           (asked.tells h o stands here);

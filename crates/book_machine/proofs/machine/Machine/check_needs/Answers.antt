@@ -15,6 +15,7 @@ returns g c =
     record {
       judges = record {
         was_honest = asked.was_honest;
+        falls = asked.falls;
         tells = λ h o stands there. subst (λ needs. JudgesNeeds o c.args.circle.now (destination_in ready.asked) path needs c.check_each-verdict.result) same
             (asked.tells h o stands (λ i. record { owner = (taken.owner ∙ owner_of_target o (target_seen ready.target) there) i; principal = c.in_ok-principal.ensures i }));
         kept = asked.kept;

@@ -3,6 +3,7 @@ use Rattle.std.proofs.Common.{option_copied}
 use Rattle.book_machine.proofs.Answering.{failed_once}
 use Rattle.book_machine.proofs.StagesInTurn.{counted_after, refused_on}
 use Rattle.book_machine.proofs.Planning.{refused_by_needs, planned, target_of_ready}
+use Rattle.book_office.proofs.Fallbacks.{then_falls}
 use Rattle.book_machine.proofs.machine.Machine.plan.Goals as goal
 
 pub returns-in_default : goal.returns-in_default
@@ -11,6 +12,7 @@ returns-in_default g c =
     let r = c.refuse.result in
     record {
       was_honest = λ h. c.in_ok-ready.ensures.was_honest (c.in_default.ensures.was_honest h);
+      falls = then_falls c.in_ok-ready.ensures.falls c.in_default.ensures.falls;
       tells = λ h o stands. refused_on r Unavailable (λ x. MeetsPlan o (option_copied c.args.name) c.args.request.now x) is (inl refl);
       kept = λ h o stands. c.in_default.ensures.kept h o (c.in_ok-ready.ensures.kept (c.in_default.ensures.was_honest h) o stands);
       left = λ h x left. c.in_ok-ready.ensures.left (c.in_default.ensures.was_honest h) x (c.in_default.ensures.left h x left);
@@ -28,6 +30,7 @@ returns-in-Err g c =
     let r = c.refuse-in-Err.result in
     record {
       was_honest = λ h. c.in_ok-ready.ensures.was_honest (c.in-Ok.ensures.was_honest (c.in-Err.ensures.judges.was_honest h));
+      falls = then_falls c.in_ok-ready.ensures.falls (then_falls c.in-Ok.ensures.falls c.in-Err.ensures.judges.falls);
       tells = λ h o stands.
           let h2 = c.in-Err.ensures.judges.was_honest h in
           let h1 = c.in-Ok.ensures.was_honest h2 in
@@ -52,6 +55,7 @@ returns-in-Err g c =
 pub returns : goal.returns
 returns g c = record {
   was_honest = λ h. c.in_ok-ready.ensures.was_honest (c.in-Ok.ensures.was_honest (c.in_default-check_needs.ensures.judges.was_honest (c.granted.ensures.was_honest h)));
+  falls = then_falls c.in_ok-ready.ensures.falls (then_falls c.in-Ok.ensures.falls (then_falls c.in_default-check_needs.ensures.judges.falls c.granted.ensures.falls));
   tells = λ h o stands.
       let h3 = c.granted.ensures.was_honest h in
       let h2 = c.in_default-check_needs.ensures.judges.was_honest h3 in

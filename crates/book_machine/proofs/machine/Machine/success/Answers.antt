@@ -16,6 +16,7 @@ returns-in-Propfind g c =
     let row : Asks old new r (λ o x. IsTarget o ready.target → MeetsAny (IsListed o circle find ready.target.path ready.target.node) x) =
     record {
       was_honest = asked.was_honest;
+      falls = asked.falls;
       tells = λ h o stands there. listed_at_target o circle find ready.target r there (asked.tells h o stands);
       kept = asked.kept;
       left = asked.left;
@@ -64,6 +65,7 @@ returns-in-Report g c =
     let row : Asks old new r (λ o x. IsTarget o ready.target → MeetsAny (IsReportOf o circle c.in-Report.kind ready.target.path) x) =
     record {
       was_honest = asked.was_honest;
+      falls = asked.falls;
       tells = λ h o stands there. asked.tells h o stands;
       kept = asked.kept;
       left = asked.left;

@@ -1,6 +1,7 @@
 use Rattle.book_machine.proofs.Common.{◌≡◌, sym, ap, ◌∙◌, subst, at_node, target_of, target_seen}
 use Rattle.book_machine.proofs.StagesInTurn.{counted_after}
 use Rattle.book_machine.specs.Asking.{MeetsSeen}
+use Rattle.book_office.proofs.Fallbacks.{then_falls}
 use Rattle.book_machine.proofs.machine.Machine.target.Goals as goal
 
 pub returns : goal.returns
@@ -9,6 +10,7 @@ returns g c =
     let path = c.in-Some.path in
     record {
       was_honest = λ h. c.in_ok-node.ensures.was_honest (c.target_at.ensures.was_honest h);
+      falls = then_falls c.in_ok-node.ensures.falls c.target_at.ensures.falls;
       tells = λ h o stands.
           let was = c.target_at.ensures.was_honest h in
           let found : target_of o m c.args.request.now.path ≡ at_node o m path c.in_ok-node.node =

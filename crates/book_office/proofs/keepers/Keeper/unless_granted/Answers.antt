@@ -6,6 +6,7 @@ pub returns : goal.returns
 returns g c =
     let told = c.in_ok-lists.ensures in record {
       was_honest = told.was_honest;
+      falls = told.falls;
       value = λ honest o stands.
           let is = told.value honest o stands in (
             λ granted. absurd (

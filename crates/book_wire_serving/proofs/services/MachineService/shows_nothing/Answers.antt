@@ -5,4 +5,4 @@ use Rattle.book_wire_serving.proofs.services.MachineService.shows_nothing.Goals 
 pub returns : goal.returns
 returns g c =
     let e = c.epoch.ensures in
-    runs_unread _ _ e.was_honest e.kept e.left refl
+    runs_unread _ _ e.was_honest e.falls e.kept e.left refl
