@@ -5,3 +5,4 @@ pub mod ListedCards
 pub mod OneBook
 pub mod OtherEdits
 pub mod Readings
+pub mod CachedRounds

@@ -79,6 +79,23 @@ impl<K> Cached<K> {
         drop(remembered);
         keeper
     }
+
+    /// Takes it apart: the keeper, and what is remembered of its Office. Takes no memory.
+    pub fn into_parts(self) -> (K, Remembered)
+        ensures { result ≡ (self.keeper, self.remembered) }
+    {
+        let Cached { keeper, remembered } = self;
+        (keeper, remembered)
+    }
+
+    /// A keeper, and what is remembered of its Office: it stands for those Offices of the keeper of which that is true.
+    /// Takes no memory.
+    pub fn over_remembered(keeper: K, remembered: Remembered) -> Cached<K>
+        ensures keeper { result.keeper ≡ keeper }
+        ensures remembered { result.remembered ≡ remembered }
+    {
+        Cached { keeper, remembered }
+    }
 }
 
 impl<K: Keeper> Cached<K> {

@@ -6,10 +6,12 @@
 //! keeper stands for: what is remembered is what the Office has. After an edit it keeps what is still true; a policy,
 //! and an edit that fails, make it forget all.
 //!
-//! Read `remembered` first, then `cached`.
+//! Read `remembered` first, then `cached`; a round (`rounds`) is done over the keeper itself.
 #![tactic(auto)]
 
 mod cached;
 mod remembered;
+mod rounds;
 
 pub use cached::Cached;
+pub use remembered::Remembered;

@@ -22,10 +22,10 @@ use book_office::{Edit, Items, Level, Listed, NameMap, Node, Path};
 use std::alloc::{AllocError, Global};
 use std::mem;
 
-/// What is remembered of an Office. It is no more than the Office has without its cards, 10,000 names of cards, 1,000
+/// What is remembered of an Office, which `Cached` fills. It is no more than the Office has without its cards, 10,000 names of cards, 1,000
 /// names of books, and the circles of 1,000 persons.
 #[derive(Drop)]
-pub(crate) struct Remembered {
+pub struct Remembered {
     /// The circles of persons.
     pub(crate) circles: NameMap<Circle>,
     /// Persons.

@@ -1,1 +1,2 @@
 pub mod FusedEdits
+pub mod FusedRounds

@@ -54,7 +54,7 @@ impl<K> Fused<K> {
     }
 
     /// Whether a call is passed on; it is then one fewer.
-    fn passes(&mut self) -> bool
+    pub(crate) fn passes(&mut self) -> bool
         ensures passes { IsTrue result ↔ (self.old.calls ≢ 0) }
         ensures calls { self.new.calls ≡ self.old.calls - 1 }
         ensures keeper { self.new.keeper ≡ self.old.keeper }
@@ -68,7 +68,7 @@ impl<K> Fused<K> {
     }
 
     /// A fault of the store, which is counted; the keeper does not see it.
-    fn fail<T>(&mut self) -> Result<T, StoreFault>
+    pub(crate) fn fail<T>(&mut self) -> Result<T, StoreFault>
         ensures fault { result ≡ Err Store }
         ensures calls { self.new.calls ≡ self.old.calls }
         ensures keeper { self.new.keeper ≡ self.old.keeper }

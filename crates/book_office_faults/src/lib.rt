@@ -5,5 +5,6 @@
 #![tactic(auto)]
 
 mod fused;
+mod rounds;
 
 pub use fused::Fused;

@@ -1,2 +1,3 @@
+pub mod KeptTogether
 pub mod Leaving
 pub mod Unpromised

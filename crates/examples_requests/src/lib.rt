@@ -49,6 +49,8 @@ mod requests;
 #[cfg(test)]
 mod responses;
 #[cfg(test)]
+mod rounds;
+#[cfg(test)]
 mod scripts;
 #[cfg(test)]
 mod serving;
