@@ -243,8 +243,8 @@ fn found_of<K: Keeper>(alloc: Global, keeper: &mut K, homes: &Homes) -> Result<F
 {
     let everybody = everybody_of(alloc, keeper, homes.persons.as_slice())?;
     let judged = judged_all(alloc, keeper, &everybody, homes)?;
-    let home = place_at(alloc, keeper, &Path::Books)?;
     let books = books_all(alloc, keeper, homes)?;
+    let home = place_at(alloc, keeper, &Path::Books)?;
     Ok(Found {
         everybody,
         judged,
