@@ -1,11 +1,13 @@
 -- What is remembered of an Office, and what stands behind it.
-use Rattle.std.specs.Prelude.{◌≡◌, ℕ, ◌+◌, ◌≤◌, Bool, true, nat_eq, List, [], length, Some, IfSome, is_some, Result}
+use Rattle.std.specs.Prelude.{◌≡◌, ℕ, ◌+◌, ◌≤◌, Bool, true, nat_eq, List, [], ◌∷◌, ◌++◌, length, Some, IfSome, is_some, Result}
+use Rattle.std.specs.Borrow.{GName}
 use Rattle.std.specs.FinMap.{get}
 use Rattle.book_office_cache.specs.declared.cached.Cached.{Cached}
 use Rattle.book_office_cache.specs.declared.remembered.Remembered.{Remembered}
 use Rattle.book_lists.specs.Callers.{IsCircle}
 use Rattle.book_lists.specs.Principals.{person_path}
 use Rattle.book_lists.specs.declared.circles.Caller.TheVariants.{Known}
+use Rattle.book_office.specs.Edits.{apply}
 use Rattle.book_office.specs.Keeping.{Edits, Reads, Standing}
 use Rattle.book_office.specs.Levels.{level_at}
 use Rattle.book_office.specs.Resources.{count_at, node_at}
@@ -55,20 +57,48 @@ pub record Remembers (r : Remembered) (o : Office) : Type 0 where
   pub bare_books : (name : List ℕ) → IfSome (get r.bare_books name) (λ _. AreAllBare o name)
   pub counts : (name : List ℕ) → IfSome (get r.counts name) (λ count. count_at o (path.Book name) ≤ count)
 
+-- what is remembered, and by which references it is had
+pub record Held : Type 0 where
+  pub names : List GName
+  pub remembered : Remembered
+
+-- a cache's own
+abbrev pub own_memory : Remembered → Held
+own_memory remembered = record { names = []; remembered = remembered }
+
+-- one that is lent
+abbrev pub lent_memory : GName → Remembered → Held
+lent_memory name remembered = record { names = name ∷ []; remembered = remembered }
+
+-- what is told is remembered where it is so, and else no more than was
+pub record Learns (old new : Held) (IsSo : Office → Type 0) : Type 0 where
+  pub names : new.names ≡ old.names
+  pub remembers : (o : Office) → Remembers old.remembered o → IsSo o → Remembers new.remembered o
+
+-- no more is remembered than what is still true after an edit
+pub record Follows (old new : Held) (edit : Edit) : Type 0 where
+  pub names : new.names ≡ old.names
+  pub remembers : (o : Office) → Remembers old.remembered o → Remembers new.remembered (apply o edit)
+
+-- nothing is remembered
+pub record Forgets (old new : Held) : Type 0 where
+  pub names : new.names ≡ old.names
+  pub nothing : (o : Office) → Remembers new.remembered o
+
 -- what the keeper stands for, where what is remembered of it is true
-abbrev pub remembering : Standing → Remembered → Standing
-remembering kept remembered = record {
+abbrev pub remembering : Standing → Held → Standing
+remembering kept held = record {
   honest = kept.honest;
-  stands = λ o. kept.stands o × Remembers remembered o;
+  stands = λ o. kept.stands o × Remembers held.remembered o;
   sound = λ o stands. kept.sound o stands.0;
   left = kept.left;
   failures = kept.failures;
-  fallback = kept.fallback;
+  fallback = record { names = held.names ++ kept.fallback.names; stands = kept.fallback.stands; left = kept.fallback.left };
 }
 
 -- a read and an edit, by what stands behind what is remembered
-abbrev pub ReadsBehind : {K A : Type 0} → (K → Standing) → Cached K → Cached K → Result A StoreFault → (Office → A → Type 0) → Type 0
-ReadsBehind standing old new result Tells = Reads (remembering (standing old.keeper) old.remembered) (remembering (standing new.keeper) new.remembered) result Tells
+abbrev pub ReadsBehind : {K R A : Type 0} → (K → Standing) → (R → Held) → Cached K R → Cached K R → Result A StoreFault → (Office → A → Type 0) → Type 0
+ReadsBehind standing held old new result Tells = Reads (remembering (standing old.keeper) (held old.remembered)) (remembering (standing new.keeper) (held new.remembered)) result Tells
 
-abbrev pub EditsBehind : {K : Type 0} → (K → Standing) → Cached K → Cached K → Result (Unit {0}) StoreFault → Edit → Type 0
-EditsBehind standing old new result edit = Edits (remembering (standing old.keeper) old.remembered) (remembering (standing new.keeper) new.remembered) result edit
+abbrev pub EditsBehind : {K R : Type 0} → (K → Standing) → (R → Held) → Cached K R → Cached K R → Result (Unit {0}) StoreFault → Edit → Type 0
+EditsBehind standing held old new result edit = Edits (remembering (standing old.keeper) (held old.remembered)) (remembering (standing new.keeper) (held new.remembered)) result edit

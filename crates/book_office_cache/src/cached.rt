@@ -13,6 +13,7 @@ ghost use Rattle.book_office.specs.Resources.{cards_after, changed_after, childr
 ghost use Rattle.book_office_values.specs.declared.offices.Office.{Office as OfficeOf};
 ghost use Rattle.book_office_values.specs.declared.paths.Path.TheVariants as paths;
 
+use crate::memories::Memories;
 use crate::remembered::{Remembered, bare_level};
 use book_lists::{Caller, Circle, Name, Pairs, Principal};
 use book_office::{
@@ -28,10 +29,12 @@ use std::alloc::{AllocError, Global};
 /// of one whose cards were told as children. After an edit it keeps what is still true. After one of a card's own list
 /// it forgets which cards of the book have no entries; after a MOVE of a card that may have some, which cards of the
 /// book where it comes; after one of members, all circles. After a policy, and an edit that fails, it forgets all.
+///
+/// What is remembered is its own, or in a round (`R`) that of the cache before the round.
 #[derive(Drop)]
-pub struct Cached<K> {
+pub struct Cached<K, R = Remembered> {
     pub(crate) keeper: K,
-    pub(crate) remembered: Remembered,
+    pub(crate) remembered: R,
 }
 
 /// What follows the home of the persons, if the text begins with it.
@@ -79,26 +82,9 @@ impl<K> Cached<K> {
         drop(remembered);
         keeper
     }
-
-    /// Takes it apart: the keeper, and what is remembered of its Office. Takes no memory.
-    pub fn into_parts(self) -> (K, Remembered)
-        ensures { result ≡ (self.keeper, self.remembered) }
-    {
-        let Cached { keeper, remembered } = self;
-        (keeper, remembered)
-    }
-
-    /// A keeper, and what is remembered of its Office: it stands for those Offices of the keeper of which that is true.
-    /// Takes no memory.
-    pub fn over_remembered(keeper: K, remembered: Remembered) -> Cached<K>
-        ensures keeper { result.keeper ≡ keeper }
-        ensures remembered { result.remembered ≡ remembered }
-    {
-        Cached { keeper, remembered }
-    }
 }
 
-impl<K: Keeper> Cached<K> {
+impl<K: Keeper, R: Memories> Cached<K, R> {
     /// The circle of the person of a name.
     fn person_circle(
         &mut self,
@@ -107,7 +93,7 @@ impl<K: Keeper> Cached<K> {
         name: &Name,
     ) -> Result<Circle, StoreFault>
         requires { caller.now ≡ Known (person_path name.now) }
-        ensures { ReadsBehind K.standing self.old self.new result
+        ensures { ReadsBehind K.standing R.held self.old self.new result
             (λ o circle. IsCircle o.pairs caller.now circle) }
     {
         if let Some(circle) = self.remembered.circle(name)? {
@@ -126,7 +112,7 @@ impl<K: Keeper> Cached<K> {
         person: &Principal,
     ) -> Result<Circle, StoreFault>
         requires { caller.now ≡ Known person.now }
-        ensures { ReadsBehind K.standing self.old self.new result
+        ensures { ReadsBehind K.standing R.held self.old self.new result
             (λ o circle. IsCircle o.pairs caller.now circle) }
     {
         match person_name(alloc, person)? {
@@ -137,7 +123,7 @@ impl<K: Keeper> Cached<K> {
 
     /// The person of a name, if there is one.
     fn person(&mut self, alloc: Global, name: &Name) -> Result<Option<Node>, StoreFault>
-        ensures { ReadsBehind K.standing self.old self.new result
+        ensures { ReadsBehind K.standing R.held self.old self.new result
             (λ o node. node ≡ node_at o (paths.Person name.now)) }
     {
         if let Some(node) = self.remembered.person(name)? {
@@ -153,7 +139,7 @@ impl<K: Keeper> Cached<K> {
 
     /// The book of a name, if there is one.
     fn book_node(&mut self, alloc: Global, name: &Name) -> Result<Option<Node>, StoreFault>
-        ensures { ReadsBehind K.standing self.old self.new result
+        ensures { ReadsBehind K.standing R.held self.old self.new result
             (λ o node. node ≡ node_at o (paths.Book name.now)) }
     {
         if let Some(node) = self.remembered.book_node(name)? {
@@ -169,7 +155,7 @@ impl<K: Keeper> Cached<K> {
 
     /// Whether the book of a name has fewer cards than so many.
     fn book_has_room(&mut self, alloc: Global, name: &Name, most: usize) -> Result<bool, StoreFault>
-        ensures { ReadsBehind K.standing self.old self.new result
+        ensures { ReadsBehind K.standing R.held self.old self.new result
             (λ o room. room ≡ nat_lt (count_at o (paths.Book name.now)) most) }
     {
         if self.remembered.has_room(name, most) {
@@ -191,7 +177,7 @@ impl<K: Keeper> Cached<K> {
         path: &Path,
     ) -> Result<Items<Listed>, StoreFault>
         requires { path.now ≡ paths.Book name.now }
-        ensures { ReadsBehind K.standing self.old self.new result
+        ensures { ReadsBehind K.standing R.held self.old self.new result
             (λ o children. children ≡ children_at o path.now) }
     {
         let cards = self.keeper.children(alloc, path)?;
@@ -201,7 +187,7 @@ impl<K: Keeper> Cached<K> {
 
     /// The lists of the root.
     fn root(&mut self, alloc: Global) -> Result<Level, StoreFault>
-        ensures { ReadsBehind K.standing self.old self.new result
+        ensures { ReadsBehind K.standing R.held self.old self.new result
             (λ o level. level ≡ level_at o paths.Root) }
     {
         if let Some(level) = self.remembered.root()? {
@@ -214,7 +200,7 @@ impl<K: Keeper> Cached<K> {
 
     /// The lists of the books' home.
     fn home(&mut self, alloc: Global) -> Result<Level, StoreFault>
-        ensures { ReadsBehind K.standing self.old self.new result
+        ensures { ReadsBehind K.standing R.held self.old self.new result
             (λ o level. level ≡ level_at o paths.Books) }
     {
         if let Some(level) = self.remembered.home()? {
@@ -227,7 +213,7 @@ impl<K: Keeper> Cached<K> {
 
     /// The lists of the book of a name.
     fn book(&mut self, alloc: Global, name: &Name) -> Result<Level, StoreFault>
-        ensures { ReadsBehind K.standing self.old self.new result
+        ensures { ReadsBehind K.standing R.held self.old self.new result
             (λ o level. level ≡ level_at o (paths.Book name.now)) }
     {
         if let Some(level) = self.remembered.book(name)? {
@@ -248,7 +234,7 @@ impl<K: Keeper> Cached<K> {
         name: &Name,
         levels: &mut Vec<Level>,
     ) -> Result<(), StoreFault>
-        ensures { ReadsBehind K.standing self.old self.new result
+        ensures { ReadsBehind K.standing R.held self.old self.new result
             (λ o _. levels.new.items ≡ levels.old.items
             ++ (lists_at o (paths.Book name.now)).levels) }
     {
@@ -262,7 +248,7 @@ impl<K: Keeper> Cached<K> {
 
     /// The lists of the book of a name and of what stands above it.
     fn book_lists(&mut self, alloc: Global, name: &Name) -> Result<Lists, StoreFault>
-        ensures { ReadsBehind K.standing self.old self.new result
+        ensures { ReadsBehind K.standing R.held self.old self.new result
             (λ o lists. lists ≡ lists_at o (paths.Book name.now)) }
     {
         let mut levels = Vec::with_capacity(alloc, 3)?;
@@ -281,7 +267,7 @@ impl<K: Keeper> Cached<K> {
         path: &Path,
     ) -> Result<Level, StoreFault>
         requires { path.now ≡ paths.Card book.now name.now }
-        ensures { ReadsBehind K.standing self.old self.new result
+        ensures { ReadsBehind K.standing R.held self.old self.new result
             (λ o level. level ≡ level_at o path.now) }
     {
         if self.remembered.is_bare(book, name) {
@@ -301,7 +287,7 @@ impl<K: Keeper> Cached<K> {
         path: &Path,
     ) -> Result<Lists, StoreFault>
         requires { path.now ≡ paths.Card book.now name.now }
-        ensures { ReadsBehind K.standing self.old self.new result
+        ensures { ReadsBehind K.standing R.held self.old self.new result
             (λ o lists. lists ≡ lists_at o path.now) }
     {
         let mut levels = Vec::with_capacity(alloc, 4)?;
@@ -314,11 +300,11 @@ impl<K: Keeper> Cached<K> {
     }
 }
 
-impl<K: Keeper> Keeper for Cached<K> {
-    ghost standing = { λ k. remembering (K.standing k.keeper) k.remembered };
+impl<K: Keeper, R: Memories> Keeper for Cached<K, R> {
+    ghost standing = { λ k. remembering (K.standing k.keeper) (R.held k.remembered) };
 
     fn find(&mut self, alloc: Global, path: &Path) -> Result<Option<Node>, StoreFault>
-        ensures { ReadsBehind K.standing self.old self.new result
+        ensures { ReadsBehind K.standing R.held self.old self.new result
             (λ o node. node ≡ node_at o path.now) }
     {
         match path {
@@ -334,7 +320,7 @@ impl<K: Keeper> Keeper for Cached<K> {
     }
 
     fn children(&mut self, alloc: Global, path: &Path) -> Result<Items<Listed>, StoreFault>
-        ensures { ReadsBehind K.standing self.old self.new result
+        ensures { ReadsBehind K.standing R.held self.old self.new result
             (λ o children. children ≡ children_at o path.now) }
     {
         match path {
@@ -350,14 +336,14 @@ impl<K: Keeper> Keeper for Cached<K> {
     }
 
     fn count(&mut self, alloc: Global, path: &Path) -> Result<usize, StoreFault>
-        ensures { ReadsBehind K.standing self.old self.new result
+        ensures { ReadsBehind K.standing R.held self.old self.new result
             (λ o count. count ≡ count_at o path.now) }
     {
         self.keeper.count(alloc, path)
     }
 
     fn has_room(&mut self, alloc: Global, path: &Path, most: usize) -> Result<bool, StoreFault>
-        ensures { ReadsBehind K.standing self.old self.new result
+        ensures { ReadsBehind K.standing R.held self.old self.new result
             (λ o room. room ≡ nat_lt (count_at o path.now) most) }
     {
         match path {
@@ -373,7 +359,7 @@ impl<K: Keeper> Keeper for Cached<K> {
     }
 
     fn lists(&mut self, alloc: Global, path: &Path) -> Result<Lists, StoreFault>
-        ensures { ReadsBehind K.standing self.old self.new result
+        ensures { ReadsBehind K.standing R.held self.old self.new result
             (λ o lists. lists ≡ lists_at o path.now) }
     {
         match path {
@@ -389,7 +375,7 @@ impl<K: Keeper> Keeper for Cached<K> {
     }
 
     fn level(&mut self, alloc: Global, path: &Path) -> Result<Level, StoreFault>
-        ensures { ReadsBehind K.standing self.old self.new result
+        ensures { ReadsBehind K.standing R.held self.old self.new result
             (λ o level. level ≡ level_at o path.now) }
     {
         self.keeper.level(alloc, path)
@@ -402,7 +388,7 @@ impl<K: Keeper> Keeper for Cached<K> {
         number: u64,
         at_most: Option<u32>,
     ) -> Result<Items<Changed>, StoreFault>
-        ensures { ReadsBehind K.standing self.old self.new result
+        ensures { ReadsBehind K.standing R.held self.old self.new result
             (λ o changes. changes ≡ first_of at_most (changed_after o book.now number)) }
     {
         self.keeper.changes_after(alloc, book, number, at_most)
@@ -415,27 +401,27 @@ impl<K: Keeper> Keeper for Cached<K> {
         number: u64,
         at_most: Option<u32>,
     ) -> Result<Items<Changed>, StoreFault>
-        ensures { ReadsBehind K.standing self.old self.new result
+        ensures { ReadsBehind K.standing R.held self.old self.new result
             (λ o changes. changes ≡ first_of at_most (cards_after o book.now number)) }
     {
         self.keeper.cards_after(alloc, book, number, at_most)
     }
 
     fn members(&mut self, alloc: Global, group: &Principal) -> Result<Pairs, StoreFault>
-        ensures { ReadsBehind K.standing self.old self.new result
+        ensures { ReadsBehind K.standing R.held self.old self.new result
             (λ o pairs. pairs ≡ members_of o.pairs group.now) }
     {
         self.keeper.members(alloc, group)
     }
 
     fn pairs(&mut self, alloc: Global) -> Result<Pairs, StoreFault>
-        ensures { ReadsBehind K.standing self.old self.new result (λ o pairs. pairs ≡ o.pairs) }
+        ensures { ReadsBehind K.standing R.held self.old self.new result (λ o pairs. pairs ≡ o.pairs) }
     {
         self.keeper.pairs(alloc)
     }
 
     fn circle(&mut self, alloc: Global, caller: &Caller) -> Result<Circle, StoreFault>
-        ensures { ReadsBehind K.standing self.old self.new result
+        ensures { ReadsBehind K.standing R.held self.old self.new result
             (λ o circle. IsCircle o.pairs caller.now circle) }
     {
         match caller {
@@ -445,13 +431,13 @@ impl<K: Keeper> Keeper for Cached<K> {
     }
 
     fn epoch(&mut self) -> Result<u64, StoreFault>
-        ensures { ReadsBehind K.standing self.old self.new result (λ o epoch. epoch ≡ o.epoch) }
+        ensures { ReadsBehind K.standing R.held self.old self.new result (λ o epoch. epoch ≡ o.epoch) }
     {
         self.keeper.epoch()
     }
 
     fn adoption(&mut self, alloc: Global, policy: &Policy) -> Result<Adoption, StoreFault>
-        ensures { ReadsBehind K.standing self.old self.new result
+        ensures { ReadsBehind K.standing R.held self.old self.new result
             (λ o told. told ≡ adoption_of policy.now o) }
     {
         self.keeper.adoption(alloc, policy)
@@ -462,7 +448,7 @@ impl<K: Keeper> Keeper for Cached<K> {
     }
 
     fn act(&mut self, alloc: Global, edit: &Edit) -> Result<(), StoreFault>
-        ensures { EditsBehind K.standing self.old self.new result edit.now }
+        ensures { EditsBehind K.standing R.held self.old self.new result edit.now }
     {
         match self.keeper.act(alloc, edit) {
             Ok(()) => {

@@ -6,10 +6,13 @@
 //! keeper stands for: what is remembered is what the Office has. After an edit it keeps what is still true; a policy,
 //! and an edit that fails, make it forget all.
 //!
-//! Read `remembered` first, then `cached`; a round (`rounds`) is done over the keeper itself.
+//! In a round (`rounds`) what is remembered is lent (`memories`), so that what was learned in it stays where it was kept.
+//!
+//! Read `remembered` first, then `cached`.
 #![tactic(auto)]
 
 mod cached;
+mod memories;
 mod remembered;
 mod rounds;
 

@@ -9,4 +9,4 @@ returns g c =
     let new : Standing = g.K.Keeper.standing c.find-found.new.self in
     let name : c.in_ok-clone.field-0 ≡ c.args.name.now = search rules in
     let read : Reads old new (Ok c.in_ok-node-2.node) (λ (o : Office) (node : Option Node). node ≡ node_at o (paths.Person c.args.name.now)) = rw name at c.in_ok-node-2.ensures in
-    read_kept old new c.args.self.now.remembered c.keep_person.new.self c.in_ok-node-2.node (λ (o : Office) (node : Option Node). node ≡ node_at o (paths.Person c.args.name.now)) read c.keep_person.ensures
+    read_kept old new (g.R.Memories.held c.args.self.now.remembered) (g.R.Memories.held c.keep_person.new.self) c.in_ok-node-2.node (λ (o : Office) (node : Option Node). node ≡ node_at o (paths.Person c.args.name.now)) read c.keep_person.ensures

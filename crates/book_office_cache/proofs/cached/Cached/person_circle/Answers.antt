@@ -13,4 +13,4 @@ returns g c =
     let caller = c.args.caller.now in
     let known : caller ≡ Known (person_path c.args.name.now) = c.requires in
     let circle = c.in_ok-circle-2.circle in
-    read_kept old new c.args.self.now.remembered c.keep_circle.new.self circle (λ (o : Office) (circle : CircleOf). IsCircle o.pairs caller circle) c.in_ok-circle-2.ensures (rw known c.keep_circle.ensures)
+    read_kept old new (g.R.Memories.held c.args.self.now.remembered) (g.R.Memories.held c.keep_circle.new.self) circle (λ (o : Office) (circle : CircleOf). IsCircle o.pairs caller circle) c.in_ok-circle-2.ensures (rw known c.keep_circle.ensures)

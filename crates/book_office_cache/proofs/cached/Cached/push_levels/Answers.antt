@@ -9,10 +9,10 @@ use Rattle.book_office_cache.proofs.cached.Cached.push_levels.Goals as goal
 pub returns : goal.returns
 returns g c =
     let keeps = g.K.Keeper.standing in
-    let s0 : Standing = remembering (keeps c.args.self.now.keeper) c.args.self.now.remembered in
-    let s1 : Standing = remembering (keeps c.book.new.self.keeper) c.book.new.self.remembered in
-    let s2 : Standing = remembering (keeps c.home.new.self.keeper) c.home.new.self.remembered in
-    let s3 : Standing = remembering (keeps c.root.new.self.keeper) c.root.new.self.remembered in
+    let s0 : Standing = remembering (keeps c.args.self.now.keeper) (g.R.Memories.held c.args.self.now.remembered) in
+    let s1 : Standing = remembering (keeps c.book.new.self.keeper) (g.R.Memories.held c.book.new.self.remembered) in
+    let s2 : Standing = remembering (keeps c.home.new.self.keeper) (g.R.Memories.held c.home.new.self.remembered) in
+    let s3 : Standing = remembering (keeps c.root.new.self.keeper) (g.R.Memories.held c.root.new.self.remembered) in
     let book = c.in_ok-book.book in
     let home = c.in_ok-home.home in
     let root = c.in_ok-root.root in

@@ -5,5 +5,5 @@ use Rattle.book_office_cache.proofs.cached.Cached.root.Goals as goal
 
 pub returns : goal.returns
 returns g c =
-    read_kept (g.K.Keeper.standing c.args.self.now.keeper) (g.K.Keeper.standing c.level.new.self) c.args.self.now.remembered c.keep_root.new.self c.in_ok-level-2.level
+    read_kept (g.K.Keeper.standing c.args.self.now.keeper) (g.K.Keeper.standing c.level.new.self) (g.R.Memories.held c.args.self.now.remembered) (g.R.Memories.held c.keep_root.new.self) c.in_ok-level-2.level
     (λ (o : Office) (level : Level). level ≡ level_at o paths.Root) c.in_ok-level-2.ensures c.keep_root.ensures
