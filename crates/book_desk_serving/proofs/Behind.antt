@@ -1,6 +1,6 @@
 -- What was served over a keeper that remembers was served over the keeper behind it.
 use Rattle.book_desk_serving.proofs.Common.{◌≡◌, ℕ, List, Option, refl, sym, subst}
-use Rattle.book_office_cache.specs.Remembering.{Remembers, remembering}
+use Rattle.book_office_cache.specs.Remembering.{Remembers, own_memory, remembering}
 use Rattle.book_office_cache.specs.declared.cached.Cached.{Cached}
 use Rattle.book_office_cache.specs.declared.remembered.Remembered.{Remembered}
 use Rattle.book_office.specs.Keeping.{Standing}
@@ -14,10 +14,10 @@ use Rattle.book_desk_serving.proofs.Alike.{pipe_as}
 
 module _ (old new : Standing) (log logs : Log) (was is : Remembered) (nothing : (o : Office) → Remembers was o) where
   abbrev ahead : Serving
-  ahead = with_log log (remembering old was)
+  ahead = with_log log (remembering old (own_memory was))
 
   abbrev ahead_then : Serving
-  ahead_then = with_log logs (remembering new is)
+  ahead_then = with_log logs (remembering new (own_memory is))
 
   runs_behind : (answered : List Answered) → Runs ahead ahead_then answered → Runs (with_log log old) (with_log logs new) answered
   runs_behind answered runs = record {
@@ -28,7 +28,7 @@ module _ (old new : Standing) (log logs : Log) (was is : Remembered) (nothing : 
     noted = runs.noted;
   }
 
-  pub still_behind : StandsStill (remembering old was) (remembering new is) → StandsStill old new
+  pub still_behind : StandsStill (remembering old (own_memory was)) (remembering new (own_memory is)) → StandsStill old new
   still_behind still = record {
     was_honest = still.was_honest;
     falls = still.falls;
@@ -49,10 +49,10 @@ module _ (Told : Failure → Type 0) {K : Type 0} (standing : K → Standing) (b
   abbrev Piped : Standing → Standing → Type 0
   Piped old new = EndsPipe Told (unlogged old) before after held holds status (unlogged new)
 
-  abbrev pub standing_before : Cached K → Standing
-  standing_before k = remembering (standing k.keeper) k.remembered
+  abbrev pub standing_before : Cached K Remembered → Standing
+  standing_before k = remembering (standing k.keeper) (own_memory k.remembered)
 
-  pub piped_behind : (old new : K) (was start end back : Cached K) → was.keeper ≡ old → ((o : Office) → Remembers was.remembered o) → start ≡ was → back ≡ end → new ≡ back.keeper
+  pub piped_behind : (old new : K) (was start end back : Cached K Remembered) → was.keeper ≡ old → ((o : Office) → Remembers was.remembered o) → start ≡ was → back ≡ end → new ≡ back.keeper
       → EndsPipe Told (unlogged (standing_before start)) before after held holds status (unlogged (standing_before end))
       → EndsPipe Told (unlogged (standing old)) before after held holds status (unlogged (standing new))
   piped_behind old new was start end back keeper nothing start_is back_is new_is ends =

@@ -5,6 +5,7 @@ use Rattle.sqlite.specs.State.{State}
 use Rattle.sqlite_trees.specs.declared.store.Store.{Ghosts}
 use Rattle.book_office_cache.specs.Remembering.{Remembers}
 use Rattle.book_office_cache.specs.declared.cached.Cached.{Cached}
+use Rattle.book_office_cache.specs.declared.remembered.Remembered.{Remembered}
 use Rattle.book_office_values.specs.declared.offices.Office.{Office}
 use Rattle.book_office.specs.Edits.{empty_office}
 use Rattle.book_office.specs.Keeping.{in_memory}
@@ -32,7 +33,7 @@ FailsInMemory policy failure = (new : Office) × FailsToAdopt (in_memory empty_o
 -- over connections with their state, and keepers with their connection and the number of their failures
 module _ {C K : Type 0} (state : C → State) (connection : K → C) (failures_of : K → ℕ) where
   -- the policy was adopted over the tables of the store, of which nothing is remembered
-  abbrev pub IsReadyOver : C → Option PolicyTables → Cached K → Type 0
+  abbrev pub IsReadyOver : C → Option PolicyTables → Cached K Remembered → Type 0
   IsReadyOver store policy new =
       ((old : K) × AreTablesOf state connection failures_of store old
       × AdoptsGiven (standing_in state connection failures_of old) policy (standing_in state connection failures_of new.keeper))
