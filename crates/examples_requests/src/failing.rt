@@ -2,18 +2,21 @@
 
 ghost use Rattle.std.specs.Prelude.{◌≡◌, ℕ};
 ghost use Rattle.examples_requests.specs.Unpromised.{unpromised};
-ghost use Rattle.book_office.specs.Keeping.{failures_after};
+ghost use Rattle.book_office.specs.Keeping.{FallsBack, failures_after};
 
 use crate::checks::{check_fact, check_text};
 use crate::offices::office;
 use crate::scripts::{Step, answer, follow};
+use crate::words::name;
 use book_lists::{Caller, Circle, Name, Pairs};
 use book_machine::Machine;
 use book_office::{
     Adoption, Changed, Edit, Items, Keeper, Kind, Level, Listed, Lists, MemoryKeeper, Node, Path,
-    Policy, StoreFault,
+    Policy, Rounds, StoreFault, Work,
 };
+use book_office_cache::Cached;
 use std::alloc::Global;
+use std::mem;
 use std::process::Abort;
 
 /// A keeper in memory that answers one call by a fault of its store. It promises nothing.
@@ -141,6 +144,19 @@ impl Keeper for Failing {
     fn act(&mut self, alloc: Global, edit: &Edit) -> Result<(), StoreFault> {
         self.pass()?;
         answered(self.keeper.act(alloc, edit))
+    }
+}
+
+/// No round is kept: what was done in it is undone, where the Office was empty before.
+impl Rounds for Failing {
+    ghost Inside = { ℕ };
+
+    ghost inside = { λ n. unpromised n };
+
+    fn round<W: Work>(&mut self, alloc: Global, work: &mut W) -> Result<(), StoreFault> {
+        work.run(alloc, self);
+        drop(mem::replace(&mut self.keeper, MemoryKeeper::new(alloc)));
+        Err(StoreFault::Memory)
     }
 }
 
@@ -290,4 +306,58 @@ fn the_last_number_does_not_rise(rt: HostRuntime) {
         follow(&rt, rt.alloc(), &mut machine, steps);
         drop(machine);
     }
+}
+
+/// A new book, and whether it is then there.
+#[derive(Drop)]
+struct AddsBook<'e> {
+    edit: &'e Edit,
+    path: &'e Path,
+    there: bool,
+}
+
+/// Makes the edit; whether something is at the path then.
+fn make_and_find<K: Keeper>(alloc: Global, keeper: &mut K, edit: &Edit, path: &Path) -> bool
+    ensures { FallsBack (K.standing keeper.old).fallback (K.standing keeper.new).fallback }
+{
+    match keeper.act(alloc, edit) {
+        Ok(()) => keeper.has(alloc, path).unwrap_or(false),
+        Err(_) => false,
+    }
+}
+
+impl Work for AddsBook<'_> {
+    ghost does = { λ first last old new. FallsBack first.fallback last.fallback };
+
+    fn run<K: Keeper>(&mut self, alloc: Global, keeper: &mut K) {
+        self.there = make_and_find(alloc, keeper, self.edit, self.path);
+    }
+}
+
+#[test]
+fn what_a_failed_round_learned_is_forgotten(rt: HostRuntime) {
+    let alloc = rt.alloc();
+    let path = Path::Book(name(&rt, alloc, "sales"));
+    let edit = Edit::AddBook {
+        book: name(&rt, alloc, "sales"),
+        owner: None,
+    };
+    let failing = Failing {
+        keeper: MemoryKeeper::new(alloc),
+        calls: 100,
+        failures: 0,
+        number: None,
+    };
+    let mut cached = Cached::new(alloc, failing);
+    let mut adds = AddsBook {
+        edit: &edit,
+        path: &path,
+        there: false,
+    };
+    let kept = cached.round(alloc, &mut adds);
+    check_fact(&rt, kept.is_err(), "the round");
+    check_fact(&rt, adds.there, "the book in the round");
+    let there = cached.has(alloc, &path).unwrap_or(true);
+    check_fact(&rt, !there, "no book afterwards");
+    drop(cached);
 }
