@@ -1,2 +1,5 @@
 pub mod Unavailable
 pub mod Servings
+pub mod KeptRuns
+pub mod LentServings
+pub mod MachineRounds

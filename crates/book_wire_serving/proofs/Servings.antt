@@ -132,7 +132,7 @@ may_weaker : (P Q : Leftover → Type 0) (o : Office) (call : Call) (reply : Rep
     → ((y : Leftover) → P y → Q y) → MayLeave P o call reply x → MayLeave Q o call reply x
 may_weaker P Q o call reply x f m = (elim m.0 [ inl before ↦ inl (f x before) | inr made ↦ inr made ], m.1)
 
-after_weaker : (P Q : Leftover → Type 0) (o : Office) (calls : List Call) (replies : List Reply) (offices : List Office) (x : Leftover)
+pub after_weaker : (P Q : Leftover → Type 0) (o : Office) (calls : List Call) (replies : List Reply) (offices : List Office) (x : Leftover)
     → ((y : Leftover) → P y → Q y) → MayLeaveAfter P o calls replies offices x → MayLeaveAfter Q o calls replies offices x
 after_weaker P Q o [] replies offices x f m = f x m
 after_weaker P Q o (c ∷ calls) [] offices x f m = f x m
@@ -140,11 +140,11 @@ after_weaker P Q o (c ∷ calls) (r ∷ replies) [] x f m = f x m
 after_weaker P Q o (c ∷ calls) (r ∷ replies) (a ∷ offices) x f m =
     after_weaker (MayLeave P o c r) (MayLeave Q o c r) a calls replies offices x (λ y p. may_weaker P Q o c r y f p) m
 
-last_then : (o : Office) (offices others : List Office) → last_office o (offices ++ others) ≡ last_office (last_office o offices) others
+pub last_then : (o : Office) (offices others : List Office) → last_office o (offices ++ others) ≡ last_office (last_office o offices) others
 last_then o [] others = refl
 last_then o (a ∷ offices) others = last_then a offices others
 
-run_then : (o : Office) (calls more : List Call) (replies others : List Reply) (offices later : List Office)
+pub run_then : (o : Office) (calls more : List Call) (replies others : List Reply) (offices later : List Office)
     → Run o calls replies offices → Run (last_office o offices) more others later → Run o (calls ++ more) (replies ++ others) (offices ++ later)
 run_then o [] more [] others [] later run next = next
 run_then o [] more [] others (a ∷ offices) later run next = absurd run
@@ -166,7 +166,7 @@ leave_then before mid o (c ∷ calls) more (r ∷ replies) others [] later x run
 leave_then before mid o (c ∷ calls) more (r ∷ replies) others (a ∷ offices) later x run may left =
     leave_then (MayLeave before o c r) mid a calls more replies others offices later x run.1 may left
 
-both_have : (calls more : List Call) → AreWellFormed calls → AreWellFormed more → AreWellFormed (calls ++ more)
+pub both_have : (calls more : List Call) → AreWellFormed calls → AreWellFormed more → AreWellFormed (calls ++ more)
 both_have [] more have others = others
 both_have (c ∷ calls) more have others = (have.0, both_have calls more have.1 others)
 

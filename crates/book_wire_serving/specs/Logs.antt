@@ -1,5 +1,5 @@
 -- The log of what is served: a line for each reply, in the order in which they were made (own profile).
-use Rattle.std.specs.Prelude.{◌≡◌, ◌≢◌, ◌⊎◌, ℕ, Bool, true, false, List, [], ◌∷◌, ◌++◌, codes, Option, Some, None}
+use Rattle.std.specs.Prelude.{◌≡◌, ◌≢◌, ◌⊎◌, ℕ, Bool, false, List, [], ◌++◌, codes, Option, Some, None}
 use Rattle.std.specs.List.{flat_map}
 use Rattle.book_log_lines.specs.Lines.{line_text}
 use Rattle.book_log_lines.specs.declared.lines.Line.{Line}

@@ -13,14 +13,12 @@ use Rattle.book_machine.specs.Asking.{IsWellFormed}
 use Rattle.book_machine.specs.Laws.{FindsItsOffices}
 use Rattle.book_machine.specs.LeadingRuns.{AreWellFormed}
 use Rattle.book_machine.specs.Promises.{ServePromise}
-use Rattle.book_machine.specs.Refusals.{refused}
 use Rattle.book_machine.specs.Runs.{Call, Run, last_office, MayLeaveAfter}
 use Rattle.book_machine.specs.Steps.{Serves}
 use Rattle.book_machine.specs.SyncedCopies.{Synced}
 use Rattle.book_machine.specs.declared.messages.Content.TheVariants as content
 use Rattle.book_machine.specs.declared.messages.Reply.{Reply}
 use Rattle.book_machine.specs.declared.messages.Request.{Request}
-use Rattle.book_machine.specs.declared.refusals.Refusal.TheVariants.{Unavailable}
 use Rattle.book_wire_serving.specs.Logs.{Log, Appended, Gains, IsBare, IsLineBy, IsLineOf, IsUnavailable}
 
 -- what a service stands for, and its log

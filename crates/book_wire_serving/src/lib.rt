@@ -4,11 +4,14 @@
 //! `book_log_replies`, which say what a line of a log tells. The crate above uses that what was served is a run of the
 //! machine, and that a log, as long as no write of it has failed, has a line for each reply of that run (`Runs`).
 //!
-//! Read `services`.
+//! Read `services`, then `lent_services` and `rounds`.
 #![tactic(auto)]
 
 mod faults;
+mod lent_services;
+mod rounds;
 mod services;
 
 pub use faults::StreamFault;
+pub use rounds::{RoundService, ServiceWork};
 pub use services::{LogFault, Service};
