@@ -1,1 +1,3 @@
+pub mod OneRuns
+mod Leaving
 pub mod Takes

@@ -2,7 +2,7 @@
 //!
 //! It stands on `book_wire_serving`, whose `Service` answers the requests, and on `book_machine`, which says what it is to
 //! adopt a policy. The crates above use that what a server does is steps in one order (`TakesSteps`): requests that were
-//! answered, and adoptions.
+//! answered, rounds that were not kept, and adoptions.
 //!
 //! Read `specs/Steps.antt` first, then `control`, and `laws`.
 #![tactic(auto)]
@@ -11,4 +11,6 @@ mod control;
 mod laws;
 
 pub use control::{Control, Traffic, Wish};
-pub use laws::{adoptions_part_runs, logs_tell_steps, steps_fall_back, steps_lead_offices};
+pub use laws::{
+    adoptions_part_runs, logs_tell_steps, steps_fall_back, steps_lead_offices, steps_leave,
+};
