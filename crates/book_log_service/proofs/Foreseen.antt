@@ -1,28 +1,26 @@
 -- What was foreseen of an edit is what it did.
-use Rattle.std.proofs.Common.{◌≡◌, ℕ, ◌+◌, ◌-◌, ◌^◌, ◌≤◌, Bool, true, false, cond, if◌then◌else◌, List, [], ◌∷◌, map, Option, Some, None, option_map, unwrap_or, refl, sym, ap, ◌∙◌, subst, arith, bytes_eq}
+use Rattle.std.proofs.Common.{◌≡◌, ℕ, ◌+◌, ◌≤◌, Bool, true, false, cond, List, [], ◌∷◌, map, Option, Some, None, option_map, unwrap_or, refl, sym, ap, ◌∙◌, subst, arith}
 use Rattle.std.proofs.Math.Nat.{min-eq_left}
 use Rattle.std.specs.FinMap.{get}
 use Rattle.book_limits.specs.declared.TheConstants.{LAST_NUMBER}
 use Rattle.book_office.proofs.Epochs.{epoch_after}
-use Rattle.book_office.specs.Edits.{apply, raises_epoch, touches}
+use Rattle.book_office.specs.Edits.{touches}
 use Rattle.book_office.specs.Resources.{book_resource, node_of}
 use Rattle.book_office.specs.Sound.{IsSound}
-use Rattle.book_office.specs.declared.edits.Edit.{Edit}
 use Rattle.book_office.specs.declared.nodes.Node.{Node}
 use Rattle.book_office_values.specs.declared.offices.Book.{Book}
 use Rattle.book_office_values.specs.declared.offices.Office.{Office}
 use Rattle.book_office_values.specs.declared.paths.Path.TheVariants as path
 use Rattle.book_log_lines.specs.declared.lines.Touched.{Touched}
-use Rattle.book_log_replies.proofs.ToldChanges.{IsMade, made, made_nothing, step_makes}
+use Rattle.book_log_replies.proofs.ToldChanges.{made, made_nothing, step_makes}
 use Rattle.book_log_replies.proofs.TouchedCards.{AreNext, IsNext, ahead_of, last_is, touched_next}
 use Rattle.book_log_replies.specs.Effects.{both, card_if, cards_asked, effect_of, last_change, raises_asked, touched_at, touches_destination, touches_path}
-use Rattle.book_log_replies.specs.declared.replies.Effect.{Effect}
 use Rattle.book_machine.specs.Asking.{IsWellFormed}
 use Rattle.book_machine.specs.Steps.{Steps}
 use Rattle.book_machine.specs.declared.messages.Content.TheVariants as content
 use Rattle.book_machine.specs.declared.messages.Reply.{Reply}
 use Rattle.book_machine.specs.declared.messages.Request.{Request}
-use Rattle.book_log_service.specs.Foreseeing.{ahead_by, book_number, book_of, foreseen, next_cards, next_of, raised_by, second_ahead}
+use Rattle.book_log_service.specs.Foreseeing.{ahead_by, book_number, foreseen, next_cards, next_of, raised_by}
 
 -- ---- numbers
 -- a number that a sound Office has is the last value of 64 bits at most

@@ -3,3 +3,4 @@ pub mod Appended
 pub mod Fronts
 pub mod Foreseen
 pub mod ReadTurns
+pub mod LoggedRounds

@@ -1,5 +1,5 @@
 -- Reads one after the other, as far as a function was done with them.
-use Rattle.std.proofs.Common.{◌≡◌, Result, Ok, Err, refl, sym, subst, IsErrAnd}
+use Rattle.std.proofs.Common.{◌≡◌, Result, Ok, Err, sym, subst, IsErrAnd}
 use Rattle.std.specs.Result.{IfOk}
 use Rattle.book_office.specs.Keeping.{Reads, Standing}
 use Rattle.book_office.specs.declared.keepers.StoreFault.{StoreFault}

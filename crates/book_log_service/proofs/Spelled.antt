@@ -1,5 +1,5 @@
 -- From a reply of the machine to what is owed for it.
-use Rattle.std.proofs.Common.{◌≡◌, ◌≢◌, ◌⊎◌, ℕ, Bool, true, false, List, [], Option, Some, None, Result, Ok, Err, refl, sym, ap, ◌∙◌, subst, inl, inr}
+use Rattle.std.proofs.Common.{◌≡◌, ◌≢◌, ◌⊎◌, ℕ, Bool, true, false, List, [], Option, Some, None, Ok, Err, refl, sym, ap, ◌∙◌, subst, inl, inr}
 use Rattle.book_log_replies.specs.Effects.{effect_of, no_effect}
 use Rattle.book_log_replies.specs.Replies.{denial_in}
 use Rattle.book_log_replies.specs.declared.replies.Effect.{Effect}
@@ -15,7 +15,6 @@ use Rattle.book_machine.specs.Asking.{IsWellFormed}
 use Rattle.book_machine.specs.Laws.{TellingRepliesChangeNothing}
 use Rattle.book_machine.specs.Promises.{ServePromise}
 use Rattle.book_machine.specs.Refusals.{refused}
-use Rattle.book_machine.specs.declared.machine.Machine.{Machine}
 use Rattle.book_machine.specs.declared.messages.Content.{Content}
 use Rattle.book_machine.specs.declared.messages.Content.TheVariants as content
 use Rattle.book_machine.specs.declared.messages.Reply.{Reply}
@@ -241,17 +240,6 @@ owes_settled law old new read mid made spare name request drafts reply sent r ha
     }))
 
 -- ---- the cases of a reply
-pub still_kept : {K : Type 0} (standing : K → Standing) (old new : Machine K) → new ≡ old → StandsStill (standing old.keeper) (standing new.keeper)
-still_kept {K} standing old new same =
-    let P : Machine K → Type 0 = λ m. StandsStill (standing old.keeper) (standing m.keeper) in
-    subst P (sym same) (still (standing old.keeper))
-
-pub read_from : {K A : Type 0} (standing : K → Standing) (old begun : Machine K) (mid : Standing) (result : Result A StoreFault) (T : Office → A → Type 0)
-    → begun ≡ old → Reads (standing begun.keeper) mid result T → Reads (standing old.keeper) mid result T
-read_from {K} {A} standing old begun mid result T same r =
-    let P : Machine K → Type 0 = λ m. Reads (standing m.keeper) mid result T in
-    subst P same r
-
 pub owes_at_once : (old new : Serving) (made spare : Option (List ℕ)) (name : Option (List ℕ)) (request : Request) (sent : Reply)
     → sent ≡ refused Unavailable → made ≡ None → ServePromise old.standing new.standing name request (refused Unavailable) → IsWellFormed request
     → (new.log.failed ≡ false → old.log.failed ≡ false) → new.log.held ≡ old.log.held

@@ -5,3 +5,4 @@ pub mod Kept
 pub mod Spelling
 pub mod Settling
 pub mod Adoptions
+pub mod Rounds

@@ -7,7 +7,8 @@
 //!
 //! Read `clocks` first, then `texts`, which makes the lines, `drafts`, which makes those of edits before the edits, by what
 //! `foreseeing` finds out,
-//! `spelling`, which asks the keeper for the lists at a denial, `spares`, and `logged`.
+//! `spelling`, which asks the keeper for the lists at a denial, `spares`, `noting` and `logged`; then `pages`, which have the
+//! lines of a round, and `rounds`.
 #![tactic(auto)]
 
 mod appending;
@@ -16,6 +17,9 @@ mod drafts;
 mod foreseeing;
 mod known;
 mod logged;
+mod noting;
+mod pages;
+mod rounds;
 mod spares;
 mod spelling;
 mod texts;

@@ -28,4 +28,6 @@ mod log_edits;
 #[cfg(test)]
 mod log_instants;
 #[cfg(test)]
+mod log_rounds;
+#[cfg(test)]
 mod log_serving;

@@ -97,6 +97,16 @@ pub(crate) fn output_of(alloc: Global, size: usize, writes: u64) -> Output {
     }
 }
 
+/// A clock that tells one time; after so many times, so many more are refused memory.
+pub(crate) fn clock_of(rt: &impl Abort, alloc: Global, told: u64, refused: u64) -> Stopped {
+    let found = Time::parse(alloc, "2026-11-29T09:00:00.000Z").expect(rt, "memory");
+    Stopped {
+        time: found.expect(rt, "a time"),
+        told,
+        refused,
+    }
+}
+
 /// A machine that has adopted a policy, with a log of its own; after so many times, so many more are refused memory.
 pub(crate) fn kept_by(
     rt: &impl Abort,
@@ -113,12 +123,7 @@ pub(crate) fn kept_by(
         .ok()
         .expect(rt, "room for the policy");
     drop(policy);
-    let found = Time::parse(alloc, "2026-11-29T09:00:00.000Z").expect(rt, "memory");
-    let clock = Stopped {
-        time: found.expect(rt, "a time"),
-        told,
-        refused,
-    };
+    let clock = clock_of(rt, alloc, told, refused);
     Logged::new(alloc, machine, output, clock)
 }
 
@@ -128,7 +133,7 @@ fn kept_with(rt: &impl Abort, alloc: Global, output: Output, told: u64, refused:
 }
 
 /// A machine that has adopted the policy, with a log of its own.
-fn kept(rt: &impl Abort, alloc: Global, size: usize, writes: u64) -> Kept {
+pub(crate) fn kept(rt: &impl Abort, alloc: Global, size: usize, writes: u64) -> Kept {
     kept_with(rt, alloc, output_of(alloc, size, writes), 0, 0)
 }
 

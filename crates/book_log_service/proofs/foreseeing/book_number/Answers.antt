@@ -1,5 +1,4 @@
 use Rattle.std.proofs.Common.{◌≡◌, ◌∙◌, ℕ, Option, ap, option_map, unwrap_or}
-use Rattle.book_office.specs.Keeping.{Standing}
 use Rattle.book_office.specs.Resources.{node_at}
 use Rattle.book_office.specs.declared.nodes.Node.{Node}
 use Rattle.book_office_audit.proofs.ReadsInTurn.{reads_weaker}

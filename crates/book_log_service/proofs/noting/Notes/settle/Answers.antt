@@ -1,5 +1,5 @@
 use Rattle.book_log_service.proofs.Spelled.{settles_withdrawn}
-use Rattle.book_log_service.proofs.logged.Logged.settle.Goals as goal
+use Rattle.book_log_service.proofs.noting.Notes.settle.Goals as goal
 
 pub returns-clause-settles : goal.returns-clause-settles
 returns-clause-settles g c =
