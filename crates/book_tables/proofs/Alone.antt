@@ -1,14 +1,14 @@
 -- A call in a transaction of its own, which is rolled back after a read or an error, and committed after an edit.
-use Rattle.book_tables.proofs.Common.{◌≡◌, ◌⊎◌, inl, inr, ℕ, Result, Ok, Err, arith, refl, sym, ap, subst, ◌∙◌, IsTrue, false, true, true≢false, State, HasCleanDisk, Survives, Office, apply, StoreFault, Standing, Reads, Leftover, whole, failures_after_fault, Stays, inside_of, ReadsInside, EditsInside, standing_of, IsKept, StandsFor, LeftOf, unseen_then}
+use Rattle.book_tables.proofs.Common.{◌≡◌, ◌⊎◌, inl, inr, ℕ, Result, Ok, Err, arith, sym, ap, subst, ◌∙◌, IsTrue, false, true, true≢false, State, HasCleanDisk, Survives, Office, apply, StoreFault, Reads, Leftover, whole, failures_after_fault, Stays, inside_of, ReadsInside, EditsInside, standing_of, IsKept, StandsFor, LeftOf, unseen_then}
 use Rattle.std.proofs.Common.{IsErrAnd}
 use Rattle.sqlite.specs.Tree.{Trees}
 use Rattle.sqlite.specs.declared.error.Error.{Error}
 use Rattle.sqlite.specs.State.{IsRolledBack, KeepsCommit, Shows}
 use Rattle.sqlite.specs.Steps.{FailsToCommit}
-use Rattle.sqlite.proofs.StateLemmas.{survives_then}
 use Rattle.book_office.specs.declared.edits.Edit.{Edit}
 use Rattle.book_office.specs.Keeping.{Edits}
 use Rattle.book_office.specs.Sound.{Fits}
+use Rattle.book_office.proofs.Fallbacks.{still_falls}
 use Rattle.book_tables.specs.Stands.{LeftBy}
 use Rattle.book_tables.proofs.OneOffice.{kept_stands, only_left}
 
@@ -52,6 +52,7 @@ module _ (old begun mid new : State) (is : begun ≡ record old { in_transaction
         let whole_way : Survives old new (λ _. ⊥) = unseen_then old mid new (unseen_begun read.survives) survives in
         record {
           was_honest = λ h. omega (arith, h, whole_way.clean);
+          falls = still_falls;
           value = λ h o stands. read.value (clean_mid h) inside_begun o (stands_begun o stands);
           kept = λ h. stands_back (back (read.kept (clean_mid h) inside_begun) (undone h));
           left = left_back whole_way;
@@ -61,6 +62,7 @@ module _ (old begun mid new : State) (is : begun ≡ record old { in_transaction
         let whole_way : Survives old new (λ _. ⊥) = unseen_then old mid new (unseen_begun read.survives) survives in
         record {
           was_honest = λ h. omega (arith, h, whole_way.clean);
+          falls = still_falls;
           value = λ h. tt;
           kept = λ h. stands_back (back (read.kept (clean_mid h) inside_begun) (undone h));
           left = left_back whole_way;
@@ -76,6 +78,7 @@ module _ (old begun mid new : State) (is : begun ≡ record old { in_transaction
         let whole_way : Survives old new (λ _. ⊥) = unseen_then old mid new (unseen_begun edited.survives) survives in
         record {
           was_honest = λ h. omega (arith, h, whole_way.clean);
+          falls = still_falls;
           made = λ h. tt;
           kept = λ h. stands_back (back (edited.kept (clean_mid h) inside_begun) (undone h));
           left_made = λ h. tt;
@@ -99,6 +102,7 @@ module _ (old begun mid new : State) (is : begun ≡ record old { in_transaction
         → Edits (standing_of old n) (standing_of new m) (Ok tt) edit
     edit_committed settled_new shows = record {
       was_honest = was_clean;
+      falls = still_falls;
       made = λ h o stands fits. (λ _. subst (λ db. IsKept db (apply o edit)) (sym (shows h).now_is) (made h o stands fits), fits.sound);
       kept = λ h. tt;
       left_made = λ h o stands fits x left. left_alone h o stands fits x left;
@@ -116,6 +120,7 @@ module _ (old begun mid new : State) (is : begun ≡ record old { in_transaction
         → Edits (standing_of old n) (standing_of new last) (Err fault) edit
     edit_uncommitted e fault last counted fails = record {
       was_honest = was_clean;
+      falls = still_falls;
       made = λ h. tt;
       kept = λ h. stands_back (back (edited.kept (clean_made h) inside_begun) (rolled h (fails h)));
       left_made = λ h. tt;
@@ -135,7 +140,7 @@ module _ (old begun mid new : State) (is : begun ≡ record old { in_transaction
 
 -- a call that finds the connection in a transaction does nothing
 pub read_refused_alone : {A : Type 0} (s : State) (n m : ℕ) (fault : StoreFault) (Tells : Office → A → Type 0) → m ≡ failures_after_fault fault n → Reads {A = A} (standing_of s n) (standing_of s m) (Err fault) Tells
-read_refused_alone s n m fault Tells counted = record { was_honest = λ h. h; value = λ h. tt; kept = λ h o stands. stands; left = λ h x left. left; counted = counted }
+read_refused_alone s n m fault Tells counted = record { was_honest = λ h. h; falls = still_falls; value = λ h. tt; kept = λ h o stands. stands; left = λ h x left. left; counted = counted }
 
 pub edit_refused_alone : (s : State) (n m : ℕ) (fault : StoreFault) (edit : Edit) → m ≡ failures_after_fault fault n → Edits (standing_of s n) (standing_of s m) (Err fault) edit
-edit_refused_alone s n m fault edit counted = record { was_honest = λ h. h; made = λ h. tt; kept = λ h o stands. stands; left_made = λ h. tt; left_kept = λ h o stands fits x left. inl left; counted = counted }
+edit_refused_alone s n m fault edit counted = record { was_honest = λ h. h; falls = still_falls; made = λ h. tt; kept = λ h o stands. stands; left_made = λ h. tt; left_kept = λ h o stands fits x left. inl left; counted = counted }

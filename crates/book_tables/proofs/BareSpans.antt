@@ -1,5 +1,5 @@
 -- Nodes in a span of numbers in which no entry stands have no entries.
-use Rattle.book_tables.proofs.Common.{◌≡◌, ℕ, ℤ, ◌+◌, ◌<◌, Bool, true, false, not, ◌&&◌, ◌||◌, cond, List, [], ◌∷◌, map, filter, length, take, get_or, Option, Some, None, codes, refl, sym, ap, subst, ◌∙◌, arith, ints, IsTrue, true≢false, false_from_ne_true, IsPermutation, int_cmp, Ordering, Less, Equal, Greater, AllByRecursion, list_any, Has, all_has, all_from, all_weaker, Int, id_in, Database, State, Row, column, Null, value_cmp-Int, sort_by, ace_node_place, ace_protected_place, flag, is_entry, by_place, rows_of, has, IsBook, Rows, Looks, list_in, entry_of, child_shown, card_shown, child_among, card_among, Changed, Listed}
+use Rattle.book_tables.proofs.Common.{◌≡◌, ℕ, ℤ, ◌+◌, ◌<◌, Bool, true, false, not, ◌&&◌, ◌||◌, cond, List, [], ◌∷◌, map, filter, length, take, get_or, Option, Some, codes, refl, sym, ap, subst, ◌∙◌, arith, ints, IsTrue, true≢false, false_from_ne_true, Less, Equal, Greater, AllByRecursion, list_any, all_has, all_from, all_weaker, Int, id_in, Database, State, Row, Null, value_cmp-Int, sort_by, ace_node_place, ace_protected_place, flag, is_entry, by_place, rows_of, has, IsBook, Rows, Looks, list_in, entry_of, child_shown, card_shown, child_among, card_among, Changed, Listed}
 use Rattle.std.proofs.Common.{is_ge, is_le, pos, suc, ne_eqb}
 use Rattle.std.specs.Prelude.{◌≤ℤ◌, int_lt, ◌==◌}
 use Rattle.std.proofs.lemmas.List.{length-map}
@@ -25,7 +25,7 @@ use Rattle.book_tables_rows.specs.Schema.{ace2_tree, book_schema}
 use Rattle.book_tables_rows.proofs.Common.{and-true}
 use Rattle.book_tables_rows.proofs.Keeping.{shown_open}
 use Rattle.book_tables_rows.proofs.Ordering.{answers_first, count_is, first_ordered}
-use Rattle.book_tables_rows.proofs.Statements.{passes, shown_by}
+use Rattle.book_tables_rows.proofs.Statements.{passes}
 use Rattle.book_tables.specs.Children.{ShowsChildrenOf, listed_shown}
 use Rattle.book_tables.specs.LastChanges.{ShowsCards, changed_shown}
 use Rattle.book_tables.specs.Shares.{node_in}

@@ -1,5 +1,5 @@
 -- The direct members of a group, found among pairs one by one; and lists of texts that are compared one by one.
-use Rattle.book_tables.proofs.Common.{◌≡◌, ℕ, suc, ◌+◌, ◌<◌, List, [], ◌∷◌, ◌++◌, map, drop, get_or, length, refl, sym, ap, ◌∙◌, arith, Membership, members_in}
+use Rattle.book_tables.proofs.Common.{◌≡◌, ℕ, suc, ◌<◌, List, [], ◌∷◌, ◌++◌, map, drop, get_or, length, refl, sym, ap, ◌∙◌, arith, Membership, members_in}
 use Rattle.std.proofs.lemmas.List.{get_or-map}
 
 module _ {A : Type 0} (f : A → List ℕ) (group : List ℕ) (pairs : List Membership) where

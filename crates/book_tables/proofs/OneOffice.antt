@@ -8,7 +8,6 @@ use Rattle.book_tables_schema.specs.Layout.{tables_of}
 use Rattle.book_tables_schema.specs.declared.layout.Generation.TheVariants.{Second}
 use Rattle.book_tables_schema.specs.OtherReach.{HasBase}
 use Rattle.book_tables_schema.proofs.DroppedReach.{book_beside}
-use Rattle.std.proofs.Common.{true}
 use Rattle.sqlite.specs.Table.{Table}
 use Rattle.book_tables.specs.Stands.{IsKept, LeftBy}
 

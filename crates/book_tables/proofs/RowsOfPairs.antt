@@ -1,5 +1,5 @@
 -- The rows of pairs, one after another.
-use Rattle.book_tables.proofs.Common.{◌≡◌, ℕ, ◌+◌, ◌<◌, Bool, true, false, ◌&&◌, ◌||◌, List, [], ◌∷◌, ◌++◌, take, length, get_or, refl, sym, ap, ◌∙◌, list_any, eq_by_cmp, bytes_eq, Memberships, membership_cmp, Membership, memberships_total, same_membership, Row, Text, subst, inr}
+use Rattle.book_tables.proofs.Common.{◌≡◌, ℕ, ◌+◌, ◌<◌, Bool, ◌&&◌, ◌||◌, List, [], ◌∷◌, ◌++◌, take, length, get_or, sym, ap, ◌∙◌, list_any, eq_by_cmp, bytes_eq, Memberships, membership_cmp, Membership, memberships_total, same_membership, Row, Text, subst, inr}
 use mathlib.Core.Bool.{or-false}
 use Rattle.std.proofs.lemmas.Bool.{false≢true}
 use Rattle.std.specs.FinSet as set

@@ -1,5 +1,5 @@
 -- The rows of `reach` that are settled: what was read of them, and what was written.
-use Rattle.book_tables.proofs.Common.{◌≡◌, Bool, true, false, not, ◌&&◌, ◌||◌, List, [], ◌∷◌, is_some, refl, sym, ap, subst, ◌∙◌, list_any, Row, State, delete_where, memberships_total, memberships_exact, Memberships, Membership, rows_of, IsBook}
+use Rattle.book_tables.proofs.Common.{◌≡◌, true, false, ◌||◌, List, [], ◌∷◌, is_some, refl, sym, ap, subst, ◌∙◌, list_any, Row, State, delete_where, memberships_total, memberships_exact, Memberships, Membership, rows_of, IsBook}
 use mathlib.Core.Bool.{or-false}
 use Rattle.std.specs.FinSet as set
 use Rattle.std.specs.FinSet.{same_set}

@@ -1,5 +1,5 @@
 -- A read of rows that give an Office tells what the Office has, and leaves them.
-use Rattle.book_tables.proofs.Common.{◌≡◌, ℕ, Option, option_map, Ok, Err, refl, sym, ap, ◌∙◌, State, HasCleanDisk, Survives, Office, Path, IsPath, path_text, StoreFault, Node, failures_after_fault, node_at, rows_of, Keeps, Looks, Inside, inside_of, ReadsInside, row_at, resource_of, StandsFor}
+use Rattle.book_tables.proofs.Common.{◌≡◌, ℕ, Option, option_map, Ok, Err, refl, sym, ap, ◌∙◌, State, HasCleanDisk, Survives, Office, Path, IsPath, path_text, StoreFault, Node, failures_after_fault, node_at, rows_of, Keeps, Looks, inside_of, ReadsInside, row_at, resource_of, StandsFor}
 use Rattle.book_office.specs.Resources.{node_of}
 use Rattle.book_tables_rows.specs.Nodes.{ShowsEpoch}
 use Rattle.book_tables.specs.Reading.{ShowsNode}

@@ -1,8 +1,7 @@
 -- The table `reach`: which pairs it holds, and how it is renewed.
-use Rattle.std.specs.Prelude.{◌≡◌, ◌↔◌, ◌⊎◌, ℕ, Bool, true, false, not, ◌&&◌, ◌||◌, List, [], ◌∷◌, ◌++◌, find, is_some, None, IsTrue}
+use Rattle.std.specs.Prelude.{◌≡◌, ◌↔◌, ◌⊎◌, ℕ, Bool, true, false, ◌&&◌, List, [], ◌∷◌, ◌++◌, find, is_some, None, IsTrue}
 use Rattle.std.specs.FinSet as set
 use Rattle.std.specs.List.{list_any}
-use Rattle.std.specs.Ordering.{eq_by_cmp}
 use Rattle.std.specs.Str.{bytes_eq}
 use Rattle.sqlite.specs.declared.types.Value.{Value}
 use Rattle.sqlite.specs.declared.types.Value.TheVariants.{Text}
@@ -10,7 +9,7 @@ use Rattle.sqlite.specs.Order.{Row, column}
 use Rattle.sqlite.specs.State.{State}
 use Rattle.book_lists.specs.Callers.{is_known}
 use Rattle.book_lists.specs.Circles.{CircleOf, belongs, has_path}
-use Rattle.book_lists.specs.Memberships.{Memberships, Chain, membership_cmp}
+use Rattle.book_lists.specs.Memberships.{Memberships, Chain}
 use Rattle.book_lists.specs.Principals.{IsGroup}
 use Rattle.book_lists.specs.declared.circles.Caller.{Caller}
 use Rattle.book_lists.specs.declared.circles.Caller.TheVariants.{Nobody, Known}

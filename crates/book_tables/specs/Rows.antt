@@ -12,7 +12,7 @@ use Rattle.book_lists.specs.declared.entries.Who.TheVariants.{Href, Everyone, Au
 use Rattle.book_lists.specs.declared.memberships.Membership.{Membership}
 use Rattle.book_office_values.specs.declared.paths.Kind.{Kind}
 use Rattle.book_office_values.specs.declared.paths.Kind.TheVariants as kind
-use Rattle.book_office_values.specs.Paths.{book_path, kind_code}
+use Rattle.book_office_values.specs.Paths.{book_path}
 use Rattle.book_office.specs.Resources.{Resource}
 use Rattle.book_tables_rows.specs.Columns.{ace_deny, ace_form, ace_invert, ace_mask, ace_principal, gone_number, member_group_place, member_member_place, node_kind, node_label, node_number, node_owner, node_text}
 use Rattle.book_tables_rows.specs.Nodes.{number_in, text_in}

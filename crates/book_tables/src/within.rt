@@ -37,11 +37,13 @@ pub struct Within<'t, 'c, S: Alter> {
 }
 
 impl<S: Alter> Keeper for Within<'_, '_, S> {
+    ghost use Rattle.std.specs.Prelude.{[], ◌∷◌};
     ghost use Rattle.sqlite.specs.Held.{state};
     ghost use Rattle.book_tables.specs.Keeps.{standing_within};
 
-    ghost standing = { λ k. standing_within (state S.Store k.transaction.now.conn.now) k.failures
-        k.spoiled k.written };
+    ghost standing = { λ k. standing_within
+        (k.transaction.ghost_name ∷ k.transaction.now.conn.ghost_name ∷ [])
+        (state S.Store k.transaction.now.conn.now) k.failures k.spoiled k.written };
 
     fn find(&mut self, alloc: Global, path: &Path) -> Result<Option<Node>, StoreFault> {
         if self.spoiled {

@@ -1,4 +1,4 @@
-use Rattle.book_tables.proofs.Common.{◌≡◌, sym, ap, ◌∙◌, list_any, eq_by_cmp, IfOk-weaker, List, Memberships, Membership, membership_cmp, memberships_total}
+use Rattle.book_tables.proofs.Common.{sym, ap, ◌∙◌, list_any, eq_by_cmp, IfOk-weaker, List, Memberships, Membership, membership_cmp, memberships_total}
 use Rattle.std.specs.FinSet as set
 use Rattle.std.specs.FinSet.{contains-from_list}
 use Rattle.book_tables.proofs.renewals.all_pairs.Goals as goal

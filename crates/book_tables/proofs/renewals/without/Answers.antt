@@ -1,5 +1,4 @@
-use Rattle.book_tables.proofs.Common.{◌≡◌, ◌&&◌, not, ap, ◌∙◌, list_any, eq_by_cmp, IfOk-weaker, List, Membership, membership_cmp}
-use Rattle.std.specs.FinSet as set
+use Rattle.book_tables.proofs.Common.{ap, ◌∙◌, list_any, eq_by_cmp, IfOk-weaker, List, Membership, membership_cmp}
 use Rattle.book_tables.proofs.renewals.without.Goals as goal
 
 pub returns : goal.returns

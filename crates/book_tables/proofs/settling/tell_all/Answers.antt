@@ -1,4 +1,4 @@
-use Rattle.book_tables.proofs.Common.{◌≡◌, ◌∙◌, ap, sym, subst, Membership}
+use Rattle.book_tables.proofs.Common.{◌∙◌, ap, sym, subst, Membership}
 use Rattle.std.proofs.Common.{IfSome, Vec}
 use Rattle.std.specs.declared.alloc.Global.{Global}
 use Rattle.book_lists.specs.Memberships.{set_of}

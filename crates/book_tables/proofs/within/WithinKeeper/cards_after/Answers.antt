@@ -7,4 +7,4 @@ pub returns : goal.returns
 returns g c =
     let fresh : c.args.self.now.spoiled ≡ false = search rules in
     let is : c.is_err-self.result ≡ is_err c.cards_after-told.result = search rules in
-    rw (fresh, is) (read_within (state g.S.Store c.args.self.now.transaction.now.conn.now) (state g.S.Store c.cards_after-told.new.transaction.conn.now) c.args.self.now.failures c.cards_after-told.new.failures c.args.self.now.written _ c.cards_after-told.result c.cards_after-told.ensures.reads)
+    rw (fresh, is) (read_within c.args.self.now.transaction.ghost_name c.args.self.now.transaction.now.conn.ghost_name c.cards_after-told.new.transaction.conn.ghost_name c.cards_after-told.ensures.same_reference (state g.S.Store c.args.self.now.transaction.now.conn.now) (state g.S.Store c.cards_after-told.new.transaction.conn.now) c.args.self.now.failures c.cards_after-told.new.failures c.args.self.now.written _ c.cards_after-told.result c.cards_after-told.ensures.reads)

@@ -7,4 +7,4 @@ pub returns : goal.returns
 returns g c =
     let fresh : c.args.self.now.spoiled ≡ false = search rules in
     let is : c.is_err-self.result ≡ is_err c.children-told.result = search rules in
-    rw (fresh, is) (read_within (state g.S.Store c.args.self.now.transaction.now.conn.now) (state g.S.Store c.children-told.new.transaction.conn.now) c.args.self.now.failures c.children-told.new.failures c.args.self.now.written _ c.children-told.result c.children-told.ensures.reads)
+    rw (fresh, is) (read_within c.args.self.now.transaction.ghost_name c.args.self.now.transaction.now.conn.ghost_name c.children-told.new.transaction.conn.ghost_name c.children-told.ensures.same_reference (state g.S.Store c.args.self.now.transaction.now.conn.now) (state g.S.Store c.children-told.new.transaction.conn.now) c.args.self.now.failures c.children-told.new.failures c.args.self.now.written _ c.children-told.result c.children-told.ensures.reads)
