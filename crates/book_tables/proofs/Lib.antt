@@ -24,6 +24,7 @@ pub mod OneValue
 pub mod Readings
 pub mod Alone
 pub mod Spoiled
+pub mod KeptRounds
 pub mod Listings
 pub mod SpelledEntries
 pub mod SaidEntries

@@ -3,6 +3,7 @@ pub mod Stands
 pub mod Reach
 pub mod Inside
 pub mod Keeps
+pub mod Rounds
 pub mod Reading
 pub mod Opened
 pub mod Laws

@@ -10,7 +10,8 @@
 //! commits. Two keepers stand on them. `Tables` gives each call a transaction of its own: at `Ok` the rows stand for the
 //! edited Office, and a stop leaves that one alone; at an error they stand for the Office that was there, and a stop
 //! leaves what it could leave before or the edited one. `Within` makes all its calls in one transaction, which another
-//! holds and commits: it stands for the Office as if the transaction were kept at this moment, until a call fails.
+//! holds and commits: it stands for the Office as if the transaction were kept at this moment, until a call fails. A round of
+//! `Tables` (`rounds`) hands work to `Within`, and keeps all that it edited by one commit, or nothing.
 //!
 //! `Tables::create` makes the tables of a new store, which stand for the empty Office, and `release` gives the
 //! connection back.
@@ -45,6 +46,7 @@ mod places;
 mod reaching;
 mod reading;
 mod renewals;
+mod rounds;
 mod searching;
 mod settings;
 mod settling;
