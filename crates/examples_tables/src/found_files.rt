@@ -3,6 +3,7 @@
 use crate::checks::{check_fact, check_number};
 use crate::new_tables::{name, path};
 use book_desk_app::open_store;
+use book_office::{Edit, Keeper};
 use book_tables::OpenFault;
 use book_tables_opening::{Found, find_store, open_found};
 use sqlite::{Alter, Connection, FileStore};
@@ -29,8 +30,11 @@ fn found_in<D: Disk + Drop>(alloc: Global, files: Files<D>) -> Option<Found<File
 fn make_law<S: Alter + Drop>(rt: &impl Abort, alloc: Global, found: Found<S>) -> Connection<S> {
     let tables = open_store(alloc, found).ok();
     let mut tables = tables.expect(rt, "new tables");
-    let law = name(rt, alloc, "law");
-    tables.add_book(alloc, &law, &None).expect(rt, "MKCOL");
+    let law = Edit::AddBook {
+        book: name(rt, alloc, "law"),
+        owner: None,
+    };
+    tables.act(alloc, &law).expect(rt, "MKCOL");
     drop(law);
     tables.release()
 }
