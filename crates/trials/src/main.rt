@@ -34,7 +34,14 @@ const USAGE: u8 = 2;
 const WITHOUT_WORDS: [&[&str]; 3] = [
     &["pairs"],
     &["faults", "store"],
-    &["stops", "put-new", "put-over", "remove-card", "adopt-other"],
+    &[
+        "stops",
+        "put-new",
+        "put-over",
+        "remove-card",
+        "adopt-other",
+        "round",
+    ],
 ];
 
 /// The number that a word spells, or 1.
