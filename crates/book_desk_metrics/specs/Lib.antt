@@ -1,4 +1,5 @@
 pub mod Counted
+pub mod CountedRounds
 pub mod Counting
 pub mod Exposition
 pub mod Timing

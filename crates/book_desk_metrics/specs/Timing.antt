@@ -1,5 +1,5 @@
 -- How long requests were served, in microseconds (own profile).
-use Rattle.std.specs.Prelude.{◌≡◌, ℕ, ◌+◌, ◌*◌, Bool, nat_le, if◌then◌else◌, List, fold, count_by, sum}
+use Rattle.std.specs.Prelude.{◌≡◌, ℕ, ◌+◌, Bool, nat_le, if◌then◌else◌, List, fold, count_by}
 use Rattle.book_desk_metrics.specs.Counting.{held, one_more}
 use Rattle.book_desk_metrics.specs.declared.times.Times.{Times}
 

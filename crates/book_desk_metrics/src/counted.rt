@@ -37,9 +37,9 @@ pub struct Counted<M, C> {
     /// How long requests were served.
     pub times: Times,
     /// What tells the time.
-    clock: C,
+    pub(crate) clock: C,
     /// The reply that was made last, until it is noted.
-    made: Option<Told>,
+    pub(crate) made: Option<Told>,
 }
 
 /// The privilege that a denial names, if the reply is one.

@@ -13,6 +13,7 @@ mod counted;
 mod counts;
 mod exposition;
 mod laws;
+mod rounds;
 mod times;
 
 pub use counted::{Clock, Counted};
