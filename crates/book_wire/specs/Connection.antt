@@ -17,6 +17,10 @@ pub record View : Type 0 where
 abbrev pub fresh : View
 fresh = record { unread = []; unsent = []; closing = false; stalled = false }
 
+-- one that brought this, and is not answered yet
+abbrev pub resumed : List ℕ → View
+resumed unread = record { unread = unread; unsent = []; closing = false; stalled = true }
+
 -- after this turn the connection closes
 abbrev pub closes_after : Turn → Bool
 closes_after (Wait wanted) = false

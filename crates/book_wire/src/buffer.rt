@@ -43,6 +43,18 @@ impl Buffer {
         }
     }
 
+    /// Bytes that were read before. It takes no memory.
+    pub(crate) fn of(bytes: Vec<u8>) -> Buffer
+        ensures { result ≡ bytes.items }
+    {
+        let end = bytes.len();
+        Buffer {
+            bytes,
+            start: 0,
+            end,
+        }
+    }
+
     /// An empty buffer with room for each request: it takes no memory later, where less than a whole request is unread
     /// before each read. An error is want of memory.
     pub(crate) fn whole(alloc: Global) -> Result<Buffer, AllocError>

@@ -2,7 +2,7 @@
 
 ghost use Rattle.std.specs.Prelude.{◌≡◌, ◌≢◌, ◌⊎◌, ℕ, ◌==◌, ◌≤◌, ◌<◌, ◌-◌, ◌^◌, min, true, false, List, [], ◌++◌, length, drop, IfOk, IfErr, OnOk, OnErr, Err};
 ghost use Rattle.std.specs.Io.KnownBytes.{Consumes, IsAtEnd, Keeps};
-ghost use Rattle.book_wire.specs.Connection.{IsFed, closes_after, fresh};
+ghost use Rattle.book_wire.specs.Connection.{IsFed, closes_after, fresh, resumed};
 ghost use Rattle.book_wire.specs.Sending.{IsBegun};
 ghost use Rattle.book_wire_serving.specs.Serving.{Stays};
 ghost use Rattle.book_wire.specs.Turn.{IsPending, IsTurn, StopsBy, StopsWriting};
@@ -102,8 +102,21 @@ impl Connection {
         })
     }
 
+    /// One that brought this and is not answered yet. Whole requests may be unread. It takes no memory.
+    pub fn resume(alloc: Global, unread: Vec<u8>) -> Connection
+        ensures { result ≡ resumed unread.items }
+    {
+        Connection {
+            buffer: Buffer::of(unread),
+            outgoing: Outgoing::new(alloc),
+            wanted: 0,
+            closing: false,
+            stalled: true,
+        }
+    }
+
     /// What it brought that is not answered yet.
-    pub(crate) fn unread(&self) -> &[u8]
+    pub fn unread(&self) -> &[u8]
         ensures { result.now ≡ self.now.unread }
     {
         self.buffer.unread()
@@ -262,6 +275,20 @@ impl Connection {
                 Err(fault) => return Err(fault),
             }
         }
+    }
+
+    /// Takes bytes that the connection brought, and answers nothing yet. An error is want of memory, and takes nothing.
+    #[tactic(auto, using(crate::proofs::Streams::may_wait_same, crate::proofs::Streams::may_wait_more))]
+    pub fn hold(&mut self, bytes: &[u8]) -> Result<(), AllocError>
+        ensures unread { OnOk result (self.new.unread ≡ self.old.unread ++ bytes.now) }
+        ensures stalled { OnOk result (self.new.stalled ≡ true) }
+        ensures unsent { self.new.unsent ≡ self.old.unsent }
+        ensures closing { self.new.closing ≡ self.old.closing }
+        ensures err { OnErr result (self.new ≡ self.old) }
+    {
+        self.buffer.push(bytes)?;
+        self.stalled = true;
+        Ok(())
     }
 
     /// Takes bytes that the connection brought, and answers its requests that are whole, until so many bytes wait to be
