@@ -73,7 +73,9 @@ fn told(
     drop(work);
     drop(at);
     let failures = tables.failures();
-    format!(in alloc; "{answer}, made {are_made}, there {is_there}, {failures} failures").expect(rt, "memory")
+    format!(in alloc; "{answer}, made {are_made}, there {is_there}, {failures} failures").expect(
+        rt, "memory",
+    )
 }
 
 /// MKCOL of a book.
