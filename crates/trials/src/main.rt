@@ -34,14 +34,7 @@ const USAGE: u8 = 2;
 const WITHOUT_WORDS: [&[&str]; 3] = [
     &["pairs"],
     &["faults", "store"],
-    &[
-        "stops",
-        "put-new",
-        "put-over",
-        "remove-card",
-        "adopt-other",
-        "round",
-    ],
+    &["stops", "put-new", "put-over", "remove-card", "adopt-other"],
 ];
 
 /// The number that a word spells, or 1.
