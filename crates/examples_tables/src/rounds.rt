@@ -2,7 +2,7 @@
 
 ghost use Rattle.book_office.specs.Keeping.{FallsBack};
 
-use crate::checks::{check, check_fact, check_number};
+use crate::checks::{check, check_fact};
 use crate::new_tables::{found, name, path, tables, text};
 use book_office::{Edit, Keeper, Rounds, StoreFault, Work};
 use book_office_values::Path;
@@ -127,8 +127,7 @@ fn a_round_without_edits_leaves_the_office(rt: HostRuntime) {
     let mut tables = tables(&rt, alloc);
     let told = told(&rt, alloc, &mut tables, None);
     check(&rt, told, "kept, made true, there false, 0 failures");
-    let mut connection = tables.release();
+    let connection = tables.release();
     check_fact(&rt, connection.is_autocommit(), "no transaction is open");
-    check_number(&rt, connection.changes() as u64, 4);
     drop(connection);
 }
