@@ -39,14 +39,11 @@ fn add_at<K: Keeper>(
 {
     let level = keeper.level(alloc, path)?;
     let cards = read_cards(alloc, keeper, path)?;
-    add_all(
-        alloc,
-        blocks,
-        policy,
-        path,
-        level.own.as_slice(),
-        cards.as_slice(),
-    )?;
+    let own = level.own.as_slice();
+    let added = add_all(alloc, blocks, policy, path, own, cards.as_slice());
+    drop(level);
+    drop(cards);
+    added?;
     Ok(())
 }
 

@@ -15,8 +15,8 @@ returns g c =
           let was = second.was_honest h in
           let level = first.value was o stands in
           let cards = second.value h o (first.kept was o stands) in
-          c.in_ok-add_all.ensures
-          ∙ (λ i. gathered c.args.blocks.now (place_blocks c.args.policy.now c.args.path.now ((c.as_slice.ensures ∙ ap (λ (l : Level). l.own) level) i) ((c.as_slice-2.ensures ∙ cards) i)));
+          c.in_ok-added.ensures
+          ∙ (λ i. gathered c.args.blocks.now (place_blocks c.args.policy.now c.args.path.now ((c.as_slice-own.ensures ∙ ap (λ (l : Level). l.own) level) i) ((c.as_slice.ensures ∙ cards) i)));
       kept = λ h o stands. let was = second.was_honest h in second.kept h o (first.kept was o stands);
       left = λ h x left. first.left (second.was_honest h) x (second.left h x left);
       counted = second.counted ∙ first.counted;
