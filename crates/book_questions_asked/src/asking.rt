@@ -78,5 +78,7 @@ pub fn ask<K: Keeper>(
         (λ o r. TellsAsk o (option_copied name.entry) at.now set r) }
 {
     let asked = asked_at(alloc, machine, name, at)?;
-    Ok(told_at(alloc, &mut machine.keeper, &asked, set)?)
+    let told = told_at(alloc, &mut machine.keeper, &asked, set);
+    drop(asked);
+    Ok(told?)
 }
