@@ -1,5 +1,6 @@
 //! A round of a machine that keeps a log: its lines are written together, and after a round that was not kept none is.
 
+ghost use Rattle.std.specs.Prelude.{◌≡◌};
 ghost use Rattle.book_office.specs.Keeping.{FallsBack};
 ghost use Rattle.book_wire_serving.specs.Serving.{Serving};
 
