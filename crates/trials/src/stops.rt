@@ -1,4 +1,4 @@
-//! What a stop leaves of a store. Over a store in memory each kind of edit, and a round of three, is made again and again: first the log and
+//! What a stop leaves of a store. Over a store in memory each kind of edit is made again and again: first the log and
 //! then the database file fails from its call k on, for each k counting from 0 until the file passes every call. What
 //! is left tells the Office before the edit or the one after it, and the one after it where the edit was answered `Ok`:
 //! once as the program alone stops, so that all that was written is kept, and once as the machine stops, so that what
@@ -19,7 +19,6 @@
 mod beginnings;
 mod cases;
 mod counts;
-mod deeds;
 mod plans;
 mod renewals;
 mod texts;
@@ -61,7 +60,7 @@ fn asked_cases(alloc: Global, words: &[&str]) -> Result<Vec<Case>> {
 
 /// Tries the stops of a kind, and prints their line.
 fn print_stops(rt: &(impl AllocGlobal + Print), start: &Files<Disk>, case: Case) -> Result<Count> {
-    let count = stops_of(rt.alloc(), start, case.plans)?;
+    let count = stops_of(rt.alloc(), start, case.plan)?;
     let name = case.name;
     let Count {
         stops,

@@ -1,4 +1,4 @@
-//! The kinds of edits, each of the Office that `START` makes, and a round of three.
+//! The kinds of edits, each of the Office that `START` makes.
 
 use crate::stops::plans::Plan;
 
@@ -68,98 +68,82 @@ pub(crate) const START: [Plan; 9] = [
     Plan::Deny("/books/law/a.vcf"),
 ];
 
-/// A kind of edit: its name, and the edit; or a round of three.
+/// A kind of edit: its name, and the edit.
 #[derive(Clone, Copy)]
 pub(crate) struct Case {
     pub(crate) name: &'static str,
-    pub(crate) plans: Plans,
-}
-
-/// One edit, or three in a round.
-#[derive(Clone, Copy)]
-pub(crate) enum Plans {
-    One(Plan),
-    Round(Plan, Plan, Plan),
+    pub(crate) plan: Plan,
 }
 
 /// Every kind.
 pub(crate) const CASES: &[Case] = &[
     Case {
         name: "put-new",
-        plans: Plans::One(Plan::Put(("law", "e.vcf"), "five")),
+        plan: Plan::Put(("law", "e.vcf"), "five"),
     },
     Case {
         name: "put-over",
-        plans: Plans::One(Plan::Put(("law", "a.vcf"), "six")),
+        plan: Plan::Put(("law", "a.vcf"), "six"),
     },
     // Under a name that was removed.
     Case {
         name: "put-again",
-        plans: Plans::One(Plan::Put(("law", "c.vcf"), "seven")),
+        plan: Plan::Put(("law", "c.vcf"), "seven"),
     },
     Case {
         name: "remove-card",
-        plans: Plans::One(Plan::Remove(("law", "a.vcf"))),
+        plan: Plan::Remove(("law", "a.vcf")),
     },
     Case {
         name: "copy-new",
-        plans: Plans::One(Plan::Copy(("law", "a.vcf"), ("sales", "e.vcf"))),
+        plan: Plan::Copy(("law", "a.vcf"), ("sales", "e.vcf")),
     },
     Case {
         name: "copy-over",
-        plans: Plans::One(Plan::Copy(("law", "a.vcf"), ("sales", "d.vcf"))),
+        plan: Plan::Copy(("law", "a.vcf"), ("sales", "d.vcf")),
     },
     Case {
         name: "move-within",
-        plans: Plans::One(Plan::Move(("law", "a.vcf"), ("law", "e.vcf"))),
+        plan: Plan::Move(("law", "a.vcf"), ("law", "e.vcf")),
     },
     // To another book, over a card.
     Case {
         name: "move-between",
-        plans: Plans::One(Plan::Move(("law", "a.vcf"), ("sales", "d.vcf"))),
+        plan: Plan::Move(("law", "a.vcf"), ("sales", "d.vcf")),
     },
     Case {
         name: "add-book",
-        plans: Plans::One(Plan::AddBook("press")),
+        plan: Plan::AddBook("press"),
     },
     // With cards and a removed name.
     Case {
         name: "remove-book",
-        plans: Plans::One(Plan::RemoveBook("law")),
+        plan: Plan::RemoveBook("law"),
     },
     Case {
         name: "label-card",
-        plans: Plans::One(Plan::Label("/books/law/b.vcf", "Second")),
+        plan: Plan::Label("/books/law/b.vcf", "Second"),
     },
     Case {
         name: "label-book",
-        plans: Plans::One(Plan::Label("/books/law", "Law")),
+        plan: Plan::Label("/books/law", "Law"),
     },
     Case {
         name: "set-list",
-        plans: Plans::One(Plan::Deny("/books/law")),
+        plan: Plan::Deny("/books/law"),
     },
     Case {
         name: "set-members",
-        plans: Plans::One(Plan::SetMember("/groups/staff", "/people/bob")),
+        plan: Plan::SetMember("/groups/staff", "/people/bob"),
     },
     Case {
         name: "adopt-other",
-        plans: Plans::One(Plan::Adopt(OTHER_POLICY)),
+        plan: Plan::Adopt(OTHER_POLICY),
     },
     // The policy in force, which changes nothing.
     Case {
         name: "adopt-same",
-        plans: Plans::One(Plan::Adopt(POLICY)),
-    },
-    // Three edits, of which each needs the one before.
-    Case {
-        name: "round",
-        plans: Plans::Round(
-            Plan::AddBook("press"),
-            Plan::Put(("press", "e.vcf"), "five"),
-            Plan::Move(("press", "e.vcf"), ("law", "e.vcf")),
-        ),
+        plan: Plan::Adopt(POLICY),
     },
 ];
 
