@@ -54,8 +54,4 @@ mod reaching;
 #[cfg(test)]
 mod reads;
 #[cfg(test)]
-mod rounds;
-#[cfg(test)]
 mod row_texts;
-#[cfg(test)]
-mod within;
