@@ -54,4 +54,8 @@ mod reaching;
 #[cfg(test)]
 mod reads;
 #[cfg(test)]
+mod rounds;
+#[cfg(test)]
 mod row_texts;
+#[cfg(test)]
+mod within;

@@ -1,8 +1,9 @@
-//! What a stop leaves of a store. Over a store in memory each kind of edit is made again and again: first the log and
-//! then the database file fails from its call k on, for each k counting from 0 until the file passes every call. What
-//! is left tells the Office before the edit or the one after it, and the one after it where the edit was answered `Ok`:
-//! once as the program alone stops, so that all that was written is kept, and once as the machine stops, so that what
-//! was not synced is lost. Each time the store is then closed and opened once more, and tells the same.
+//! What a stop leaves of a store. Over a store in memory each kind of edit, and a round of three, is made again and
+//! again: first the log and then the database file fails from its call k on, for each k counting from 0 until the file
+//! passes every call. What is left tells the Office before the edit or the one after it, and the one after it where the
+//! edit was answered `Ok`: once as the program alone stops, so that all that was written is kept, and once as the
+//! machine stops, so that what was not synced is lost. Each time the store is then closed and opened once more, and tells
+//! the same. Of a round the Office is the one before its first edit or after its last.
 //!
 //! It prints a line a kind, `NAME: N stops, B before, A after, W wrong`, where B, A and W count both ways of stopping,
 //! and last `N stops, W wrong`; the status is 1 where one is wrong. Words name the kinds; without any all are tried.
@@ -19,6 +20,7 @@
 mod beginnings;
 mod cases;
 mod counts;
+mod deeds;
 mod plans;
 mod renewals;
 mod texts;
@@ -60,7 +62,7 @@ fn asked_cases(alloc: Global, words: &[&str]) -> Result<Vec<Case>> {
 
 /// Tries the stops of a kind, and prints their line.
 fn print_stops(rt: &(impl AllocGlobal + Print), start: &Files<Disk>, case: Case) -> Result<Count> {
-    let count = stops_of(rt.alloc(), start, case.plan)?;
+    let count = stops_of(rt.alloc(), start, case.plans)?;
     let name = case.name;
     let Count {
         stops,

@@ -1,4 +1,4 @@
-//! The kinds of edits, each of the Office that `START` makes.
+//! The kinds of edits, each of the Office that `START` makes, and a round of three.
 
 use crate::stops::plans::Plan;
 
@@ -68,82 +68,98 @@ pub(crate) const START: [Plan; 9] = [
     Plan::Deny("/books/law/a.vcf"),
 ];
 
-/// A kind of edit: its name, and the edit.
+/// A kind of edit: its name, and the edit; or a round of three.
 #[derive(Clone, Copy)]
 pub(crate) struct Case {
     pub(crate) name: &'static str,
-    pub(crate) plan: Plan,
+    pub(crate) plans: Plans,
+}
+
+/// One edit, or three in a round.
+#[derive(Clone, Copy)]
+pub(crate) enum Plans {
+    One(Plan),
+    Round(Plan, Plan, Plan),
 }
 
 /// Every kind.
 pub(crate) const CASES: &[Case] = &[
     Case {
         name: "put-new",
-        plan: Plan::Put(("law", "e.vcf"), "five"),
+        plans: Plans::One(Plan::Put(("law", "e.vcf"), "five")),
     },
     Case {
         name: "put-over",
-        plan: Plan::Put(("law", "a.vcf"), "six"),
+        plans: Plans::One(Plan::Put(("law", "a.vcf"), "six")),
     },
     // Under a name that was removed.
     Case {
         name: "put-again",
-        plan: Plan::Put(("law", "c.vcf"), "seven"),
+        plans: Plans::One(Plan::Put(("law", "c.vcf"), "seven")),
     },
     Case {
         name: "remove-card",
-        plan: Plan::Remove(("law", "a.vcf")),
+        plans: Plans::One(Plan::Remove(("law", "a.vcf"))),
     },
     Case {
         name: "copy-new",
-        plan: Plan::Copy(("law", "a.vcf"), ("sales", "e.vcf")),
+        plans: Plans::One(Plan::Copy(("law", "a.vcf"), ("sales", "e.vcf"))),
     },
     Case {
         name: "copy-over",
-        plan: Plan::Copy(("law", "a.vcf"), ("sales", "d.vcf")),
+        plans: Plans::One(Plan::Copy(("law", "a.vcf"), ("sales", "d.vcf"))),
     },
     Case {
         name: "move-within",
-        plan: Plan::Move(("law", "a.vcf"), ("law", "e.vcf")),
+        plans: Plans::One(Plan::Move(("law", "a.vcf"), ("law", "e.vcf"))),
     },
     // To another book, over a card.
     Case {
         name: "move-between",
-        plan: Plan::Move(("law", "a.vcf"), ("sales", "d.vcf")),
+        plans: Plans::One(Plan::Move(("law", "a.vcf"), ("sales", "d.vcf"))),
     },
     Case {
         name: "add-book",
-        plan: Plan::AddBook("press"),
+        plans: Plans::One(Plan::AddBook("press")),
     },
     // With cards and a removed name.
     Case {
         name: "remove-book",
-        plan: Plan::RemoveBook("law"),
+        plans: Plans::One(Plan::RemoveBook("law")),
     },
     Case {
         name: "label-card",
-        plan: Plan::Label("/books/law/b.vcf", "Second"),
+        plans: Plans::One(Plan::Label("/books/law/b.vcf", "Second")),
     },
     Case {
         name: "label-book",
-        plan: Plan::Label("/books/law", "Law"),
+        plans: Plans::One(Plan::Label("/books/law", "Law")),
     },
     Case {
         name: "set-list",
-        plan: Plan::Deny("/books/law"),
+        plans: Plans::One(Plan::Deny("/books/law")),
     },
     Case {
         name: "set-members",
-        plan: Plan::SetMember("/groups/staff", "/people/bob"),
+        plans: Plans::One(Plan::SetMember("/groups/staff", "/people/bob")),
     },
     Case {
         name: "adopt-other",
-        plan: Plan::Adopt(OTHER_POLICY),
+        plans: Plans::One(Plan::Adopt(OTHER_POLICY)),
     },
     // The policy in force, which changes nothing.
     Case {
         name: "adopt-same",
-        plan: Plan::Adopt(POLICY),
+        plans: Plans::One(Plan::Adopt(POLICY)),
+    },
+    // Three edits, of which each needs the one before.
+    Case {
+        name: "round",
+        plans: Plans::Round(
+            Plan::AddBook("press"),
+            Plan::Put(("press", "e.vcf"), "five"),
+            Plan::Move(("press", "e.vcf"), ("law", "e.vcf")),
+        ),
     },
 ];
 

@@ -1,10 +1,11 @@
-//! The Offices before and after an edit as texts.
+//! The Offices before and after an edit or a round as texts.
 
 use crate::offices::office_text;
 use crate::stops::cases::START;
+use crate::stops::deeds::Deed;
 use crate::stops::plans::Plan;
-use anyhow::{Context, Result};
-use book_office::{Edit, Keeper, MemoryKeeper};
+use anyhow::{Context, Result, ensure};
+use book_office::{Keeper, MemoryKeeper, Rounds};
 use std::alloc::Global;
 
 /// The Office before an edit and after it.
@@ -31,18 +32,18 @@ pub(crate) fn make_start<K: Keeper>(alloc: Global, keeper: &mut K) -> Result<()>
 }
 
 /// The Office at the start and the one after an edit, as a keeper of an empty one tells them.
-fn texts_by<K: Keeper>(alloc: Global, keeper: &mut K, edit: &Edit) -> Result<Texts> {
+fn texts_by<K: Rounds>(alloc: Global, keeper: &mut K, deed: &Deed) -> Result<Texts> {
     make_start(alloc, keeper)?;
     let before = office_text(alloc, keeper)?;
-    keeper.act(alloc, edit).ok().context("an edit")?;
+    ensure!(deed.is_done(alloc, keeper), "an edit");
     let after = office_text(alloc, keeper)?;
     Ok(Texts { before, after })
 }
 
 /// The Office at the start and the one after an edit, as a keeper in memory tells them.
-pub(crate) fn wanted_texts(alloc: Global, edit: &Edit) -> Result<Texts> {
+pub(crate) fn wanted_texts(alloc: Global, deed: &Deed) -> Result<Texts> {
     let mut keeper = MemoryKeeper::new(alloc);
-    let texts = texts_by(alloc, &mut keeper, edit);
+    let texts = texts_by(alloc, &mut keeper, deed);
     drop(keeper);
     texts
 }

@@ -1,15 +1,15 @@
-//! The stops of an edit, each tried once.
+//! The stops of an edit or a round, each tried once.
 
 use crate::disks::{
     Disk, Side, Store, close, connect, crash, created, files_of, fused_files, is_spent, kept_files,
     new_store, opened, store_of,
 };
 use crate::offices::office_text;
+use crate::stops::cases::Plans;
 use crate::stops::counts::{Count, Left};
-use crate::stops::plans::Plan;
+use crate::stops::deeds::Deed;
 use crate::stops::texts::{Texts, make_start, wanted_texts};
 use anyhow::{Result, bail, ensure};
-use book_office::{Edit, Keeper};
 use book_tables::Tables;
 use sqlite::{Alter, Connection};
 use sqlite_disk::Files;
@@ -41,33 +41,28 @@ pub(crate) fn start_files(alloc: Global) -> Result<Files<Disk>> {
     files_of(filled(alloc, new_store(alloc, SEEDS[0])?)?)
 }
 
-/// Whether the keeper makes the edit.
-fn is_made<K: Keeper>(alloc: Global, keeper: &mut K, edit: &Edit) -> bool {
-    keeper.act(alloc, edit).is_ok()
-}
-
 /// Makes the edit over a store: the store, and whether the edit is made.
 fn made_over<S: Alter + Drop>(
     alloc: Global,
     connection: Connection<S>,
-    edit: &Edit,
+    deed: &Deed,
 ) -> (Connection<S>, bool) {
     let mut tables = Tables::over(connection);
-    let is_done = is_made(alloc, &mut tables, edit);
+    let is_done = deed.is_done(alloc, &mut tables);
     (tables.release(), is_done)
 }
 
 /// Makes the edit over a store that was opened, and closes it.
-fn edited(alloc: Global, connection: Connection<Store>, edit: &Edit) -> Trial {
-    let (connection, is_done) = made_over(alloc, connection, edit);
+fn edited(alloc: Global, connection: Connection<Store>, deed: &Deed) -> Trial {
+    let (connection, is_done) = made_over(alloc, connection, deed);
     let (files, _) = close(connection);
     Trial { files, is_done }
 }
 
 /// Opens the files, makes the edit, and closes them.
-fn tried(alloc: Global, files: Files<Disk>, edit: &Edit) -> Trial {
+fn tried(alloc: Global, files: Files<Disk>, deed: &Deed) -> Trial {
     match connect(alloc, files, SEEDS[1]) {
-        Ok(connection) => edited(alloc, connection, edit),
+        Ok(connection) => edited(alloc, connection, deed),
         Err(files) => Trial {
             files,
             is_done: false,
@@ -134,13 +129,13 @@ fn left_by(alloc: Global, texts: &Texts, trial: Trial) -> Result<Count> {
 fn stops_at(
     alloc: Global,
     start: &Files<Disk>,
-    edit: &Edit,
+    deed: &Deed,
     texts: &Texts,
     side: Side,
 ) -> Result<Count> {
     let mut count = Count::none();
     for calls in 0..MOST_CALLS {
-        let mut trial = tried(alloc, fused_files(alloc, start, side, calls)?, edit);
+        let mut trial = tried(alloc, fused_files(alloc, start, side, calls)?, deed);
         let (is_spent, is_done) = (is_spent(&mut trial.files), trial.is_done);
         let left = left_by(alloc, texts, trial)?;
         if !is_spent {
@@ -154,22 +149,22 @@ fn stops_at(
 }
 
 /// The stops of an edit, of the log and then of the database file.
-fn stops_of_edit(alloc: Global, start: &Files<Disk>, edit: &Edit, texts: &Texts) -> Result<Count> {
-    let log = stops_at(alloc, start, edit, texts, Side::Log)?;
-    let database = stops_at(alloc, start, edit, texts, Side::Database)?;
+fn stops_of_edit(alloc: Global, start: &Files<Disk>, deed: &Deed, texts: &Texts) -> Result<Count> {
+    let log = stops_at(alloc, start, deed, texts, Side::Log)?;
+    let database = stops_at(alloc, start, deed, texts, Side::Database)?;
     Ok(log.plus(database))
 }
 
 /// The stops of an edit, with the Offices that are wanted.
-fn stops_judged(alloc: Global, start: &Files<Disk>, edit: &Edit) -> Result<Count> {
-    let texts = wanted_texts(alloc, edit)?;
-    stops_of_edit(alloc, start, edit, &texts)
+fn stops_judged(alloc: Global, start: &Files<Disk>, deed: &Deed) -> Result<Count> {
+    let texts = wanted_texts(alloc, deed)?;
+    stops_of_edit(alloc, start, deed, &texts)
 }
 
 /// The stops of an edit of the Office at the start.
-pub(crate) fn stops_of(alloc: Global, start: &Files<Disk>, plan: Plan) -> Result<Count> {
-    let edit = plan.edit(alloc)?;
-    let count = stops_judged(alloc, start, &edit);
-    drop(edit);
+pub(crate) fn stops_of(alloc: Global, start: &Files<Disk>, plans: Plans) -> Result<Count> {
+    let deed = plans.deed(alloc)?;
+    let count = stops_judged(alloc, start, &deed);
+    drop(deed);
     count
 }
