@@ -17,12 +17,12 @@ use book_desk_sockets::{Doors, LocalDoor, NotMade, SocketPath, make_socket};
 use book_desk_stores::{connection_of, tell_refusal};
 use book_log_service::Logged;
 use book_machine::Machine;
-use book_office::{Keeper, MemoryKeeper, Policy};
+use book_office::{Keeper, MemoryKeeper, Policy, Rounds};
 use book_office_cache::Cached;
 use book_tables::Tables;
 use book_tables_opening::Found;
 use book_tables_schema::Unopened;
-use book_wire_serving::{Service, StreamFault};
+use book_wire_serving::{RoundService, Service, StreamFault};
 use book_wire_steps::{Control, Traffic, Wish};
 use sqlite::{Alter, Connection};
 use std::alloc::Global;
@@ -129,7 +129,7 @@ fn readiness_of<'r>(
 }
 
 /// Serves the connections of the doors by the loop, which gives the control its turn when its descriptor can be read.
-fn serve_at_once_on<M: Service, C: Control<M>, W: Write, E: Lines>(
+fn serve_at_once_on<M: RoundService, C: Control<M>, W: Write, E: Lines>(
     rt: &HostRuntime,
     service: M,
     doors: &HostDoors<'_>,
@@ -185,7 +185,7 @@ fn control_at<'r>(
 }
 
 /// Serves the connections of the doors by the loop, with a control, and counts the replies.
-fn serve_counted<M: Administered, W: Write, E: Lines>(
+fn serve_counted<M: Administered + RoundService, W: Write, E: Lines>(
     rt: &HostRuntime,
     service: M,
     doors: &HostDoors<'_>,
@@ -203,7 +203,7 @@ fn serve_counted<M: Administered, W: Write, E: Lines>(
 }
 
 /// Makes the socket of the control, serves the connections of the doors by the loop, and removes the socket's file.
-fn serve_with_control<M: Administered, W: Write, E: Lines>(
+fn serve_with_control<M: Administered + RoundService, W: Write, E: Lines>(
     rt: &HostRuntime,
     service: M,
     doors: &HostDoors<'_>,
@@ -235,7 +235,7 @@ fn serve_with_control<M: Administered, W: Write, E: Lines>(
 }
 
 /// Serves the connections of the doors by the loop, with a control where one is wanted.
-fn serve_by_loop<M: Administered, W: Write, E: Lines>(
+fn serve_by_loop<M: Administered + RoundService, W: Write, E: Lines>(
     rt: &HostRuntime,
     service: M,
     doors: &HostDoors<'_>,
@@ -273,7 +273,7 @@ fn in_turn(listening: Listening<'_>) -> Option<u16> {
 }
 
 /// Serves the connections of the doors.
-fn serve_all<M: Administered, W: Write, E: Lines>(
+fn serve_all<M: Administered + RoundService, W: Write, E: Lines>(
     rt: &HostRuntime,
     mut service: M,
     doors: &HostDoors<'_>,
@@ -311,7 +311,7 @@ fn listener_at(rt: &HostRuntime, port: Option<u16>) -> io::Result<Option<TcpList
 }
 
 /// Makes the socket, serves the connections, and removes the socket's file.
-fn serve_at_socket<M: Administered, W: Write, E: Lines>(
+fn serve_at_socket<M: Administered + RoundService, W: Write, E: Lines>(
     rt: &HostRuntime,
     service: M,
     port: Option<TcpListener>,
@@ -340,7 +340,7 @@ fn serve_at_socket<M: Administered, W: Write, E: Lines>(
 }
 
 /// Listens on the port, at the socket, or at both, and serves the connections.
-fn serve_on<M: Administered, W: Write, E: Lines>(
+fn serve_on<M: Administered + RoundService, W: Write, E: Lines>(
     rt: &HostRuntime,
     service: M,
     listening: Listening<'_>,
@@ -377,7 +377,7 @@ fn pace_of(served: Served<'_>) -> Pace {
 }
 
 /// Serves what is to be served, and gives the service back.
-fn serve_by<M: Administered, W: Write, E: Lines>(
+fn serve_by<M: Administered + RoundService, W: Write, E: Lines>(
     rt: &HostRuntime,
     mut service: M,
     served: Served<'_>,
@@ -426,7 +426,7 @@ fn adopt_logged<K: Keeper>(
 
 /// Adopts a policy over a machine, if there is one, and serves what is to be served, with a log, and gives the machine
 /// back.
-fn serve_logged<'r, K: Keeper, W: Write, E: Lines>(
+fn serve_logged<'r, K: Rounds, W: Write, E: Lines>(
     rt: &'r HostRuntime,
     machine: Machine<K>,
     log: LogFile<'r, HostRuntime>,
@@ -454,7 +454,7 @@ struct Logging<'r> {
 }
 
 /// Serves the Office of a machine that is ready, and gives the machine back. With a log a policy is adopted first.
-fn serve_machine<'r, K: Keeper, W: Write, E: Lines>(
+fn serve_machine<'r, K: Rounds, W: Write, E: Lines>(
     rt: &'r HostRuntime,
     machine: Machine<K>,
     logging: Option<Logging<'r>>,

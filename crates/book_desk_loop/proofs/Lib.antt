@@ -1,7 +1,4 @@
-pub mod Common
-pub mod Histories
-pub mod Places
 pub mod Drops
-pub mod Streams
 pub mod Told
+pub mod Steps
 pub mod Serving

@@ -1,22 +1,25 @@
 -- The loop, a change at a time.
 use Rattle.std.proofs.Common.{zero, suc, slice_set, ◌≡◌, ◌≢◌, ◌⊎◌, ℕ, ◌+◌, ◌<◌, ◌≤◌, inl, inr, Bool, true, false, is_some, List, [], ◌∷◌, ◌++◌, length, get_or, map, Option, Some, None, Result, Ok, Err, refl, sym, ap, subst, ◌∙◌, arith, append_assoc, append-nil}
-use Rattle.std.proofs.lemmas.Bool.{cases_eq, cases_lt, false≢true}
-use Rattle.std.proofs.lemmas.List.{get_or_default, get_or_past, get_or-set_same, get_or-set_other, map-append}
+use Rattle.std.proofs.lemmas.Bool.{cases_eq, false≢true}
+use Rattle.std.proofs.lemmas.List.{get_or_default, get_or_past, get_or-set_same, get_or-set_other}
 use Rattle.std.specs.Prelude.{IfOk, IfSome, OnOk}
-use Rattle.book_wire_serving.specs.Serving.{Answered, Runs, Serving}
+use Rattle.book_wire_serving.specs.Serving.{Runs, Serving}
+use Rattle.book_wire.specs.Connection.{View}
 use Rattle.book_wire.specs.Stream.{Exchange, IsPartial, Waits, answered_of}
 use Rattle.book_wire_serving.specs.declared.faults.StreamFault.{StreamFault}
-use Rattle.book_wire_steps.specs.Steps.{OnlyAdopts, ServesInSteps}
-use Rattle.book_wire_steps.proofs.Takes.{in_steps_adopted, in_steps_none, in_steps_served, only_sound}
+use Rattle.book_wire_steps.specs.Steps.{OnlyAdopts}
+use Rattle.book_wire_steps.proofs.Takes.{only_sound}
 use Rattle.book_desk_loop.specs.Closing.{DropsSome}
-use Rattle.book_desk_loop.specs.ManyConnections.{History, nothing, Entry, AreServed, IsThere, Holds, OthersStay, answered_in, entries, grows, own, number_at}
-use Rattle.book_desk_loop.specs.Streams.{HasNoWhole, IsMoved, WasAtEnd, IsDoneAt, IsIdleAt, IsAnsweredAt, IsStillAt, IsWithinAt}
-use Rattle.book_desk_loop.specs.Streams.IsMoved.{rests, moves_on}
-use Rattle.book_desk_loop.specs.Serving.{Line, line_at, line_of, LinesStay, OtherLinesStay, ToldFault, told_of, count_unopened, AreCounted, HaveCome, HaveAllCome, IsCutShort, IsOneFewer, count_held, IsCarriedBy, MayGiveWayAt, MayGo, MayGoAt, WasLetGo, AreKept, IsKept, KeepsOn, GoesOn, RestStays, LetsGo, TurnsAt, Begins, BeginsAt, BeginsNone, EndsSo, HasFailedLog, HasSoundLog, StoreHasFailed, AreServedAtOnce}
-use Rattle.book_desk_loop.specs.declared.connections.Accepted.{Accepted}
-use Rattle.book_desk_loop.specs.declared.connections.Connections.{Connections}
-use Rattle.book_desk_loop.specs.declared.moves.Turn.{Turn}
-use Rattle.book_desk_loop.specs.declared.moves.Turn.TheVariants.{Waits as Waiting, Again as Going, Done, Ended, Failed}
+use Rattle.book_desk_connections.specs.ManyConnections.{History, nothing, Entry, AreServed, IsThere, Holds, OthersStay, entries, grows, own, number_at}
+use Rattle.book_desk_connections.specs.Rounds.{AreOfThose, GoesOnAt, IsBackAt, KeepsRound, LeavesAt, StaysOpenAt, TriesRound}
+use Rattle.book_desk_connections.specs.Streams.{HasNoWhole, IsMoved, WasAtEnd, IsDoneAt, IsIdleAt, IsAnsweredAt, IsStillAt, IsWithinAt}
+use Rattle.book_desk_connections.specs.Streams.IsMoved.{rests, moves_on}
+use Rattle.book_desk_loop.specs.Serving.{Line, line_at, line_of, LinesStay, OtherLinesStay, ToldFault, told_of, count_unopened, AreCounted, HaveCome, HaveAllCome, IsCutShort, IsOneFewer, count_held, IsCarriedBy, MayGiveWayAt, MayGo, MayGoAt, WasLetGo, AreInSteps, AreKept, IsKept, KeepsOn, GoesOn, RestStays, LetsGo, TurnsAt, Begins, BeginsAt, BeginsNone, EndsSo, HasFailedLog, HasSoundLog, StoreHasFailed, AreServedAtOnce}
+use Rattle.book_desk_connections.specs.declared.connections.Accepted.{Accepted}
+use Rattle.book_desk_connections.specs.declared.connections.Connections.{Connections}
+use Rattle.book_desk_connections.specs.declared.feeding.Lost.{Lost}
+use Rattle.book_desk_connections.specs.declared.moves.Turn.{Turn}
+use Rattle.book_desk_connections.specs.declared.moves.Turn.TheVariants.{Waits as Waiting, Again as Going, Done, Ended, Failed}
 use Rattle.book_desk_loop.specs.declared.limits.Limits.{Limits}
 use Rattle.book_desk_loop.specs.declared.limits.Ended.{Ended as Rounds}
 use Rattle.book_desk_loop.specs.declared.limits.Ended.TheVariants as rounds
@@ -24,8 +27,10 @@ use Rattle.book_desk_loop.specs.declared.limits.Stop.{Stop}
 use Rattle.book_desk_loop.specs.declared.limits.Stop.TheVariants.{Log as StopsForLog, Store as StopsForStore}
 use Rattle.book_desk_loop.specs.declared.looping.Server.{Server}
 use Rattle.book_desk_loop.specs.declared.sockets.Socket.{Socket}
-use Rattle.book_desk_loop.proofs.Histories.{entries_run, history_here, history_there, own_there, holds_one, number_held, nobody}
+use Rattle.book_desk_connections.proofs.Histories.{history_here, history_there, own_append, own_there, holds_one, number_held, nobody}
+use Rattle.book_desk_connections.proofs.Fed.{back_served, holds_of, nobody_there}
 use Rattle.book_desk_loop.proofs.Drops.{drops_none, drops_then}
+use Rattle.book_desk_loop.proofs.Steps.{steps_adopted, steps_none, steps_read, steps_round, steps_tried, steps_turn}
 use Rattle.book_desk_loop.proofs.Told.{told_twice, one_told, told_here, told_there, told_elsewhere, unopened_one}
 
 pub some_any : {A : Type 0} (P : Type 0) (o : Option A) → P → IfSome o (λ x. P)
@@ -33,15 +38,6 @@ some_any {A} P None p = tt
 some_any {A} P (Some x) p = p
 
 -- ---- places and lines
-
-nobody_there : (l : Accepted) → (◌≡◌) {A = Option Accepted} None (Some l) → ⊥
-nobody_there l e = cc
-
-pub holds_of : (places : List (Option Accepted)) (i : ℕ) (l : Accepted) → get_or places i None ≡ Some l → Holds places i l
-holds_of places i l e = elim (cases_lt i (length places)) [
-  | inl within ↦ (within, e)
-  | inr past ↦ absurd (nobody_there l (sym (get_or_past places i None past) ∙ e))
-]
 
 pub held_or_not : (places : List (Option Accepted)) (i : ℕ) → (get_or places i None ≡ None) ⊎ ((l : Accepted) × Holds places i l)
 held_or_not places i = (elim (get_or places i None) as (λ x. get_or places i None ≡ x → (get_or places i None ≡ None) ⊎ ((l : Accepted) × Holds places i l)) [
@@ -69,6 +65,39 @@ not_at : (i j : ℕ) (places : List (Option Accepted)) (l : Accepted) → get_or
 not_at i j places l none h at =
     let P : ℕ → Type 0 = λ n. get_or places n None ≡ Some l in
     nobody_there l (sym none ∙ subst P at h.1)
+
+-- a connection of that number is there, or none
+abbrev pub HasNumber : ℕ → List (Option Accepted) → Type 0
+HasNumber k places = (i : ℕ) × (l : Accepted) × Holds places i l × (l.number ≡ k)
+
+pub number_or_not : (k : ℕ) (places : List (Option Accepted)) → HasNumber k places ⊎ ((i : ℕ) (l : Accepted) → Holds places i l → l.number ≢ k)
+number_or_not k [] = inr (λ i l h. absurd (omega (arith, h.0)))
+number_or_not k (x ∷ places) = elim (first x) [
+  | inl here ↦ inl (zero, here.0, holds_of (x ∷ places) zero here.0 here.1, here.2)
+  | inr not ↦ elim (number_or_not k places) [
+    | inl there ↦ inl (suc there.0, there.1, holds_of (x ∷ places) (suc there.0) there.1 there.2.1, there.3)
+    | inr none ↦ inr (nowhere not none)
+  ]
+]
+  where
+    first : (y : Option Accepted) → ((l : Accepted) × (y ≡ Some l) × (l.number ≡ k)) ⊎ ((l : Accepted) → y ≡ Some l → l.number ≢ k)
+    first None = inr (λ l e. absurd (nobody_there l e))
+    first (Some m) = elim (cases_eq m.number k) [
+      | inl is ↦ inl (m, refl, is)
+      | inr differs ↦ inr (λ l e same. differs (ap (λ (t : Accepted). t.number) (some_one m l e) ∙ same))
+    ]
+      where
+        some_one : (a b : Accepted) → (◌≡◌) {A = Option Accepted} (Some a) (Some b) → a ≡ b
+        some_one a b e = cc
+
+    nowhere : ((l : Accepted) → x ≡ Some l → l.number ≢ k) → ((i : ℕ) (l : Accepted) → Holds places i l → l.number ≢ k)
+        → (i : ℕ) (l : Accepted) → Holds (x ∷ places) i l → l.number ≢ k
+    nowhere not none zero l h same = not l h.1 same
+    nowhere not none (suc i) l h same = none i l (holds_of places i l h.1) same
+
+cases_true : (b : Bool) → (b ≡ true) ⊎ (b ≡ false)
+cases_true true = inl refl
+cases_true false = inr refl
 
 -- ---- one connection's share of what was done
 
@@ -314,11 +343,7 @@ module _ {S : Type 0} (remaining contents : S → Option (List ℕ)) where
       histories = grows x.histories k came went;
       log = x.log ++ entries k more;
       served = served;
-      in_steps =
-          let P : List Answered → Type 0 = λ t. ServesInSteps serving limits.is_administered first new.service t in
-          subst P (sym (map-append answered_in x.log (entries k more)))
-          (in_steps_served serving limits.is_administered first old.service new.service (map answered_in x.log) (map answered_in (entries k more)) x.in_steps
-          (entries_run _ _ k more runs));
+      in_steps = steps_turn remaining contents serving limits.is_administered first old.service new.service x.histories x.log k came went more x.in_steps runs;
       here = here;
       sound = sound;
       later = λ j above. (let P : ℕ → Type 0 = λ n. n ≤ j in x.later j (subst P opened above));
@@ -423,11 +448,7 @@ module _ {S : Type 0} (remaining contents : S → Option (List ℕ)) where
       histories = grows x.histories k came went;
       log = x.log ++ entries k more;
       served = served;
-      in_steps =
-          let P : List Answered → Type 0 = λ t. ServesInSteps serving limits.is_administered first new.service t in
-          subst P (sym (map-append answered_in x.log (entries k more)))
-          (in_steps_served serving limits.is_administered first old.service new.service (map answered_in x.log) (map answered_in (entries k more)) x.in_steps
-          (entries_run _ _ k more runs));
+      in_steps = steps_turn remaining contents serving limits.is_administered first old.service new.service x.histories x.log k came went more x.in_steps runs;
       here = here;
       sound = λ i m h. alike m.number (apart i m h) ∙ x.sound i m (before i m h);
       later = λ j above.
@@ -544,6 +565,236 @@ module _ {S : Type 0} (remaining contents : S → Option (List ℕ)) where
     kept_stopped faults place k old new sockets others left held l came went more x holds is_k is stay empty elsewhere opened served runs failed =
         kept_without faults faults place k old new sockets others left held l came went more x holds is_k is stay empty elsewhere opened served runs
         (λ j other. refl) refl (λ sound_log. absurd (false≢true (sym sound_log ∙ failed)))
+
+    -- what became of the place of a connection in a round: it goes on beside the same stream, or it is let go, and it is known why
+    abbrev pub RoundAt : (told : List ToldFault) (histories : ℕ → History) (log : List Entry) (old new : Connections M) (sockets others : List (Option (Socket S))) (j : ℕ) → Type 0
+    RoundAt told histories log old new sockets others j =
+        ((line_at others j ≡ line_at sockets j)
+        × ((get_or new.places.items j None ≡ get_or old.places.items j None) ⊎ StaysOpenAt j old.places.items new.places.items))
+        ⊎ ((line_at others j ≡ None) × (gone : LeavesAt j old.places.items new.places.items)
+        × (HasSoundLog remaining contents serving new.service
+        → WasLetGo remaining contents limits (told_of gone.was.number told) (own gone.was.number log) (histories gone.was.number)))
+
+    -- a round of connections, of which no byte came or went
+    kept_round : (faults told : List ToldFault) (old new : Connections M) (sockets others : List (Option (Socket S))) (left : Option ℕ) (held : Option S) (more : List Entry)
+        (x : AreKept remaining contents serving limits first faults old sockets left held)
+        → new.opened ≡ old.opened
+        → AreServed x.histories (x.log ++ more) new.opened new.places.items → AreOfThose old.places.items more
+        → AreInSteps remaining contents serving limits.is_administered first new.service x.histories (x.log ++ more)
+        → (HasSoundLog remaining contents serving new.service → HasSoundLog remaining contents serving old.service)
+        → ((j : ℕ) → RoundAt told x.histories (x.log ++ more) old new sockets others j)
+        → ((i : ℕ) (m : Accepted) → Holds new.places.items i m → told_of m.number told ≡ [])
+        → ((k : ℕ) → ((i : ℕ) (l : Accepted) → Holds old.places.items i l → l.number ≢ k) → told_of k told ≡ told_of k faults)
+        → count_unopened told ≡ count_unopened faults
+        → AreKept remaining contents serving limits first told new others left held
+    kept_round faults told old new sockets others left held more x opened served those in_steps was_sound at sound alike count = record {
+      histories = x.histories;
+      log = x.log ++ more;
+      served = served;
+      in_steps = in_steps;
+      here = λ i m h. here_at i m h (at i);
+      sound = sound;
+      later = λ k above.
+          let P : ℕ → Type 0 = λ n. n ≤ k in
+          let past : old.opened ≤ k = subst P opened above in
+          let nobody_has : (i : ℕ) (l : Accepted) → Holds old.places.items i l → l.number ≢ k =
+          λ i l h e. (let below = (x.served.here i l h).0 in absurd (omega (arith, below, past, e))) in
+          alike k nobody_has ∙ x.later k past;
+      nobody = λ i e. nobody_at i e (at i);
+      gone = gone;
+      came =
+          let P : ℕ → ℕ → Type 0 = λ n m. HaveCome limits left (n + (m + count_held held)) in
+          subst (λ m. P new.opened m) (sym count) (subst (λ n. P n (count_unopened faults)) (sym opened) x.came);
+    }
+      where
+        carried_on : (history : History) (l m : Accepted) (line : Line S) → l.connection.closing ≡ false → IsCarriedBy remaining contents history l.connection line
+            → IsCarriedBy remaining contents history m.connection line
+        carried_on history l m line open_was c = record {
+          accepted = c.accepted;
+          replied = c.replied;
+          moved = c.moved;
+          served = c.served;
+          lingers = λ e. absurd (false≢true (sym open_was ∙ (c.lingers e).0));
+          at_end = c.at_end;
+        }
+
+        here_at : (i : ℕ) (m : Accepted) → Holds new.places.items i m → RoundAt told x.histories (x.log ++ more) old new sockets others i
+            → (n : Line S) × (line_at others i ≡ Some n) × IsCarriedBy remaining contents (x.histories m.number) m.connection n
+        here_at i m h (inl (line, inl same)) =
+            let y = x.here i m (holds_of old.places.items i m (sym same ∙ h.1)) in
+            (y.0, line ∙ y.1, y.2)
+        here_at i m h (inl (line, inr stays)) =
+            let y = x.here i stays.was stays.there_was in
+            let is_one : m ≡ stays.is = holds_one new.places.items i m stays.is h stays.there_is in
+            let number : stays.was.number ≡ m.number = sym (ap (λ (t : Accepted). t.number) is_one ∙ stays.number) in
+            let C : ℕ → Type 0 = λ n. IsCarriedBy remaining contents (x.histories n) m.connection y.0 in
+            (y.0, line ∙ y.1, subst C number (carried_on (x.histories stays.was.number) stays.was m y.0 stays.open_was y.2))
+        here_at i m h (inr lost) = absurd (nobody_there m (sym lost.1.empty ∙ h.1))
+
+        nobody_at : (i : ℕ) → get_or new.places.items i None ≡ None → RoundAt told x.histories (x.log ++ more) old new sockets others i → line_at others i ≡ None
+        nobody_at i e (inl (line, inl same)) = line ∙ x.nobody i (sym same ∙ e)
+        nobody_at i e (inl (line, inr stays)) = absurd (nobody_there stays.is (sym e ∙ stays.there_is.1))
+        nobody_at i e (inr lost) = lost.0
+
+        gone_at : (k i : ℕ) (l : Accepted) → Holds old.places.items i l → l.number ≡ k
+            → ((j : ℕ) (m : Accepted) → Holds new.places.items j m → m.number ≢ k) → HasSoundLog remaining contents serving new.service
+            → RoundAt told x.histories (x.log ++ more) old new sockets others i
+            → WasLetGo remaining contents limits (told_of k told) (own k (x.log ++ more)) (x.histories k)
+        gone_at k i l h is_k none sound_log (inl (line, inl same)) = absurd (none i l (holds_of new.places.items i l (same ∙ h.1)) is_k)
+        gone_at k i l h is_k none sound_log (inl (line, inr stays)) =
+            let is_one : l ≡ stays.was = holds_one old.places.items i l stays.was h stays.there_was in
+            absurd (none i stays.is stays.there_is (stays.number ∙ sym (ap (λ (t : Accepted). t.number) is_one) ∙ is_k))
+        gone_at k i l h is_k none sound_log (inr lost) =
+            let is_one : l ≡ lost.1.was = holds_one old.places.items i l lost.1.was h lost.1.there_was in
+            let number : lost.1.was.number ≡ k = sym (ap (λ (t : Accepted). t.number) is_one) ∙ is_k in
+            let W : ℕ → Type 0 = λ n. WasLetGo remaining contents limits (told_of n told) (own n (x.log ++ more)) (x.histories n) in
+            subst W number (lost.2 sound_log)
+
+        gone : HasSoundLog remaining contents serving new.service → (k : ℕ) → k < new.opened
+            → ((i : ℕ) (m : Accepted) → Holds new.places.items i m → m.number ≢ k)
+            → WasLetGo remaining contents limits (told_of k told) (own k (x.log ++ more)) (x.histories k)
+        gone sound_log k within none = elim (number_or_not k old.places.items) [
+          | inl held_there ↦ gone_at k held_there.0 held_there.1 held_there.2 held_there.3 none sound_log (at held_there.0)
+          | inr nobody_has ↦
+              let below : k < old.opened = (let P : ℕ → Type 0 = λ n. k < n in subst P opened within) in
+              let same : own k (x.log ++ more) ≡ own k x.log =
+              own_append k x.log more ∙ ap (λ (t : List Exchange). own k x.log ++ t) (those k nobody_has) ∙ append-nil (own k x.log) in
+              told_as limits (told_of k faults) (told_of k told) (own k (x.log ++ more)) (x.histories k) (alike k nobody_has)
+              (was_let_go_as limits (told_of k faults) (own k x.log) (own k (x.log ++ more)) (x.histories k) (x.histories k) same refl
+              (x.gone (was_sound sound_log) k below nobody_has))
+        ]
+
+    -- one that was kept, in which no connection had a fault
+    pub kept_whole_round : (faults : List ToldFault) (old new : Connections M) (sockets : List (Option (Socket S))) (left : Option ℕ) (held : Option S)
+        → AreKept remaining contents serving limits first faults old sockets left held → KeepsRound serving old new None
+        → AreKept remaining contents serving limits first faults new sockets left held
+    kept_whole_round faults old new sockets left held x r =
+        let y = r.fed.served x.histories x.log old.opened x.served in
+        let P : ℕ → Type 0 = λ n. AreServed x.histories (x.log ++ y.0) n new.places.items in
+        kept_round faults faults old new sockets sockets left held y.0 x r.opened (subst P (sym r.opened) y.1) y.2
+        (steps_round remaining contents serving limits.is_administered first old.service new.service x.histories x.log y.0 x.in_steps y.3)
+        y.3.noted.was_sound (λ j. at j (r.fed.places j)) (λ i m h. sound i m h (r.fed.places i)) (λ k none. refl) refl
+      where
+        at : (j : ℕ) → GoesOnAt None j old.places.items new.places.items
+            → RoundAt faults x.histories (x.log ++ (r.fed.served x.histories x.log old.opened x.served).0) old new sockets sockets j
+        at j (inl same) = inl (refl, inl same)
+        at j (inr (inl stays)) = inl (refl, inr stays)
+        at j (inr (inr lost)) = absurd lost.0
+
+        sound : (i : ℕ) (m : Accepted) → Holds new.places.items i m → GoesOnAt None i old.places.items new.places.items → told_of m.number faults ≡ []
+        sound i m h (inl same) = x.sound i m (holds_of old.places.items i m (sym same ∙ h.1))
+        sound i m h (inr (inl stays)) =
+            let is_one : m ≡ stays.is = holds_one new.places.items i m stays.is h stays.there_is in
+            let P : ℕ → Type 0 = λ n. told_of n faults ≡ [] in
+            subst P (sym (ap (λ (t : Accepted). t.number) is_one ∙ stays.number)) (x.sound i stays.was stays.there_was)
+        sound i m h (inr (inr lost)) = absurd lost.0
+
+    -- one that was not kept
+    pub kept_tried_round : (faults : List ToldFault) (old new : Connections M) (sockets : List (Option (Socket S))) (left : Option ℕ) (held : Option S)
+        → AreKept remaining contents serving limits first faults old sockets left held → TriesRound serving old new
+        → AreKept remaining contents serving limits first faults new sockets left held
+    kept_tried_round faults old new sockets left held x r =
+        let y = r.tried x.histories x.log x.served in
+        let P : ℕ → Type 0 = λ n. AreServed x.histories x.log n new.places.items in
+        let Q : List Entry → Type 0 = λ t. AreServed x.histories t new.opened new.places.items in
+        let R : List Entry → Type 0 = λ t. AreInSteps remaining contents serving limits.is_administered first new.service x.histories t in
+        let served : AreServed x.histories x.log new.opened new.places.items =
+        subst P (sym r.opened) (back_served x.histories x.log old.opened old.places.items new.places.items x.served r.back) in
+        let in_steps = steps_tried remaining contents serving limits.is_administered first old.service new.service x.histories x.log y.0 x.in_steps y.1 y.2 in
+        kept_round faults faults old new sockets sockets left held [] x r.opened (subst Q (sym (append-nil x.log)) served) (λ k none. refl)
+        (subst R (sym (append-nil x.log)) in_steps) (λ sound_log. was_sound y.2.same_log sound_log)
+        (λ j. at j (r.back.at j)) (λ i m h. sound i m h (r.back.at i)) (λ k none. refl) refl
+      where
+        was_sound : (serving new.service).log ≡ (serving old.service).log → HasSoundLog remaining contents serving new.service → HasSoundLog remaining contents serving old.service
+        was_sound same sound_log = sym (ap (λ t. t.failed) same) ∙ sound_log
+
+        opens_back : (j : ℕ) → IsBackAt j old.places.items new.places.items → StaysOpenAt j old.places.items new.places.items
+        opens_back j b = record { was = b.was; is = b.is; there_was = b.there_was; there_is = b.there_is; number = b.number; open_was = b.open_was }
+
+        at : (j : ℕ) → (get_or new.places.items j None ≡ get_or old.places.items j None) ⊎ IsBackAt j old.places.items new.places.items
+            → RoundAt faults x.histories (x.log ++ []) old new sockets sockets j
+        at j (inl same) = inl (refl, inl same)
+        at j (inr b) = inl (refl, inr (opens_back j b))
+
+        sound : (i : ℕ) (m : Accepted) → Holds new.places.items i m
+            → (get_or new.places.items i None ≡ get_or old.places.items i None) ⊎ IsBackAt i old.places.items new.places.items → told_of m.number faults ≡ []
+        sound i m h (inl same) = x.sound i m (holds_of old.places.items i m (sym same ∙ h.1))
+        sound i m h (inr b) =
+            let is_one : m ≡ b.is = holds_one new.places.items i m b.is h b.there_is in
+            let P : ℕ → Type 0 = λ n. told_of n faults ≡ [] in
+            subst P (sym (ap (λ (t : Accepted). t.number) is_one ∙ b.number)) (x.sound i b.was b.there_was)
+
+    -- one that was kept, in which one connection had a fault: it was let go, and what was told is of it alone
+    kept_lost_round : (faults told : List ToldFault) (old mid new : Connections M) (lost : Lost) (sockets others : List (Option (Socket S))) (left : Option ℕ) (held : Option S)
+        (x : AreKept remaining contents serving limits first faults old sockets left held) (r : KeepsRound serving old mid (Some lost))
+        → new.service ≡ mid.service → new.opened ≡ mid.opened → get_or new.places.items lost.place None ≡ None
+        → OthersStay lost.place mid.places.items new.places.items
+        → ((histories : ℕ → History) (log : List Entry) → AreServed histories log mid.opened mid.places.items → AreServed histories log new.opened new.places.items)
+        → line_at others lost.place ≡ None → OtherLinesStay lost.place sockets others
+        → ((j : ℕ) → (j ≡ (r.fed.gone lost.place refl).was.number → ⊥) → told_of j told ≡ told_of j faults)
+        → count_unopened told ≡ count_unopened faults
+        → (HasSoundLog remaining contents serving new.service → (log : List Entry)
+        → WasLetGo remaining contents limits (told_of (r.fed.gone lost.place refl).was.number told) (own (r.fed.gone lost.place refl).was.number log)
+        (x.histories (r.fed.gone lost.place refl).was.number))
+        → AreKept remaining contents serving limits first told new others left held
+    kept_lost_round faults told old mid new lost sockets others left held x r service opened empty elsewhere served line lines alike count was_let_go =
+        let y = r.fed.served x.histories x.log old.opened x.served in
+        let P : ℕ → Type 0 = λ n. AreServed x.histories (x.log ++ y.0) n mid.places.items in
+        let Sound : M → Type 0 = λ t. HasSoundLog remaining contents serving t in
+        let InSteps : M → Type 0 = λ t. AreInSteps remaining contents serving limits.is_administered first t x.histories (x.log ++ y.0) in
+        kept_round faults told old new sockets others left held y.0 x (opened ∙ r.opened) (served x.histories (x.log ++ y.0) (subst P (sym r.opened) y.1)) y.2
+        (subst InSteps (sym service) (steps_round remaining contents serving limits.is_administered first old.service mid.service x.histories x.log y.0 x.in_steps y.3))
+        (λ sound_log. y.3.noted.was_sound (subst Sound service sound_log)) (λ j. at y.0 j) sound
+        (λ k none. alike k (λ e. none lost.place gone.was gone.there_was (sym e))) count
+      where
+        gone : LeavesAt lost.place old.places.items mid.places.items
+        gone = r.fed.gone lost.place refl
+
+        at_other : (more : List Entry) (j : ℕ) → (j ≡ lost.place → ⊥) → GoesOnAt (Some lost) j old.places.items mid.places.items
+            → RoundAt told x.histories (x.log ++ more) old new sockets others j
+        at_other more j far (inl same) = inl (lines.stay j far, inl (elsewhere.stay j far ∙ same))
+        at_other more j far (inr (inl stays)) =
+            inl (
+              lines.stay j far,
+              inr (record {
+                was = stays.was;
+                is = stays.is;
+                there_was = stays.there_was;
+                there_is = holds_of new.places.items j stays.is (elsewhere.stay j far ∙ stays.there_is.1);
+                number = stays.number;
+                open_was = stays.open_was;
+              }),
+            )
+        at_other more j far (inr (inr is)) = absurd (far (sym is.0))
+
+        at : (more : List Entry) (j : ℕ) → RoundAt told x.histories (x.log ++ more) old new sockets others j
+        at more j = elim (cases_eq j lost.place) [
+          | inl here ↦
+              let P : ℕ → Type 0 = λ n. RoundAt told x.histories (x.log ++ more) old new sockets others n in
+              subst P (sym here) (inr (
+                line,
+                record { was = gone.was; there_was = gone.there_was; open_was = gone.open_was; empty = empty },
+                (λ sound_log. was_let_go sound_log (x.log ++ more)),
+              ))
+          | inr far ↦ at_other more j far (r.fed.places j)
+        ]
+
+        -- each that is there was there, and is another
+        before : (i : ℕ) (m : Accepted) → Holds new.places.items i m → (i ≡ lost.place → ⊥) → GoesOnAt (Some lost) i old.places.items mid.places.items
+            → (l : Accepted) × Holds old.places.items i l × (m.number ≡ l.number)
+        before i m h far (inl same) = (m, holds_of old.places.items i m (sym same ∙ sym (elsewhere.stay i far) ∙ h.1), refl)
+        before i m h far (inr (inl stays)) =
+            let is_one : m ≡ stays.is = holds_one mid.places.items i m stays.is (holds_of mid.places.items i m (sym (elsewhere.stay i far) ∙ h.1)) stays.there_is in
+            (stays.was, stays.there_was, ap (λ (t : Accepted). t.number) is_one ∙ stays.number)
+        before i m h far (inr (inr is)) = absurd (far (sym is.0))
+
+        sound : (i : ℕ) (m : Accepted) → Holds new.places.items i m → told_of m.number told ≡ []
+        sound i m h =
+            let far : i ≡ lost.place → ⊥ = not_at lost.place i new.places.items m empty h in
+            let l = before i m h far (r.fed.places i) in
+            let other : m.number ≡ gone.was.number → ⊥ = λ e. far (x.served.apart i lost.place l.0 gone.was l.1 gone.there_was (sym l.2 ∙ e)) in
+            let P : ℕ → Type 0 = λ n. told_of n faults ≡ [] in
+            alike m.number other ∙ subst P (sym l.2) (x.sound i l.0 l.1)
 
     -- a connection begins with the stream that was held
     pub kept_begin : (faults : List ToldFault) (place : ℕ) (stream : S) (old new : Server M S)
@@ -920,7 +1171,7 @@ module _ {S M : Type 0} (remaining contents : S → Option (List ℕ)) (serving 
       → new.sockets.items ≡ old.sockets.items
       → (HasSoundLog remaining contents serving new.connections.service → HasSoundLog remaining contents serving old.connections.service)
       → (x : AreKept remaining contents serving limits first faults old.connections old.sockets.items old.left old.held)
-      → ServesInSteps serving limits.is_administered first new.connections.service (map answered_in x.log)
+      → AreInSteps remaining contents serving limits.is_administered first new.connections.service x.histories x.log
       → AreKept remaining contents serving limits first faults new.connections new.sockets.items new.left new.held
   kept_beside limits first faults old new rest places opened sockets was_sound x in_steps =
       let P : List (Option (Socket S)) → Type 0 = λ t. AreKept remaining contents serving limits first faults new.connections t old.left old.held in
@@ -948,12 +1199,10 @@ module _ {S M : Type 0} (remaining contents : S → Option (List ℕ)) (serving 
       → new.connections.places.items ≡ old.connections.places.items → new.connections.opened ≡ old.connections.opened
       → new.sockets.items ≡ old.sockets.items → KeepsOn remaining contents serving old new
   keeps_read old new rest runs places opened sockets limits first faults y =
-      let x = y.1 in
-      let P : List Answered → Type 0 = λ t. ServesInSteps serving limits.is_administered first new.connections.service t in (
+      let x = y.1 in (
         rest.limits ∙ y.0,
         kept_beside limits first faults old new rest places opened sockets runs.noted.was_sound x
-            (subst P (append-nil (map answered_in x.log))
-            (in_steps_served serving limits.is_administered first old.connections.service new.connections.service (map answered_in x.log) [] x.in_steps runs)),
+            (steps_read remaining contents serving limits.is_administered first old.connections.service new.connections.service x.histories x.log x.in_steps runs),
       )
 
   -- the control had its turn, which may adopt
@@ -967,7 +1216,7 @@ module _ {S M : Type 0} (remaining contents : S → Option (List ℕ)) (serving 
         rest.limits ∙ y.0,
         kept_beside limits first faults old new rest places opened sockets
             (only_sound serving old.connections.service new.connections.service only) x
-            (in_steps_adopted serving limits.is_administered first old.connections.service new.connections.service (map answered_in x.log) may_now x.in_steps only),
+            (steps_adopted remaining contents serving limits.is_administered first old.connections.service new.connections.service x.histories x.log may_now x.in_steps only),
       )
 
   pub keeps_then : (a b c : Server M S) → KeepsOn remaining contents serving a b → KeepsOn remaining contents serving b c → KeepsOn remaining contents serving a c
@@ -1193,6 +1442,104 @@ module _ {S M : Type 0} (remaining contents : S → Option (List ℕ)) (serving 
           );
     }
 
+  -- ---- a round
+
+  round_lost_line : (history : History) (v : View) (line : Line S) → v.closing ≡ false → IsCarriedBy remaining contents history v line → line.lingers ≡ false
+  round_lost_line history v line open_was c = elim (cases_true line.lingers) [
+    | inl lingers ↦ absurd (false≢true (sym open_was ∙ (c.lingers lingers).0))
+    | inr serves ↦ serves
+  ]
+
+  pub keeps_round : (old new : Server M S) → RestStays remaining contents serving old new → new.sockets.items ≡ old.sockets.items
+      → KeepsRound serving old.connections new.connections None → KeepsOn remaining contents serving old new
+  keeps_round old new rest sockets r limits first faults y =
+      let P : List (Option (Socket S)) → Type 0 = λ t. AreKept remaining contents serving limits first faults new.connections t old.left old.held in (
+        rest.limits ∙ y.0,
+        rest_kept limits first faults old new new.connections new.sockets.items rest
+            (subst P (sym sockets) (kept_whole_round remaining contents serving limits first faults old.connections new.connections old.sockets.items old.left old.held y.1 r)),
+      )
+
+  pub keeps_tried : (old new : Server M S) → RestStays remaining contents serving old new → new.sockets.items ≡ old.sockets.items
+      → TriesRound serving old.connections new.connections → KeepsOn remaining contents serving old new
+  keeps_tried old new rest sockets r limits first faults y =
+      let P : List (Option (Socket S)) → Type 0 = λ t. AreKept remaining contents serving limits first faults new.connections t old.left old.held in (
+        rest.limits ∙ y.0,
+        rest_kept limits first faults old new new.connections new.sockets.items rest
+            (subst P (sym sockets) (kept_tried_round remaining contents serving limits first faults old.connections new.connections old.sockets.items old.left old.held y.1 r)),
+      )
+
+  -- one connection had a fault, and was let go: the fault is told, or the log has failed, and nothing is told
+  pub goes_lost : {F : Type 0} (tells : F → StreamFault → F → Type 0) (old mid new : Server M S) (lost : Lost) (f g : F)
+      → RestStays remaining contents serving old mid → mid.sockets.items ≡ old.sockets.items
+      → KeepsRound serving old.connections mid.connections (Some lost) → LetsGo remaining contents serving lost.place mid new
+      → ((serving mid.connections.service).log.failed ≡ false → tells f lost.fault g)
+      → ((serving mid.connections.service).log.failed ≡ true → g ≡ f)
+      → GoesOn remaining contents serving tells old f new g
+  goes_lost {F} tells old mid new lost f g rest sockets r goes told silent = elim (cases_true (serving mid.connections.service).log.failed) [
+    | inl failed ↦
+        let P : F → Type 0 = λ t. GoesOn remaining contents serving tells old f new t in
+        subst P (sym (silent failed)) (goes_keeps tells old new f (λ limits first before y. (
+          goes.rest.limits ∙ rest.limits ∙ y.0,
+          all_rest limits first before (lost_kept limits first before before y.1 (λ j far. refl) refl
+              (λ sound_log log. absurd (false≢true (sym (sounds sound_log) ∙ failed)))),
+        )))
+    | inr sound ↦ record {
+      told = one_told (Some gone.was.number) lost.fault;
+      tells_them = (g, told sound, refl);
+      keeps = λ limits first before y. (
+        goes.rest.limits ∙ rest.limits ∙ y.0,
+        all_rest limits first (before ++ one_told (Some gone.was.number) lost.fault)
+            (lost_kept limits first before (before ++ one_told (Some gone.was.number) lost.fault) y.1
+            (λ j far. told_there j gone.was.number before lost.fault far)
+            (let one : count_unopened (before ++ one_told (Some gone.was.number) lost.fault) ≡ count_unopened before + 0 =
+            unopened_one before (Some gone.was.number) lost.fault in omega (arith, one))
+            (λ sound_log log. was_let_go limits first before y.1 log)),
+      );
+    }
+  ]
+    where
+      gone : LeavesAt lost.place old.connections.places.items mid.connections.places.items
+      gone = r.fed.gone lost.place refl
+
+      sounds : HasSoundLog remaining contents serving new.connections.service → HasSoundLog remaining contents serving mid.connections.service
+      sounds sound_log = (let Sound : M → Type 0 = λ t. HasSoundLog remaining contents serving t in subst Sound goes.service sound_log)
+
+      lines : OtherLinesStay lost.place old.sockets.items new.sockets.items
+      lines = (let P : List (Option (Socket S)) → Type 0 = λ t. OtherLinesStay lost.place t new.sockets.items in subst P sockets goes.lines)
+
+      lost_kept : (limits : Limits) (first : M) (before told_then : List ToldFault)
+          (x : AreKept remaining contents serving limits first before old.connections old.sockets.items old.left old.held)
+          → ((j : ℕ) → (j ≡ gone.was.number → ⊥) → told_of j told_then ≡ told_of j before)
+          → count_unopened told_then ≡ count_unopened before
+          → (HasSoundLog remaining contents serving new.connections.service → (log : List Entry)
+          → WasLetGo remaining contents limits (told_of gone.was.number told_then) (own gone.was.number log) (x.histories gone.was.number))
+          → AreKept remaining contents serving limits first told_then new.connections new.sockets.items old.left old.held
+      lost_kept limits first before told_then x alike count was =
+          kept_lost_round remaining contents serving limits first before told_then old.connections mid.connections new.connections lost old.sockets.items new.sockets.items
+          old.left old.held x r goes.service goes.opened goes.gone goes.others goes.served goes.line lines alike count was
+
+      all_rest : (limits : Limits) (first : M) (told_then : List ToldFault)
+          → AreKept remaining contents serving limits first told_then new.connections new.sockets.items old.left old.held
+          → AreKept remaining contents serving limits first told_then new.connections new.sockets.items new.left new.held
+      all_rest limits first told_then x =
+          rest_kept limits first told_then mid new new.connections new.sockets.items goes.rest
+          (rest_kept limits first told_then old mid new.connections new.sockets.items rest x)
+
+      was_let_go : (limits : Limits) (first : M) (before : List ToldFault)
+          (x : AreKept remaining contents serving limits first before old.connections old.sockets.items old.left old.held) (log : List Entry)
+          → WasLetGo remaining contents limits (told_of gone.was.number (before ++ one_told (Some gone.was.number) lost.fault)) (own gone.was.number log) (x.histories gone.was.number)
+      was_let_go limits first before x log =
+          let y = x.here lost.place gone.was gone.there_was in
+          let c = y.2 in
+          let serves = round_lost_line (x.histories gone.was.number) gone.was.connection y.0 gone.open_was c in
+          record {
+            accepted = c.accepted;
+            replied = c.replied;
+            left = y.0.stream;
+            moved = c.moved;
+            why = inr (lost.fault, told_here gone.was.number before lost.fault (x.sound lost.place gone.was gone.there_was), c.served serves);
+          }
+
   -- ---- a turn at a place
 
   -- what the turn of the connection at a place says
@@ -1279,7 +1626,7 @@ module _ {S M : Type 0} (remaining contents : S → Option (List ℕ)) (serving 
         let P : ℕ → Type 0 = λ n. AreServed (λ k. nothing) [] n connections.places.items in
         let Q : List (Option Accepted) → Type 0 = λ t. AreServed (λ k. nothing) [] 0 t in
         subst P (sym opened) (subst Q (sym places) nobody);
-    in_steps = in_steps_none serving limits.is_administered first connections.service same;
+    in_steps = steps_none remaining contents serving limits.is_administered first connections.service same (λ k. nothing);
     here = λ i l h. (let P : List (Option Accepted) → Type 0 = λ t. i < length t in let below : i < 0 = subst P places h.0 in absurd (omega (arith, below)));
     sound = λ i l h. (let P : List (Option Accepted) → Type 0 = λ t. i < length t in let below : i < 0 = subst P places h.0 in absurd (omega (arith, below)));
     later = λ k above. refl;
@@ -1367,7 +1714,7 @@ module _ {S M : Type 0} (remaining contents : S → Option (List ℕ)) (serving 
     log = [];
     opened = 0;
     all = nobody.all;
-    in_steps = in_steps_none serving limits.is_administered first first refl;
+    in_steps = steps_none remaining contents serving limits.is_administered first first refl (λ k. nothing);
     done = by result _ done;
     store = λ e. absurd (differ rounds.StoreFailed (store e));
     for_log = λ e. elim (for_log e) [ inl failed ↦ failed | inr is ↦ absurd (differ rounds.LogFailed is) ];

@@ -2,7 +2,7 @@
 use Rattle.std.proofs.Common.{◌≡◌, ℕ, ◌+◌, true, false, if◌then◌else◌, List, [], ◌∷◌, ◌++◌, Option, Some, None, refl, ap, subst, ◌∙◌, append-nil, arith}
 use Rattle.book_wire_serving.specs.declared.faults.StreamFault.{StreamFault}
 use Rattle.book_desk_loop.specs.Serving.{ToldFault, AreTold, is_number, told_of, count_if_none, count_unopened}
-use Rattle.book_desk_loop.proofs.Histories.{same, differs}
+use Rattle.book_desk_connections.proofs.Histories.{same, differs}
 
 pub told_twice : {F : Type 0} (tells : F → StreamFault → F → Type 0) (a b c : F) (xs ys : List ToldFault)
     → AreTold tells a xs b → AreTold tells b ys c → AreTold tells a (xs ++ ys) c

@@ -1,4 +1,2 @@
-pub mod ManyConnections
 pub mod Closing
-pub mod Streams
 pub mod Serving

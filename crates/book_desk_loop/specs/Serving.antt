@@ -1,15 +1,18 @@
 -- The loop: connections and their sockets, each at the place of its connection.
+use Rattle.std.specs.List.{AllByRecursion}
 use Rattle.std.specs.Prelude.{◌≡◌, ◌≢◌, ◌⊎◌, ℕ, ◌+◌, ◌<◌, ◌≤◌, Bool, true, false, is_some, ◌==◌, if◌then◌else◌, List, [], ◌∷◌, ◌++◌, get_or, map, Option, Some, None, Result, Err, OnOk}
 use Rattle.book_wire.specs.Connection.{View, fresh}
 use Rattle.book_wire_serving.specs.Serving.{Serving}
 use Rattle.book_wire.specs.Stream.{Exchange, IsPartial, Waits}
 use Rattle.book_wire_serving.specs.declared.faults.StreamFault.{StreamFault}
-use Rattle.book_wire_steps.specs.Steps.{ServesInSteps}
+use Rattle.book_wire_steps.specs.Steps.{Step, ServesInSteps}
+use Rattle.book_wire_steps.specs.Steps.Step.{serves, tries, adopts}
 use Rattle.book_desk_loop.specs.Closing.{DropsSome}
-use Rattle.book_desk_loop.specs.ManyConnections.{History, Entry, AreServed, IsBehind, IsThere, Holds, AllStay, OthersStay, answered_in, own}
-use Rattle.book_desk_loop.specs.Streams.{IsMoved, WasAtEnd, IsIdleAt, IsAnsweredAt, IsWithinAt, TakesATurn}
-use Rattle.book_desk_loop.specs.declared.connections.Accepted.{Accepted}
-use Rattle.book_desk_loop.specs.declared.connections.Connections.{Connections}
+use Rattle.book_desk_connections.specs.ManyConnections.{History, Entry, AreServed, IsBehind, IsThere, Holds, AllStay, OthersStay, answered_in, own}
+use Rattle.book_desk_connections.specs.Rounds.{WereSent}
+use Rattle.book_desk_connections.specs.Streams.{IsMoved, WasAtEnd, IsIdleAt, IsAnsweredAt, IsWithinAt, TakesATurn}
+use Rattle.book_desk_connections.specs.declared.connections.Accepted.{Accepted}
+use Rattle.book_desk_connections.specs.declared.connections.Connections.{Connections}
 use Rattle.book_desk_loop.specs.declared.limits.Limits.{Limits}
 use Rattle.book_desk_loop.specs.declared.looping.Server.{Server}
 use Rattle.book_desk_loop.specs.declared.limits.Stop.{Stop}
@@ -101,6 +104,12 @@ MayGiveWayAt {S} places sockets place =
     (line : Line S) × (line_at sockets place ≡ Some line)
     × ((line.lingers ≡ true) ⊎ ((line.lingers ≡ false) × IsIdleAt places place) ⊎ ((line.lingers ≡ false) × IsWithinAt places place))
 
+-- what was tried in a round that was not kept was sent by connections, behind what was answered of them by then
+abbrev pub IsOfConnections : (ℕ → History) → List Entry → Step → Type 0
+IsOfConnections histories log (serves answered) = Unit {0}
+IsOfConnections histories log (tries answered) = WereSent histories log answered
+IsOfConnections histories log (adopts tables outcome) = Unit {0}
+
 -- over streams with the bytes that they still give, and those that they were given
 module _ {S : Type 0} (remaining contents : S → Option (List ℕ)) where
   -- The stream of a connection that is there. Its moves since it was accepted are the connection's history. Once the last reply
@@ -168,6 +177,12 @@ module _ {S : Type 0} (remaining contents : S → Option (List ℕ)) where
     abbrev pub HasSoundLog : M → Type 0
     HasSoundLog service = (serving service).log.failed ≡ false
 
+    -- What was answered, the rounds that were not kept, and what the control adopted, are steps in one order; and what was tried in such a
+    -- round was sent by connections.
+    pub record AreInSteps (administered : Bool) (first last : M) (histories : ℕ → History) (log : List Entry) : Type 0 where
+      pub in_steps : ServesInSteps serving administered first last (map answered_in log)
+      pub sent : AllByRecursion (IsOfConnections histories log) in_steps.steps
+
     -- As many connections came as were to come, unless the control wished an end. Each that is there has its stream at its place; why each
     -- other was let go is known, unless a line of the log could not be written. The requests of all, and what the control adopted, are steps
     -- in one order since the first service.
@@ -176,7 +191,7 @@ module _ {S : Type 0} (remaining contents : S → Option (List ℕ)) where
       pub histories : ℕ → History
       pub log : List Entry
       pub served : AreServed histories log connections.opened connections.places.items
-      pub in_steps : ServesInSteps serving limits.is_administered first connections.service (map answered_in log)
+      pub in_steps : AreInSteps limits.is_administered first connections.service histories log
       pub here : (i : ℕ) (l : Accepted) → Holds connections.places.items i l
           → (line : Line S) × (line_at sockets i ≡ Some line) × IsCarriedBy (histories l.number) l.connection line
       pub sound : (i : ℕ) (l : Accepted) → Holds connections.places.items i l → told_of l.number failed ≡ []
@@ -275,7 +290,7 @@ module _ {S : Type 0} (remaining contents : S → Option (List ℕ)) where
       pub log : List Entry
       pub opened : ℕ
       pub all : (k : ℕ) → IsBehind (own k log) (histories k)
-      pub in_steps : ServesInSteps serving limits.is_administered first last (map answered_in log)
+      pub in_steps : AreInSteps limits.is_administered first last histories log
       pub done : OnOk result (AllWereLetGo limits failed histories log opened
           × HaveAllCome limits (opened + count_unopened failed))
       pub store : result ≡ Err StopsForStore → StoreHasFailed limits (serving first).standing.failures last

@@ -3,8 +3,8 @@
 ghost use Rattle.std.specs.Prelude.{IfSome};
 ghost use Rattle.book_desk_loop.specs.Serving.{MayGiveWayAt};
 
-use crate::connections::Connections;
 use crate::sockets::{Socket, is_rested, is_slow};
+use book_desk_connections::Connections;
 use book_wire_serving::Service;
 use std::time::Instant;
 

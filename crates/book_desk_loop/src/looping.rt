@@ -4,23 +4,22 @@ ghost use Rattle.std.specs.Prelude.{◌≡◌, ◌≢◌, ℕ, List, Option, Non
 ghost use Rattle.book_wire_serving.specs.Serving.{Answered};
 ghost use Rattle.book_wire_serving.specs.declared.faults.StreamFault.{StreamFault as Fault};
 ghost use Rattle.book_desk_loop.specs.Serving.{AreServedAtOnce, AreTold, Begins, BeginsAt, BeginsNone, EndsSo, GoesOn, KeepsOn, LetsGo, Line, LinesStay, MayGoAt, RestStays, ToldFault, TurnsAt, line_at};
-ghost use Rattle.book_desk_loop.specs.Streams.{IsAnsweredAt, IsDoneAt, IsStillAt};
+ghost use Rattle.book_desk_connections.specs.Streams.{IsAnsweredAt, IsDoneAt, IsStillAt};
 ghost use Rattle.book_wire_steps.specs.Steps.{ServesInSteps};
 
 use crate::closing::LINGER;
-use crate::connections::Connections;
 use crate::giving_way::gives_way;
 use crate::limits::{
     Ended, Faults, Limits, Stop, StoreState, fault_of, fewer, is_endless, none_left, stop_of, tell,
 };
-use crate::moves::{Turn, take_turn};
 use crate::readiness::{EVENTS, Readiness};
 use crate::socket_places::{
     are_none, close_at, close_for_writing, drop_at, join, note_begin, note_queued,
 };
 use crate::sockets::{DRAINED, RESTED, Socket, has_passed, is_late, is_short, passes};
+use book_desk_connections::{Connections, Lost, Part, Round, Turn, take_turn};
 use book_wire::Wire;
-use book_wire_serving::{Service, StreamFault};
+use book_wire_serving::{RoundService, StreamFault};
 use book_wire_steps::{Control, Traffic, Wish};
 use std::alloc::Global;
 use std::io::{ErrorKind, Read, Write};
@@ -30,6 +29,9 @@ use std::{io, mem};
 
 /// The most bytes of a read.
 const READ: usize = 16_384;
+
+/// The most requests of a round.
+const MOST_OF_ROUND: usize = 256;
 
 /// The longest wait where a time passes that is looked at, in milliseconds.
 const STEP: u64 = 250;
@@ -50,6 +52,8 @@ struct Server<M, S> {
     again: Vec<usize>,
     /// The same room, for those that come to be so while these have their turn.
     next: Vec<usize>,
+    /// The same room, for those that join a round.
+    joined: Vec<usize>,
     /// Whether one may wait to be accepted.
     waiting: bool,
     /// Whether none could be accepted, and may be later.
@@ -62,7 +66,7 @@ struct Server<M, S> {
     failures: u64,
 }
 
-impl<M: Service, S: Read + Write + OpenStream + Drop> Server<M, S> {
+impl<M: RoundService, S: Read + Write + OpenStream + Drop> Server<M, S> {
     /// Whether no more are to come, and none is there.
     fn is_done(&self) -> bool
         ensures { result ≡ true → (self.now.left ≡ Some 0) × (self.now.held ≡ None)
@@ -137,6 +141,7 @@ impl<M: Service, S: Read + Write + OpenStream + Drop> Server<M, S> {
     {
         self.again.reserve(self.open.saturating_add(1))?;
         self.next.reserve(self.open.saturating_add(1))?;
+        self.joined.reserve(self.open.saturating_add(1))?;
         stream.set_nonblocking(true)?;
         // Without it a reply in two writes waits for the client's acknowledgement of the first.
         let _ = stream.set_nodelay(true);
@@ -295,10 +300,10 @@ impl<M: Service, S: Read + Write + OpenStream + Drop> Server<M, S> {
         Ok(())
     }
 
-    /// Whether its turn comes anyway.
-    fn is_queued(&self, place: usize) -> bool {
+    /// Whether the connection is there, and its turn does not come anyway.
+    fn wants_turn(&self, place: usize) -> bool {
         match self.sockets.get(place) {
-            Some(Some(socket)) => socket.queued,
+            Some(Some(socket)) => !socket.queued,
             Some(None) => false,
             None => false,
         }
@@ -341,8 +346,15 @@ impl<M: Service, S: Read + Write + OpenStream + Drop> Server<M, S> {
         drop_at(&mut self.sockets, place, memory)
     }
 
-    /// The turn of the connection at a place, by its own socket.
-    fn turn_at(&mut self, alloc: Global, place: usize, memory: &mut [u8], now: Instant) -> Turn
+    /// A part of the turn of the connection at a place, by its own socket.
+    fn turn_at(
+        &mut self,
+        alloc: Global,
+        place: usize,
+        part: Part,
+        memory: &mut [u8],
+        now: Instant,
+    ) -> Turn
         ensures none { line_at self.old.sockets.items place ≡ None → (result ≡ Turn.Waits)
             × RestStays S.remaining S.contents M.serving self.old self.new
             × (self.new.connections ≡ self.old.connections)
@@ -367,6 +379,7 @@ impl<M: Service, S: Read + Write + OpenStream + Drop> Server<M, S> {
                         &mut socket.stream,
                         memory,
                         &mut socket.at_end,
+                        part,
                     )
                 }
                 None => Turn::Waits,
@@ -388,12 +401,13 @@ impl<M: Service, S: Read + Write + OpenStream + Drop> Server<M, S> {
         }
     }
 
-    /// The turn of a connection that is served. One that has a fault is let go, and the fault is told, unless the log has
+    /// A part of the turn of a connection that is served. One that has a fault is let go, and the fault is told, unless the log has
     /// failed.
     fn serve<F: Faults>(
         &mut self,
         alloc: Global,
         place: usize,
+        part: Part,
         memory: &mut [u8],
         now: Instant,
         faults: &mut F,
@@ -409,7 +423,7 @@ impl<M: Service, S: Read + Write + OpenStream + Drop> Server<M, S> {
         ensures serves { (line : Line S) → line_at self.new.sockets.items place ≡ Some line
             → line.lingers ≡ false }
     {
-        let turn = self.turn_at(alloc, place, memory, now);
+        let turn = self.turn_at(alloc, place, part, memory, now);
         match turn {
             Turn::Failed(fault) => {
                 self.tell_fault(fault, faults);
@@ -447,11 +461,12 @@ impl<M: Service, S: Read + Write + OpenStream + Drop> Server<M, S> {
         }
     }
 
-    /// Gives a connection its turn that is served.
+    /// Gives a connection that is served the part of its turn in which it is answered, or sent what was answered.
     fn give_served<F: Faults>(
         &mut self,
         alloc: Global,
         place: usize,
+        part: Part,
         memory: &mut [u8],
         now: Instant,
         faults: &mut F,
@@ -462,7 +477,7 @@ impl<M: Service, S: Read + Write + OpenStream + Drop> Server<M, S> {
             faults.new }
     {
         let answered = self.connections.answered;
-        let turn = self.serve(alloc, place, memory, now, faults);
+        let turn = self.serve(alloc, place, part, memory, now, faults);
         let within = self.connections.is_within_request(place);
         let answered = self.connections.answered != answered;
         note_begin(&mut self.sockets, place, within, answered, now);
@@ -479,7 +494,59 @@ impl<M: Service, S: Read + Write + OpenStream + Drop> Server<M, S> {
         self.after_turn(place, turn)
     }
 
-    /// Gives a connection its turn. None has a turn once a line of the log could not be written.
+    /// Has a connection join the round. One that does not fit in any more goes on with the next.
+    fn join_round(&mut self, place: usize) -> io::Result<()>
+        ensures { KeepsOn S.remaining S.contents M.serving self.old self.new }
+    {
+        if self.joined.len() >= MOST_OF_ROUND {
+            return self.queue(place);
+        }
+        self.joined.push(place)?;
+        Ok(())
+    }
+
+    /// Gives a connection the rest of its turn, or has it join the round.
+    fn go_on<F: Faults>(
+        &mut self,
+        alloc: Global,
+        place: usize,
+        memory: &mut [u8],
+        now: Instant,
+        faults: &mut F,
+    ) -> io::Result<()>
+        requires { (line : Line S) → line_at self.old.sockets.items place ≡ Some line
+            → line.lingers ≡ false }
+        ensures { GoesOn S.remaining S.contents M.serving F.tells self.old faults.old self.new
+            faults.new }
+    {
+        if self.connections.may_join(place) {
+            return self.join_round(place);
+        }
+        self.give_served(alloc, place, Part::Answers, memory, now, faults)
+    }
+
+    /// Reads a connection that is served, and gives it the rest of its turn, or has it join the round, if there is more to do.
+    fn read_and_go_on<F: Faults>(
+        &mut self,
+        alloc: Global,
+        place: usize,
+        memory: &mut [u8],
+        now: Instant,
+        faults: &mut F,
+    ) -> io::Result<()>
+        requires { (line : Line S) → line_at self.old.sockets.items place ≡ Some line
+            → line.lingers ≡ false }
+        ensures { GoesOn S.remaining S.contents M.serving F.tells self.old faults.old self.new
+            faults.new }
+    {
+        match self.serve(alloc, place, Part::Reads, memory, now, faults) {
+            Turn::Again => self.go_on(alloc, place, memory, now, faults),
+            Turn::Waits | Turn::Done | Turn::Ended | Turn::Failed(_) => Ok(()),
+        }
+    }
+
+    /// Gives a connection its turn, or the first part of it, where it joins the round. None has a turn once a line of the log
+    /// could not be written.
     fn give_turn<F: Faults>(
         &mut self,
         alloc: Global,
@@ -499,7 +566,94 @@ impl<M: Service, S: Read + Write + OpenStream + Drop> Server<M, S> {
         if self.is_lingering(place) {
             return self.give_lingering(place, memory);
         }
-        self.give_served(alloc, place, memory, now, faults)
+        self.read_and_go_on(alloc, place, memory, now, faults)
+    }
+
+    /// Gives a connection that joined a round the rest of its turn. None has one once a line of the log could not be written.
+    fn give_rest<F: Faults>(
+        &mut self,
+        alloc: Global,
+        place: usize,
+        part: Part,
+        memory: &mut [u8],
+        now: Instant,
+        faults: &mut F,
+    ) -> io::Result<()>
+        ensures goes { GoesOn S.remaining S.contents M.serving F.tells self.old faults.old self.new
+            faults.new }
+        ensures none { (M.serving self.old.connections.service).log.failed ≡ true
+            → (self.new ≡ self.old) × (faults.new ≡ faults.old) }
+    {
+        if self.connections.has_failed_log() || self.is_lingering(place) {
+            return Ok(());
+        }
+        self.give_served(alloc, place, part, memory, now, faults)
+    }
+
+    /// Lets the connection go that had a fault in a round. The fault is told, unless the log has failed.
+    fn let_lost_go<F: Faults>(&mut self, lost: Lost, faults: &mut F)
+        ensures goes { LetsGo S.remaining S.contents M.serving lost.place self.old self.new }
+        ensures told { (M.serving self.old.connections.service).log.failed ≡ false
+            → F.tells faults.old lost.fault faults.new }
+        ensures silent { (M.serving self.old.connections.service).log.failed ≡ true
+            → faults.new ≡ faults.old }
+    {
+        self.tell_fault(lost.fault, faults);
+        self.let_go(lost.place);
+    }
+
+    /// Serves one request of each of these connections, if there are two at least, and keeps by one commit what they edited. It
+    /// says which part of their turn is left.
+    fn serve_round<F: Faults>(&mut self, alloc: Global, joined: &[usize], faults: &mut F) -> Part
+        ensures { GoesOn S.remaining S.contents M.serving F.tells self.old faults.old self.new
+            faults.new }
+    {
+        match self.connections.round(alloc, joined) {
+            Round::Kept(None) => Part::Sends,
+            Round::Kept(Some(lost)) => {
+                self.let_lost_go(lost, faults);
+                Part::Sends
+            }
+            Round::Undone => Part::Answers,
+        }
+    }
+
+    /// Gives those that joined a round the rest of their turn.
+    fn give_rests<F: Faults>(
+        &mut self,
+        alloc: Global,
+        joined: &[usize],
+        part: Part,
+        memory: &mut [u8],
+        now: Instant,
+        faults: &mut F,
+    ) -> io::Result<()>
+        ensures { GoesOn S.remaining S.contents M.serving F.tells self.old faults.old self.new
+            faults.new }
+    {
+        for place in joined {
+            self.give_rest(alloc, *place, part, memory, now, faults)?;
+        }
+        Ok(())
+    }
+
+    /// Serves those that joined a round, and gives them the rest of their turn.
+    fn give_round<F: Faults>(
+        &mut self,
+        alloc: Global,
+        memory: &mut [u8],
+        now: Instant,
+        faults: &mut F,
+    ) -> io::Result<()>
+        ensures { GoesOn S.remaining S.contents M.serving F.tells self.old faults.old self.new
+            faults.new }
+    {
+        let mut joined = mem::replace(&mut self.joined, Vec::new(alloc));
+        let part = self.serve_round(alloc, joined.as_slice(), faults);
+        self.give_rests(alloc, joined.as_slice(), part, memory, now, faults)?;
+        joined.clear();
+        self.joined = joined;
+        Ok(())
     }
 
     /// Whether the connection is there, and its time is up.
@@ -585,38 +739,22 @@ impl<M: Service, S: Read + Write + OpenStream + Drop> Server<M, S> {
         Ok(())
     }
 
-    /// Gives a connection its turn that is ready, unless its turn comes anyway.
-    fn give_unqueued<F: Faults>(
-        &mut self,
-        alloc: Global,
-        place: usize,
-        memory: &mut [u8],
-        now: Instant,
-        faults: &mut F,
-    ) -> io::Result<()>
-        ensures { GoesOn S.remaining S.contents M.serving F.tells self.old faults.old self.new
-            faults.new }
+    /// Has a connection its turn that is ready, unless its turn comes anyway.
+    fn queue_ready_one(&mut self, place: usize) -> io::Result<()>
+        ensures { KeepsOn S.remaining S.contents M.serving self.old self.new }
     {
-        if self.is_queued(place) {
-            return Ok(());
+        if self.wants_turn(place) {
+            return self.queue(place);
         }
-        self.give_turn(alloc, place, memory, now, faults)
+        Ok(())
     }
 
-    /// Gives those their turn that are ready.
-    fn give_ready<F: Faults>(
-        &mut self,
-        alloc: Global,
-        ready: &[usize],
-        memory: &mut [u8],
-        now: Instant,
-        faults: &mut F,
-    ) -> io::Result<()>
-        ensures { GoesOn S.remaining S.contents M.serving F.tells self.old faults.old self.new
-            faults.new }
+    /// Has those their turn that are ready.
+    fn queue_ready(&mut self, ready: &[usize]) -> io::Result<()>
+        ensures { KeepsOn S.remaining S.contents M.serving self.old self.new }
     {
         for place in ready {
-            self.give_unqueued(alloc, *place, memory, now, faults)?;
+            self.queue_ready_one(*place)?;
         }
         Ok(())
     }
@@ -635,8 +773,9 @@ impl<M: Service, S: Read + Write + OpenStream + Drop> Server<M, S> {
         ensures { GoesOn S.remaining S.contents M.serving F.tells self.old faults.old self.new
             faults.new }
     {
+        self.queue_ready(ready)?;
         self.give_again(alloc, memory, now, faults)?;
-        self.give_ready(alloc, ready, memory, now, faults)?;
+        self.give_round(alloc, memory, now, faults)?;
         self.accept(alloc, readiness, listener, now, faults)
     }
 
@@ -915,7 +1054,7 @@ impl<M: Service, S: Read + Write + OpenStream + Drop> Server<M, S> {
 /// whole request that came was answered, and what waited was sent, for at most 2 seconds. `Log` where a line of the log could
 /// not be written, and only there: no connection had a turn since.
 pub fn serve_at_once<
-    M: Service,
+    M: RoundService,
     S: Read + Write + OpenStream + Drop,
     L: OpenListener<Stream = S>,
     P: Readiness<S>,
@@ -954,6 +1093,7 @@ pub fn serve_at_once<
         left: limits.total,
         again: Vec::new(alloc),
         next: Vec::new(alloc),
+        joined: Vec::new(alloc),
         waiting: true,
         paused: false,
         short: false,

@@ -6,9 +6,9 @@ ghost use Rattle.book_desk_loop.specs.Closing.{DropsSome};
 ghost use Rattle.book_desk_loop.specs.Serving.{Line, LinesStay, OtherLinesStay, line_at};
 
 use crate::closing::{Dropped, drop_some, is_enough};
-use crate::moves::Turn;
 use crate::readiness::Readiness;
 use crate::sockets::Socket;
+use book_desk_connections::Turn;
 use std::alloc::AllocError;
 use std::io::Read;
 use std::net::{OpenStream, Shutdown};

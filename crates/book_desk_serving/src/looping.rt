@@ -10,7 +10,7 @@ use crate::listening::say_where;
 use book_desk_app::{BROKEN, DONE, Failure, Lines, StoreFailure, StreamFailure, tell_line};
 use book_desk_loop::{Faults, Limits, Readiness, Stop, serve_at_once};
 use book_desk_sockets::Listens;
-use book_wire_serving::{Service, StreamFault};
+use book_wire_serving::{RoundService, StreamFault};
 use book_wire_steps::Control;
 use std::alloc::Global;
 use std::io::{Read, Write};
@@ -98,7 +98,7 @@ fn status_of<E: Lines>(errors: &mut E, served: Result<(), Stop>, sound: bool) ->
 /// in one order; where the server is not administered the requests are one run. What each stream gave and was given is what
 /// its connection received and was sent; why each was let go is known.
 pub fn serve_many<
-    M: Service,
+    M: RoundService,
     S: Read + Write + OpenStream + Drop,
     L: OpenListener<Stream = S> + Listens,
     P: Readiness<S>,

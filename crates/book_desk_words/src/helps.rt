@@ -4,7 +4,7 @@ pub(crate) const ABOUT: &str =
     "Shared contact books of an office: WebDAV access lists (RFC 3744) and vCards (RFC 6350)";
 
 /// The number of VERSION, at the top of the repository, which `tools/check-streams` compares.
-pub const VERSION: &str = "0.12.0";
+pub const VERSION: &str = "0.13.0";
 
 /// What follows a text of what is wrong with the words.
 pub(crate) const USAGE_LINES: &str =

@@ -27,6 +27,8 @@ mod hostile;
 #[cfg(test)]
 mod json_texts;
 #[cfg(test)]
+mod kept_together;
+#[cfg(test)]
 mod logs;
 #[cfg(test)]
 mod long;

@@ -5,7 +5,7 @@ use crate::checks::{check_bytes, check_fact};
 use crate::offices::{Cutting, POLICY, WHOLE, answered};
 use crate::streams::{check_answer, check_cut_off};
 use crate::together::opened;
-use book_desk_loop::{Connections, Turn, go_on};
+use book_desk_connections::{Connections, Turn, go_on};
 use book_machine::Machine;
 use book_office::MemoryKeeper;
 use book_wire::{Ended, Served};

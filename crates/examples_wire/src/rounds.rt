@@ -8,7 +8,7 @@ use book_machine::{AdoptFault, Adopted, Machine};
 use book_office::{MemoryKeeper, Policy};
 use book_office_faults::Fused;
 use book_policy::read_policy;
-use book_wire_serving::{Service, StreamFault};
+use book_wire_serving::{RoundService, Service, StreamFault};
 use book_wire_steps::{Control, Traffic, Wish};
 use std::alloc::Global;
 use std::cell::Cell;
@@ -413,7 +413,7 @@ fn total_of(row: &Row<'_>) -> u16 {
 type Ended = (Result<(), Stop>, u64, u64);
 
 /// Serves the connections, and gives the service back.
-fn served<M: Service, C: Control<M>>(
+fn served<M: RoundService, C: Control<M>>(
     alloc: Global,
     service: M,
     doors: &Doors<'_>,

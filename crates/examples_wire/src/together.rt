@@ -3,7 +3,7 @@
 
 use crate::checks::{check_bytes, check_fact};
 use crate::offices::{POLICY, machine};
-use book_desk_loop::Connections;
+use book_desk_connections::Connections;
 use book_machine::Machine;
 use book_office::MemoryKeeper;
 use book_wire::Wire;

@@ -1,5 +1,5 @@
 use Rattle.std.proofs.Common.{[], map, inl, inr, refl, sym, ◌∙◌}
-use Rattle.book_desk_loop.specs.ManyConnections.{answered_in}
+use Rattle.book_desk_connections.specs.ManyConnections.{answered_in}
 use Rattle.book_wire_steps.proofs.Takes.{in_steps_none}
 use Rattle.book_desk_loop.proofs.Serving.{kept_none_in, served_at_once, served_none}
 use Rattle.book_desk_loop.proofs.looping.serve_at_once.Goals as goal
@@ -29,7 +29,7 @@ returns-clause-served g c =
     )
 
 pub returns-clause-steps : goal.returns-clause-steps
-returns-clause-steps g c = (let s = returns-clause-served g c in (map answered_in s.2.log, s.2.in_steps))
+returns-clause-steps g c = (let s = returns-clause-served g c in (map answered_in s.2.log, s.2.in_steps.in_steps))
 
 pub returns-in-Err-clause-steps : goal.returns-in-Err-clause-steps
 returns-in-Err-clause-steps g c = ([], in_steps_none g.M.Service.serving c.args.limits.is_administered c.args.service c.args.service refl)

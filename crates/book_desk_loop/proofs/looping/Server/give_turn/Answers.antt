@@ -6,8 +6,8 @@ use Rattle.book_desk_loop.proofs.looping.Server.give_turn.Goals as goal
 pub give_lingering-requires : goal.give_lingering-requires
 give_lingering-requires g c line e = c.is_lingering.ensures line e ∙ c.if-is_lingering.true
 
-pub give_served-requires : goal.give_served-requires
-give_served-requires g c line e = c.is_lingering.ensures line e ∙ c.if-is_lingering.false
+pub read_and_go_on-requires : goal.read_and_go_on-requires
+read_and_go_on-requires g c line e = c.is_lingering.ensures line e ∙ c.if-is_lingering.false
 
 pub returns-then-has_failed_log : goal.returns-then-has_failed_log
 returns-then-has_failed_log g c =

@@ -1,7 +1,7 @@
 use Rattle.std.proofs.Common.{◌≡◌, true, is_some, Some, refl, ap, subst, arith, rules}
 use Rattle.std.proofs.lemmas.Grind.{common_steps}
 use Rattle.book_desk_loop.specs.Serving.{Line, line_at}
-use Rattle.book_desk_loop.specs.Streams.{TakesATurn, WasAtEnd}
+use Rattle.book_desk_connections.specs.Streams.{TakesATurn, WasAtEnd}
 use Rattle.book_desk_loop.proofs.Serving.{same_line}
 use Rattle.book_desk_loop.proofs.looping.Server.turn_at.Goals as goal
 

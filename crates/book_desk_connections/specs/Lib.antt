@@ -1,0 +1,3 @@
+pub mod ManyConnections
+pub mod Streams
+pub mod Rounds
