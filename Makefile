@@ -22,10 +22,11 @@
 #                under an address space of 512 MB; what clients wait for while an administrator asks the control; and what edits
 #                of many clients take, also where syncs take longer
 #   make many    builds the program, and serves 10,000 connections, 100 at once, and each worked stream cut at each byte, four
-#                at once; looks for one order of the replies to requests that overlap; compares what a store keeps of chains of
-#                members with them, after 10,000 changes; ends it by TERM at 100 moments; loses the file of a store beside its
-#                log; makes syncs fail; asks it through nginx, at a Unix socket, and at its control; prints what an honest client
-#                waits for beside clients that take places or turns
+#                at once; looks for one order of the replies to requests that overlap; sees that rounds of requests are kept by
+#                one commit or not at all, also where it is killed, syncs fail or memory is refused; compares what a store keeps of
+#                chains of members with them, after 10,000 changes; ends it by TERM at 100 moments; loses the file of a store
+#                beside its log; makes syncs fail; asks it through nginx, at a Unix socket, and at its control; prints what an
+#                honest client waits for beside clients that take places or turns
 #   make loads   builds the program, and compares what load, compact, backup and restore make of random stores, also where they
 #                are killed, and what doctor tells
 #   make logs    builds the program, and compares each line of its log with what was asked and answered, also where it is
@@ -98,6 +99,7 @@ figures: build
 many: build
 	@tools/check-many build/book_desk
 	@tools/check-order build/book_desk
+	@tools/check-rounds build/book_desk
 	@tools/check-reach build/book_desk
 	@tools/check-cuts build/book_desk
 	@tools/check-kept build/book_desk
